@@ -1,0 +1,39 @@
+-- Spans of numbers: runs of addresses, or of AS numbers, seen as sets.
+use Rattle.std.specs.Prelude.{ℕ, Bool, not, ◌&&◌, ◌+◌, ◌-◌, ◌^◌, ◌<◌, ◌≤◌, nat_le}
+use Rattle.std.specs.declared.cmp.Ordering.{Ordering}
+use Rattle.std.specs.Ordering.{ordering_then, nat_cmp}
+
+-- The two ends of a span, both of them in it (RFC 2622, 4; profile).
+pub record Ends : Type 0 where
+  pub first : ℕ
+  pub last : ℕ
+
+-- Ends are those of a span where the first is not above the last and both have 32 bits (profile).
+pub record IsSpan (s : Ends) : Type 0 where
+  pub ordered : s.first ≤ s.last
+  pub fits : s.last < 2 ^ 32
+
+-- A number lies in a span from its first end to its last.
+pub record IsIn (n : ℕ) (s : Ends) : Type 0 where
+  pub from : s.first ≤ n
+  pub to : n ≤ s.last
+
+-- A span covers another where each number of the other lies in it (RFC 2725, 9).
+abbrev pub covers : Ends → Ends → Bool
+covers s t = nat_le s.first t.first && nat_le t.last s.last
+
+-- Two spans meet where some number lies in both.
+abbrev pub meets : Ends → Ends → Bool
+meets s t = nat_le s.first t.last && nat_le t.first s.last
+
+-- Two spans cross where they meet and neither covers the other (profile).
+abbrev pub crosses : Ends → Ends → Bool
+crosses s t = meets s t && (not (covers s t) && not (covers t s))
+
+-- The size of a span is the count of its numbers.
+abbrev pub size : Ends → ℕ
+size s = s.last - s.first + 1
+
+-- Spans are ordered by their first number, then by their last (profile).
+abbrev pub span_cmp : Ends → Ends → Ordering
+span_cmp s t = ordering_then (nat_cmp s.first t.first) (nat_cmp s.last t.last)

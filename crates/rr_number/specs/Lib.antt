@@ -1,1 +1,4 @@
+pub mod Operators
+pub mod Prefixes
+pub mod Ranges
 pub mod Spans

@@ -1,6 +1,15 @@
-//! The numbers and names of routing: addresses, prefixes, AS numbers, spans, names.
+//! The numbers and names of routing: addresses, prefixes, ranges of prefixes with their operators, AS numbers,
+//! spans, names. Each has an exact reader and an exact printer.
 #![tactic(auto)]
 
+mod address;
+mod operator;
+mod prefix;
+mod range;
 pub mod span;
 
+pub use address::Address;
+pub use operator::{LengthBounds, Operator};
+pub use prefix::Prefix;
+pub use range::Range;
 pub use span::Span;

@@ -1,4 +1,5 @@
 pub mod Operators
 pub mod Prefixes
 pub mod Ranges
+pub mod SpanLaws
 pub mod Spans

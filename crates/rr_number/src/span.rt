@@ -3,6 +3,8 @@
 ghost use Rattle.std.specs.Prelude.{◌≡◌, ◌≤◌, ◌^◌, ◌<◌};
 ghost use Rattle.rr_number.specs.Spans.{covers, crosses, meets, size, span_cmp, IsSpan};
 
+pub mod laws;
+
 use std::cmp::Ordering;
 use std::marker::Model;
 

@@ -1,0 +1,51 @@
+-- What the tests on spans mean for spans as sets of numbers, and how they fit together.
+use Rattle.std.specs.Prelude.{◌≡◌, ℕ, true, false, ◌+◌, ◌<◌, ◌≤◌, ◌⊎◌, ◌↔◌}
+use Rattle.rr_number.specs.Spans.{Ends, IsSpan, IsIn, covers, meets, crosses, size}
+
+-- Covering is inclusion of sets of numbers.
+abbrev pub CoveringIsInclusion : Type 0
+CoveringIsInclusion =
+    (s t : Ends) → IsSpan t → (covers s t ≡ true) ↔ ((n : ℕ) → IsIn n t → IsIn n s)
+
+-- Two spans meet where some number lies in both.
+abbrev pub MeetingIsSharing : Type 0
+MeetingIsSharing =
+    (s t : Ends) → IsSpan s → IsSpan t → (meets s t ≡ true) ↔ ((n : ℕ) × (IsIn n s × IsIn n t))
+
+-- Each span covers itself.
+abbrev pub CoversItself : Type 0
+CoversItself = (s : Ends) → covers s s ≡ true
+
+-- What a covered span covers, its cover covers.
+abbrev pub CoversFurther : Type 0
+CoversFurther = (s t u : Ends) → covers s t ≡ true → covers t u ≡ true → covers s u ≡ true
+
+-- Only equal spans cover each other.
+abbrev pub CoversBothWays : Type 0
+CoversBothWays = (s t : Ends) → covers s t ≡ true → covers t s ≡ true → s ≡ t
+
+-- Crossing has no direction.
+abbrev pub CrossesBothWays : Type 0
+CrossesBothWays = (s t : Ends) → crosses s t ≡ crosses t s
+
+-- Two spans that do not cross lie apart, or one covers the other.
+abbrev pub ApartOrNested : Type 0
+ApartOrNested =
+    (s t : Ends) → crosses s t ≡ false
+    → (meets s t ≡ false) ⊎ ((covers s t ≡ true) ⊎ (covers t s ≡ true))
+
+-- A span is no smaller than one that it covers, and as large only as itself.
+abbrev pub CoverIsLarger : Type 0
+CoverIsLarger =
+    (s t : Ends) → IsSpan t → covers s t ≡ true → (s ≡ t) ⊎ (size t < size s)
+
+-- A span of one number has the size one.
+abbrev pub OneNumber : Type 0
+OneNumber = (n : ℕ) → size (record { first = n; last = n }) ≡ 1
+
+-- A span that is cut in two has the sizes of its parts together: so the size counts numbers.
+abbrev pub SizesAdd : Type 0
+SizesAdd =
+    (a b c : ℕ) → a ≤ b → b < c
+    → size (record { first = a; last = c })
+    ≡ size (record { first = a; last = b }) + size (record { first = b + 1; last = c })

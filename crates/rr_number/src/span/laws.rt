@@ -1,0 +1,29 @@
+//! Laws of spans, for readers and for the proofs of other crates. Nothing calls these functions.
+
+ghost use Rattle.rr_number.specs.SpanLaws.{CoveringIsInclusion, MeetingIsSharing, CoversItself, CoversFurther, CoversBothWays, CrossesBothWays, ApartOrNested, CoverIsLarger, OneNumber, SizesAdd};
+
+/// Covering is inclusion of sets of numbers, and two spans meet where they share one.
+pub fn spans_are_sets()
+    ensures inclusion { CoveringIsInclusion }
+    ensures sharing { MeetingIsSharing }
+{}
+
+/// Covering is a partial order.
+pub fn covering_is_an_order()
+    ensures itself { CoversItself }
+    ensures further { CoversFurther }
+    ensures both { CoversBothWays }
+{}
+
+/// Two spans are apart, nested or crossing, and crossing has no direction.
+pub fn spans_are_apart_or_nested_or_cross()
+    ensures symmetric { CrossesBothWays }
+    ensures nested { ApartOrNested }
+{}
+
+/// The size counts the numbers, and a cover is larger than what it covers.
+pub fn size_counts_numbers()
+    ensures one { OneNumber }
+    ensures add { SizesAdd }
+    ensures larger { CoverIsLarger }
+{}

@@ -1,0 +1,37 @@
+-- The one text that a paragraph is printed as (profile).
+use Rattle.std.specs.Prelude.{ℕ, ◌+◌, ◌-◌, max, length, replicate, List, [], ◌∷◌, ◌++◌}
+use Rattle.std.specs.List.{flat_map}
+use Rattle.rr_text.specs.Fields.{Field}
+
+-- values begin in column 16
+abbrev pub value_column : ℕ
+value_column = 16
+
+-- a name, a colon, blanks up to the column of values and at least one, and the first line of the
+-- value; where that is empty the name and the colon stand alone
+abbrev pub opening_line : List ℕ → List ℕ → List ℕ
+opening_line name [] = name ++ 58 ∷ []
+opening_line name (b ∷ bs) =
+    (name ++ 58 ∷ []) ++ (replicate (max 1 (value_column - (length name + 1))) 32 ++ b ∷ bs)
+
+-- a further line of a value stands behind sixteen blanks, an empty one is `+`
+abbrev pub further_line : List ℕ → List ℕ
+further_line [] = 43 ∷ []
+further_line (b ∷ bs) = replicate value_column 32 ++ b ∷ bs
+
+-- a line with the LF that ends it
+abbrev pub ended : List ℕ → List ℕ
+ended line = line ++ 10 ∷ []
+
+abbrev pub value_text : List ℕ → List (List ℕ) → List ℕ
+value_text name [] = []
+value_text name (first ∷ further) =
+    ended (opening_line name first) ++ flat_map (λ line. ended (further_line line)) further
+
+-- an attribute is printed as one line for each line of its value
+abbrev pub field_text : Field → List ℕ
+field_text field = value_text field.name field.lines
+
+-- a paragraph is printed as its attributes one after another
+unfoldable pub canonical : List Field → List ℕ
+canonical fields = flat_map field_text fields

@@ -1,0 +1,63 @@
+-- What a text spells: one entry for each block, a paragraph or a fault (RFC 2622, 2).
+use Rattle.std.specs.Prelude.{ℕ, length, drop, nat_lt, List, [], ◌∷◌, Option, Some, None, Result, Ok, Err, map, if◌then◌else◌}
+use Rattle.std.specs.List.{after_first, concat}
+use Rattle.std.specs.Char.{to_ascii_lowercase}
+use Rattle.rr_text.specs.declared.fault.TextFault.{TextFault}
+use Rattle.rr_text.specs.declared.fault.TextFault.TheVariants.{TooLarge}
+use Rattle.rr_text.specs.declared.line.LineKind.{LineKind}
+use Rattle.rr_text.specs.declared.line.LineKind.TheVariants.{Blank, Skipped, Continuation, Opening}
+use Rattle.rr_text.specs.Bytes.{is_colon, trim}
+use Rattle.rr_text.specs.Lines.{text_lines, line_kind}
+use Rattle.rr_text.specs.Blocks.{blocks}
+use Rattle.rr_text.specs.Faults.{written_name, block_fault}
+use Rattle.rr_text.specs.Fields.{Field}
+
+-- the line of a value that a line opens with: what stands behind its first colon
+abbrev pub opened_value : List ℕ → List ℕ
+opened_value line = trim (after_first is_colon line)
+
+-- the line that a continuation adds to a value: all but its first byte
+abbrev pub added_value : List ℕ → List ℕ
+added_value line = trim (drop 1 line)
+
+abbrev pub continued_by : List ℕ → LineKind → List (List ℕ) → List (List ℕ)
+continued_by line Blank more = more
+continued_by line Skipped more = more
+continued_by line Continuation more = added_value line ∷ more
+continued_by line Opening more = []
+
+-- the lines that continue a value: of the continuations up to the next line that opens an attribute
+unfoldable pub continued : List (List ℕ) → List (List ℕ)
+continued [] = []
+continued (line ∷ others) = continued_by line (line_kind line) (continued others)
+
+abbrev pub opened_by : List ℕ → LineKind → List (List ℕ) → List Field → List Field
+opened_by line Blank more fields = fields
+opened_by line Skipped more fields = fields
+opened_by line Continuation more fields = fields
+opened_by line Opening more fields =
+    record { name = map to_ascii_lowercase (written_name line); lines = opened_value line ∷ more } ∷ fields
+
+-- each line that opens an attribute gives one, with the lines that continue its value
+unfoldable pub block_fields : List (List ℕ) → List Field
+block_fields [] = []
+block_fields (line ∷ others) = opened_by line (line_kind line) (continued others) (block_fields others)
+
+-- a paragraph has at most 65,536 bytes, the ends of its lines and skipped lines included (profile)
+abbrev pub size_limit : ℕ
+size_limit = 65536
+
+-- the fault if there is one, and else the paragraph
+abbrev pub unless_fault : Option TextFault → List Field → Result (List Field) TextFault
+unless_fault None fields = Ok fields
+unless_fault (Some fault) fields = Err fault
+
+-- the entry of a block: its size decides first, then its first faulty line
+unfoldable pub block_entry : List (List ℕ) → Result (List Field) TextFault
+block_entry lines =
+    if nat_lt size_limit (length (concat lines)) then Err TooLarge
+    else unless_fault (block_fault lines) (block_fields lines)
+
+-- the entries of a text, one for each block in order
+unfoldable pub entries : List ℕ → List (Result (List Field) TextFault)
+entries text = map block_entry (blocks (text_lines text))

@@ -1,0 +1,37 @@
+-- An attribute as plain data, and what is true of each (RFC 2622, 2).
+use Rattle.std.specs.Prelude.{ℕ, Bool, true, not, ◌≡◌, ◌<◌, length, List, [], ◌∷◌, map, if◌then◌else◌}
+use Rattle.std.specs.List.{list_any, AllByRecursion}
+use Rattle.std.specs.Str.{bytes_eq}
+use Rattle.std.specs.Char.{to_ascii_lowercase}
+use Rattle.rr_text.specs.Bytes.{is_name, is_refused, is_line_feed, trim}
+
+-- an attribute: its name, and its value as a list of lines
+pub record Field : Type 0 where
+  pub name : List ℕ
+  pub lines : List (List ℕ)
+
+-- a line of a value has no blanks round it, no LF and no refused byte
+pub record IsLine (line : List ℕ) : Type 0 where
+  pub trimmed : trim line ≡ line
+  pub unbroken : not (list_any is_line_feed line) ≡ true
+  pub clean : not (list_any is_refused line) ≡ true
+
+-- an attribute's name is a name in lower case, and its value has at least one line
+pub record IsField (field : Field) : Type 0 where
+  pub named : is_name field.name ≡ true
+  pub lower : map to_ascii_lowercase field.name ≡ field.name
+  pub some : 0 < length field.lines
+  pub good : AllByRecursion IsLine field.lines
+
+-- each attribute of a paragraph is one
+abbrev pub AreFields : List Field → Type 0
+AreFields fields = AllByRecursion IsField fields
+
+-- an attribute has this name, in lower case
+abbrev pub is_named : List ℕ → Field → Bool
+is_named name field = bytes_eq field.name name
+
+-- attributes of this name get this line as their value
+abbrev pub with_value : List ℕ → List ℕ → Field → Field
+with_value name line field =
+    if is_named name field then record { name = field.name; lines = line ∷ [] } else field

@@ -1,0 +1,9 @@
+pub mod Bytes
+pub mod Lines
+pub mod Blocks
+pub mod Faults
+pub mod Fields
+pub mod Entries
+pub mod Meanings
+pub mod CanonicalText
+pub mod WholePart

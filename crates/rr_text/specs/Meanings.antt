@@ -1,0 +1,12 @@
+-- What a value says (RFC 2622, 2).
+use Rattle.std.specs.Prelude.{ℕ, List, map}
+use Rattle.std.specs.List.{before_first, join_with_byte}
+use Rattle.rr_text.specs.Bytes.{is_hash, trim}
+
+-- a line less the comment that its first `#` begins
+abbrev pub uncommented : List ℕ → List ℕ
+uncommented line = trim (before_first is_hash line)
+
+-- a value means its lines less their comments, joined by one space (RFC 2622, 2)
+unfoldable pub value_meaning : List (List ℕ) → List ℕ
+value_meaning lines = trim (join_with_byte 32 (map uncommented lines))

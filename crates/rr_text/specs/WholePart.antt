@@ -1,0 +1,30 @@
+-- What counts of a text that broke off (profile).
+use Rattle.std.specs.Prelude.{ℕ, Bool, true, false, ◌&&◌, List, [], ◌∷◌, Result}
+use Rattle.std.specs.List.{list_any, concat}
+use Rattle.rr_text.specs.declared.fault.TextFault.{TextFault}
+use Rattle.rr_text.specs.Bytes.{is_line_feed}
+use Rattle.rr_text.specs.Lines.{text_lines, is_blank_line}
+use Rattle.rr_text.specs.Fields.{Field}
+use Rattle.rr_text.specs.Entries.{entries}
+
+-- a blank line whose LF was read ends the paragraph before it for good
+abbrev pub closes : List ℕ → Bool
+closes line = is_blank_line line && list_any is_line_feed line
+
+abbrev pub kept_before : Bool → List ℕ → List (List ℕ) → List (List ℕ)
+kept_before true line kept = line ∷ kept
+kept_before false line [] = []
+kept_before false line (next ∷ kept) = line ∷ (next ∷ kept)
+
+-- the lines up to the last one that closes, itself included
+unfoldable pub closed_lines : List (List ℕ) → List (List ℕ)
+closed_lines [] = []
+closed_lines (line ∷ others) = kept_before (closes line) line (closed_lines others)
+
+-- the front of a text that ends with the last blank line whose LF was read
+unfoldable pub whole_part : List ℕ → List ℕ
+whole_part text = concat (closed_lines (text_lines text))
+
+-- the entries that count after a read fault: those of the blocks that such a blank line follows
+abbrev pub whole_entries : List ℕ → List (Result (List Field) TextFault)
+whole_entries text = entries (whole_part text)

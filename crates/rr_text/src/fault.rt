@@ -1,0 +1,38 @@
+//! Why a paragraph cannot be read.
+
+ghost use Rattle.std.specs.Prelude.{◌≡◌};
+ghost use Rattle.rr_text.specs.declared.fault.TextFault.TheVariants.{Memory};
+
+use std::alloc::AllocError;
+use thiserror::Error;
+
+/// Why a paragraph of a text cannot be read.
+#[derive(Clone, Copy, Debug, PartialEq, Eq, Error)]
+pub enum TextFault {
+    /// It has more than 65,536 bytes.
+    #[error("the paragraph is too large")]
+    TooLarge,
+    /// A line that is not skipped has a control byte.
+    #[error("a line has a control byte")]
+    BadByte,
+    /// The first line continues a value that is not there.
+    #[error("the first line is a continuation")]
+    FirstContinues,
+    /// A line has no colon.
+    #[error("a line has no colon")]
+    NoColon,
+    /// What stands before the colon is no attribute name.
+    #[error("a line has a bad attribute name")]
+    BadName,
+    /// Memory ran out.
+    #[error("out of memory")]
+    Memory,
+}
+
+impl From<AllocError> for TextFault {
+    ghost from_gives = { λ _ e. e ≡ Memory };
+
+    fn from(_error: AllocError) -> TextFault {
+        TextFault::Memory
+    }
+}

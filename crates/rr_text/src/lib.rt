@@ -1,0 +1,19 @@
+//! RPSL text: paragraphs of attributes, read from text and printed as it (RFC 2622, section 2).
+#![tactic(auto)]
+
+pub mod attribute;
+pub mod canonical;
+pub mod fault;
+pub mod line;
+
+pub mod paragraph;
+pub mod text;
+pub mod value;
+
+pub use attribute::Attribute;
+pub use canonical::{print, read_canonical};
+pub use fault::TextFault;
+
+pub use paragraph::Paragraph;
+pub use text::Text;
+pub use value::meaning;

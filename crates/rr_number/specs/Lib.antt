@@ -1,3 +1,4 @@
+pub mod Names
 pub mod Operators
 pub mod Prefixes
 pub mod Ranges

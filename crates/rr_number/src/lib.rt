@@ -3,12 +3,14 @@
 #![tactic(auto)]
 
 mod address;
+pub mod name;
 mod operator;
 mod prefix;
 mod range;
 pub mod span;
 
 pub use address::Address;
+pub use name::Name;
 pub use operator::{LengthBounds, Operator};
 pub use prefix::Prefix;
 pub use range::Range;

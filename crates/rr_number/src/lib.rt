@@ -3,7 +3,7 @@
 #![tactic(auto)]
 
 mod address;
-pub mod name;
+mod name;
 mod operator;
 mod prefix;
 mod range;

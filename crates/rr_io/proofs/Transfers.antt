@@ -1,0 +1,77 @@
+-- Readings and writings joined one after the other.
+use Rattle.std.proofs.Common.{◌≡◌, ℕ, ◌+◌, ◌<◌, List, [], ◌++◌, length, refl, ap, sym, ◌∙◌, append_assoc, length-append, arith, add-one, get_or, drop, drop-cons}
+use Rattle.std.specs.List.{flat_map}
+use Rattle.std.proofs.lemmas.List.{append-nil}
+use Rattle.rr_io.specs.Told.{Told, Fails}
+use Rattle.rr_io.specs.Sending.{Takes, TakesFront}
+use Rattle.rr_io.specs.Receiving.{Gives}
+
+-- nothing was written yet
+pub Takes-none : (told : Told) → Takes told told []
+Takes-none told = record {
+  appended = λ xs e. rw append-nil e;
+  no_fault = refl;
+}
+
+-- one writing and then another
+pub Takes-then : {start middle end : Told} (xs ys : List ℕ) → Takes start middle xs → Takes middle end ys → Takes start end (xs ++ ys)
+Takes-then xs ys p q = record {
+  appended = λ zs e. rw (← append_assoc) (q.appended _ (p.appended zs e));
+  no_fault = q.no_fault ∙ p.no_fault;
+}
+
+-- one writing, and then another that a fault cut short
+pub TakesFront-then : {start middle end : Told} (xs ys : List ℕ) → Takes start middle xs → TakesFront middle end ys → TakesFront start end (xs ++ ys)
+TakesFront-then xs ys p q = record {
+  front = xs ++ q.front;
+  rest = q.rest;
+  whole = ap (λ zs. xs ++ zs) q.whole ∙ sym (append_assoc xs q.front q.rest);
+  some_left = q.some_left;
+  between = q.between;
+  takes = Takes-then _ _ p q.takes;
+  fails = q.fails;
+}
+
+-- what would have been written next is not taken either
+pub TakesFront-more : {start end : Told} (xs ys : List ℕ) → TakesFront start end xs → TakesFront start end (xs ++ ys)
+TakesFront-more xs ys p = record {
+  front = p.front;
+  rest = p.rest ++ ys;
+  whole = ap (λ zs. zs ++ ys) p.whole ∙ append_assoc p.front p.rest ys;
+  some_left = let l : 0 < length p.rest = p.some_left in rw length-append (omega arith);
+  between = p.between;
+  takes = p.takes;
+  fails = p.fails;
+}
+
+-- a writing that failed before its first byte
+pub TakesFront-fails : {start end : Told} (xs : List ℕ) → 0 < length xs → Fails start end → TakesFront start end xs
+TakesFront-fails {start} xs h p = record {
+  front = [];
+  rest = xs;
+  whole = refl;
+  some_left = h;
+  between = start;
+  takes = Takes-none start;
+  fails = p;
+}
+
+-- nothing was read yet
+pub Gives-none : (told : Told) → Gives told told []
+Gives-none told = record {
+  consumed = λ xs e. (xs, e, refl);
+  no_fault = refl;
+}
+
+-- one reading and then another
+pub Gives-then : {start middle end : Told} (xs ys : List ℕ) → Gives start middle xs → Gives middle end ys → Gives start end (xs ++ ys)
+Gives-then xs ys p q = record {
+  consumed = λ zs e. let a = p.consumed zs e in let b = q.consumed a.0 a.1 in
+      (b.0, b.1, a.2 ∙ (ap (λ r. xs ++ r) b.2 ∙ sym (append_assoc xs ys b.0)));
+  no_fault = q.no_fault ∙ p.no_fault;
+}
+
+-- the next piece, and those after it
+pub flat_map-next : {X : Type 0} (f : X → List ℕ) (xs : List X) (i : ℕ) (d : X) → i < length xs →
+    flat_map f (drop i xs) ≡ f (get_or xs i d) ++ flat_map f (drop (i + 1) xs)
+flat_map-next f xs i d h = rw (add-one, drop-cons xs i d h)

@@ -1,0 +1,11 @@
+use Rattle.std.proofs.Common.{◌≡◌, ℕ, List, ◌++◌, length}
+use Rattle.rr_io.specs.Sending.{Takes}
+use Rattle.rr_io.proofs.sending.write_all.Given as goal
+
+abbrev pub invariant-rest : goal.invariant-rest
+invariant-rest g l =
+    (taken : List ℕ) × (l.bytes ≡ taken ++ l.rest) × Takes (g.W.Sink.told l.initial.sink) (g.W.Sink.told l.sink) taken
+    × (g.W.Sink.aside l.sink ≡ g.W.Sink.aside l.initial.sink)
+
+abbrev pub decreases-rest : goal.decreases-rest
+decreases-rest g l = length l.rest

@@ -1,0 +1,5 @@
+pub mod Told
+pub mod Sending
+pub mod Receiving
+pub mod Counted
+pub mod Cut

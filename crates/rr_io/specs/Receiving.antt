@@ -1,0 +1,26 @@
+-- What a reader gives.
+use Rattle.std.specs.Prelude.{◌≡◌, ℕ, ◌^◌, ◌≤◌, List, [], ◌++◌, length, Some}
+use Rattle.rr_io.specs.Told.{Told, Fails}
+use Rattle.rr_io.specs.declared.receiving.ReadEnd.{ReadEnd}
+use Rattle.rr_io.specs.declared.receiving.ReadEnd.TheVariants.{Whole, Broken, Endless}
+
+-- these bytes were given, in this order, and no call failed
+pub record Gives (old new : Told) (bytes : List ℕ) : Type 0 where
+  pub consumed : (xs : List ℕ) → old.bytes ≡ Some xs → (rest : List ℕ) × (new.bytes ≡ Some rest) × (xs ≡ bytes ++ rest)
+  pub no_fault : new.faults ≡ old.faults
+
+-- no byte is left
+pub record IsSpent (told : Told) : Type 0 where
+  pub none_left : (xs : List ℕ) → told.bytes ≡ Some xs → xs ≡ []
+
+-- these bytes were given, and then a call failed
+pub record BreaksOff (old new : Told) (bytes : List ℕ) : Type 0 where
+  pub between : Told
+  pub gives : Gives old between bytes
+  pub fails : Fails between new
+
+-- the reading of these bytes, by how it ended (profile: Endless after 16,777,216 reads, each of which gave a byte)
+abbrev pub Reads : Told → Told → List ℕ → ReadEnd → Type 0
+Reads old new bytes Whole = Gives old new bytes × IsSpent new
+Reads old new bytes Broken = BreaksOff old new bytes
+Reads old new bytes Endless = Gives old new bytes × (2 ^ 24 ≤ length bytes)

@@ -1,0 +1,27 @@
+-- What a writer takes.
+use Rattle.std.specs.Prelude.{◌≡◌, ℕ, ◌<◌, List, ◌++◌, length, Result, Ok, Err, Some, ◌⊎◌}
+use Rattle.rr_io.specs.Told.{Told, Fails}
+
+-- these bytes were taken, in this order, and no call failed
+pub record Takes (old new : Told) (bytes : List ℕ) : Type 0 where
+  pub appended : (xs : List ℕ) → old.bytes ≡ Some xs → new.bytes ≡ Some (xs ++ bytes)
+  pub no_fault : new.faults ≡ old.faults
+
+-- a front of these bytes was taken, and not all of them: then a call failed
+pub record TakesFront (old new : Told) (bytes : List ℕ) : Type 0 where
+  pub front : List ℕ
+  pub rest : List ℕ
+  pub whole : bytes ≡ front ++ rest
+  pub some_left : 0 < length rest
+  pub between : Told
+  pub takes : Takes old between front
+  pub fails : Fails between new
+
+-- all of these bytes were taken, or a front of them before a call failed
+abbrev pub TakesSome : Told → Told → List ℕ → Type 0
+TakesSome old new bytes = Takes old new bytes ⊎ TakesFront old new bytes
+
+-- the writing of these bytes: whole where it is `Ok`, cut short by a fault where it is `Err`
+abbrev pub Writes : {T E : Type 0} → Told → Told → List ℕ → Result T E → Type 0
+Writes old new bytes (Ok _) = Takes old new bytes
+Writes old new bytes (Err _) = TakesFront old new bytes

@@ -1,0 +1,94 @@
+// A reader or a writer that is cut short, for tests.
+ghost use Rattle.std.specs.Prelude.{◌≡◌, ◌<◌, ◌≤◌, ◌+◌, ◌-◌, ◌^◌};
+
+use super::{Sink, Source};
+use std::io;
+use std::io::ErrorKind;
+
+/// A reader or a writer for tests: it passes at most `step` bytes in a call, and fails in each call once `left` bytes
+/// have passed.
+#[derive(Drop)]
+pub struct Cut<T> {
+    inner: T,
+    step: usize,
+    left: usize,
+    failed: u64,
+    ghost moves: { 0 < step },
+}
+
+impl<T> Cut<T> {
+    ghost use Rattle.rr_io.specs.Cut.{cut_inner, cut_faults};
+
+    /// `inner`, cut after `left` bytes, at most `step` of them in a call.
+    pub fn new(inner: T, step: usize, left: usize) -> Self
+        requires { 0 < step }
+        ensures inner { cut_inner result ≡ inner }
+        ensures faults { cut_faults result ≡ 0 }
+    {
+        Cut {
+            inner,
+            step,
+            left,
+            failed: 0,
+        }
+    }
+
+    /// The reader or writer itself.
+    pub fn into_inner(self) -> T
+        ensures { result ≡ cut_inner self }
+    {
+        let Cut { inner, .. } = self;
+        inner
+    }
+
+    // The failure of a call past the cut.
+    fn fail(&mut self) -> io::Error
+        ensures inner { self.new.inner ≡ self.old.inner }
+        ensures none_forgotten { self.old.failed ≤ self.new.failed }
+        ensures counted { self.old.failed < 2 ^ 64 - 1 → self.old.failed < self.new.failed }
+    {
+        self.failed = self.failed.saturating_add(1);
+        io::Error::from(ErrorKind::BrokenPipe)
+    }
+
+    // How many bytes a call over `room` bytes may pass.
+    fn passing(&self, room: usize) -> usize
+        ensures bound { result ≤ room }
+        ensures within { result ≤ self.now.left }
+        ensures some { 0 < self.now.left → 0 < room → 0 < result }
+    {
+        room.min(self.step).min(self.left)
+    }
+}
+
+impl<T: Source> Source for Cut<T> {
+    ghost told = { λ c. record { bytes = (T.told c.inner).bytes; faults = (T.told c.inner).faults + c.failed } };
+
+    ghost aside = { λ c. T.aside c.inner };
+
+    fn read(&mut self, buf: &mut [u8]) -> io::Result<usize> {
+        if self.left == 0 {
+            return Err(self.fail());
+        }
+        let passing = self.passing(buf.len());
+        let count = self.inner.read(&mut buf[..passing])?;
+        self.left -= count;
+        Ok(count)
+    }
+}
+
+impl<T: Sink> Sink for Cut<T> {
+    ghost told = { λ c. record { bytes = (T.told c.inner).bytes; faults = (T.told c.inner).faults + c.failed } };
+
+    ghost aside = { λ c. T.aside c.inner };
+
+    fn write(&mut self, bytes: &[u8]) -> io::Result<usize> {
+        if self.left == 0 {
+            return Err(self.fail());
+        }
+        let passing = self.passing(bytes.len());
+        let count = self.inner.write(&bytes[..passing])?;
+        self.left -= count;
+        Ok(count)
+    }
+}

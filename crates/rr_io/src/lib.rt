@@ -1,0 +1,16 @@
+//! Readers and writers that count their failed calls, and whole transfers over them.
+#![tactic(auto)]
+
+mod counting;
+mod cutting;
+mod joining;
+mod receiving;
+mod sending;
+mod streams;
+
+pub use counting::Counted;
+pub use cutting::Cut;
+pub use joining::Pair;
+pub use receiving::{READ_LIMIT, READ_SIZE, ReadEnd, read_to_end};
+pub use sending::{write_all, write_pieces};
+pub use streams::{Connection, Sink, Source};

@@ -1,0 +1,48 @@
+// Readers and writers as contracts see them.
+ghost use Rattle.std.specs.Prelude.{◌≡◌, ◌<◌, ◌≤◌, take, length, IfOk, OnErr};
+ghost use Rattle.rr_io.specs.Told.{Told, Fails, untold};
+ghost use Rattle.rr_io.specs.Sending.{Takes};
+ghost use Rattle.rr_io.specs.Receiving.{Gives, IsSpent};
+
+use std::io;
+
+/// A reader. An error of any kind is a fault, and leaves what there is to read as it was.
+pub trait Source {
+    // The bytes that are left to read, and the count of failed reads.
+    ghost told: { Self → Told };
+
+    // What stands beside the reader and is left alone by a read.
+    ghost aside: { Self → Told } = { λ _. untold };
+
+    /// Reads some bytes into the front of `buf` and says how many: none only at the end, or into an empty `buf`.
+    fn read(&mut self, buf: &mut [u8]) -> io::Result<usize>
+        ensures bound { IfOk result (λ count. count ≤ length buf.new) }
+        ensures gives { IfOk result (λ count. Gives (told self.old) (told self.new) (take count buf.new)) }
+        ensures spent { IfOk result (λ count. count ≡ 0 → 0 < length buf.new → IsSpent (told self.new)) }
+        ensures fails { OnErr result (Fails (told self.old) (told self.new)) }
+        ensures aside { aside self.new ≡ aside self.old };
+}
+
+/// A writer. An error of any kind is a fault, and so is a write of at least one byte that takes none.
+pub trait Sink {
+    // The bytes that were taken, and the count of failed writes.
+    ghost told: { Self → Told };
+
+    // What stands beside the writer and is left alone by a write.
+    ghost aside: { Self → Told } = { λ _. untold };
+
+    /// Takes some bytes from the front of `bytes` and says how many: none only of no bytes.
+    fn write(&mut self, bytes: &[u8]) -> io::Result<usize>
+        ensures bound { IfOk result (λ count. count ≤ length bytes.now) }
+        ensures some { IfOk result (λ count. 0 < length bytes.now → 0 < count) }
+        ensures takes { IfOk result (λ count. Takes (told self.old) (told self.new) (take count bytes.now)) }
+        ensures fails { OnErr result (Fails (told self.old) (told self.new)) }
+        ensures aside { aside self.new ≡ aside self.old };
+}
+
+/// A reader and a writer in one value, each of which leaves the other alone.
+pub trait Connection: Source + Sink {
+    ghost read_leaves_sink: { (c : Self) → Self.Source.aside c ≡ Self.Sink.told c };
+
+    ghost write_leaves_source: { (c : Self) → Self.Sink.aside c ≡ Self.Source.told c };
+}

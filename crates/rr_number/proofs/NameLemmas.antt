@@ -1,12 +1,12 @@
 -- What upper case changes of a name: nothing that the rules ask for.
-use Rattle.std.proofs.Common.{◌≡◌, ℕ, ◌-◌, Bool, true, false, ◌&&◌, List, [], ◌∷◌, length, zero, suc, refl, ◌∙◌, arith}
+use Rattle.std.proofs.Common.{◌≡◌, ℕ, ◌-◌, Bool, true, false, ◌&&◌, List, [], ◌∷◌, length, zero, suc, refl, ◌∙◌, arith, sym, cond, Some, ap, None, subst}
 use Rattle.std.proofs.lemmas.Bool.Decides.{nat_tests}
 use Rattle.std.proofs.lemmas.List.{length-map}
 use Rattle.std.specs.Prelude.{slice_get}
 use Rattle.std.specs.Char.{is_ascii_alphabetic, is_ascii_alphanumeric, to_ascii_uppercase}
 use Rattle.std.specs.List.{list_all}
 use Rattle.std.specs.Option.{option_map_or}
-use Rattle.rr_number.specs.Names.{upper, is_name, is_name_byte, IsUpperName}
+use Rattle.rr_number.specs.Names.{upper, is_name, is_name_byte, IsUpperName, name_of}
 
 upper_byte-again : (b : ℕ) → to_ascii_uppercase (to_ascii_uppercase b) ≡ to_ascii_uppercase b
 upper_byte-again b = grind (arith, nat_tests)
@@ -41,3 +41,22 @@ is_name-upper bs =
 
 pub IsUpperName-upper : (bs : List ℕ) → is_name bs ≡ true → IsUpperName (upper bs)
 IsUpperName-upper bs named = record { spelled = is_name-upper bs ∙ named; upper_case = upper-upper bs }
+
+pub name_of-upper_name : (name : List ℕ) → IsUpperName name → name_of name ≡ Some name
+name_of-upper_name name is = rw is.spelled (ap Some is.upper_case)
+
+-- letter case makes no difference to whether a text is a name
+pub is_name-case : (a b : List ℕ) → upper a ≡ upper b → is_name a ≡ is_name b
+is_name-case a b same = sym (is_name-upper a) ∙ ap is_name same ∙ is_name-upper b
+
+pub name_of-case : (a b : List ℕ) → upper a ≡ upper b → name_of a ≡ name_of b
+name_of-case a b same =
+    ap (λ t. cond t (Some (upper a)) None) (is_name-case a b same) ∙ ap (λ t. cond (is_name b) (Some t) None) same
+
+chosen_name : (t : Bool) (bs name : List ℕ) → is_name bs ≡ t → cond t (Some (upper bs)) None ≡ Some name → IsUpperName name
+chosen_name true bs name named found =
+    let same : upper bs ≡ name = cc in subst IsUpperName same (IsUpperName-upper bs named)
+chosen_name false bs name named found = absurd (cc)
+
+pub name_of-kept : (bs name : List ℕ) → name_of bs ≡ Some name → IsUpperName name
+name_of-kept bs name found = chosen_name (is_name bs) bs name refl found

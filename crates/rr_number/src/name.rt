@@ -1,6 +1,6 @@
 //! Names: of maintainers and sources, and the words that they may not be.
 
-ghost use Rattle.std.specs.Prelude.{◌≡◌, nat_eq, IfOk};
+ghost use Rattle.std.specs.Prelude.{◌≡◌, ℕ, nat_eq, IfOk, List, Some};
 ghost use Rattle.std.proofs.Common.{rules};
 ghost use Rattle.std.specs.Cmp.{partial_order_from_own_ties};
 ghost use Rattle.std.specs.Cmp.Lexicographic.{pointwise, slice_cmp};
@@ -210,3 +210,10 @@ fn is_among(word: &[u8], words: &[&[u8]]) -> bool
 {
     words.iter().any(|other| word == *other)
 }
+
+/// A name is read again from its bytes, and letter case makes no difference to what is read.
+pub fn names_are_read_again()
+    ensures again { (name : List ℕ) → IsUpperName name → name_of name ≡ Some name }
+    ensures case_ignored { (a b : List ℕ) → upper a ≡ upper b → name_of a ≡ name_of b }
+    ensures kept { (bs name : List ℕ) → name_of bs ≡ Some name → IsUpperName name }
+{}

@@ -1,1 +1,3 @@
+pub mod CutsLemmas
+pub mod Decimals
 pub mod NameLemmas

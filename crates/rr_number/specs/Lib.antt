@@ -1,4 +1,6 @@
+pub mod Cuts
 pub mod Names
+pub mod Numerals
 pub mod Operators
 pub mod Prefixes
 pub mod Ranges

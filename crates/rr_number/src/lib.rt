@@ -3,10 +3,12 @@
 #![tactic(auto)]
 
 mod address;
+mod digits;
 mod name;
 mod operator;
 mod prefix;
 mod range;
+mod short_text;
 pub mod span;
 
 pub use address::Address;
@@ -14,4 +16,5 @@ pub use name::Name;
 pub use operator::{LengthBounds, Operator};
 pub use prefix::Prefix;
 pub use range::Range;
+pub use short_text::ShortText;
 pub use span::Span;

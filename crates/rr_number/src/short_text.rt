@@ -1,0 +1,65 @@
+//! Printed text on the stack.
+ghost use Rattle.std.specs.Prelude.{◌≡◌, ◌+◌, ◌≤◌, [], ◌++◌, length};
+ghost use Rattle.std.specs.Fmt.{decimal};
+
+use arrayvec::ArrayString;
+use itoa::Buffer;
+use std::marker::Model;
+
+/// The printed text of a number: at most 40 bytes, which lie in the value itself, so printing takes no memory.
+#[derive(Clone, Drop)]
+pub struct ShortText {
+    text: ArrayString<40>,
+}
+
+impl Model for ShortText {
+    ghost use Rattle.std.specs.Prelude.{ℕ, List};
+
+    ghost Value = { List ℕ };
+
+    ghost view = { λ t. t.text.bytes };
+}
+
+impl ShortText {
+    /// The empty text.
+    pub(crate) fn new() -> Self
+        ensures { result ≡ [] }
+    {
+        ShortText {
+            text: ArrayString::new(),
+        }
+    }
+
+    /// Appends the piece.
+    pub(crate) fn push_str(&mut self, piece: &str)
+        requires { length self.old + length piece.now ≤ 40 }
+        ensures { self.new ≡ self.old ++ piece.now }
+    {
+        self.text.push_str(piece);
+    }
+
+    /// Appends the number's decimal digits.
+    pub(crate) fn push_number(&mut self, number: u32)
+        requires { length self.old + length (decimal number) ≤ 40 }
+        ensures { self.new ≡ self.old ++ decimal number }
+    {
+        let mut buffer = Buffer::new();
+        self.text.push_str(buffer.format(number));
+    }
+
+    /// The text.
+    pub fn as_str(&self) -> &str
+        ensures value { result.now ≡ self.now }
+        ensures short { length self.now ≤ 40 }
+    {
+        self.text.as_str()
+    }
+
+    /// The bytes of the text.
+    pub fn as_bytes(&self) -> &[u8]
+        ensures value { result.now ≡ self.now }
+        ensures short { length self.now ≤ 40 }
+    {
+        self.text.as_str().as_bytes()
+    }
+}

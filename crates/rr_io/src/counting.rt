@@ -23,6 +23,13 @@ impl<T> Counted<T> {
         Counted { inner, failed: 0 }
     }
 
+    /// How many calls failed, up to `u64::MAX`.
+    pub fn faults(&self) -> u64
+        ensures { result ≡ counted_faults self.now }
+    {
+        self.failed
+    }
+
     /// The reader or writer itself.
     pub fn into_inner(self) -> T
         ensures { result ≡ counted_inner self }

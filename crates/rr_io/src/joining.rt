@@ -5,6 +5,7 @@ use super::{Connection, Sink, Source};
 use std::io;
 
 /// A reader and a writer that are used as one connection.
+#[derive(Drop)]
 pub struct Pair<'a, R, W> {
     pub reader: &'a mut R,
     pub writer: &'a mut W,

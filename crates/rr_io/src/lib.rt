@@ -14,3 +14,6 @@ pub use joining::Pair;
 pub use receiving::{READ_LIMIT, READ_SIZE, ReadEnd, read_to_end};
 pub use sending::{write_all, write_pieces};
 pub use streams::{Connection, Sink, Source};
+
+#[cfg(test)]
+mod tests;

@@ -1,0 +1,103 @@
+// Readers and writers that fail, which no clause can make.
+use super::*;
+use std::alloc::AllocError;
+use std::io;
+use std::io::{ErrorKind, Read, Write};
+
+// Gives `ab`, is interrupted, and would give `ab` again.
+#[derive(Drop)]
+struct Interrupted {
+    calls: u8,
+}
+
+impl Read for Interrupted {
+    fn read(&mut self, buf: &mut [u8]) -> io::Result<usize> {
+        if self.calls == 1 || buf.len() < 2 {
+            return Err(io::Error::from(ErrorKind::Interrupted));
+        }
+        self.calls = 1;
+        buf[0] = b'a';
+        buf[1] = b'b';
+        Ok(2)
+    }
+}
+
+// Takes nothing.
+#[derive(Drop)]
+struct Full;
+
+impl Write for Full {
+    fn write(&mut self, _buf: &[u8]) -> io::Result<usize> {
+        Ok(0)
+    }
+
+    fn flush(&mut self) -> io::Result<()> {
+        Ok(())
+    }
+}
+
+#[test]
+fn reads_and_writes_whole_texts(rt: HostRuntime) -> Result<(), AllocError> {
+    let mut source = Counted::new(&b"abcdef"[..]);
+    let (bytes, end) = read_to_end(rt.alloc(), &mut source)?;
+    assert_eq!(rt; bytes.as_slice(), &b"abcdef"[..]);
+    assert_eq!(rt; end, ReadEnd::Whole);
+    assert!(rt; end.is_whole());
+
+    let mut sink = Cut::new(Counted::new(Vec::new(rt.alloc())), 4, 100);
+    assert!(rt; write_all(&mut sink, b"ab").is_ok());
+    assert!(rt; write_pieces(&mut sink, &[b"cdefg", b"", b"h"]).is_ok());
+    assert_eq!(rt; sink.into_inner().into_inner().as_slice(), &b"abcdefgh"[..]);
+    Ok(())
+}
+
+#[test]
+fn a_failed_read_ends_the_reading(rt: HostRuntime) -> Result<(), AllocError> {
+    let mut source = Cut::new(Counted::new(&b"abcdef"[..]), 3, 4);
+    let (bytes, end) = read_to_end(rt.alloc(), &mut source)?;
+    assert_eq!(rt; bytes.as_slice(), &b"abcd"[..]);
+    assert_eq!(rt; end, ReadEnd::Broken);
+    assert_eq!(rt; source.into_inner().faults(), 0);
+    Ok(())
+}
+
+#[test]
+fn an_interrupted_read_is_a_fault(rt: HostRuntime) -> Result<(), AllocError> {
+    let mut source = Counted::new(Interrupted { calls: 0 });
+    let (bytes, end) = read_to_end(rt.alloc(), &mut source)?;
+    assert_eq!(rt; bytes.as_slice(), &b"ab"[..]);
+    assert_eq!(rt; end, ReadEnd::Broken);
+    assert_eq!(rt; source.faults(), 1);
+    Ok(())
+}
+
+#[test]
+fn a_failed_write_leaves_a_front(rt: HostRuntime) {
+    let mut sink = Cut::new(Counted::new(Vec::new(rt.alloc())), 2, 5);
+    assert!(rt; write_pieces(&mut sink, &[b"ab", b"cdef", b"gh"]).is_err());
+    assert!(rt; write_all(&mut sink, b"x").is_err());
+    assert_eq!(rt; sink.into_inner().into_inner().as_slice(), &b"abcde"[..]);
+}
+
+#[test]
+fn a_write_that_takes_nothing_is_a_fault(rt: HostRuntime) {
+    let mut sink = Counted::new(Full);
+    assert!(rt; write_all(&mut sink, b"").is_ok());
+    assert_eq!(rt; sink.faults(), 0);
+    assert!(rt; write_all(&mut sink, b"a").is_err());
+    assert_eq!(rt; sink.faults(), 1);
+}
+
+#[test]
+fn a_pair_reads_and_writes_its_sides(rt: HostRuntime) {
+    let mut reader = Counted::new(&b"ab"[..]);
+    let mut writer = Counted::new(Vec::new(rt.alloc()));
+    let mut connection = Pair {
+        reader: &mut reader,
+        writer: &mut writer,
+    };
+    let mut block = [0u8; 4];
+    assert_eq!(rt; connection.read(&mut block).unwrap_or(0), 2);
+    assert!(rt; write_all(&mut connection, &block[..2]).is_ok());
+    assert_eq!(rt; writer.into_inner().as_slice(), &b"ab"[..]);
+}

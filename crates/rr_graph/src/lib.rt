@@ -1,0 +1,104 @@
+//! Which nodes of a directed graph are reached from given nodes, over any graph whose successors can be listed.
+#![tactic(auto)]
+
+ghost use Rattle.std.specs.Prelude.{◌≡◌, ◌↔◌, Contains, IfOk, OnOk};
+ghost use Rattle.std.proofs.lemmas.Map.Lookups.{CmpEqualImpliesEq};
+ghost use Rattle.rr_graph.specs.Chain.{HasNoRepeats, IsReached, MoreThan};
+
+mod walk;
+
+use std::alloc::{AllocError, AllocFailed, Global};
+use std::error::Error;
+use std::fmt;
+use walk::Found;
+
+/// A directed graph whose successors can be listed.
+pub trait Graph {
+    /// A node. Two nodes compare `Equal` only where they are the same.
+    type Node: Ord + Drop;
+
+    /// An edge leads from the first node to the second.
+    ghost edge: { Self → Self.Node → Self.Node → Type 0 };
+
+    /// Lists the nodes to which an edge leads from `node`, in any order, where a node may come twice.
+    fn successors(&self, alloc: Global, node: &Self::Node) -> Result<Vec<Self::Node>, AllocError>
+        ensures { IfOk result (λ nodes. (next : Self.Node) → Contains nodes.items next ↔ edge self.now node.now next) };
+
+    /// Makes an equal node.
+    fn copy(&self, alloc: Global, node: &Self::Node) -> Result<Self::Node, AllocError>
+        ensures { IfOk result (λ same. same ≡ node.now) };
+
+    /// The order tells nodes apart.
+    ghost exact: { CmpEqualImpliesEq Self.Node.cmp };
+}
+
+/// Why the reached nodes are not listed.
+#[derive(Clone, Copy, Debug, PartialEq, Eq)]
+pub enum ReachFault {
+    /// More nodes are reached than the limit.
+    TooMany,
+    /// Memory was refused.
+    Memory,
+}
+
+impl fmt::Display for ReachFault {
+    fn fmt<W: fmt::Write>(&self, f: &mut fmt::Formatter<W>) -> fmt::Result {
+        match self {
+            ReachFault::TooMany => write!(f, "too many nodes are reached"),
+            ReachFault::Memory => write!(f, "memory was refused"),
+        }
+    }
+}
+
+impl Error for ReachFault {}
+
+impl From<AllocError> for ReachFault {
+    ghost use Rattle.std.specs.Prelude.{◌≡◌};
+    ghost use Rattle.rr_graph.specs.declared.ReachFault.TheVariants.{Memory};
+
+    ghost from_gives = { λ _ fault. fault ≡ Memory };
+
+    fn from(_refused: AllocError) -> ReachFault {
+        ReachFault::Memory
+    }
+}
+
+impl<T: Drop> From<AllocFailed<T>> for ReachFault {
+    ghost use Rattle.std.specs.Prelude.{◌≡◌};
+    ghost use Rattle.rr_graph.specs.declared.ReachFault.TheVariants.{Memory};
+
+    ghost from_gives = { λ _ fault. fault ≡ Memory };
+
+    fn from(_refused: AllocFailed<T>) -> ReachFault {
+        ReachFault::Memory
+    }
+}
+
+/// Lists each node that a chain of edges leads to from one of `starts`, the starts themselves included, once and in
+/// no promised order. It takes O((V + E) log V) steps for V nodes reached and E edges between them.
+///
+/// The fault is `TooMany` exactly where more than `limit` nodes are reached, want of memory aside.
+pub fn reach<G: Graph>(
+    alloc: Global,
+    graph: &G,
+    starts: Vec<G::Node>,
+    limit: usize,
+) -> Result<Vec<G::Node>, ReachFault>
+    ensures found { IfOk result (λ nodes. (node : G.Node) → Contains nodes.items node ↔ IsReached (G.edge graph.now) starts.items node) }
+    ensures once { IfOk result (λ nodes. HasNoRepeats nodes.items) }
+    ensures few { OnOk result (¬ MoreThan limit (IsReached (G.edge graph.now) starts.items)) }
+    ensures many { result ≡ Err ReachFault.TooMany → MoreThan limit (IsReached (G.edge graph.now) starts.items) }
+{
+    let mut found = Found::new(alloc);
+    found.add_all(alloc, graph, starts, limit)?;
+    let mut done = 0;
+    while done < found.list.len() {
+        let nodes = graph.successors(alloc, &found.list[done])?;
+        found.add_all(alloc, graph, nodes, limit)?;
+        done += 1;
+    }
+    Ok(found.into_list())
+}
+
+#[cfg(test)]
+mod tests;

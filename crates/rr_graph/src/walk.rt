@@ -1,0 +1,81 @@
+//! The nodes that a walk has found so far.
+
+ghost use Rattle.std.specs.Prelude.{◌≡◌, [], ◌∷◌, ◌⊎◌, Contains, OnOk};
+ghost use Rattle.rr_graph.specs.Chain.{MoreThan};
+ghost use Rattle.rr_graph.specs.Listing.{IsListing, Lists};
+
+use crate::{Graph, ReachFault};
+use std::alloc::Global;
+use std::collections::BTreeSet;
+
+/// The nodes found, in the order in which they were, and an index that tells which they are.
+#[derive(Drop)]
+pub struct Found<N: Ord + Drop> {
+    pub list: Vec<N>,
+    pub index: BTreeSet<N>,
+}
+
+impl<N: Ord + Drop> Found<N> {
+    /// No nodes.
+    pub fn new(alloc: Global) -> Self
+        ensures list { result.list.items ≡ [] }
+        ensures index { result.index.keys ≡ [] }
+    {
+        Found {
+            list: Vec::new(alloc),
+            index: BTreeSet::new(alloc),
+        }
+    }
+
+    /// Adds each of the nodes that is not there yet. On a fault some of them are added.
+    pub fn add_all<G: Graph<Node = N>>(
+        &mut self,
+        alloc: Global,
+        graph: &G,
+        nodes: Vec<N>,
+        limit: usize,
+    ) -> Result<(), ReachFault>
+        requires { IsListing N.cmp limit self.old.list.items self.old.index }
+        ensures listing { OnOk result (IsListing N.cmp limit self.new.list.items self.new.index) }
+        ensures added { OnOk result (Lists self.old.list.items nodes.items self.new.list.items) }
+        ensures many { result ≡ Err ReachFault.TooMany → MoreThan limit (λ node. Contains self.old.list.items node ⊎ Contains nodes.items node) }
+    {
+        let mut nodes = nodes;
+        while let Some(node) = nodes.pop() {
+            self.add(alloc, graph, node, limit)?;
+        }
+        Ok(())
+    }
+
+    /// Adds the node, unless it is there.
+    fn add<G: Graph<Node = N>>(
+        &mut self,
+        alloc: Global,
+        graph: &G,
+        node: N,
+        limit: usize,
+    ) -> Result<(), ReachFault>
+        requires { IsListing N.cmp limit self.old.list.items self.old.index }
+        ensures listing { OnOk result (IsListing N.cmp limit self.new.list.items self.new.index) }
+        ensures added { OnOk result (Lists self.old.list.items (node ∷ []) self.new.list.items) }
+        ensures many { result ≡ Err ReachFault.TooMany → MoreThan limit (λ other. Contains self.old.list.items other ⊎ (other ≡ node)) }
+    {
+        if self.index.contains(&node) {
+            return Ok(());
+        }
+        if self.list.len() >= limit {
+            return Err(ReachFault::TooMany);
+        }
+        self.index.insert(graph.copy(alloc, &node)?)?;
+        self.list.push(node)?;
+        Ok(())
+    }
+
+    /// The nodes in the order in which they were found.
+    pub fn into_list(self) -> Vec<N>
+        ensures { result ≡ self.list }
+    {
+        let Found { list, index: _ } = self;
+        list
+    }
+}

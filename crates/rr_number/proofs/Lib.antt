@@ -1,3 +1,5 @@
+pub mod AsNumberLemmas
 pub mod CutsLemmas
 pub mod Decimals
+pub mod LetterCase
 pub mod NameLemmas

@@ -1,3 +1,4 @@
+pub mod AsNumbers
 pub mod Cuts
 pub mod Names
 pub mod Numerals

@@ -3,7 +3,9 @@
 #![tactic(auto)]
 
 mod address;
+mod as_number;
 mod digits;
+mod letter_case;
 mod name;
 mod operator;
 mod prefix;
@@ -12,6 +14,7 @@ mod short_text;
 pub mod span;
 
 pub use address::Address;
+pub use as_number::AsNumber;
 pub use name::Name;
 pub use operator::{LengthBounds, Operator};
 pub use prefix::Prefix;

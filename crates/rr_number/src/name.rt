@@ -8,10 +8,13 @@ ghost use Rattle.std.specs.Cmp.Rules.{comparing};
 ghost use Rattle.std.specs.List.{list_all, list_any};
 ghost use Rattle.std.specs.Ordering.{as_partial_cmp, nat_cmp};
 ghost use Rattle.std.specs.Str.{bytes_eq};
+ghost use Rattle.rr_io.specs.Sending.{Writes};
 ghost use Rattle.rr_number.specs.Names.{begins_with_letter, ends_with_alphanumeric, is_maintainer_name, is_name, is_name_byte, is_reserved, maintainer_name_of, name_of, upper, IsUpperName};
 
+use rr_io::{Sink, write_all};
 use std::alloc::{AllocError, Global};
 use std::cmp::Ordering;
+use std::io;
 use std::marker::Model;
 
 /// The most bytes that a name has (profile).
@@ -104,6 +107,14 @@ impl Name {
         ensures { result ≡ is_maintainer_name self.now }
     {
         !self.is_reserved() && !self.bytes.starts_with(b"AS-") && !self.bytes.starts_with(b"RS-")
+    }
+
+    /// Writes the name. After a fault the writer has taken a front of it.
+    pub fn print_to<W: Sink>(&self, writer: &mut W) -> io::Result<()>
+        ensures writes { Writes (W.told writer.old) (W.told writer.new) self.now result }
+        ensures aside { W.aside writer.new ≡ W.aside writer.old }
+    {
+        write_all(writer, &self.bytes)
     }
 
     /// An equal name.

@@ -1,0 +1,23 @@
+-- AS numbers.
+use Rattle.std.specs.Prelude.{◌≡◌, ℕ, ◌+◌, List, ◌++◌, take, drop, codes, Option, None, if◌then◌else◌, decimal}
+use Rattle.std.specs.Str.{bytes_eq}
+use Rattle.rr_number.specs.Names.{upper}
+use Rattle.rr_number.specs.Numerals.{IsNumber, number_of}
+
+-- The greatest AS number: one of two octets (RFC 2622, 2).
+abbrev pub greatest_as_number : ℕ
+greatest_as_number = 65535
+
+-- An AS number is spelled as `AS`, in any letter case, and one to ten (profile) digits (RFC 2622, 2).
+pub record IsAsNumber (text : List ℕ) (n : ℕ) : Type 0 where
+  pub begins : upper (take 2 text) ≡ codes "AS"
+  pub number : IsNumber 10 (greatest_as_number + 1) (drop 2 text) n
+
+-- The AS number that a text spells, if it spells one.
+unfoldable pub as_number_of : List ℕ → Option ℕ
+as_number_of text =
+    if bytes_eq (upper (take 2 text)) (codes "AS") then number_of 10 (greatest_as_number + 1) (drop 2 text) else None
+
+-- An AS number is printed without leading zeros (RFC 5396, 2).
+abbrev pub as_number_text : ℕ → List ℕ
+as_number_text n = codes "AS" ++ decimal n

@@ -1,0 +1,119 @@
+//! AS numbers.
+ghost use Rattle.std.specs.Prelude.{◌≡◌, ◌+◌, ◌≤◌, ℕ, IfSome, Some, SomeIff};
+ghost use Rattle.rr_io.specs.Sending.{Writes};
+ghost use Rattle.rr_number.specs.Numerals.{number_of};
+ghost use Rattle.rr_number.specs.AsNumbers.{as_number_of, as_number_text, greatest_as_number, IsAsNumber};
+
+use crate::digits::read_number;
+use crate::letter_case::spells;
+use crate::short_text::ShortText;
+use rr_io::{Sink, write_all};
+use std::io;
+use std::marker::Model;
+
+/// The greatest AS number (RFC 2622, 2).
+const GREATEST: u32 = 65_535;
+
+/// The most digits that an AS number is spelled in (profile).
+const MOST_DIGITS: usize = 10;
+
+/// The number of an autonomous system.
+#[derive(Clone, Copy, Debug, PartialEq, Eq, PartialOrd, Ord)]
+pub struct AsNumber {
+    number: u32,
+}
+
+impl Model for AsNumber {
+    ghost use Rattle.std.specs.Prelude.{ℕ, ◌≤◌};
+    ghost use Rattle.rr_number.specs.AsNumbers.{greatest_as_number};
+
+    ghost Value = { ℕ };
+
+    ghost view = { λ a. a.number };
+
+    ghost invariant = { λ a. a.number ≤ greatest_as_number };
+
+    ghost inverse = { λ n. record { number = n } };
+}
+
+impl AsNumber {
+    /// The AS of a number, if it is not above the greatest.
+    pub fn new(number: u32) -> Option<Self>
+        ensures { SomeIff result (number ≤ greatest_as_number) number }
+    {
+        if number <= GREATEST {
+            Some(AsNumber { number })
+        } else {
+            None
+        }
+    }
+
+    /// The number.
+    pub fn number(self) -> u32
+        ensures value { result ≡ self }
+        ensures bound { self ≤ greatest_as_number }
+    {
+        self.number
+    }
+
+    /// The AS number that the bytes spell: `AS`, in any letter case, and 1 to 10 digits
+    /// (RFC 2622, 2).
+    pub fn read(bytes: &[u8]) -> Option<Self>
+        ensures exact { result ≡ as_number_of bytes.now }
+        ensures found { IfSome result (IsAsNumber bytes.now) }
+        ensures only { (n : ℕ) → IsAsNumber bytes.now n → result ≡ Some n }
+    {
+        match number_at(bytes) {
+            Some(number) => Some(AsNumber { number }),
+            None => None,
+        }
+    }
+
+    /// The printed text: `AS` and the number without leading zeros.
+    pub fn text(self) -> ShortText
+        ensures { result ≡ as_number_text self }
+    {
+        let mut text = ShortText::new();
+        text.push_str("AS");
+        text.push_number(self.number);
+        text
+    }
+
+    /// Writes the printed text. After a fault the writer has taken a front of it.
+    pub fn print_to<W: Sink>(&self, writer: &mut W) -> io::Result<()>
+        ensures writes { Writes (W.told writer.old) (W.told writer.new) (as_number_text self.now) result }
+        ensures aside { W.aside writer.new ≡ W.aside writer.old }
+    {
+        write_all(writer, self.text().as_bytes())
+    }
+}
+
+/// An AS number is read again from its printed text.
+pub fn as_numbers_are_read_again()
+    ensures spelled { (n : ℕ) → n ≤ greatest_as_number → IsAsNumber (as_number_text n) n }
+    ensures again { (n : ℕ) → n ≤ greatest_as_number → as_number_of (as_number_text n) ≡ Some n }
+{}
+
+#[tactic(auto, unfolding(crate::specs::AsNumbers::as_number_of))]
+fn number_at(bytes: &[u8]) -> Option<u32>
+    ensures { result ≡ as_number_of bytes.now }
+{
+    if bytes.len() < 2 {
+        return None;
+    }
+    let (word, digits) = bytes.split_at(2);
+    if !spells(word, b"AS") {
+        return None;
+    }
+    number_in(digits)
+}
+
+#[tactic(auto, unfolding(crate::specs::Numerals::number_of))]
+fn number_in(digits: &[u8]) -> Option<u32>
+    ensures { result ≡ number_of 10 (greatest_as_number + 1) digits.now }
+{
+    match read_number(digits, MOST_DIGITS, u64::from(GREATEST) + 1) {
+        Some(number) => Some(number as u32),
+        None => None,
+    }
+}

@@ -1,5 +1,5 @@
 -- Lemmas on decimal numbers.
-use Rattle.std.proofs.Common.{◌≡◌, ℕ, ◌^◌, ◌<◌, ◌≤◌, true, List, Some, arith}
+use Rattle.std.proofs.Common.{length, ◌≡◌, ℕ, ◌^◌, ◌<◌, ◌≤◌, true, List, Some, arith}
 use Rattle.std.proofs.Math.Nat.{pow-le-pow_right}
 use Rattle.std.proofs.lemmas.Bool.Decides.{nat_tests}
 use Rattle.std.proofs.lemmas.Fmt.{digits_decimal, digits_value-decimal, length-decimal-le, decimal_nonempty}
@@ -44,3 +44,7 @@ IsNumber-decimal most limit n one few fits wide = record {
   value = digits_value-decimal own n wide;
   fits = fits;
 }
+
+-- a number below 256 is printed in at most three digits
+pub three_digits : (n : ℕ) → n < 256 → length (decimal n) ≤ 3
+three_digits n small = length-decimal-le 3 n (omega arith) (omega arith) (omega arith)

@@ -1,4 +1,6 @@
 pub mod AsNumberLemmas
+pub mod AddressLemmas
+pub mod Choices
 pub mod CutsLemmas
 pub mod Decimals
 pub mod LetterCase

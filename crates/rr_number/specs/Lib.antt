@@ -1,4 +1,5 @@
 pub mod AsNumbers
+pub mod Addresses
 pub mod Cuts
 pub mod Names
 pub mod Numerals

@@ -1,6 +1,9 @@
 //! Addresses.
-ghost use Rattle.std.specs.Prelude.{◌≡◌, ◌<◌, ◌^◌};
+ghost use Rattle.std.specs.Prelude.{◌≡◌, ◌+◌, ◌<◌, ◌≤◌, ◌^◌, ◌++◌, ℕ, IfSome, length};
+ghost use Rattle.rr_number.specs.Addresses.{IsAddress, address_of, address_text, joined_of, octet_of};
 
+use crate::digits::{cut, read_number};
+use crate::short_text::ShortText;
 use std::marker::Model;
 
 /// An IPv4 address, a number below 2^32. Addresses are ordered as numbers (RFC 791, 3.2).
@@ -34,4 +37,68 @@ impl Address {
     {
         self.bits
     }
+
+    /// The address that the whole text spells: four numbers below 256, of one to three digits each, joined by
+    /// dots. There is none where the text is spelled otherwise (RFC 2622, 2).
+    pub fn read(text: &[u8]) -> Option<Address>
+        ensures found { IfSome result (λ address. IsAddress text.now address) }
+        ensures only { (address : ℕ) → IsAddress text.now address → result ≡ Some address }
+        ensures exact { result ≡ address_of text.now }
+    {
+        read_address(text)
+    }
+
+    /// The address as four numbers joined by dots, without leading zeros.
+    pub fn text(self) -> ShortText
+        ensures { result ≡ address_text self }
+    {
+        let mut text = ShortText::new();
+        self.push_to(&mut text);
+        text
+    }
+
+    /// Appends the address's text, at most 15 bytes.
+    #[tactic(auto, unfolding(crate::specs::Addresses::address_text))]
+    pub(crate) fn push_to(self, text: &mut ShortText)
+        requires { length text.old + 15 ≤ 40 }
+        ensures value { text.new ≡ text.old ++ address_text self }
+        ensures short { length text.new ≤ length text.old + 15 }
+    {
+        let [first, second, third, fourth] = self.bits.to_be_bytes();
+        text.push_byte(first);
+        text.push_str(".");
+        text.push_byte(second);
+        text.push_str(".");
+        text.push_byte(third);
+        text.push_str(".");
+        text.push_byte(fourth);
+    }
+}
+
+#[inline]
+fn read_octet(text: &[u8]) -> Option<u8>
+    ensures { result ≡ octet_of text.now }
+{
+    let number = read_number(text, 3, 256)?;
+    Some(number as u8)
+}
+
+#[inline]
+#[tactic(auto, unfolding(crate::specs::Addresses::joined_of))]
+fn join(first: &[u8], second: &[u8], third: &[u8], fourth: &[u8]) -> Option<Address>
+    ensures { result ≡ joined_of first.now second.now third.now fourth.now }
+{
+    let octets = [read_octet(first)?, read_octet(second)?, read_octet(third)?, read_octet(fourth)?];
+    Some(Address { bits: u32::from_be_bytes(octets) })
+}
+
+#[inline]
+#[tactic(auto, unfolding(crate::specs::Addresses::address_of))]
+fn read_address(text: &[u8]) -> Option<Address>
+    ensures { result ≡ address_of text.now }
+{
+    let (first, rest) = cut(text, b'.')?;
+    let (second, rest) = cut(rest, b'.')?;
+    let (third, fourth) = cut(rest, b'.')?;
+    join(first, second, third, fourth)
 }

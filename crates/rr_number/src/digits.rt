@@ -1,5 +1,5 @@
 //! Decimal numbers, and texts cut at a separator.
-ghost use Rattle.std.specs.Prelude.{◌≡◌, ◌≤◌, ◌==◌, position};
+ghost use Rattle.std.specs.Prelude.{◌≡◌, ◌<◌, ◌≤◌, ◌==◌, IfSome, position};
 ghost use Rattle.std.specs.Option.{option_map};
 ghost use Rattle.rr_number.specs.Cuts.{cut_at};
 ghost use Rattle.rr_number.specs.Numerals.{number_of};
@@ -9,7 +9,8 @@ ghost use Rattle.rr_number.specs.Numerals.{number_of};
 #[tactic(auto, unfolding(crate::specs::Numerals::number_of))]
 pub(crate) fn read_number(text: &[u8], most: usize, limit: u64) -> Option<u64>
     requires { most ≤ 19 }
-    ensures { result ≡ number_of most limit text.now }
+    ensures value { result ≡ number_of most limit text.now }
+    ensures below { IfSome result (λ number. number < limit) }
 {
     if text.is_empty() || text.len() > most {
         return None;

@@ -47,6 +47,16 @@ impl ShortText {
         self.text.push_str(buffer.format(number));
     }
 
+    /// Appends the decimal digits of a number below 256, at most three.
+    #[tactic(auto, using(crate::proofs::Decimals::three_digits))]
+    pub(crate) fn push_byte(&mut self, number: u8)
+        requires { length self.old + 3 ≤ 40 }
+        ensures value { self.new ≡ self.old ++ decimal number }
+        ensures short { length self.new ≤ length self.old + 3 }
+    {
+        self.push_number(u32::from(number));
+    }
+
     /// The text.
     pub fn as_str(&self) -> &str
         ensures value { result.now ≡ self.now }

@@ -1,15 +1,14 @@
 -- Lemmas on the texts of addresses.
-use Rattle.std.proofs.Common.{◌≡◌, ℕ, ◌+◌, ◌*◌, ◌<◌, ◌^◌, Bool, true, false, List, [], ◌∷◌, ◌++◌, Option, Some, None, refl, ap, subst, ◌∙◌, sym, arith}
+use Rattle.std.proofs.Common.{◌≡◌, ℕ, ◌==◌, ◌<◌, ◌^◌, true, false, List, ◌∷◌, ◌++◌, Some, refl, ap, subst, sym, arith}
 use Rattle.std.proofs.lemmas.Option.{option_and_then_some}
 use Rattle.std.proofs.lemmas.Nat.{from_be_bytes-to_be_bytes_4}
+use Rattle.std.specs.Char.{is_ascii_digit}
 use Rattle.std.specs.Fmt.{decimal}
 use Rattle.std.specs.Int.{byte_at}
-use Rattle.std.specs.Option.{option_and_then, option_map}
-use Rattle.rr_number.specs.Cuts.{cut_at}
-use Rattle.rr_number.specs.Numerals.{IsNumber, number_of}
-use Rattle.rr_number.specs.Addresses.{IsAddress, IsOctet, address_of, address_text, dot, dotted, join_octets, joined_of, octet_of}
+use Rattle.rr_number.specs.Cuts.{cut_at, lacks}
+use Rattle.rr_number.specs.Addresses.{IsAddress, IsOctet, address_of, address_text, dot, dotted, joined_of, octet_of}
 use Rattle.rr_number.proofs.Choices.{option_map-some}
-use Rattle.rr_number.proofs.CutsLemmas.{cut_at-joined, cut_at-append, lacks-digits}
+use Rattle.rr_number.proofs.CutsLemmas.{cut_at-joined, cut_at-append, lacks-digits, lacks-joined}
 use Rattle.rr_number.proofs.Decimals.{number_of-spelled, number_of-read, IsNumber-decimal}
 
 -- four texts that are read as octets are octets
@@ -54,11 +53,11 @@ pub address_of-read : (text : List ℕ) (n : ℕ) → IsAddress text n → addre
 unfolding address_of joined_of
 address_of-read text n spelled =
     let first : cut_at dot text ≡ Some (spelled.a, spelled.b ++ (dot ∷ (spelled.c ++ (dot ∷ spelled.d)))) =
-        rw spelled.spelled (cut_at-append dot spelled.a _ (lacks-digits dot spelled.a refl spelled.first.digits)) in
+    rw spelled.spelled (cut_at-append dot spelled.a _ (lacks-digits dot spelled.a refl spelled.first.digits)) in
     let second : cut_at dot (spelled.b ++ (dot ∷ (spelled.c ++ (dot ∷ spelled.d)))) ≡ Some (spelled.b, spelled.c ++ (dot ∷ spelled.d)) =
-        cut_at-append dot spelled.b _ (lacks-digits dot spelled.b refl spelled.second.digits) in
+    cut_at-append dot spelled.b _ (lacks-digits dot spelled.b refl spelled.second.digits) in
     let third : cut_at dot (spelled.c ++ (dot ∷ spelled.d)) ≡ Some (spelled.c, spelled.d) =
-        cut_at-append dot spelled.c _ (lacks-digits dot spelled.c refl spelled.third.digits) in
+    cut_at-append dot spelled.c _ (lacks-digits dot spelled.c refl spelled.third.digits) in
     let at_w : octet_of spelled.a ≡ Some spelled.w = number_of-read 3 256 spelled.a spelled.w spelled.first in
     let at_x : octet_of spelled.b ≡ Some spelled.x = number_of-read 3 256 spelled.b spelled.x spelled.second in
     let at_y : octet_of spelled.c ≡ Some spelled.y = number_of-read 3 256 spelled.c spelled.y spelled.third in
@@ -88,3 +87,12 @@ IsAddress-text n fits = record {
   spelled = refl;
   value = omega (arith, from_be_bytes-to_be_bytes_4 n fits);
 }
+
+-- an address has no separator among its digits and dots
+pub lacks-address : (s : ℕ) (text : List ℕ) (n : ℕ) → is_ascii_digit s ≡ false → (dot == s) ≡ false → IsAddress text n → lacks s text ≡ true
+lacks-address s text n no_digit no_dot spelled =
+    let third : lacks s (spelled.c ++ (dot ∷ spelled.d)) ≡ true =
+    lacks-joined s dot spelled.c spelled.d no_dot (lacks-digits s spelled.c no_digit spelled.third.digits) (lacks-digits s spelled.d no_digit spelled.fourth.digits) in
+    let second : lacks s (spelled.b ++ (dot ∷ (spelled.c ++ (dot ∷ spelled.d)))) ≡ true =
+    lacks-joined s dot spelled.b _ no_dot (lacks-digits s spelled.b no_digit spelled.second.digits) third in
+    rw spelled.spelled (lacks-joined s dot spelled.a _ no_dot (lacks-digits s spelled.a no_digit spelled.first.digits) second)

@@ -55,3 +55,8 @@ lacks-digits s (b ∷ bs) other digits = grind (arith, nat_tests, lacks-digits s
 pub lacks-append : (s : ℕ) (xs ys : List ℕ) → lacks s xs ≡ true → lacks s ys ≡ true → lacks s (xs ++ ys) ≡ true
 lacks-append s [] ys front back = back
 lacks-append s (x ∷ xs) ys front back = grind (arith, nat_tests, lacks-append s xs ys)
+
+-- two texts with another byte between them lack what both lack
+pub lacks-joined : (s other : ℕ) (xs ys : List ℕ) → (other == s) ≡ false → lacks s xs ≡ true → lacks s ys ≡ true → lacks s (xs ++ (other ∷ ys)) ≡ true
+lacks-joined s other xs ys differs front back =
+    lacks-append s xs (other ∷ ys) front (rw differs back)

@@ -4,4 +4,7 @@ pub mod Choices
 pub mod CutsLemmas
 pub mod Decimals
 pub mod LetterCase
+pub mod Multiples
 pub mod NameLemmas
+pub mod PrefixLemmas
+pub mod PrefixSpans

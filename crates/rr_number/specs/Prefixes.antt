@@ -1,21 +1,67 @@
 -- Prefixes (RFC 2622, 2): an address and how many of its first bits count.
-use Rattle.std.specs.Prelude.{◌≡◌, ℕ, ◌-◌, ◌%◌, ◌^◌, ◌<◌, ◌≤◌}
+use Rattle.std.specs.Prelude.{◌≡◌, ℕ, ◌+◌, ◌-◌, ◌%◌, ◌^◌, ◌<◌, ◌≤◌, List, ◌∷◌, ◌++◌, Option}
+use Rattle.std.specs.Fmt.{decimal}
+use Rattle.std.specs.Option.{option_and_then, option_map}
+use Rattle.rr_number.specs.Addresses.{IsAddress, address_of, address_text}
+use Rattle.rr_number.specs.Cuts.{cut_at}
+use Rattle.rr_number.specs.Numerals.{IsNumber, number_of}
+use Rattle.rr_number.specs.Spans.{Ends}
 
 -- a prefix as its first address and its length
 pub record PrefixParts : Type 0 where
   pub address : ℕ
   pub length : ℕ
 
--- how many addresses have the first bits, so many of them, in common
-abbrev pub size_of : ℕ → ℕ
-size_of length = 2 ^ (32 - length)
+-- how many addresses share the first bits, so many of them
+abbrev pub count_of : ℕ → ℕ
+count_of length = 2 ^ (32 - length)
 
--- the address is one, the length is at most 32, and the bits past the length are zero
+-- The address is one, the length is at most 32, and the bits past the length are zero.
 pub record IsMasked (p : PrefixParts) : Type 0 where
   pub short : p.length ≤ 32
   pub fits : p.address < 2 ^ 32
-  pub aligned : p.address % size_of p.length ≡ 0
+  pub aligned : p.address % count_of p.length ≡ 0
 
--- the prefix of this length that the address lies in: bits past the length are read as zero (profile)
+-- The prefix of this length that the address lies in: bits past the length are read as zero (profile).
 abbrev pub masked : ℕ → ℕ → PrefixParts
-masked address length = record { address = address - address % size_of length; length = length }
+masked address length = record { address = address - address % count_of length; length = length }
+
+-- A prefix has the span of the addresses from its own on, as many as share its bits (RFC 2622, 2).
+abbrev pub span_of : PrefixParts → Ends
+span_of p = record { first = p.address; last = p.address + (count_of p.length - 1) }
+
+-- The separator, '/'.
+abbrev pub slash : ℕ
+slash = 47
+
+-- A length is spelled in one or two digits, and is at most 32 (RFC 2622, 2).
+abbrev pub IsLength : List ℕ → ℕ → Type 0
+IsLength text n = IsNumber 2 33 text n
+
+-- A prefix is spelled as an address, a slash and a length (RFC 2622, 2).
+pub record IsPrefix (text : List ℕ) (p : PrefixParts) : Type 0 where
+  pub address_text : List ℕ
+  pub length_text : List ℕ
+  pub address : ℕ
+  pub length : ℕ
+  pub first : IsAddress address_text address
+  pub second : IsLength length_text length
+  pub spelled : text ≡ address_text ++ (slash ∷ length_text)
+  pub value : p ≡ masked address length
+
+-- the length that the text spells, if it does
+abbrev pub length_of : List ℕ → Option ℕ
+length_of text = number_of 2 33 text
+
+-- the prefix of an address's and a length's text, if they are
+unfoldable pub masked_of : List ℕ → List ℕ → Option PrefixParts
+masked_of address length =
+    option_and_then (λ a. option_map (λ l. masked a l) (length_of length)) (address_of address)
+
+-- the prefix that the text spells, if it does
+unfoldable pub prefix_of : List ℕ → Option PrefixParts
+prefix_of text = option_and_then (λ parts. masked_of parts.0 parts.1) (cut_at slash text)
+
+-- A prefix is printed as its address, a slash and its length (RFC 2622, 2).
+unfoldable pub prefix_text : PrefixParts → List ℕ
+prefix_text p = address_text p.address ++ (slash ∷ decimal p.length)

@@ -1,10 +1,13 @@
 //! Addresses.
 ghost use Rattle.std.specs.Prelude.{◌≡◌, ◌+◌, ◌<◌, ◌≤◌, ◌^◌, ◌++◌, ℕ, IfSome, length};
+ghost use Rattle.rr_io.specs.Sending.{Writes};
 ghost use Rattle.rr_number.specs.Addresses.{IsAddress, address_of, address_text, joined_of, octet_of};
 
 use crate::digits::{cut, read_number};
 use crate::short_text::ShortText;
+use rr_io::{Sink, write_all};
 use std::marker::Model;
+use std::{fmt, io};
 
 /// An IPv4 address, a number below 2^32. Addresses are ordered as numbers (RFC 791, 3.2).
 #[derive(Clone, Copy, Debug, PartialEq, Eq, PartialOrd, Ord)]
@@ -57,6 +60,14 @@ impl Address {
         text
     }
 
+    /// Writes the address's text. After a fault the writer has taken a front of it.
+    pub fn print_to<W: Sink>(&self, writer: &mut W) -> io::Result<()>
+        ensures writes { Writes (W.told writer.old) (W.told writer.new) (address_text self.now) result }
+        ensures aside { W.aside writer.new ≡ W.aside writer.old }
+    {
+        write_all(writer, self.text().as_bytes())
+    }
+
     /// Appends the address's text, at most 15 bytes.
     #[tactic(auto, unfolding(crate::specs::Addresses::address_text))]
     pub(crate) fn push_to(self, text: &mut ShortText)
@@ -75,6 +86,17 @@ impl Address {
     }
 }
 
+impl fmt::Display for Address {
+    fn fmt<W: fmt::Write>(&self, f: &mut fmt::Formatter<W>) -> fmt::Result {
+        f.pad(self.text().as_str())
+    }
+}
+
+/// What is printed is read again: the text of an address spells it.
+pub fn printed_addresses_are_read()
+    ensures { (address : ℕ) → address < 2 ^ 32 → IsAddress (address_text address) address }
+{}
+
 #[inline]
 fn read_octet(text: &[u8]) -> Option<u8>
     ensures { result ≡ octet_of text.now }
@@ -88,8 +110,15 @@ fn read_octet(text: &[u8]) -> Option<u8>
 fn join(first: &[u8], second: &[u8], third: &[u8], fourth: &[u8]) -> Option<Address>
     ensures { result ≡ joined_of first.now second.now third.now fourth.now }
 {
-    let octets = [read_octet(first)?, read_octet(second)?, read_octet(third)?, read_octet(fourth)?];
-    Some(Address { bits: u32::from_be_bytes(octets) })
+    let octets = [
+        read_octet(first)?,
+        read_octet(second)?,
+        read_octet(third)?,
+        read_octet(fourth)?,
+    ];
+    Some(Address {
+        bits: u32::from_be_bytes(octets),
+    })
 }
 
 #[inline]

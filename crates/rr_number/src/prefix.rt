@@ -1,12 +1,16 @@
 //! Prefixes.
-ghost use Rattle.std.specs.Prelude.{◌≡◌, ◌<◌, ◌≤◌, ◌^◌};
-ghost use Rattle.rr_number.specs.Prefixes.{masked, IsMasked};
+ghost use Rattle.std.specs.Prelude.{◌≡◌, ◌+◌, ◌<◌, ◌≤◌, ◌++◌, IfSome, length};
+ghost use Rattle.rr_io.specs.Sending.{Writes};
+ghost use Rattle.rr_number.specs.Prefixes.{PrefixParts, count_of, masked, masked_of, length_of, prefix_of, prefix_text, span_of, IsMasked, IsPrefix};
+ghost use Rattle.rr_number.specs.Spans.{covers};
 
 use crate::address::Address;
+use crate::digits::{cut, read_number};
+use crate::short_text::ShortText;
+use crate::span::Span;
+use rr_io::{Sink, write_all};
 use std::marker::Model;
-
-/// The longest prefix is a single address.
-pub const LONGEST: u8 = 32;
+use std::{fmt, io};
 
 /// A prefix: the addresses whose first `length` bits are those of `address`, whose other bits are zero.
 /// Prefixes are ordered by address, then by length (RFC 2622, 2).
@@ -36,9 +40,8 @@ impl Prefix {
         ensures { result ≡ masked address length }
     {
         let bits = u64::from(address.to_bits());
-        let size = 1 << (LONGEST - length);
         Prefix {
-            address: Address::from_bits((bits - bits % size) as u32),
+            address: Address::from_bits((bits - bits % count(length)) as u32),
             length,
         }
     }
@@ -58,4 +61,109 @@ impl Prefix {
     {
         self.length
     }
+
+    /// The addresses of the prefix, from the first to the last.
+    pub fn span(self) -> Span
+        ensures { result ≡ span_of self }
+    {
+        let first = u64::from(self.address.to_bits());
+        let last = first + (count(self.length) - 1);
+        Span::new(first as u32, last as u32)
+    }
+
+    /// Whether each address of `other` is one of this prefix.
+    pub fn covers(self, other: Prefix) -> bool
+        ensures { result ≡ covers (span_of self) (span_of other) }
+    {
+        self.span().covers(other.span())
+    }
+
+    /// The prefix that the whole text spells: an address, a slash and a length of one or two digits, at most 32.
+    /// Bits past the length are read as zero. There is none where the text is spelled otherwise (RFC 2622, 2;
+    /// for the bits profile).
+    pub fn read(text: &[u8]) -> Option<Prefix>
+        ensures found { IfSome result (λ prefix. IsPrefix text.now prefix) }
+        ensures only { (prefix : PrefixParts) → IsPrefix text.now prefix → result ≡ Some prefix }
+        ensures exact { result ≡ prefix_of text.now }
+    {
+        read_prefix(text)
+    }
+
+    /// The prefix as its address, a slash and its length.
+    pub fn text(self) -> ShortText
+        ensures { result ≡ prefix_text self }
+    {
+        let mut text = ShortText::new();
+        self.push_to(&mut text);
+        text
+    }
+
+    /// Writes the prefix's text. After a fault the writer has taken a front of it.
+    pub fn print_to<W: Sink>(&self, writer: &mut W) -> io::Result<()>
+        ensures writes { Writes (W.told writer.old) (W.told writer.new) (prefix_text self.now) result }
+        ensures aside { W.aside writer.new ≡ W.aside writer.old }
+    {
+        write_all(writer, self.text().as_bytes())
+    }
+
+    /// Appends the prefix's text, at most 19 bytes.
+    #[tactic(auto, unfolding(crate::specs::Prefixes::prefix_text))]
+    pub(crate) fn push_to(self, text: &mut ShortText)
+        requires { length text.old + 19 ≤ 40 }
+        ensures value { text.new ≡ text.old ++ prefix_text self }
+        ensures short { length text.new ≤ length text.old + 19 }
+    {
+        self.address.push_to(text);
+        text.push_str("/");
+        text.push_byte(self.length);
+    }
+}
+
+impl fmt::Display for Prefix {
+    fn fmt<W: fmt::Write>(&self, f: &mut fmt::Formatter<W>) -> fmt::Result {
+        f.pad(self.text().as_str())
+    }
+}
+
+/// What is printed is read again: the text of a prefix spells it.
+pub fn printed_prefixes_are_read()
+    ensures { (prefix : PrefixParts) → IsMasked prefix → IsPrefix (prefix_text prefix) prefix }
+{}
+
+/// How many addresses share their first bits, so many of them.
+#[inline]
+fn count(length: u8) -> u64
+    requires { length ≤ 32 }
+    ensures { result ≡ count_of length }
+{
+    1 << (32 - length)
+}
+
+/// The length that the text spells in one or two digits, if it is at most 32.
+#[inline]
+pub(crate) fn read_length(text: &[u8]) -> Option<u8>
+    ensures value { result ≡ length_of text.now }
+    ensures short { IfSome result (λ length. length ≤ 32) }
+{
+    let number = read_number(text, 2, 33)?;
+    Some(number as u8)
+}
+
+#[inline]
+#[tactic(auto, unfolding(crate::specs::Prefixes::masked_of))]
+fn join(address: &[u8], length: &[u8]) -> Option<Prefix>
+    ensures { result ≡ masked_of address.now length.now }
+{
+    let address = Address::read(address)?;
+    let length = read_length(length)?;
+    Some(Prefix::new(address, length))
+}
+
+#[inline]
+#[tactic(auto, unfolding(crate::specs::Prefixes::prefix_of))]
+fn read_prefix(text: &[u8]) -> Option<Prefix>
+    ensures { result ≡ prefix_of text.now }
+{
+    let (address, length) = cut(text, b'/')?;
+    join(address, length)
 }

@@ -1,0 +1,36 @@
+-- What the paragraph of a submission holds beside an object (profile).
+use Rattle.std.specs.Prelude.{ℕ, Bool, not, ◌&&◌, List, codes, filter, map}
+use Rattle.std.specs.List.{list_all, list_any, join_with_byte}
+use Rattle.rr_text.specs.Fields.{Field, is_named}
+
+-- `password` gives a secret
+abbrev pub is_password : Field → Bool
+is_password field = is_named (codes "password") field
+
+-- `delete` asks for the deletion of the object; its value says nothing
+abbrev pub is_delete : Field → Bool
+is_delete field = is_named (codes "delete") field
+
+-- an attribute of the object itself
+abbrev pub is_own : Field → Bool
+is_own field = not (is_password field) && not (is_delete field)
+
+-- the paragraph of the object: all but the attributes `password` and `delete`
+abbrev pub own_fields : List Field → List Field
+own_fields fields = filter is_own fields
+
+-- a secret is the lines of its value joined by one space, `#` kept
+abbrev pub secret_of : Field → List ℕ
+secret_of field = join_with_byte 32 field.lines
+
+-- the secrets that a paragraph gives, in order
+abbrev pub secrets_of : List Field → List (List ℕ)
+secrets_of fields = map secret_of (filter is_password fields)
+
+-- a paragraph of passwords alone is no item
+abbrev pub is_secrets_alone : List Field → Bool
+is_secrets_alone fields = list_all is_password fields
+
+-- a paragraph with an attribute `delete` asks for deletion
+abbrev pub asks_deletion : List Field → Bool
+asks_deletion fields = list_any is_delete fields

@@ -6,5 +6,6 @@ pub mod Numerals
 pub mod Operators
 pub mod Prefixes
 pub mod Ranges
+pub mod SetNames
 pub mod SpanLaws
 pub mod Spans

@@ -10,6 +10,8 @@ mod name;
 mod operator;
 mod prefix;
 mod range;
+mod set_kind;
+mod set_name;
 mod short_text;
 pub mod span;
 
@@ -19,5 +21,7 @@ pub use name::Name;
 pub use operator::{LengthBounds, Operator};
 pub use prefix::Prefix;
 pub use range::Range;
+pub use set_kind::SetKind;
+pub use set_name::SetName;
 pub use short_text::ShortText;
 pub use span::Span;

@@ -11,6 +11,7 @@ ghost use Rattle.std.specs.Str.{bytes_eq};
 ghost use Rattle.rr_io.specs.Sending.{Writes};
 ghost use Rattle.rr_number.specs.Names.{begins_with_letter, ends_with_alphanumeric, is_maintainer_name, is_name, is_name_byte, is_reserved, maintainer_name_of, name_of, upper, IsUpperName};
 
+use crate::letter_case::spells;
 use rr_io::{Sink, write_all};
 use std::alloc::{AllocError, Global};
 use std::cmp::Ordering;
@@ -166,14 +167,14 @@ impl Ord for Name {
 }
 
 /// The bytes in upper case.
-fn to_upper(alloc: Global, bytes: &[u8]) -> Result<Vec<u8>, AllocError>
+pub(crate) fn to_upper(alloc: Global, bytes: &[u8]) -> Result<Vec<u8>, AllocError>
     ensures { IfOk result (λ v. v.items ≡ upper bytes.now) }
 {
     bytes.iter().map(|b| b.to_ascii_uppercase()).collect(alloc)
 }
 
 #[tactic(auto, unfolding(crate::specs::Names::is_name))]
-fn is_name(bytes: &[u8]) -> bool
+pub(crate) fn is_name(bytes: &[u8]) -> bool
     ensures { result ≡ is_name bytes.now }
 {
     bytes.len() <= MOST_BYTES
@@ -220,6 +221,20 @@ fn is_among(word: &[u8], words: &[&[u8]]) -> bool
     ensures { result ≡ list_any (λ w. bytes_eq word.now w.now) words.now }
 {
     words.iter().any(|other| word == *other)
+}
+
+/// Whether a word, in any letter case, is reserved (RFC 2622, 2).
+#[tactic(auto, unfolding(crate::specs::Names::is_reserved))]
+pub(crate) fn is_reserved_in_any_case(word: &[u8]) -> bool
+    ensures { result ≡ is_reserved (upper word.now) }
+{
+    is_spelled_among(word, &RESERVED)
+}
+
+fn is_spelled_among(word: &[u8], words: &[&[u8]]) -> bool
+    ensures { result ≡ list_any (λ w. bytes_eq (upper word.now) (upper w.now)) words.now }
+{
+    words.iter().any(|other| spells(word, other))
 }
 
 /// A name is read again from its bytes, and letter case makes no difference to what is read.

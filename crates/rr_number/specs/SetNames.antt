@@ -1,0 +1,71 @@
+-- The names of as-sets and route-sets.
+use Rattle.std.specs.Prelude.{◌≡◌, ℕ, Bool, not, ◌==◌, ◌&&◌, ◌||◌, List, length, map, codes, is_some, nat_eq, nat_le, Option, None, Some, if◌then◌else◌, true}
+use Rattle.std.specs.List.{join_with_byte, list_all, list_any, slice_split, starts_with}
+use Rattle.std.specs.Option.{option_map_or}
+use Rattle.std.specs.Str.{bytes_eq}
+use Rattle.rr_number.specs.AsNumbers.{as_number_of, as_number_text}
+use Rattle.rr_number.specs.Names.{is_name, is_reserved, upper}
+use Rattle.rr_number.specs.declared.set_kind.SetKind.{SetKind}
+use Rattle.rr_number.specs.declared.set_kind.SetKind.TheVariants.{AsSet, RouteSet}
+
+-- What the names of sets of a kind begin with (RFC 2622, 2).
+abbrev pub prefix_of : SetKind → List ℕ
+prefix_of AsSet = codes "AS-"
+prefix_of RouteSet = codes "RS-"
+
+-- The components of a set's name are the parts round its colons (RFC 2622, 5).
+abbrev pub components : List ℕ → List (List ℕ)
+components text = slice_split (λ b. b == 58) text
+
+-- A component is an AS number, or the word of a set: a name that begins as its kind's do and is not reserved (RFC 2622, 5).
+abbrev pub is_as_number : List ℕ → Bool
+is_as_number component = is_some (as_number_of component)
+
+abbrev pub is_set_word : SetKind → List ℕ → Bool
+is_set_word kind component =
+    is_name component && (starts_with nat_eq (upper component) (prefix_of kind) && not (is_reserved (upper component)))
+
+abbrev pub is_component : SetKind → List ℕ → Bool
+is_component kind component = is_as_number component || is_set_word kind component
+
+-- Each component is an AS number or a word of the kind, and at least one is such a word (RFC 2622, 5).
+abbrev pub is_name_of_kind : SetKind → List ℕ → Bool
+is_name_of_kind kind text = list_all (is_component kind) (components text) && list_any (is_set_word kind) (components text)
+
+-- `AS-ANY` and `RS-ANY` name sets only by themselves (RFC 2622, 5; profile).
+abbrev pub is_any_set : List ℕ → Bool
+is_any_set text = bytes_eq (upper text) (codes "AS-ANY") || bytes_eq (upper text) (codes "RS-ANY")
+
+-- A set's name has at most 255 bytes as it is spelled (profile), and its components are of one kind (RFC 2622, 5).
+unfoldable pub is_set_name : List ℕ → Bool
+is_set_name text = nat_le (length text) 255 && (is_any_set text || (is_name_of_kind AsSet text || is_name_of_kind RouteSet text))
+
+-- A component is printed in upper case, an AS number without leading zeros (profile).
+abbrev pub component_text : List ℕ → List ℕ
+component_text component = option_map_or as_number_text (as_number_of component) (upper component)
+
+unfoldable pub set_text : List ℕ → List ℕ
+set_text text = join_with_byte 58 (map component_text (components text))
+
+-- The set's name that a text spells, as it is printed.
+abbrev pub set_name_of : List ℕ → Option (List ℕ)
+set_name_of text = if is_set_name text then Some (set_text text) else None
+
+-- A set's name as it is kept: as it is printed.
+pub record IsSetText (text : List ℕ) : Type 0 where
+  pub spelled : is_set_name text ≡ true
+  pub printed : set_text text ≡ text
+
+-- Whether a set's name, as it is printed, has a component that begins as a kind's names do.
+abbrev pub has_prefix : SetKind → List ℕ → Bool
+has_prefix kind text = list_any (λ component. starts_with nat_eq component (prefix_of kind)) (components text)
+
+-- The kind of a set is told by the components beside AS numbers (RFC 2622, 5).
+abbrev pub is_as_set : List ℕ → Bool
+is_as_set text = has_prefix AsSet text
+
+abbrev pub is_route_set : List ℕ → Bool
+is_route_set text = has_prefix RouteSet text
+
+abbrev pub kind_of : List ℕ → SetKind
+kind_of text = if is_as_set text then AsSet else RouteSet

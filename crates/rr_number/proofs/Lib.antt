@@ -8,3 +8,4 @@ pub mod Multiples
 pub mod NameLemmas
 pub mod PrefixLemmas
 pub mod PrefixSpans
+pub mod SpanOrder

@@ -1,6 +1,8 @@
 -- What the tests on spans mean for spans as sets of numbers, and how they fit together.
 use Rattle.std.specs.Prelude.{◌≡◌, ℕ, true, false, ◌+◌, ◌<◌, ◌≤◌, ◌⊎◌, ◌↔◌}
-use Rattle.rr_number.specs.Spans.{Ends, IsSpan, IsIn, covers, meets, crosses, size}
+use Rattle.std.specs.Cmp.{IsTotalOrder}
+use Rattle.std.specs.FinMap.{IsAntisymmetric}
+use Rattle.rr_number.specs.Spans.{Ends, IsSpan, IsIn, covers, meets, crosses, size, span_cmp}
 
 -- Covering is inclusion of sets of numbers.
 abbrev pub CoveringIsInclusion : Type 0
@@ -49,3 +51,8 @@ SizesAdd =
     (a b c : ℕ) → a ≤ b → b < c
     → size (record { first = a; last = c })
     ≡ size (record { first = a; last = b }) + size (record { first = b + 1; last = c })
+
+-- The order of spans is total, and only equal spans tie.
+pub record SpansAreOrdered : Type 0 where
+  pub total : IsTotalOrder span_cmp
+  pub exact : IsAntisymmetric span_cmp

@@ -1,11 +1,10 @@
 //! Spans of numbers of 32 bits: of addresses, and of AS numbers.
 
 ghost use Rattle.std.specs.Prelude.{◌≡◌, ◌≤◌, ◌^◌, ◌<◌};
-ghost use Rattle.rr_number.specs.Spans.{covers, crosses, meets, size, span_cmp, IsSpan};
+ghost use Rattle.rr_number.specs.Spans.{covers, crosses, meets, size, IsSpan};
 
 pub mod laws;
 
-use std::cmp::Ordering;
 use std::marker::Model;
 
 /// The numbers from a first to a last one, both included; the first is not above the last.
@@ -84,12 +83,5 @@ impl Span {
         ensures { result ≡ crosses self other }
     {
         self.meets(other) && !self.covers(other) && !other.covers(self)
-    }
-
-    /// The order of spans: by the first number, then by the last (profile).
-    pub fn compare(self, other: Span) -> Ordering
-        ensures { result ≡ span_cmp self other }
-    {
-        self.cmp(&other)
     }
 }

@@ -1,6 +1,6 @@
 //! Laws of spans, for readers and for the proofs of other crates. Nothing calls these functions.
 
-ghost use Rattle.rr_number.specs.SpanLaws.{CoveringIsInclusion, MeetingIsSharing, CoversItself, CoversFurther, CoversBothWays, CrossesBothWays, ApartOrNested, CoverIsLarger, OneNumber, SizesAdd};
+ghost use Rattle.rr_number.specs.SpanLaws.{CoveringIsInclusion, MeetingIsSharing, CoversItself, CoversFurther, CoversBothWays, CrossesBothWays, ApartOrNested, CoverIsLarger, OneNumber, SizesAdd, SpansAreOrdered};
 
 /// Covering is inclusion of sets of numbers, and two spans meet where they share one.
 pub fn spans_are_sets()
@@ -26,4 +26,9 @@ pub fn size_counts_numbers()
     ensures one { OneNumber }
     ensures add { SizesAdd }
     ensures larger { CoverIsLarger }
+{}
+
+/// Any two spans compare, and only equal spans tie.
+pub fn spans_are_ordered()
+    ensures { SpansAreOrdered }
 {}

@@ -1,0 +1,4 @@
+pub mod Among
+pub mod Listed
+pub mod Nearest
+pub mod Places

@@ -1,0 +1,3 @@
+pub mod InsertFaults
+pub mod SpanLists
+pub mod SpanMaps

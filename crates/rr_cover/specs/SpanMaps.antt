@@ -1,0 +1,37 @@
+-- Maps from spans to values: which spans of a map cross, cover or lie inside a span, and which is closest to it.
+use Rattle.std.specs.Prelude.{◌≡◌, Bool, true, false, ◌≤◌, List, filter, Some}
+use Rattle.std.specs.List.{list_any}
+use Rattle.std.specs.FinMap.{FinMap, get, contains_key, keys}
+use Rattle.rr_number.specs.Spans.{Ends, covers, crosses, size, span_cmp}
+
+-- What a collection of spans holds: one value at each of finitely many spans.
+abbrev pub SpanMap : Type 0 → Type 0
+SpanMap T = FinMap span_cmp T
+
+-- A span crosses a map where it crosses one of the map's spans (profile).
+abbrev pub crosses_some : {T : Type 0} → SpanMap T → Ends → Bool
+crosses_some m s = list_any (λ t. crosses t s) (keys m)
+
+-- No two spans of a map cross (profile).
+pub record NoneCross {T : Type 0} (m : SpanMap T) : Type 0 where
+  pub apart :
+      (s t : Ends) → contains_key m s ≡ true → contains_key m t ≡ true → crosses s t ≡ false
+
+-- The closest span t to s, with its value: it covers s, and no other that covers s is smaller. An equal span counts
+-- (RFC 2725, 9).
+pub record IsClosest {T : Type 0} (m : SpanMap T) (s t : Ends) (value : T) : Type 0 where
+  pub held : get m t ≡ Some value
+  pub above : covers t s ≡ true
+  pub least : (u : Ends) → contains_key m u ≡ true → covers u s ≡ true → size t ≤ size u
+
+-- No span of a map covers s.
+pub record NoneCovers {T : Type 0} (m : SpanMap T) (s : Ends) : Type 0 where
+  pub none : (t : Ends) → contains_key m t ≡ true → covers t s ≡ false
+
+-- The spans of a map that cover s, in order of first, then last number (profile).
+abbrev pub covering : {T : Type 0} → SpanMap T → Ends → List Ends
+covering m s = filter (λ t. covers t s) (keys m)
+
+-- The spans of a map that lie inside s, in order of first, then last number (profile).
+abbrev pub inside : {T : Type 0} → SpanMap T → Ends → List Ends
+inside m s = filter (λ t. covers s t) (keys m)

@@ -1,0 +1,25 @@
+//! Why a value was not inserted.
+
+ghost use Rattle.std.specs.Prelude.{◌≡◌};
+
+/// Why a value was not inserted at a span. The value comes back with the fault.
+#[derive(Debug, Drop, PartialEq, Eq)]
+pub enum InsertFault<T> {
+    /// The span crosses one that is held.
+    Overlap(T),
+    /// Memory was refused.
+    Memory(T),
+}
+
+impl<T> InsertFault<T> {
+    ghost use Rattle.rr_cover.specs.InsertFaults.{value_of};
+
+    /// The value that was to be inserted.
+    pub fn into_value(self) -> T
+        ensures { result ≡ value_of self }
+    {
+        match self {
+            InsertFault::Overlap(value) | InsertFault::Memory(value) => value,
+        }
+    }
+}

@@ -1,0 +1,8 @@
+//! Values kept by span, and the spans that cover a span or lie inside it.
+#![tactic(auto)]
+
+mod insert_fault;
+mod span_list;
+
+pub use insert_fault::InsertFault;
+pub use span_list::SpanList;

@@ -1,5 +1,5 @@
 -- Lemmas on texts cut at a separator.
-use Rattle.std.proofs.Common.{◌≡◌, ℕ, ◌+◌, ◌<◌, ◌==◌, true, false, List, [], ◌∷◌, ◌++◌, length, take, drop, Some, nat_lt, get_or, refl, ap, sym, arith, length-append}
+use Rattle.std.proofs.Common.{◌≡◌, ℕ, ◌+◌, ◌<◌, ◌==◌, true, false, List, [], ◌∷◌, ◌++◌, length, take, drop, Some, nat_lt, get_or, refl, ap, sym, arith, length-append, None}
 use Rattle.std.proofs.lemmas.Bool.Decides.{nat_tests}
 use Rattle.std.proofs.lemmas.Grind.{common_steps}
 use Rattle.std.proofs.lemmas.List.{take_at}
@@ -60,3 +60,16 @@ lacks-append s (x ∷ xs) ys front back = grind (arith, nat_tests, lacks-append 
 pub lacks-joined : (s other : ℕ) (xs ys : List ℕ) → (other == s) ≡ false → lacks s xs ≡ true → lacks s ys ≡ true → lacks s (xs ++ (other ∷ ys)) ≡ true
 lacks-joined s other xs ys differs front back =
     lacks-append s xs (other ∷ ys) front (rw differs back)
+
+-- the place of a separator that a text has not
+position-absent : (s : ℕ) (text : List ℕ) → lacks s text ≡ true → position_or_len (λ b. b == s) text ≡ length text
+position-absent s [] none = refl
+position-absent s (b ∷ bs) none = grind (arith, nat_tests, position-absent s bs)
+
+-- a text without the separator is not cut
+pub cut_at-lacks : (s : ℕ) (text : List ℕ) → lacks s text ≡ true → cut_at s text ≡ None
+unfolding cut_at
+cut_at-lacks s text none =
+    let outside : nat_lt (position_or_len (λ b. b == s) text) (length text) ≡ false =
+    rw (position-absent s text none) (grind (arith, nat_tests)) in
+    rw outside refl

@@ -1,11 +1,12 @@
-pub mod AsNumberLemmas
 pub mod AddressLemmas
+pub mod AsNumberLemmas
 pub mod Choices
 pub mod CutsLemmas
 pub mod Decimals
 pub mod LetterCase
 pub mod Multiples
 pub mod NameLemmas
+pub mod OperatorLemmas
 pub mod PrefixLemmas
 pub mod PrefixSpans
 pub mod SpanOrder

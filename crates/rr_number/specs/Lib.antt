@@ -1,5 +1,7 @@
-pub mod AsNumbers
 pub mod Addresses
+pub mod Applied
+pub mod AsNumbers
+pub mod Bounds
 pub mod Cuts
 pub mod Names
 pub mod Numerals

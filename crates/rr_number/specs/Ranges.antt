@@ -1,6 +1,8 @@
 -- Ranges of prefixes (RFC 2622, 2).
-use Rattle.std.specs.Prelude.{ℕ, ◌≤◌}
-use Rattle.rr_number.specs.Prefixes.{PrefixParts, IsMasked}
+use Rattle.std.specs.Prelude.{ℕ, ◌≤◌, Bool, ◌&&◌, nat_le}
+use Rattle.rr_number.specs.Bounds.{Bounds}
+use Rattle.rr_number.specs.Prefixes.{PrefixParts, IsMasked, span_of}
+use Rattle.rr_number.specs.Spans.{covers}
 
 -- a range as its prefix, its least and its greatest length
 pub record RangeParts : Type 0 where
@@ -8,13 +10,25 @@ pub record RangeParts : Type 0 where
   pub low : ℕ
   pub high : ℕ
 
--- the prefix is one, and the lengths go up from its own to 32 at most
+-- The prefix is one, and the lengths go up from its own to 32 at most.
 pub record IsRange (r : RangeParts) : Type 0 where
   pub masked : IsMasked r.prefix
   pub inside : r.prefix.length ≤ r.low
   pub ordered : r.low ≤ r.high
   pub short : r.high ≤ 32
 
--- the range of a prefix alone: its own length
+-- the range of a prefix with these lengths
+abbrev pub range_of : PrefixParts → Bounds → RangeParts
+range_of p b = record { prefix = p; low = b.low; high = b.high }
+
+-- the lengths of a range
+abbrev pub bounds_of : RangeParts → Bounds
+bounds_of r = record { low = r.low; high = r.high }
+
+-- The range of a prefix alone has its own length (RFC 2622, 2).
 abbrev pub bare : PrefixParts → RangeParts
 bare p = record { prefix = p; low = p.length; high = p.length }
+
+-- A range admits a prefix that its prefix covers and whose length lies between its two (RFC 2622, 2).
+abbrev pub admits : RangeParts → PrefixParts → Bool
+admits r q = covers (span_of r.prefix) (span_of q) && (nat_le r.low q.length && nat_le q.length r.high)

@@ -1,7 +1,19 @@
 //! Range operators.
-ghost use Rattle.std.specs.Prelude.{◌≡◌, ◌↔◌, ◌≤◌, IsSome, IfSome};
+ghost use Rattle.std.specs.Prelude.{◌≡◌, ◌+◌, ◌<◌, ◌≤◌, ◌↔◌, ◌++◌, IsSome, IfSome, length};
+ghost use Rattle.rr_io.specs.Sending.{Writes};
+ghost use Rattle.rr_number.specs.Applied.{applied};
+ghost use Rattle.rr_number.specs.Bounds.{IsBounds};
+ghost use Rattle.rr_number.specs.Cuts.{cut_at};
+ghost use Rattle.rr_number.specs.Operators.{IsOperator, IsOperatorValue, carried_of, dash, lengths_cut_of, lengths_text, one_length_of, operator_of, operator_text, two_lengths_of};
+ghost use Rattle.rr_number.specs.declared.operator.Operator.{Operator};
 
+use crate::digits::cut;
+use crate::prefix::read_length;
+use crate::range::Range;
+use crate::short_text::ShortText;
+use rr_io::{Sink, write_all};
 use std::marker::Model;
+use std::{fmt, io};
 
 /// What a range operator says of a prefix's length (RFC 2622, 2). A prefix carries at most one.
 #[derive(Clone, Copy, Debug, PartialEq, Eq, PartialOrd, Ord)]
@@ -24,14 +36,13 @@ pub struct LengthBounds {
 }
 
 impl Model for LengthBounds {
-    ghost use Rattle.std.specs.Prelude.{◌≤◌};
-    ghost use Rattle.rr_number.specs.Operators.{Bounds};
+    ghost use Rattle.rr_number.specs.Bounds.{Bounds, IsBounds};
 
     ghost Value = { Bounds };
 
     ghost view = { λ b. record { low = b.low; high = b.high } };
 
-    ghost invariant = { λ b. (b.low ≤ b.high) × (b.high ≤ 32) };
+    ghost invariant = { λ b. IsBounds (record { low = b.low; high = b.high }) };
 
     ghost inverse = { λ b. record { low = b.low; high = b.high } };
 }
@@ -52,7 +63,7 @@ impl LengthBounds {
     /// The least length.
     pub fn low(self) -> u8
         ensures value { result ≡ self.low }
-        ensures within { (self.low ≤ self.high) × (self.high ≤ 32) }
+        ensures bounds { IsBounds self }
     {
         self.low
     }
@@ -60,8 +71,149 @@ impl LengthBounds {
     /// The greatest length, at most 32.
     pub fn high(self) -> u8
         ensures value { result ≡ self.high }
-        ensures within { (self.low ≤ self.high) × (self.high ≤ 32) }
+        ensures bounds { IsBounds self }
     {
         self.high
+    }
+}
+
+impl Operator {
+    /// The operator that the whole text spells: nothing, `^+`, `^-`, `^n` or `^n-m`, with lengths of one or two
+    /// digits, n not above m and m at most 32. There is none where the text is spelled otherwise (RFC 2622, 2).
+    pub fn read(text: &[u8]) -> Option<Operator>
+        ensures found { IfSome result (λ operator. IsOperator text.now operator) }
+        ensures only { (operator : Operator) → IsOperator text.now operator → result ≡ Some operator }
+        ensures exact { result ≡ operator_of text.now }
+    {
+        read_operator(text)
+    }
+
+    /// What the operator makes of the range; none where it drops it, as `^8` a range of lengths from 16
+    /// (RFC 2622, 2).
+    #[tactic(auto, unfolding(crate::specs::Applied::applied, crate::specs::Operators::lengths_under))]
+    pub fn apply(self, range: Range) -> Option<Range>
+        ensures { result ≡ applied self range }
+    {
+        match self {
+            Operator::Plain => Some(range),
+            Operator::Plus => range.with_lengths(range.low(), 32),
+            Operator::Minus => range.with_lengths(range.low() + 1, 32),
+            Operator::Lengths(lengths) => range.with_lengths(
+                lengths.low().max(range.low()),
+                lengths.high(),
+            ),
+        }
+    }
+
+    /// The operator as it is spelled, `^n` where both lengths are n.
+    pub fn text(self) -> ShortText
+        ensures { result ≡ operator_text self }
+    {
+        let mut text = ShortText::new();
+        self.push_to(&mut text);
+        text
+    }
+
+    /// Writes the operator's text. After a fault the writer has taken a front of it.
+    pub fn print_to<W: Sink>(&self, writer: &mut W) -> io::Result<()>
+        ensures writes { Writes (W.told writer.old) (W.told writer.new) (operator_text self.now) result }
+        ensures aside { W.aside writer.new ≡ W.aside writer.old }
+    {
+        write_all(writer, self.text().as_bytes())
+    }
+
+    /// Appends the operator's text, at most 8 bytes.
+    #[tactic(auto, unfolding(crate::specs::Operators::operator_text))]
+    pub(crate) fn push_to(self, text: &mut ShortText)
+        requires { length text.old + 8 ≤ 40 }
+        ensures value { text.new ≡ text.old ++ operator_text self }
+        ensures short { length text.new ≤ length text.old + 8 }
+    {
+        match self {
+            Operator::Plain => {}
+            Operator::Plus => text.push_str("^+"),
+            Operator::Minus => text.push_str("^-"),
+            Operator::Lengths(lengths) => push_lengths(text, lengths.low(), lengths.high()),
+        }
+    }
+}
+
+impl fmt::Display for Operator {
+    fn fmt<W: fmt::Write>(&self, f: &mut fmt::Formatter<W>) -> fmt::Result {
+        f.pad(self.text().as_str())
+    }
+}
+
+/// What is printed is read again: the text of an operator spells it.
+pub fn printed_operators_are_read()
+    ensures { (operator : Operator) → IsOperatorValue operator → IsOperator (operator_text operator) operator }
+{}
+
+fn push_lengths(text: &mut ShortText, low: u8, high: u8)
+    requires { length text.old + 8 ≤ 40 }
+    ensures value { text.new ≡ text.old ++ lengths_text low high }
+    ensures short { length text.new ≤ length text.old + 8 }
+{
+    text.push_str("^");
+    text.push_byte(low);
+    if low != high {
+        text.push_str("-");
+        text.push_byte(high);
+    }
+}
+
+#[tactic(auto, unfolding(crate::specs::Operators::one_length_of))]
+fn read_one_length(text: &[u8]) -> Option<Operator>
+    ensures { result ≡ one_length_of text.now }
+{
+    let length = read_length(text)?;
+    Some(Operator::Lengths(LengthBounds {
+        low: length,
+        high: length,
+    }))
+}
+
+#[tactic(auto, unfolding(crate::specs::Operators::two_lengths_of))]
+fn read_two_lengths(first: &[u8], second: &[u8]) -> Option<Operator>
+    ensures { result ≡ two_lengths_of first.now second.now }
+{
+    let low = read_length(first)?;
+    let high = read_length(second)?;
+    if low > high {
+        return None;
+    }
+    Some(Operator::Lengths(LengthBounds { low, high }))
+}
+
+/// The lengths after a caret: one, or two with a dash between them.
+fn read_lengths(text: &[u8]) -> Option<Operator>
+    ensures { result ≡ lengths_cut_of text.now (cut_at dash text.now) }
+{
+    match cut(text, b'-') {
+        Some((first, second)) => read_two_lengths(first, second),
+        None => read_one_length(text),
+    }
+}
+
+/// The operator whose text after the caret is this.
+#[tactic(auto, unfolding(crate::specs::Operators::carried_of))]
+fn read_carried(text: &[u8]) -> Option<Operator>
+    ensures { result ≡ carried_of text.now }
+{
+    match text {
+        b"+" => Some(Operator::Plus),
+        b"-" => Some(Operator::Minus),
+        lengths => read_lengths(lengths),
+    }
+}
+
+#[tactic(auto, unfolding(crate::specs::Operators::operator_of))]
+fn read_operator(text: &[u8]) -> Option<Operator>
+    ensures { result ≡ operator_of text.now }
+{
+    match text.split_first() {
+        None => Some(Operator::Plain),
+        Some((b'^', carried)) => read_carried(carried),
+        Some(_) => None,
     }
 }

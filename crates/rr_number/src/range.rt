@@ -1,6 +1,6 @@
 //! Ranges of prefixes.
-ghost use Rattle.std.specs.Prelude.{◌≡◌, ◌↔◌, ◌≤◌, IsSome, IfSome};
-ghost use Rattle.rr_number.specs.Ranges.{bare, IsRange};
+ghost use Rattle.std.specs.Prelude.{◌≡◌, ◌≤◌, if◌then◌else◌, nat_le};
+ghost use Rattle.rr_number.specs.Ranges.{admits, bare, IsRange};
 
 use crate::prefix::Prefix;
 use std::marker::Model;
@@ -37,6 +37,30 @@ impl Range {
             low: length,
             high: length,
         }
+    }
+
+    /// The range of the same prefix with these lengths; none where the least is above the greatest.
+    pub(crate) fn with_lengths(self, low: u8, high: u8) -> Option<Self>
+        requires inside { self.prefix.length ≤ low }
+        requires short { high ≤ 32 }
+        ensures { result ≡ (if nat_le low high then Some (record { prefix = self.prefix; low = low; high = high }) else None) }
+    {
+        if low <= high {
+            Some(Range {
+                prefix: self.prefix,
+                low,
+                high,
+            })
+        } else {
+            None
+        }
+    }
+
+    /// Whether the range holds the prefix: its own covers it, and its length lies between the two (RFC 2622, 2).
+    pub fn admits(self, prefix: Prefix) -> bool
+        ensures { result ≡ admits self prefix }
+    {
+        self.prefix.covers(prefix) && self.low <= prefix.length() && prefix.length() <= self.high
     }
 
     /// The prefix that covers all prefixes of the range.

@@ -1,18 +1,12 @@
 -- The blocks of a text: its runs of lines between blank ones (RFC 2622, 2).
 use Rattle.std.specs.Prelude.{ℕ, Bool, true, false, List, [], ◌∷◌, filter, map, if◌then◌else◌}
 use Rattle.std.specs.List.{slice_split}
-use Rattle.rr_text.specs.Lines.{line_kind, is_blank_kind, is_skipped_kind}
-
-abbrev pub ends_block : List ℕ → Bool
-ends_block line = is_blank_kind (line_kind line)
-
-abbrev pub is_skipped : List ℕ → Bool
-is_skipped line = is_skipped_kind (line_kind line)
+use Rattle.rr_text.specs.Lines.{is_blank_line, is_skipped_line, is_paragraph_line}
 
 -- a run of lines less the skipped ones before its first other line
 unfoldable pub from_unskipped : List (List ℕ) → List (List ℕ)
 from_unskipped [] = []
-from_unskipped (line ∷ others) = if is_skipped line then from_unskipped others else line ∷ others
+from_unskipped (line ∷ others) = if is_skipped_line line then from_unskipped others else line ∷ others
 
 abbrev pub has_line : List (List ℕ) → Bool
 has_line [] = false
@@ -21,4 +15,19 @@ has_line (line ∷ others) = true
 -- a block is a run of lines with no blank one, from its first line that is not skipped on; a run of
 -- skipped lines alone is none
 unfoldable pub blocks : List (List ℕ) → List (List (List ℕ))
-blocks lines = filter has_line (map from_unskipped (slice_split ends_block lines))
+blocks lines = filter has_line (map from_unskipped (slice_split is_blank_line lines))
+
+-- the lines before the first blank one
+unfoldable pub until_blank : List (List ℕ) → List (List ℕ)
+until_blank [] = []
+until_blank (line ∷ others) = if is_blank_line line then [] else line ∷ until_blank others
+
+-- the lines from the first blank one on
+unfoldable pub from_blank : List (List ℕ) → List (List ℕ)
+from_blank [] = []
+from_blank (line ∷ others) = if is_blank_line line then line ∷ others else from_blank others
+
+-- the first line is one of a paragraph
+abbrev pub starts_block : List (List ℕ) → Bool
+starts_block [] = false
+starts_block (line ∷ others) = is_paragraph_line line

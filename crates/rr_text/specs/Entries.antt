@@ -31,12 +31,22 @@ unfoldable pub continued : List (List ℕ) → List (List ℕ)
 continued [] = []
 continued (line ∷ others) = continued_by line (line_kind line) (continued others)
 
+-- the lines that one line adds to the value before it
+abbrev pub added_lines : List ℕ → LineKind → List (List ℕ)
+added_lines line Blank = []
+added_lines line Skipped = []
+added_lines line Continuation = added_value line ∷ []
+added_lines line Opening = []
+
+-- the attribute that a line opens, with the lines that continue its value
+abbrev pub opened_field : List ℕ → List (List ℕ) → Field
+opened_field line more = record { name = map to_ascii_lowercase (written_name line); lines = opened_value line ∷ more }
+
 abbrev pub opened_by : List ℕ → LineKind → List (List ℕ) → List Field → List Field
 opened_by line Blank more fields = fields
 opened_by line Skipped more fields = fields
 opened_by line Continuation more fields = fields
-opened_by line Opening more fields =
-    record { name = map to_ascii_lowercase (written_name line); lines = opened_value line ∷ more } ∷ fields
+opened_by line Opening more fields = opened_field line more ∷ fields
 
 -- each line that opens an attribute gives one, with the lines that continue its value
 unfoldable pub block_fields : List (List ℕ) → List Field

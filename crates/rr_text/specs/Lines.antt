@@ -1,5 +1,5 @@
 -- The lines of a text, and what kind of line each is (RFC 2622, 2).
-use Rattle.std.specs.Prelude.{ℕ, Bool, true, false, ◌==◌, ◌||◌, List, [], ◌∷◌, if◌then◌else◌}
+use Rattle.std.specs.Prelude.{ℕ, Bool, true, false, not, ◌==◌, ◌||◌, ◌&&◌, List, [], ◌∷◌, if◌then◌else◌}
 use Rattle.std.specs.List.{list_all, onto_first}
 use Rattle.rr_text.specs.declared.line.LineKind.{LineKind}
 use Rattle.rr_text.specs.declared.line.LineKind.TheVariants.{Blank, Skipped, Continuation, Opening}
@@ -14,9 +14,12 @@ text_lines (b ∷ bs) = if is_line_feed b then (b ∷ []) ∷ text_lines bs else
 abbrev pub is_blank_line : List ℕ → Bool
 is_blank_line line = list_all is_blank line
 
--- a line whose first byte is `#` or `%` is passed over (profile)
 abbrev pub is_remark_sign : ℕ → Bool
 is_remark_sign b = (b == 35) || (b == 37)
+
+-- a line whose first byte is `#` or `%` is skipped (profile)
+abbrev pub is_skipped_line : List ℕ → Bool
+is_skipped_line line = begins is_remark_sign line
 
 -- a further line of a value begins with a blank or `+` (RFC 2622, 2)
 abbrev pub is_continuation_sign : ℕ → Bool
@@ -26,17 +29,21 @@ is_continuation_sign b = is_blank b || (b == 43)
 unfoldable pub line_kind : List ℕ → LineKind
 line_kind line =
     if is_blank_line line then Blank
-    else (if begins is_remark_sign line then Skipped
+    else (if is_skipped_line line then Skipped
     else (if begins is_continuation_sign line then Continuation else Opening))
 
-abbrev pub is_blank_kind : LineKind → Bool
-is_blank_kind Blank = true
-is_blank_kind Skipped = false
-is_blank_kind Continuation = false
-is_blank_kind Opening = false
+abbrev pub opens_attribute : LineKind → Bool
+opens_attribute Blank = false
+opens_attribute Skipped = false
+opens_attribute Continuation = false
+opens_attribute Opening = true
 
-abbrev pub is_skipped_kind : LineKind → Bool
-is_skipped_kind Blank = false
-is_skipped_kind Skipped = true
-is_skipped_kind Continuation = false
-is_skipped_kind Opening = false
+-- every line of the text ends in its LF
+unfoldable pub are_whole_lines : List ℕ → Bool
+are_whole_lines [] = true
+are_whole_lines (b ∷ []) = is_line_feed b
+are_whole_lines (b ∷ c ∷ cs) = are_whole_lines (c ∷ cs)
+
+-- a line of a paragraph: neither blank nor skipped
+abbrev pub is_paragraph_line : List ℕ → Bool
+is_paragraph_line line = not (is_blank_line line) && not (is_skipped_line line)

@@ -2,12 +2,17 @@
 #![tactic(auto)]
 
 pub mod attribute;
+pub mod block;
 pub mod canonical;
+pub mod entry;
 pub mod fault;
+pub mod inspect;
 pub mod line;
 
 pub mod paragraph;
+pub mod reader;
 pub mod text;
+pub mod trim;
 pub mod value;
 
 pub use attribute::Attribute;
@@ -15,5 +20,6 @@ pub use canonical::{print, read_canonical};
 pub use fault::TextFault;
 
 pub use paragraph::Paragraph;
+pub use reader::{next_paragraph, skip_paragraph};
 pub use text::Text;
 pub use value::meaning;

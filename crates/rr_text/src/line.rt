@@ -1,5 +1,10 @@
 //! The lines of a text.
 
+ghost use Rattle.std.specs.Prelude.{◌≡◌, ◌<◌, ◌∷◌, ◌++◌, ◌⊎◌, [], length, true};
+ghost use Rattle.std.specs.List.{list_any, list_all, position};
+ghost use Rattle.rr_text.specs.Bytes.{is_blank, is_refused, is_line_feed, begins};
+ghost use Rattle.rr_text.specs.Lines.{is_blank_line, is_skipped_line, is_paragraph_line, is_continuation_sign, line_kind, opens_attribute, text_lines, are_whole_lines};
+
 /// What kind of line a line is (RFC 2622, section 2).
 #[derive(Clone, Copy, Debug, PartialEq, Eq)]
 pub enum LineKind {
@@ -11,4 +16,114 @@ pub enum LineKind {
     Continuation,
     /// The first line of an attribute.
     Opening,
+}
+
+impl LineKind {
+    /// The kind of a line.
+    #[tactic(auto, unfolding(crate::specs::Lines::line_kind))]
+    pub fn of(line: &[u8]) -> LineKind
+        ensures { result ≡ line_kind line.now }
+    {
+        if is_blank_only(line) {
+            LineKind::Blank
+        } else if begins_skipped(line) {
+            LineKind::Skipped
+        } else if begins_continuation(line) {
+            LineKind::Continuation
+        } else {
+            LineKind::Opening
+        }
+    }
+
+    /// Whether such a line is the first of an attribute.
+    pub fn opens_attribute(self) -> bool
+        ensures { result ≡ opens_attribute self }
+    {
+        match self {
+            LineKind::Blank | LineKind::Skipped | LineKind::Continuation => false,
+            LineKind::Opening => true,
+        }
+    }
+}
+
+/// Whether a byte is a space, a tab, a CR or an LF.
+#[inline]
+pub fn is_blank_byte(byte: u8) -> bool
+    ensures { result ≡ is_blank byte }
+{
+    byte == b' ' || byte == b'\t' || byte == b'\r' || byte == b'\n'
+}
+
+/// Whether a byte may stand in skipped lines alone.
+#[inline]
+fn is_refused_byte(byte: u8) -> bool
+    ensures { result ≡ is_refused byte }
+{
+    byte.is_ascii_control() && !is_blank_byte(byte)
+}
+
+/// Whether a line is one of blanks alone, which ends a paragraph.
+#[inline]
+pub fn is_blank_only(line: &[u8]) -> bool
+    ensures { result ≡ is_blank_line line.now }
+{
+    line.iter().all(|byte| is_blank_byte(*byte))
+}
+
+#[inline]
+fn begins_skipped(line: &[u8]) -> bool
+    ensures { result ≡ is_skipped_line line.now }
+{
+    match line {
+        [first, ..] => *first == b'#' || *first == b'%',
+        [] => false,
+    }
+}
+
+#[inline]
+fn begins_continuation(line: &[u8]) -> bool
+    ensures { result ≡ begins is_continuation_sign line.now }
+{
+    match line {
+        [first, ..] => is_blank_byte(*first) || *first == b'+',
+        [] => false,
+    }
+}
+
+/// Whether a line is neither blank nor skipped.
+#[inline]
+pub fn is_of_paragraph(line: &[u8]) -> bool
+    ensures { result ≡ is_paragraph_line line.now }
+{
+    !is_blank_only(line) && !begins_skipped(line)
+}
+
+/// Whether a line has a byte that only skipped lines may have.
+#[inline]
+pub fn has_refused_byte(line: &[u8]) -> bool
+    ensures { result ≡ list_any is_refused line.now }
+{
+    line.iter().any(|byte| is_refused_byte(*byte))
+}
+
+#[inline]
+fn first_line_feed(text: &[u8]) -> Option<usize>
+    ensures { result ≡ position is_line_feed text.now }
+{
+    text.iter().position(|byte| *byte == b'\n')
+}
+
+/// The first line of a text with the LF that ends it, and what follows it.
+pub fn split_line(text: &[u8]) -> (&[u8], &[u8])
+    requires { 0 < length text.now }
+    ensures whole { text.now ≡ result.0.now ++ result.1.now }
+    ensures lines { text_lines text.now ≡ result.0.now ∷ text_lines result.1.now }
+    ensures single { text_lines result.0.now ≡ result.0.now ∷ [] }
+    ensures ended { (are_whole_lines result.0.now ≡ true) ⊎ (result.1.now ≡ []) }
+    ensures shorter { length result.1.now < length text.now }
+{
+    match first_line_feed(text) {
+        Some(place) => text.split_at(place + 1),
+        None => text.split_at(text.len()),
+    }
 }

@@ -1,0 +1,135 @@
+-- Lemmas on what the lines of a block give.
+use Rattle.std.proofs.Common.{◌≡◌, ℕ, ◌+◌, ◌<◌, ◌≤◌, Bool, true, false, not, cond, List, [], ◌∷◌, ◌++◌, length, take, drop, map, refl, sym, ap, ◌∙◌, arith, append_assoc, length-append, Option, Some, None, Result, Ok, Err, nat_lt, if◌then◌else◌}
+use Rattle.std.proofs.lemmas.List.{append-nil, drop_all}
+use Rattle.std.specs.List.{concat, onto_first}
+use Rattle.std.proofs.lemmas.Bool.Decides.{nat_tests}
+use Rattle.rr_text.specs.declared.fault.TextFault.{TextFault}
+use Rattle.rr_text.specs.declared.fault.TextFault.TheVariants.{TooLarge}
+use Rattle.rr_text.specs.Faults.{block_fault}
+use Rattle.rr_text.specs.declared.line.LineKind.{LineKind}
+use Rattle.rr_text.specs.declared.line.LineKind.TheVariants.{Blank, Skipped, Continuation, Opening}
+use Rattle.rr_text.specs.Bytes.{is_line_feed, trim, trim_start, trim_end}
+use Rattle.rr_text.specs.Lines.{text_lines, line_kind, opens_attribute}
+use Rattle.rr_text.specs.Blocks.{blocks}
+use Rattle.rr_text.specs.Fields.{Field}
+use Rattle.rr_text.proofs.BlockLemmas.{blocks_none}
+use Rattle.rr_text.specs.Entries.{added_value, added_lines, continued_by, continued, opened_by, opened_field, block_fields, block_entry, entries, size_limit, unless_fault}
+
+pub added_empty : (line : List ℕ) → length line ≡ 0 → added_value line ≡ line
+unfolding trim_start trim_end
+added_empty [] h = refl
+added_empty (b ∷ bs) h = absurd (omega arith)
+
+-- what a line that opens no attribute gives to the attribute before it and to those after it
+pub record IsFurther (line : List ℕ) (kind : LineKind) (others : List (List ℕ)) : Type 0 where
+  pub lines : continued (line ∷ others) ≡ added_lines line kind ++ continued others
+  pub fields : block_fields (line ∷ others) ≡ block_fields others
+
+further_by : (kind : LineKind) (line : List ℕ) (others : List (List ℕ)) → line_kind line ≡ kind → opens_attribute kind ≡ false → IsFurther line kind others
+unfolding continued block_fields
+further_by Blank line others e h = record { lines = rw e refl; fields = rw e refl }
+further_by Skipped line others e h = record { lines = rw e refl; fields = rw e refl }
+further_by Continuation line others e h = record { lines = rw e refl; fields = rw e refl }
+further_by Opening line others e h = cc
+
+pub further : (line : List ℕ) (kind : LineKind) (others : List (List ℕ)) → kind ≡ line_kind line → opens_attribute kind ≡ false → IsFurther line kind others
+further line kind others e h = further_by kind line others (sym e) h
+
+opened_kind : (kind : LineKind) → opens_attribute kind ≡ true → kind ≡ Opening
+opened_kind Blank h = cc
+opened_kind Skipped h = cc
+opened_kind Continuation h = cc
+opened_kind Opening h = refl
+
+-- what a line that opens an attribute gives
+pub record IsOpened (line : List ℕ) (others : List (List ℕ)) : Type 0 where
+  pub lines : continued (line ∷ others) ≡ []
+  pub fields : block_fields (line ∷ others) ≡ opened_field line (continued others) ∷ block_fields others
+
+pub opened : (line : List ℕ) (kind : LineKind) (others : List (List ℕ)) → kind ≡ line_kind line → opens_attribute kind ≡ true → IsOpened line others
+unfolding continued block_fields
+opened line kind others e h =
+    let is : line_kind line ≡ Opening = sym e ∙ opened_kind kind h in
+    record { lines = rw is refl; fields = rw is refl }
+
+pub entries_none : (text : List ℕ) → length text ≡ 0 → (continued (text_lines text) ≡ []) × (block_fields (text_lines text) ≡ [])
+unfolding text_lines continued block_fields
+entries_none [] h = (refl, refl)
+entries_none (b ∷ bs) h = absurd (omega arith)
+
+-- one step through the lines that continue a value
+pub continued_step : (done new : List (List ℕ)) (rest line after : List ℕ) (kind : LineKind) (all : List (List ℕ)) → done ++ continued (text_lines rest) ≡ all
+    → text_lines rest ≡ line ∷ text_lines after → kind ≡ line_kind line → opens_attribute kind ≡ false → new ≡ done ++ added_lines line kind → new ++ continued (text_lines after) ≡ all
+continued_step done new rest line after kind all now lines e h is =
+    let step : IsFurther line kind (text_lines after) = further line kind (text_lines after) e h in
+    let more : continued (text_lines rest) ≡ added_lines line kind ++ continued (text_lines after) = ap continued lines ∙ step.lines in
+    ap (λ ls. ls ++ continued (text_lines after)) is ∙ (append_assoc done (added_lines line kind) (continued (text_lines after)) ∙ (ap (λ ls. done ++ ls) (sym more) ∙ now))
+
+-- where the next attribute begins, or the text ends, a value is whole
+pub continued_end : (done : List (List ℕ)) (lines : List (List ℕ)) (all : List (List ℕ)) → done ++ continued lines ≡ all → continued lines ≡ [] → done ≡ all
+continued_end done lines all now none = sym (append-nil done) ∙ (ap (λ ls. done ++ ls) (sym none) ∙ now)
+
+-- one attribute more
+pub fields_step : (done new : List Field) (line after rest : List ℕ) (kind : LineKind) (field : Field) → kind ≡ line_kind line → opens_attribute kind ≡ true
+    → field ≡ opened_field line (continued (text_lines after)) → block_fields (text_lines rest) ≡ block_fields (text_lines after) → new ≡ done ++ field ∷ []
+    → new ++ block_fields (text_lines rest) ≡ done ++ block_fields (line ∷ text_lines after)
+fields_step done new line after rest kind field e h value same is =
+    let one : block_fields (line ∷ text_lines after) ≡ opened_field line (continued (text_lines after)) ∷ block_fields (text_lines after) = (opened line kind (text_lines after) e h).fields in
+    rw (one, is, same, ← value) (append_assoc done (field ∷ []) (block_fields (text_lines after)))
+
+pub fields_end : (done : List Field) (rest : List ℕ) (all : List Field) → done ++ block_fields (text_lines rest) ≡ all → length rest ≡ 0 → done ≡ all
+fields_end done rest all now none = sym (append-nil done) ∙ (ap (λ fields. done ++ fields) (sym (entries_none rest none).1) ∙ now)
+
+concat_onto : (b : ℕ) (lines : List (List ℕ)) → concat (onto_first b lines) ≡ b ∷ concat lines
+concat_onto b [] = refl
+concat_onto b (line ∷ others) = refl
+
+concat_by : (t : Bool) (b : ℕ) (bs : List ℕ) → is_line_feed b ≡ t → concat (text_lines bs) ≡ bs → concat (text_lines (b ∷ bs)) ≡ b ∷ bs
+unfolding text_lines
+concat_by true b bs h rec = rw h (ap (λ r. b ∷ r) rec)
+concat_by false b bs h rec = rw h (concat_onto b (text_lines bs) ∙ ap (λ r. b ∷ r) rec)
+
+-- a text is its lines one after another
+pub concat-text_lines : (text : List ℕ) → concat (text_lines text) ≡ text
+unfolding text_lines
+concat-text_lines [] = refl
+concat-text_lines (b ∷ bs) = concat_by (is_line_feed b) b bs refl (concat-text_lines bs)
+
+size_of_block : (block : List ℕ) → length (concat (text_lines block)) ≡ length block
+size_of_block block = ap length (concat-text_lines block)
+
+entry_by : (t : Bool) (block : List ℕ) → nat_lt size_limit (length block) ≡ t
+    → block_entry (text_lines block) ≡ (if t then Err TooLarge else unless_fault (block_fault (text_lines block)) (block_fields (text_lines block)))
+unfolding block_entry
+entry_by t block h = rw (size_of_block block, h) refl
+
+pub entry_large : (block : List ℕ) → size_limit < length block → block_entry (text_lines block) ≡ Err TooLarge
+entry_large block h = entry_by true block (grind (arith, nat_tests))
+
+pub entry_small : (block : List ℕ) (fault : Option TextFault) → length block ≤ size_limit → fault ≡ block_fault (text_lines block)
+    → block_entry (text_lines block) ≡ unless_fault fault (block_fields (text_lines block))
+entry_small block fault h e = entry_by false block (grind (arith, nat_tests)) ∙ ap (λ f. unless_fault f (block_fields (text_lines block))) (sym e)
+
+-- a text without a block spells nothing
+pub entries_empty : (text : List ℕ) → blocks (text_lines text) ≡ [] → entries text ≡ []
+unfolding entries
+entries_empty text h = ap (map block_entry) h
+
+-- the entry of the first block comes before those of the rest
+pub entries_more : (text after : List ℕ) (block : List (List ℕ)) → blocks (text_lines text) ≡ block ∷ blocks (text_lines after) → entries text ≡ block_entry block ∷ entries after
+unfolding entries
+entries_more text after block h = ap (map block_entry) h
+
+pub entries_fault : (text after : List ℕ) (block : List (List ℕ)) (fault : TextFault) → blocks (text_lines text) ≡ block ∷ blocks (text_lines after) → block_entry block ≡ Err fault
+    → entries text ≡ Err fault ∷ drop 1 (entries text)
+entries_fault text after block fault h e = let all = entries_more text after block h in rw (all, e) refl
+
+pub entries_some : (text after : List ℕ) (block : List (List ℕ)) → blocks (text_lines text) ≡ block ∷ blocks (text_lines after) → 0 < length (entries text)
+entries_some text after block h = rw (entries_more text after block h) (omega arith)
+
+pub entries_skipped : (text after : List ℕ) (block : List (List ℕ)) → blocks (text_lines text) ≡ block ∷ blocks (text_lines after) → entries after ≡ drop 1 (entries text)
+entries_skipped text after block h = rw (entries_more text after block h) refl
+
+pub entries_end : (text : List ℕ) → entries (drop (length text) text) ≡ []
+unfolding entries text_lines
+entries_end text = rw (drop_all (length text) text (omega arith)) (entries_empty [] (blocks_none [] refl))

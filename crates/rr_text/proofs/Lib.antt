@@ -1,0 +1,6 @@
+pub mod LineLemmas
+pub mod BlockLemmas
+pub mod FaultLemmas
+pub mod TrimLemmas
+pub mod EntryLemmas
+pub mod SoundLemmas

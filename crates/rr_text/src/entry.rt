@@ -1,0 +1,167 @@
+//! Blocks read as paragraphs.
+
+ghost use Rattle.std.specs.Prelude.{◌≡◌, ◌≢◌, ◌<◌, ◌≤◌, ◌++◌, ◌∷◌, IfOk, IfErr, OnOk, None, Ok, Err, length, map, true};
+ghost use Rattle.std.specs.List.{before_first, after_first};
+ghost use Rattle.std.specs.Char.{to_ascii_lowercase};
+ghost use Rattle.rr_text.specs.Bytes.{is_colon};
+ghost use Rattle.rr_text.specs.Lines.{text_lines};
+ghost use Rattle.rr_text.specs.Blocks.{starts_block};
+ghost use Rattle.rr_text.specs.Faults as faults;
+ghost use Rattle.rr_text.specs.Fields.{AreFields};
+ghost use Rattle.rr_text.specs.Entries as entries;
+
+use crate::attribute::Attribute;
+use crate::fault::TextFault;
+use crate::inspect::{block_fault, colon_place};
+use crate::line::{LineKind, split_line};
+use crate::paragraph::Paragraph;
+use crate::text::Text;
+use crate::trim::{trim, trim_end};
+use std::alloc::{AllocError, Global};
+
+/// The most bytes that a paragraph has.
+const SIZE_LIMIT: usize = 65_536;
+
+/// What stands before and behind the first colon of a line.
+#[tactic(auto, using(crate::proofs::FaultLemmas::found_at, crate::proofs::FaultLemmas::none_at))]
+fn split_colon(line: &[u8]) -> (&[u8], &[u8])
+    ensures name { result.0.now ≡ before_first is_colon line.now }
+    ensures value { result.1.now ≡ after_first is_colon line.now }
+{
+    match colon_place(line) {
+        Some(place) => {
+            let (name, _) = line.split_at(place);
+            let (_, value) = line.split_at(place + 1);
+            (name, value)
+        }
+        None => line.split_at(line.len()),
+    }
+}
+
+fn lower_name(alloc: Global, name: &[u8]) -> Result<Text, AllocError>
+    ensures { IfOk result (λ text. text ≡ map to_ascii_lowercase name.now) }
+{
+    let lower = name.iter().map(|byte| byte.to_ascii_lowercase()).collect(alloc)?;
+    Ok(Text::from_vec(lower))
+}
+
+/// The line that a continuation adds to a value.
+#[tactic(auto, using(crate::proofs::EntryLemmas::added_empty))]
+fn added_value(alloc: Global, line: &[u8]) -> Result<Text, AllocError>
+    ensures { IfOk result (λ text. text ≡ entries.added_value line.now) }
+{
+    match line.split_first() {
+        Some((_, rest)) => Text::from_slice(alloc, trim(rest)),
+        None => Text::from_slice(alloc, line),
+    }
+}
+
+/// Adds what a line adds to the lines of a value.
+fn push_added(alloc: Global, lines: &mut Vec<Text>, line: &[u8], kind: LineKind) -> Result<(), AllocError>
+    ensures { OnOk result (lines.new.items ≡ lines.old.items ++ entries.added_lines line.now kind) }
+{
+    match kind {
+        LineKind::Continuation => {
+            lines.push(added_value(alloc, line)?)?;
+            Ok(())
+        }
+        LineKind::Blank | LineKind::Skipped | LineKind::Opening => Ok(()),
+    }
+}
+
+/// The first line of a value with the lines that continue it, and the text from the next attribute on.
+fn value_lines<'t>(alloc: Global, first: Text, text: &'t [u8]) -> Result<(Vec<Text>, &'t [u8]), AllocError>
+    ensures lines { IfOk result (λ read. read.0.items ≡ first ∷ entries.continued (text_lines text.now)) }
+    ensures rest { IfOk result (λ read. entries.block_fields (text_lines read.1.now) ≡ entries.block_fields (text_lines text.now)) }
+    ensures shorter { IfOk result (λ read. length read.1.now ≤ length text.now) }
+{
+    let mut lines = Vec::new(alloc);
+    lines.push(first)?;
+    let mut rest = text;
+    'lines: while !rest.is_empty() {
+        let (line, after) = split_line(rest);
+        let kind = LineKind::of(line);
+        if kind.opens_attribute() {
+            return Ok((lines, rest));
+        }
+        push_added(alloc, &mut lines, line, kind)?;
+        rest = after;
+    }
+    Ok((lines, rest))
+}
+
+/// The attribute that a line opens, and the text from the next one on.
+fn read_attribute<'t>(alloc: Global, line: &[u8], after: &'t [u8]) -> Result<(Attribute, &'t [u8]), AllocError>
+    ensures value { IfOk result (λ read. read.0 ≡ entries.opened_field line.now (entries.continued (text_lines after.now))) }
+    ensures rest { IfOk result (λ read. entries.block_fields (text_lines read.1.now) ≡ entries.block_fields (text_lines after.now)) }
+    ensures shorter { IfOk result (λ read. length read.1.now ≤ length after.now) }
+{
+    let (name, value) = split_colon(line);
+    let name = lower_name(alloc, trim_end(name))?;
+    let first = Text::from_slice(alloc, trim(value))?;
+    let (lines, rest) = value_lines(alloc, first, after)?;
+    Ok((Attribute::new(name, lines), rest))
+}
+
+/// Adds the attribute that a line opens, and gives the text that is left; a line that opens none is
+/// passed.
+fn push_opened<'t>(alloc: Global, fields: &mut Vec<Attribute>, line: &[u8], after: &'t [u8]) -> Result<&'t [u8], AllocError>
+    ensures fields {
+        IfOk result (λ rest. fields.new.items ++ entries.block_fields (text_lines rest.now)
+            ≡ fields.old.items ++ entries.block_fields (line.now ∷ text_lines after.now))
+    }
+    ensures shorter { IfOk result (λ rest. length rest.now ≤ length after.now) }
+{
+    if !LineKind::of(line).opens_attribute() {
+        return Ok(after);
+    }
+    let (attribute, rest) = read_attribute(alloc, line, after)?;
+    fields.push(attribute)?;
+    Ok(rest)
+}
+
+/// The attributes of a block.
+fn read_fields(alloc: Global, block: &[u8]) -> Result<Vec<Attribute>, AllocError>
+    ensures { IfOk result (λ fields. fields.items ≡ entries.block_fields (text_lines block.now)) }
+{
+    let mut fields = Vec::new(alloc);
+    let mut rest = block;
+    'lines: while !rest.is_empty() {
+        let (line, after) = split_line(rest);
+        rest = push_opened(alloc, &mut fields, line, after)?;
+    }
+    Ok(fields)
+}
+
+/// The paragraph of a block that has no fault, whatever its size.
+pub fn read_paragraph(alloc: Global, block: &[u8]) -> Result<Paragraph, AllocError>
+    requires { faults.block_fault (text_lines block.now) ≡ None }
+    ensures value { IfOk result (λ paragraph. paragraph ≡ entries.block_fields (text_lines block.now)) }
+    ensures fields { IfOk result (λ paragraph. AreFields paragraph) }
+{
+    let fields = read_fields(alloc, block)?;
+    Ok(Paragraph::new(fields))
+}
+
+/// The entry of a block.
+pub fn read_entry(alloc: Global, block: &[u8]) -> Result<Paragraph, TextFault>
+    requires { starts_block (text_lines block.now) ≡ true }
+    ensures found {
+        IfOk result (λ paragraph. (0 < length paragraph) × AreFields paragraph
+            × (entries.block_entry (text_lines block.now) ≡ Ok paragraph))
+    }
+    ensures fault {
+        IfErr result (λ fault. fault ≢ TextFault.Memory → entries.block_entry (text_lines block.now) ≡ Err fault)
+    }
+{
+    if block.len() > SIZE_LIMIT {
+        return Err(TextFault::TooLarge);
+    }
+    match block_fault(block) {
+        Some(fault) => Err(fault),
+        None => {
+            let paragraph = read_paragraph(alloc, block)?;
+            Ok(paragraph)
+        }
+    }
+}

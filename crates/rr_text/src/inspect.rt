@@ -1,0 +1,125 @@
+//! What is wrong with lines and blocks.
+
+ghost use Rattle.std.specs.Prelude.{◌≡◌, Some, None};
+ghost use Rattle.std.specs.List.{list_all, position};
+ghost use Rattle.std.specs.Char.{is_ascii_alphabetic};
+ghost use Rattle.rr_text.specs.Bytes as bytes;
+ghost use Rattle.rr_text.specs.Lines.{text_lines};
+ghost use Rattle.rr_text.specs.Faults as faults;
+
+use crate::fault::TextFault;
+use crate::line::{LineKind, has_refused_byte, split_line};
+use crate::trim::trim_end;
+
+/// The place of the first colon of a line.
+#[inline]
+pub fn colon_place(line: &[u8]) -> Option<usize>
+    ensures { result ≡ position bytes.is_colon line.now }
+{
+    line.iter().position(|byte| *byte == b':')
+}
+
+#[inline]
+fn is_name_byte(byte: u8) -> bool
+    ensures { result ≡ bytes.is_name_byte byte }
+{
+    byte.is_ascii_alphanumeric() || byte == b'-' || byte == b'_'
+}
+
+#[inline]
+fn begins_with_letter(name: &[u8]) -> bool
+    ensures { result ≡ bytes.begins is_ascii_alphabetic name.now }
+{
+    match name {
+        [first, ..] => first.is_ascii_alphabetic(),
+        [] => false,
+    }
+}
+
+#[inline]
+fn has_name_bytes(name: &[u8]) -> bool
+    ensures { result ≡ list_all bytes.is_name_byte name.now }
+{
+    name.iter().all(|byte| is_name_byte(*byte))
+}
+
+/// Whether a text is the name of an attribute, in either case.
+fn is_name(name: &[u8]) -> bool
+    ensures { result ≡ bytes.is_name name.now }
+{
+    begins_with_letter(name) && has_name_bytes(name) && name.len() <= 64
+}
+
+/// The fault of a line that opens an attribute and has no refused byte.
+#[tactic(auto, using(crate::proofs::FaultLemmas::not_found, crate::proofs::FaultLemmas::found_at), unfolding(crate::specs::Faults::opening_fault))]
+fn opening_fault(line: &[u8]) -> Option<TextFault>
+    ensures { result ≡ faults.opening_fault line.now }
+{
+    match colon_place(line) {
+        None => Some(TextFault::NoColon),
+        Some(place) => {
+            let (before, _) = line.split_at(place);
+            if is_name(trim_end(before)) {
+                None
+            } else {
+                Some(TextFault::BadName)
+            }
+        }
+    }
+}
+
+/// The fault of a line, of which it is known whether it is the first of its block.
+#[tactic(auto, unfolding(crate::specs::Faults::line_fault))]
+fn line_fault(line: &[u8], is_first: bool) -> Option<TextFault>
+    ensures { result ≡ faults.line_fault is_first line.now }
+{
+    match LineKind::of(line) {
+        LineKind::Blank | LineKind::Skipped => None,
+        LineKind::Continuation => {
+            if has_refused_byte(line) {
+                Some(TextFault::BadByte)
+            } else if is_first {
+                Some(TextFault::FirstContinues)
+            } else {
+                None
+            }
+        }
+        LineKind::Opening => {
+            if has_refused_byte(line) {
+                Some(TextFault::BadByte)
+            } else {
+                opening_fault(line)
+            }
+        }
+    }
+}
+
+/// The first fault of the lines of a text that does not begin a block.
+fn later_fault(text: &[u8]) -> Option<TextFault>
+    ensures { result ≡ faults.later_fault (text_lines text.now) }
+{
+    let mut rest = text;
+    'lines: while !rest.is_empty() {
+        let (line, after) = split_line(rest);
+        let fault = line_fault(line, false);
+        if fault.is_some() {
+            return fault;
+        }
+        rest = after;
+    }
+    None
+}
+
+/// The fault of the first faulty line of a block.
+pub fn block_fault(block: &[u8]) -> Option<TextFault>
+    ensures { result ≡ faults.block_fault (text_lines block.now) }
+{
+    if block.is_empty() {
+        return None;
+    }
+    let (line, after) = split_line(block);
+    match line_fault(line, true) {
+        Some(fault) => Some(fault),
+        None => later_fault(after),
+    }
+}

@@ -1,0 +1,14 @@
+-- Why a paragraph is no object.
+use Rattle.rr_object.specs.declared.fault.ObjectFault.{ObjectFault}
+use Rattle.rr_object.specs.declared.fault.ObjectFault.TheVariants.{UnknownClass, BadKey, BadCount, BadValue, OtherSource, Memory}
+use Rattle.rr_object.specs.declared.code.Code.{Code}
+use Rattle.rr_object.specs.declared.code.Code.TheVariants.{E02, E03, E04, E05, E06, E90}
+
+-- the code of an item that is refused for a fault (profile)
+abbrev pub code_of : ObjectFault → Code
+code_of UnknownClass = E02
+code_of BadKey = E03
+code_of BadCount = E04
+code_of BadValue = E05
+code_of OtherSource = E06
+code_of Memory = E90

@@ -1,0 +1,39 @@
+//! Lines of `auth`.
+
+ghost use Rattle.std.specs.Prelude.{◌≡◌, length};
+
+use std::marker::Model;
+
+/// How many bytes a SHA-256 digest has (FIPS 180-4).
+pub const DIGEST_BYTES: usize = 32;
+
+/// A secret's trace: the SHA-256 digest of the salt followed by the secret (profile).
+#[derive(Debug, Drop)]
+pub struct Auth {
+    salt: Vec<u8>,
+    digest: [u8; DIGEST_BYTES],
+}
+
+impl Model for Auth {
+    ghost use Rattle.rr_object.specs.Parts.{AuthParts};
+
+    ghost Value = { AuthParts };
+
+    ghost view = { λ a. record { salt = a.salt.items; digest = a.digest } };
+}
+
+impl Auth {
+    /// The salt, 0 to 16 letters or digits.
+    pub fn salt(&self) -> &[u8]
+        ensures { result.now ≡ self.now.salt }
+    {
+        self.salt.as_slice()
+    }
+
+    /// The digest.
+    pub fn digest(&self) -> &[u8; DIGEST_BYTES]
+        ensures { result.now ≡ self.now.digest }
+    {
+        &self.digest
+    }
+}

@@ -1,0 +1,45 @@
+//! Values of `mbrs-by-ref`.
+
+ghost use Rattle.std.specs.Prelude.{◌≡◌};
+
+use rr_number::Name;
+use std::marker::Model;
+
+/// Whose objects may say by `member-of` that they belong to a set (RFC 2622, 5.1).
+#[derive(Debug, Drop)]
+pub struct ByRef {
+    any: bool,
+    names: Vec<Name>,
+}
+
+impl Model for ByRef {
+    ghost use Rattle.rr_object.specs.Parts.{ByRefParts};
+
+    ghost Value = { ByRefParts };
+
+    ghost view = { λ b. record { any = b.any; names = b.names.items } };
+}
+
+impl ByRef {
+    /// These maintainers' objects, or anybody's.
+    pub fn new(any: bool, names: Vec<Name>) -> ByRef
+        ensures any { result.any ≡ any }
+        ensures names { result.names ≡ names.items }
+    {
+        ByRef { any, names }
+    }
+
+    /// Whether anybody's objects may.
+    pub fn any(&self) -> bool
+        ensures { result ≡ self.now.any }
+    {
+        self.any
+    }
+
+    /// The maintainers whose objects may.
+    pub fn names(&self) -> &[Name]
+        ensures { result.now ≡ self.now.names }
+    {
+        self.names.as_slice()
+    }
+}

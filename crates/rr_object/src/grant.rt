@@ -1,0 +1,54 @@
+//! Entries of `mnt-routes`.
+
+ghost use Rattle.std.specs.Prelude.{◌≡◌};
+
+use rr_number::{Name, Range};
+use std::marker::Model;
+
+/// An entry of `mnt-routes`: a maintainer, and for which prefixes it may authorise routes (RFC 2725, 9.6).
+#[derive(Debug, Drop)]
+pub struct Grant {
+    name: Name,
+    any: bool,
+    ranges: Vec<Range>,
+}
+
+impl Model for Grant {
+    ghost use Rattle.rr_object.specs.Parts.{GrantParts};
+
+    ghost Value = { GrantParts };
+
+    ghost view = { λ g. record { name = g.name; any = g.any; ranges = g.ranges.items } };
+}
+
+impl Grant {
+    /// The entry of this maintainer: for each prefix, or for those that one of the ranges admits.
+    pub fn new(name: Name, any: bool, ranges: Vec<Range>) -> Grant
+        ensures name { result.name ≡ name }
+        ensures any { result.any ≡ any }
+        ensures ranges { result.ranges ≡ ranges.items }
+    {
+        Grant { name, any, ranges }
+    }
+
+    /// The maintainer.
+    pub fn name(&self) -> &Name
+        ensures { result.now ≡ self.now.name }
+    {
+        &self.name
+    }
+
+    /// Whether the entry is for each prefix.
+    pub fn any(&self) -> bool
+        ensures { result ≡ self.now.any }
+    {
+        self.any
+    }
+
+    /// The ranges whose prefixes the entry is for, none where it is for each prefix. Dropped ranges are left out.
+    pub fn ranges(&self) -> &[Range]
+        ensures { result.now ≡ self.now.ranges }
+    {
+        self.ranges.as_slice()
+    }
+}

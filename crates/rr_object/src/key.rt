@@ -1,0 +1,60 @@
+//! Keys of objects.
+
+ghost use Rattle.std.specs.Prelude.{◌≡◌, IfOk};
+ghost use Rattle.rr_object.specs.Keys.{class_of};
+
+use crate::class::Class;
+use rr_number::{AsNumber, Name, Prefix, SetName, Span};
+use std::alloc::{AllocError, Global};
+
+/// What names an object among those of the registry. Keys are ordered by the numbers of their classes, then by
+/// what names the object in its class, which is the order of their bytes (profile).
+#[derive(Debug, PartialEq, Eq, PartialOrd, Ord, Drop)]
+pub enum Key {
+    /// A maintainer's name.
+    Mntner(Name),
+    /// The first and the last number of a block.
+    AsBlock(Span),
+    /// The number of an autonomous system.
+    AutNum(AsNumber),
+    /// The first and the last address of a block.
+    Inetnum(Span),
+    /// A prefix and its origin.
+    Route(Prefix, AsNumber),
+    /// The name of a set of autonomous systems.
+    AsSet(SetName),
+    /// The name of a set of routes.
+    RouteSet(SetName),
+}
+
+impl Key {
+    /// The class of the object.
+    pub fn class(&self) -> Class
+        ensures { result ≡ class_of self.now }
+    {
+        match self {
+            Key::Mntner(_) => Class::Mntner,
+            Key::AsBlock(_) => Class::AsBlock,
+            Key::AutNum(_) => Class::AutNum,
+            Key::Inetnum(_) => Class::Inetnum,
+            Key::Route(_, _) => Class::Route,
+            Key::AsSet(_) => Class::AsSet,
+            Key::RouteSet(_) => Class::RouteSet,
+        }
+    }
+
+    /// An equal key; the error is want of memory.
+    pub fn copy(&self, alloc: Global) -> Result<Key, AllocError>
+        ensures { IfOk result (λ key. key ≡ self.now) }
+    {
+        match self {
+            Key::Mntner(name) => Ok(Key::Mntner(name.copy(alloc)?)),
+            Key::AsBlock(span) => Ok(Key::AsBlock(*span)),
+            Key::AutNum(number) => Ok(Key::AutNum(*number)),
+            Key::Inetnum(span) => Ok(Key::Inetnum(*span)),
+            Key::Route(prefix, origin) => Ok(Key::Route(*prefix, *origin)),
+            Key::AsSet(name) => Ok(Key::AsSet(name.copy(alloc)?)),
+            Key::RouteSet(name) => Ok(Key::RouteSet(name.copy(alloc)?)),
+        }
+    }
+}

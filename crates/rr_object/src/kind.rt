@@ -1,0 +1,88 @@
+//! The interpreted attributes.
+
+ghost use Rattle.std.specs.Prelude.{◌≡◌};
+ghost use Rattle.rr_object.specs.Kinds.{is_read, kind_name, occurs};
+
+use crate::class::Class;
+
+/// An attribute that is read, and not only kept as text.
+#[derive(Clone, Copy, Debug, PartialEq, Eq)]
+pub enum Kind {
+    /// The maintainers whose secrets a change needs (RFC 2622, 3.1).
+    MntBy,
+    /// The registry of the object (RFC 2622, 2).
+    Source,
+    /// How a maintainer is recognised (RFC 2622, 3.1).
+    Auth,
+    /// Whose secrets an object below needs (RFC 2725, 9.1).
+    MntLower,
+    /// Whose secrets a route needs (RFC 2725, 9.6).
+    MntRoutes,
+    /// The autonomous system that a route comes from (RFC 2622, 4).
+    Origin,
+    /// The sets that an object asks to belong to (RFC 2622, 5.1).
+    MemberOf,
+    /// The members of a set (RFC 2622, 5.1 and 5.2).
+    Members,
+    /// Whose objects may ask to belong to a set (RFC 2622, 5.1).
+    MbrsByRef,
+}
+
+/// How often an attribute stands in an object (profile).
+#[derive(Clone, Copy, Debug, PartialEq, Eq)]
+pub enum Occurs {
+    /// Exactly once, with an item.
+    Once,
+    /// Any number of times, with at least one item over all.
+    WithItems,
+    /// Any number of times.
+    Freely,
+    /// It is kept as text, and not read.
+    AsText,
+}
+
+impl Kind {
+    /// The name of the attribute, in lower case.
+    pub fn name(self) -> &'static str
+        ensures { result.now ≡ kind_name self }
+    {
+        match self {
+            Kind::MntBy => "mnt-by",
+            Kind::Source => "source",
+            Kind::Auth => "auth",
+            Kind::MntLower => "mnt-lower",
+            Kind::MntRoutes => "mnt-routes",
+            Kind::Origin => "origin",
+            Kind::MemberOf => "member-of",
+            Kind::Members => "members",
+            Kind::MbrsByRef => "mbrs-by-ref",
+        }
+    }
+
+    /// How often the attribute stands in an object of a class.
+    #[tactic(auto, unfolding(crate::specs::Kinds::occurs))]
+    pub fn occurs(self, class: Class) -> Occurs
+        ensures { result ≡ occurs self class }
+    {
+        match (self, class) {
+            (Kind::MntBy, _) | (Kind::Auth, Class::Mntner) => Occurs::WithItems,
+            (Kind::Source, _) | (Kind::Origin, Class::Route) => Occurs::Once,
+            (Kind::MntLower, Class::Mntner) => Occurs::AsText,
+            (Kind::MntLower, _) => Occurs::Freely,
+            (Kind::MntRoutes, Class::AutNum | Class::Inetnum | Class::Route) => Occurs::Freely,
+            (Kind::MemberOf, Class::AutNum | Class::Route) => Occurs::Freely,
+            (Kind::Members | Kind::MbrsByRef, Class::AsSet | Class::RouteSet) => Occurs::Freely,
+            _ => Occurs::AsText,
+        }
+    }
+
+    /// Whether the attribute is read in an object of a class.
+    pub fn is_read(self, class: Class) -> bool
+        ensures { result ≡ is_read self class }
+    {
+        match self.occurs(class) {
+            Occurs::AsText => false,
+            _ => true,
+        }
+    }
+}

@@ -1,0 +1,21 @@
+//! Members of sets.
+
+use rr_number::{AsNumber, Operator, Range, SetName};
+
+/// What a set's `members` names beside ranges (RFC 2622, 5).
+#[derive(Debug, PartialEq, Eq, PartialOrd, Ord, Drop)]
+pub enum MemberSet {
+    /// The routes that an autonomous system originates.
+    AutNum(AsNumber),
+    /// A set, `AS-ANY` and `RS-ANY` among them.
+    Set(SetName),
+}
+
+/// An item of a set's `members` (RFC 2622, 5). A dropped range is none.
+#[derive(Debug, PartialEq, Eq, PartialOrd, Ord, Drop)]
+pub enum Member {
+    /// A range of prefixes, its operator applied.
+    Range(Range),
+    /// A set with a range operator, which is plain in an as-set.
+    Set(MemberSet, Operator),
+}

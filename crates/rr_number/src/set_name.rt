@@ -11,8 +11,10 @@ ghost use Rattle.rr_io.specs.Sending.{Writes};
 ghost use Rattle.rr_number.specs.Names.{is_reserved, upper};
 ghost use Rattle.rr_number.specs.SetNames.{has_prefix, kind_of, IsSetText, component_text, components, is_any_set, is_as_number, is_component, is_name_of_kind, is_set_name, is_set_word, prefix_of, set_name_of, set_text};
 
-use crate::SetKind;
+use crate::digits::cut;
 use crate::letter_case::spells;
+use crate::name::{is_name, is_reserved_in_any_case, to_upper};
+use crate::{AsNumber, SetKind};
 use rr_io::{Sink, write_all};
 use std::alloc::{AllocError, Global};
 use std::cmp::Ordering;
@@ -47,9 +49,11 @@ impl SetName {
     pub fn read(alloc: Global, bytes: &[u8]) -> Result<Option<Self>, AllocError>
         ensures { IfOk result (λ name. name ≡ set_name_of bytes.now) }
     {
-        let _bytes = bytes;
-        let _alloc = alloc;
-        Err(AllocError)
+        if !is_set_name(bytes) {
+            return Ok(None);
+        }
+        let bytes = printed(alloc, bytes)?;
+        Ok(Some(SetName { bytes }))
     }
 
     /// The name's bytes, as it is printed.
@@ -159,8 +163,92 @@ fn prefix_of(kind: SetKind) -> &'static [u8]
     }
 }
 
+#[tactic(auto, unfolding(crate::specs::SetNames::is_set_name))]
+fn is_set_name(bytes: &[u8]) -> bool
+    ensures { result ≡ is_set_name bytes.now }
+{
+    bytes.len() <= MOST_BYTES
+        && (is_any_set(bytes)
+            || is_name_of_kind(SetKind::AsSet, bytes)
+            || is_name_of_kind(SetKind::RouteSet, bytes))
+}
+
 fn is_any_set(bytes: &[u8]) -> bool
     ensures { result ≡ is_any_set bytes.now }
 {
     spells(bytes, b"AS-ANY") || spells(bytes, b"RS-ANY")
+}
+
+fn is_name_of_kind(kind: SetKind, bytes: &[u8]) -> bool
+    ensures { result ≡ is_name_of_kind kind bytes.now }
+{
+    has_only_components(kind, bytes) && has_set_word(kind, bytes)
+}
+
+fn has_only_components(kind: SetKind, bytes: &[u8]) -> bool
+    ensures { result ≡ list_all (is_component kind) (components bytes.now) }
+{
+    bytes
+        .split(|b| *b == b':')
+        .all(|component| is_component(kind, component))
+}
+
+fn has_set_word(kind: SetKind, bytes: &[u8]) -> bool
+    ensures { result ≡ list_any (is_set_word kind) (components bytes.now) }
+{
+    bytes
+        .split(|b| *b == b':')
+        .any(|component| is_set_word(kind, component))
+}
+
+fn is_component(kind: SetKind, component: &[u8]) -> bool
+    ensures { result ≡ is_component kind component.now }
+{
+    AsNumber::read(component).is_some() || is_set_word(kind, component)
+}
+
+fn is_set_word(kind: SetKind, component: &[u8]) -> bool
+    ensures { result ≡ is_set_word kind component.now }
+{
+    is_name(component) && begins_as(kind, component) && !is_reserved_in_any_case(component)
+}
+
+/// Whether the component begins as the names of the kind do, in any letter case.
+fn begins_as(kind: SetKind, component: &[u8]) -> bool
+    ensures { result ≡ starts_with nat_eq (upper component.now) (prefix_of kind) }
+{
+    if component.len() < 3 {
+        return false;
+    }
+    let (front, _) = component.split_at(3);
+    match kind {
+        SetKind::AsSet => spells(front, b"AS-"),
+        SetKind::RouteSet => spells(front, b"RS-"),
+    }
+}
+
+/// The text of a set's name as it is printed.
+fn printed(alloc: Global, bytes: &[u8]) -> Result<Vec<u8>, AllocError>
+    ensures { IfOk result (λ v. v.items ≡ set_text bytes.now) }
+{
+    let mut text = Vec::with_capacity(alloc, bytes.len())?;
+    let mut rest = bytes;
+    'components: while let Some((component, after)) = cut(rest, b':') {
+        push_component(alloc, &mut text, component)?;
+        text.push(b':')?;
+        rest = after;
+    }
+    push_component(alloc, &mut text, rest)?;
+    Ok(text)
+}
+
+/// Puts a component at the end, as it is printed.
+fn push_component(alloc: Global, text: &mut Vec<u8>, component: &[u8]) -> Result<(), AllocError>
+    ensures { IfOk result (λ _. text.new.items ≡ text.old.items ++ component_text component.now) }
+{
+    match AsNumber::read(component) {
+        Some(number) => text.extend_from_slice(number.text().as_bytes())?,
+        None => text.extend_from_slice(&to_upper(alloc, component)?)?,
+    }
+    Ok(())
 }

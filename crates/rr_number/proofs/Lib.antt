@@ -4,6 +4,7 @@ pub mod Choices
 pub mod ComponentTexts
 pub mod Components
 pub mod CutsLemmas
+pub mod DashLemmas
 pub mod Decimals
 pub mod LetterCase
 pub mod Multiples
@@ -16,3 +17,4 @@ pub mod SetNameLemmas
 pub mod SetTexts
 pub mod SetWords
 pub mod SpanOrder
+pub mod SpanTextLemmas

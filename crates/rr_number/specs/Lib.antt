@@ -3,6 +3,7 @@ pub mod Applied
 pub mod AsNumbers
 pub mod Bounds
 pub mod Cuts
+pub mod Dashes
 pub mod Names
 pub mod Numerals
 pub mod Operators
@@ -10,4 +11,5 @@ pub mod Prefixes
 pub mod Ranges
 pub mod SetNames
 pub mod SpanLaws
+pub mod SpanTexts
 pub mod Spans

@@ -4,6 +4,7 @@
 
 mod address;
 mod as_number;
+mod dash;
 mod digits;
 mod letter_case;
 mod name;

@@ -1,11 +1,19 @@
 //! Spans of numbers of 32 bits: of addresses, and of AS numbers.
 
-ghost use Rattle.std.specs.Prelude.{◌≡◌, ◌≤◌, ◌^◌, ◌<◌};
-ghost use Rattle.rr_number.specs.Spans.{covers, crosses, meets, size, IsSpan};
+ghost use Rattle.std.specs.Prelude.{◌≡◌, ◌≤◌, IfSome};
+ghost use Rattle.rr_io.specs.Sending.{Writes};
+ghost use Rattle.rr_number.specs.SpanTexts.{IsSpanText, pair_of, span_of, span_text};
+ghost use Rattle.rr_number.specs.Spans.{Ends, IsSpan, covers, crosses, meets, size};
 
 pub mod laws;
 
+use crate::address::Address;
+use crate::dash::cut_at_dash;
+use crate::prefix::Prefix;
+use crate::short_text::ShortText;
+use rr_io::{Sink, write_all};
 use std::marker::Model;
+use std::{fmt, io};
 
 /// The numbers from a first to a last one, both included; the first is not above the last.
 /// Spans are ordered by their first number, then by their last (profile).
@@ -83,5 +91,72 @@ impl Span {
         ensures { result ≡ crosses self other }
     {
         self.meets(other) && !self.covers(other) && !other.covers(self)
+    }
+
+    /// The span of addresses that the whole text spells: two addresses with a dash between them, the first not
+    /// above the last, with or without blanks beside the dash; or a prefix. There is none where the text is
+    /// spelled otherwise (profile).
+    pub fn read(text: &[u8]) -> Option<Span>
+        ensures found { IfSome result (λ span. IsSpanText text.now span) }
+        ensures only { (span : Ends) → IsSpanText text.now span → result ≡ Some span }
+        ensures exact { result ≡ span_of text.now }
+    {
+        read_span(text)
+    }
+
+    /// The span of addresses as its two ends with ` - ` between them.
+    #[tactic(auto, unfolding(crate::specs::SpanTexts::span_text))]
+    pub fn text(self) -> ShortText
+        ensures { result ≡ span_text self }
+    {
+        let mut text = ShortText::new();
+        Address::from_bits(self.first).push_to(&mut text);
+        text.push_str(" - ");
+        Address::from_bits(self.last).push_to(&mut text);
+        text
+    }
+
+    /// Writes the text of the span of addresses. After a fault the writer has taken a front of it.
+    pub fn print_to<W: Sink>(&self, writer: &mut W) -> io::Result<()>
+        ensures writes { Writes (W.told writer.old) (W.told writer.new) (span_text self.now) result }
+        ensures aside { W.aside writer.new ≡ W.aside writer.old }
+    {
+        write_all(writer, self.text().as_bytes())
+    }
+}
+
+impl fmt::Display for Span {
+    fn fmt<W: fmt::Write>(&self, f: &mut fmt::Formatter<W>) -> fmt::Result {
+        f.pad(self.text().as_str())
+    }
+}
+
+/// What is printed is read again: the text of a span of addresses spells it.
+pub fn printed_spans_are_read()
+    ensures { (span : Ends) → IsSpan span → IsSpanText (span_text span) span }
+{}
+
+#[inline]
+#[tactic(auto, unfolding(crate::specs::SpanTexts::pair_of))]
+fn join(first: &[u8], last: &[u8]) -> Option<Span>
+    ensures { result ≡ pair_of first.now last.now }
+{
+    let first = Address::read(first)?.to_bits();
+    let last = Address::read(last)?.to_bits();
+    if first <= last {
+        Some(Span { first, last })
+    } else {
+        None
+    }
+}
+
+#[inline]
+#[tactic(auto, unfolding(crate::specs::SpanTexts::span_of))]
+fn read_span(text: &[u8]) -> Option<Span>
+    ensures { result ≡ span_of text.now }
+{
+    match cut_at_dash(text) {
+        Some((first, last)) => join(first, last),
+        None => Some(Prefix::read(text)?.span()),
     }
 }

@@ -1,0 +1,114 @@
+-- Lemmas on the texts of spans of addresses.
+use Rattle.std.proofs.Common.{◌≡◌, ℕ, ◌≤◌, ◌==◌, true, false, nat_lt, nat_le, List, [], ◌∷◌, length, Option, Some, None, refl, sym, ap, subst, inl, inr, arith}
+use Rattle.std.proofs.lemmas.Bool.Decides.{nat_tests}
+use Rattle.std.proofs.lemmas.Option.{option_and_then_some, cond_some}
+use Rattle.std.specs.List.{position_or_len}
+use Rattle.rr_number.specs.Addresses.{IsAddress, address_of, address_text}
+use Rattle.rr_number.specs.Cuts.{cut_at, lacks}
+use Rattle.rr_number.specs.Dashes.{IsDashed, dash, dashed_of}
+use Rattle.rr_number.specs.Prefixes.{PrefixParts, IsPrefix, prefix_of, slash}
+use Rattle.rr_number.specs.Spans.{Ends, IsSpan}
+use Rattle.rr_number.specs.SpanTexts.{IsAddressPair, IsSpanText, ends_of, pair_of, span_by, span_of, span_text}
+use Rattle.rr_number.proofs.AddressLemmas.{address_of-spelled, address_of-read, IsAddress-text, lacks-address}
+use Rattle.rr_number.proofs.Choices.{option_map-some}
+use Rattle.rr_number.proofs.CutsLemmas.{lacks-digits, lacks-joined}
+use Rattle.rr_number.proofs.DashLemmas.{HasNoBlank, dashed_of-spelled, dashed_of-read}
+use Rattle.rr_number.proofs.PrefixLemmas.{prefix_of-spelled, prefix_of-read}
+
+-- a text without the separator is not cut
+position_or_len-lacks : (s : ℕ) (text : List ℕ) → lacks s text ≡ true → position_or_len (λ b. b == s) text ≡ length text
+position_or_len-lacks s [] none = refl
+position_or_len-lacks s (b ∷ bs) none = grind (arith, nat_tests, position_or_len-lacks s bs)
+
+cut_at-lacks : (s : ℕ) (text : List ℕ) → lacks s text ≡ true → cut_at s text ≡ None
+unfolding cut_at
+cut_at-lacks s text none =
+    let outside : nat_lt (position_or_len (λ b. b == s) text) (length text) ≡ false =
+    rw (position_or_len-lacks s text none) (grind (arith, nat_tests)) in
+    rw outside refl
+
+dashed_of-lacks : (text : List ℕ) → lacks dash text ≡ true → dashed_of text ≡ None
+unfolding dashed_of
+dashed_of-lacks text none = rw (cut_at-lacks dash text none) refl
+
+-- a text with none of the three blanks has no blank
+no_blank : (text : List ℕ) → lacks 32 text ≡ true → lacks 9 text ≡ true → lacks 13 text ≡ true → HasNoBlank text
+no_blank [] spaces tabs returns' = refl
+no_blank (b ∷ bs) spaces tabs returns' = grind (arith, nat_tests, no_blank bs)
+
+-- an address has no blank and no dash
+address_no_blank : (text : List ℕ) (n : ℕ) → IsAddress text n → HasNoBlank text
+address_no_blank text n spelled =
+    no_blank text (lacks-address 32 text n refl refl spelled) (lacks-address 9 text n refl refl spelled) (lacks-address 13 text n refl refl spelled)
+
+prefix_lacks_dash : (text : List ℕ) (p : PrefixParts) → IsPrefix text p → lacks dash text ≡ true
+prefix_lacks_dash text p spelled =
+    rw spelled.spelled (lacks-joined dash slash spelled.address_text spelled.length_text refl (lacks-address dash spelled.address_text spelled.address refl refl spelled.first) (lacks-digits dash spelled.length_text refl spelled.second.digits))
+
+ends_of-ordered : (x y : ℕ) (s : Ends) → ends_of x y ≡ Some s → (x ≤ y) × (s.first ≡ x) × (s.last ≡ y)
+ends_of-ordered x y s is =
+    let parts = cond_some (nat_le x y) _ _ is in
+    (grind (arith, nat_tests, parts.0), ap (λ (e : Ends). e.first) (sym parts.1), ap (λ (e : Ends). e.last) (sym parts.1))
+
+-- two texts that are read as a span spell it
+pair_of-spelled : (text first last : List ℕ) (s : Ends) → IsDashed text first last → pair_of first last ≡ Some s → IsAddressPair text s
+unfolding pair_of
+pair_of-spelled text first last s dashed read =
+    option_and_then_some _ (address_of first) s read (λ x is_x rest.
+    option_and_then_some _ (address_of last) s rest (λ y is_y ends.
+    let parts = ends_of-ordered x y s ends in
+    record {
+      first_text = first;
+      last_text = last;
+      dashed = dashed;
+      first = subst (IsAddress first) (sym parts.1) (address_of-spelled first x is_x);
+      last = subst (IsAddress last) (sym parts.2) (address_of-spelled last y is_y);
+      ordered = omega (arith, parts.0, parts.1, parts.2);
+    }))
+
+span_by-spelled : (text : List ℕ) (s : Ends) (ends : Option (List ℕ × List ℕ)) → dashed_of text ≡ ends → span_by text ends ≡ Some s → IsSpanText text s
+span_by-spelled text s (Some ends) cut read = inl (pair_of-spelled text ends.0 ends.1 s (dashed_of-spelled text ends cut) read)
+span_by-spelled text s None cut read =
+    option_map-some _ (prefix_of text) s read (λ p is value. inr (record { prefix = p; spelled = prefix_of-spelled text p is; value = sym value }))
+
+-- what is read is spelled
+pub span_of-spelled : (text : List ℕ) (s : Ends) → span_of text ≡ Some s → IsSpanText text s
+unfolding span_of
+span_of-spelled text s read = span_by-spelled text s (dashed_of text) refl read
+
+pair_of-read : (first last : List ℕ) (s : Ends) → IsAddress first s.first → IsAddress last s.last → s.first ≤ s.last → pair_of first last ≡ Some s
+unfolding pair_of
+pair_of-read first last s is_first is_last ordered =
+    let at_first = address_of-read first s.first is_first in
+    let at_last = address_of-read last s.last is_last in
+    let test : nat_le s.first s.last ≡ true = grind (arith, nat_tests) in
+    rw (at_first, at_last, test) refl
+
+-- what is spelled is read
+pub span_of-read : (text : List ℕ) (s : Ends) → IsSpanText text s → span_of text ≡ Some s
+unfolding span_of
+span_of-read text s (inl pair) =
+    let cut = dashed_of-read text pair.first_text pair.last_text pair.dashed (address_no_blank _ s.first pair.first) (address_no_blank _ s.last pair.last) (lacks-address dash _ s.first refl refl pair.first) in
+    rw cut (pair_of-read pair.first_text pair.last_text s pair.first pair.last pair.ordered)
+span_of-read text s (inr span) =
+    let cut = dashed_of-lacks text (prefix_lacks_dash text span.prefix span.spelled) in
+    let read = prefix_of-read text span.prefix span.spelled in
+    rw (cut, read) (ap Some (sym span.value))
+
+-- a printed span spells it
+pub IsSpanText-text : (s : Ends) → IsSpan s → IsSpanText (span_text s) s
+unfolding span_text
+IsSpanText-text s is = inl (record {
+  first_text = address_text s.first;
+  last_text = address_text s.last;
+  dashed = record {
+    before = 32 ∷ [];
+    after = 32 ∷ [];
+    before_blank = refl;
+    after_blank = refl;
+    spelled = refl;
+  };
+  first = IsAddress-text s.first (omega (arith, is.ordered, is.fits));
+  last = IsAddress-text s.last is.fits;
+  ordered = is.ordered;
+})

@@ -1,8 +1,8 @@
 -- Lemmas on texts cut at a separator.
-use Rattle.std.proofs.Common.{◌≡◌, ℕ, ◌+◌, ◌<◌, ◌==◌, true, false, List, [], ◌∷◌, ◌++◌, length, take, drop, Some, nat_lt, get_or, refl, ap, sym, arith, length-append, None}
+use Rattle.std.proofs.Common.{◌≡◌, ℕ, ◌+◌, ◌<◌, ◌==◌, true, false, List, [], ◌∷◌, ◌++◌, length, take, drop, Some, nat_lt, get_or, refl, ap, sym, arith, length-append, None, ◌⊎◌, inl, inr}
 use Rattle.std.proofs.lemmas.Bool.Decides.{nat_tests}
 use Rattle.std.proofs.lemmas.Grind.{common_steps}
-use Rattle.std.proofs.lemmas.List.{take_at}
+use Rattle.std.proofs.lemmas.List.{take_at, append-nil}
 use Rattle.std.proofs.lemmas.List.Sums.{split_at_first, passes_at_first}
 use Rattle.std.proofs.lemmas.Option.{cond_some}
 use Rattle.std.specs.Char.{is_ascii_digit}
@@ -73,3 +73,8 @@ cut_at-lacks s text none =
     let outside : nat_lt (position_or_len (λ b. b == s) text) (length text) ≡ false =
     rw (position-absent s text none) (grind (arith, nat_tests)) in
     rw outside refl
+
+-- the first separator of a text stands where a front without one ends, if what follows is empty or begins with one
+pub place_after : (s : ℕ) (front back : List ℕ) → lacks s front ≡ true → (back ≡ []) ⊎ ((rest : List ℕ) × (back ≡ s ∷ rest)) → position_or_len (λ b. b == s) (front ++ back) ≡ length front
+place_after s front back none (inl empty) = rw (empty, append-nil front) (position-absent s front none)
+place_after s front back none (inr begun) = rw begun.1 (position-lacks s front begun.0 none)

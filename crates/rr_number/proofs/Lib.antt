@@ -16,5 +16,7 @@ pub mod PrefixSpans
 pub mod SetNameLemmas
 pub mod SetTexts
 pub mod SetWords
+pub mod RangeLemmas
+pub mod RangedLemmas
 pub mod SpanOrder
 pub mod SpanTextLemmas

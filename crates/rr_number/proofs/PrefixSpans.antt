@@ -1,10 +1,10 @@
 -- Lemmas on the spans of prefixes.
-use Rattle.std.proofs.Common.{◌≡◌, ℕ, ◌+◌, ◌-◌, ◌*◌, ◌/◌, ◌^◌, ◌<◌, ◌≤◌, true, inl, inr, ap, ◌∙◌, arith}
-use Rattle.std.proofs.lemmas.Nat.{pow_pos, pow-add}
+use Rattle.std.proofs.Common.{◌≡◌, ℕ, ◌+◌, ◌-◌, ◌*◌, ◌/◌, ◌^◌, ◌<◌, ◌≤◌, true, inl, inr, ap, ◌∙◌, arith, ◌⊎◌, not, ◌&&◌, Bool, refl, false}
+use Rattle.std.proofs.lemmas.Nat.{pow_pos, pow-add, pow_below}
 use Rattle.std.proofs.lemmas.Bool.{cases_lt}
 use Rattle.std.proofs.lemmas.Bool.Decides.{nat_tests}
 use Rattle.rr_number.specs.Prefixes.{PrefixParts, IsMasked, masked, count_of, span_of}
-use Rattle.rr_number.specs.Spans.{IsSpan, covers, meets}
+use Rattle.rr_number.specs.Spans.{crosses, Ends, IsSpan, covers, meets}
 use Rattle.rr_number.proofs.Multiples.{aligned, multiple_of, next_multiple}
 
 -- some addresses share the bits
@@ -74,3 +74,49 @@ nested p q is_p is_q shorter meet =
     let to : q.address + (c - 1) ≤ p.address + (count_of p.length - 1) =
     omega (arith, nested_to c d i j ends_in starts_in some more) in
     grind (arith, nat_tests)
+
+-- where spans that meet are nested, they do not cross
+uncrossed : (meet cover covered : Bool) → (meet ≡ true → (cover ≡ true) ⊎ (covered ≡ true)) → (meet && (not cover && not covered)) ≡ false
+uncrossed false cover covered nest = refl
+uncrossed true cover covered nest = elim (nest refl) [ inl up ↦ rw up refl | inr down ↦ grind (arith, nat_tests) ]
+
+-- two prefixes never cross
+pub never_cross : (p q : PrefixParts) → IsMasked p → IsMasked q → crosses (span_of p) (span_of q) ≡ false
+never_cross p q is_p is_q =
+    uncrossed (meets (span_of p) (span_of q)) (covers (span_of p) (span_of q)) (covers (span_of q) (span_of p)) (λ meet.
+    elim (cases_lt q.length p.length) [
+      | inl longer ↦
+          let back : meets (span_of q) (span_of p) ≡ true = grind (arith, nat_tests) in
+          inr (nested q p is_q is_p (omega arith) back)
+      | inr shorter ↦ inl (nested p q is_p is_q shorter meet)
+    ])
+
+-- a prefix is no longer than one that it covers
+pub covers_longer : (p q : PrefixParts) → IsMasked p → IsMasked q → covers (span_of p) (span_of q) ≡ true → p.length ≤ q.length
+covers_longer p q is_p is_q cover =
+    elim (cases_lt q.length p.length) [
+      | inl longer ↦
+          let fewer : count_of p.length < count_of q.length = pow_below (32 - p.length) (32 - q.length) (omega (arith, is_p.short)) in
+          let starts : p.address ≤ q.address = grind (arith, nat_tests) in
+          let ends : q.address + (count_of q.length - 1) ≤ p.address + (count_of p.length - 1) = grind (arith, nat_tests) in
+          absurd (omega (arith, fewer, starts, ends, count_of-positive p.length))
+      | inr shorter ↦ shorter
+    ]
+
+-- the prefix of these parts
+abbrev parts : ℕ → ℕ → PrefixParts
+parts address length = record { address = address; length = length }
+
+-- two prefixes of one address and one length are one
+same_parts : (p q : PrefixParts) → p.address ≡ q.address → p.length ≡ q.length → p ≡ q
+same_parts p q one_address one_length =
+    ap (λ address. parts address p.length) one_address ∙ ap (parts q.address) one_length
+
+-- only equal prefixes have the same addresses
+pub spans_tell : (p q : PrefixParts) → IsMasked p → IsMasked q → span_of p ≡ span_of q → p ≡ q
+spans_tell p q is_p is_q same =
+    let one_address : p.address ≡ q.address = ap (λ (s : Ends). s.first) same in
+    let one_last : p.address + (count_of p.length - 1) ≡ q.address + (count_of q.length - 1) = ap (λ (s : Ends). s.last) same in
+    let up : covers (span_of p) (span_of q) ≡ true = grind (arith, nat_tests) in
+    let down : covers (span_of q) (span_of p) ≡ true = grind (arith, nat_tests) in
+    same_parts p q one_address (omega (arith, covers_longer p q is_p is_q up, covers_longer q p is_q is_p down))

@@ -1,10 +1,51 @@
 -- Operators on ranges, and the texts of both together (RFC 2622, 2).
-use Rattle.std.specs.Prelude.{Option}
-use Rattle.std.specs.Option.{option_map}
-use Rattle.rr_number.specs.Operators.{lengths_under}
-use Rattle.rr_number.specs.Ranges.{RangeParts, bounds_of, range_of}
+use Rattle.std.specs.Prelude.{◌≡◌, ℕ, Bool, false, ◌==◌, ◌&&◌, List, ◌++◌, Option, Some, None, if◌then◌else◌}
+use Rattle.std.specs.List.{before_first}
+use Rattle.std.specs.Option.{option_and_then, option_map}
+use Rattle.rr_number.specs.Bounds.{Bounds}
+use Rattle.rr_number.specs.Cuts.{from_first}
+use Rattle.rr_number.specs.Operators.{IsOperator, caret, lengths_under, operator_of, operator_text}
+use Rattle.rr_number.specs.Prefixes.{PrefixParts, IsPrefix, prefix_of, prefix_text}
+use Rattle.rr_number.specs.Ranges.{RangeParts, bare, bounds_of, range_of}
 use Rattle.rr_number.specs.declared.operator.Operator.{Operator}
+use Rattle.rr_number.specs.declared.operator.Operator.TheVariants.{Plain, Plus, Minus, Lengths}
 
 -- An operator changes the lengths of a range, or drops it (RFC 2622, 2).
 unfoldable pub applied : Operator → RangeParts → Option RangeParts
 applied operator r = option_map (range_of r.prefix) (lengths_under operator (bounds_of r))
+
+-- A prefix carries an operator, or none, right after it (RFC 2622, 2).
+pub record IsRanged (text : List ℕ) (prefix : PrefixParts) (operator : Operator) : Type 0 where
+  pub front : List ℕ
+  pub back : List ℕ
+  pub spelled : text ≡ front ++ back
+  pub first : IsPrefix front prefix
+  pub second : IsOperator back operator
+
+-- the prefix and the operator of two texts, if they are
+unfoldable pub pair_of : List ℕ → List ℕ → Option (PrefixParts × Operator)
+pair_of front back =
+    option_and_then (λ prefix. option_map (λ operator. (prefix, operator)) (operator_of back)) (prefix_of front)
+
+-- the prefix with its operator that the text spells, if it does
+unfoldable pub ranged_of : List ℕ → Option (PrefixParts × Operator)
+ranged_of text = pair_of (before_first (λ b. b == caret) text) (from_first caret text)
+
+-- whether these are the bounds
+abbrev pub is_bounds : Option Bounds → Bounds → Bool
+is_bounds None b = false
+is_bounds (Some c) b = c.low == b.low && c.high == b.high
+
+-- An operator says a range where it makes it of the bare prefix (profile).
+abbrev pub says : Operator → RangeParts → Bool
+says operator r = is_bounds (lengths_under operator (bounds_of (bare r.prefix))) (bounds_of r)
+
+-- The first of none, `^+`, `^-` and lengths that says the range (profile).
+unfoldable pub operator_for : RangeParts → Operator
+operator_for r =
+    if says Plain r then Plain
+    else (if says Plus r then Plus else (if says Minus r then Minus else Lengths (bounds_of r)))
+
+-- A range is printed as its prefix with that operator (profile).
+unfoldable pub range_text : RangeParts → List ℕ
+range_text r = prefix_text r.prefix ++ operator_text (operator_for r)

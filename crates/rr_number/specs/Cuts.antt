@@ -1,5 +1,5 @@
 -- Texts cut at a separator.
-use Rattle.std.specs.Prelude.{ℕ, ◌==◌, Bool, true, not, ◌&&◌, List, [], ◌∷◌, length, Option, Some, None, nat_lt, if◌then◌else◌}
+use Rattle.std.specs.Prelude.{ℕ, ◌==◌, Bool, true, not, ◌&&◌, List, [], ◌∷◌, length, Option, Some, None, nat_lt, if◌then◌else◌, drop}
 use Rattle.std.specs.List.{before_first, after_first, position_or_len}
 
 -- The parts of the text before and after its first separator, if it has one.
@@ -13,3 +13,7 @@ cut_at separator text =
 abbrev pub lacks : ℕ → List ℕ → Bool
 lacks separator [] = true
 lacks separator (b ∷ bs) = not (b == separator) && lacks separator bs
+
+-- The text from its first separator on, or nothing where it has none.
+abbrev pub from_first : ℕ → List ℕ → List ℕ
+from_first separator text = drop (position_or_len (λ b. b == separator) text) text

@@ -7,7 +7,9 @@ pub mod Dashes
 pub mod Names
 pub mod Numerals
 pub mod Operators
+pub mod PrefixLaws
 pub mod Prefixes
+pub mod RangeLaws
 pub mod Ranges
 pub mod SetNames
 pub mod SpanLaws

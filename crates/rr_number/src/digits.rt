@@ -27,7 +27,7 @@ pub(crate) fn read_number(text: &[u8], most: usize, limit: u64) -> Option<u64>
 
 /// The place of the first separator, if the text has one.
 #[inline]
-fn place_of(text: &[u8], separator: u8) -> Option<usize>
+pub(crate) fn place_of(text: &[u8], separator: u8) -> Option<usize>
     ensures { result ≡ position (λ b. b == separator) text.now }
 {
     text.iter().position(|byte| *byte == separator)

@@ -21,7 +21,7 @@ pub use as_number::AsNumber;
 pub use name::Name;
 pub use operator::{LengthBounds, Operator};
 pub use prefix::Prefix;
-pub use range::Range;
+pub use range::{Range, read_ranged};
 pub use set_kind::SetKind;
 pub use set_name::SetName;
 pub use short_text::ShortText;

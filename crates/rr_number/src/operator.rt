@@ -60,6 +60,14 @@ impl LengthBounds {
         }
     }
 
+    /// The bounds that these two are.
+    pub(crate) fn between(low: u8, high: u8) -> Self
+        requires { IsBounds (record { low = low; high = high }) }
+        ensures { result ≡ record { low = low; high = high } }
+    {
+        LengthBounds { low, high }
+    }
+
     /// The least length.
     pub fn low(self) -> u8
         ensures value { result ≡ self.low }

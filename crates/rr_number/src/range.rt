@@ -1,9 +1,22 @@
 //! Ranges of prefixes.
-ghost use Rattle.std.specs.Prelude.{◌≡◌, ◌≤◌, if◌then◌else◌, nat_le};
+ghost use Rattle.std.specs.Prelude.{◌≡◌, ◌+◌, ◌≤◌, ◌==◌, ◌++◌, IfSome, if◌then◌else◌, length, nat_le};
+ghost use Rattle.std.specs.List.{before_first};
+ghost use Rattle.rr_io.specs.Sending.{Writes};
+ghost use Rattle.rr_number.specs.Applied.{IsRanged, operator_for, pair_of, range_text, ranged_of};
+ghost use Rattle.rr_number.specs.Cuts.{from_first};
+ghost use Rattle.rr_number.specs.Operators.{caret};
+ghost use Rattle.rr_number.specs.Prefixes.{PrefixParts};
+ghost use Rattle.rr_number.specs.RangeLaws.{OperatorsAdmit, OperatorsKeepRanges, PrintedOperatorsMakeRanges, PrintedRangesAreRead};
 ghost use Rattle.rr_number.specs.Ranges.{admits, bare, IsRange};
+ghost use Rattle.rr_number.specs.declared.operator.Operator.{Operator};
 
+use crate::digits::place_of;
+use crate::operator::{LengthBounds, Operator};
 use crate::prefix::Prefix;
+use crate::short_text::ShortText;
+use rr_io::{Sink, write_all};
 use std::marker::Model;
+use std::{fmt, io};
 
 /// A range of prefixes: those that the prefix covers and whose length lies from `low` to `high`. Ranges are
 /// ordered by address, length, `low` and `high` (RFC 2622, 2).
@@ -86,4 +99,99 @@ impl Range {
     {
         self.high
     }
+
+    /// The operator that makes the range of its prefix alone: the first of none, `^+`, `^-` and lengths.
+    pub fn operator(self) -> Operator
+        ensures { result ≡ operator_for self }
+    {
+        let length = self.prefix.length();
+        match (self.low - length, self.high) {
+            (0, high) if high == length => Operator::Plain,
+            (0, 32) => Operator::Plus,
+            (1, 32) => Operator::Minus,
+            _ => Operator::Lengths(LengthBounds::between(self.low, self.high)),
+        }
+    }
+
+    /// The range as its prefix and the operator that makes it of the prefix alone.
+    #[tactic(auto, unfolding(crate::specs::Applied::range_text))]
+    pub fn text(self) -> ShortText
+        ensures { result ≡ range_text self }
+    {
+        let mut text = ShortText::new();
+        self.prefix.push_to(&mut text);
+        self.operator().push_to(&mut text);
+        text
+    }
+
+    /// Writes the range's text. After a fault the writer has taken a front of it.
+    pub fn print_to<W: Sink>(&self, writer: &mut W) -> io::Result<()>
+        ensures writes { Writes (W.told writer.old) (W.told writer.new) (range_text self.now) result }
+        ensures aside { W.aside writer.new ≡ W.aside writer.old }
+    {
+        write_all(writer, self.text().as_bytes())
+    }
+}
+
+impl fmt::Display for Range {
+    fn fmt<W: fmt::Write>(&self, f: &mut fmt::Formatter<W>) -> fmt::Result {
+        f.pad(self.text().as_str())
+    }
+}
+
+/// The prefix and its operator that the whole text spells, one right after the other. There is none where the text
+/// is spelled otherwise, as with two operators (RFC 2622, 2).
+pub fn read_ranged(text: &[u8]) -> Option<(Prefix, Operator)>
+    ensures found { IfSome result (λ ranged. IsRanged text.now ranged.0 ranged.1) }
+    ensures only { (prefix : PrefixParts) (operator : Operator)
+        → IsRanged text.now prefix operator → result ≡ Some (prefix, operator) }
+    ensures exact { result ≡ ranged_of text.now }
+{
+    read_both(text)
+}
+
+/// Under an operator a range admits what its prefix covers, of the lengths that the operator's row gives; where it
+/// is dropped, no prefix has such a length.
+pub fn operators_admit_what_they_say()
+    ensures { OperatorsAdmit }
+{}
+
+/// What an operator makes of a range is a range.
+pub fn operators_keep_ranges()
+    ensures { OperatorsKeepRanges }
+{}
+
+/// What is printed is read again: the text of a range spells its prefix and an operator, and this makes the range of
+/// the prefix alone.
+pub fn printed_ranges_are_read()
+    ensures spelled { PrintedRangesAreRead }
+    ensures made { PrintedOperatorsMakeRanges }
+{}
+
+/// The text before the first caret, and from it on.
+fn split_at_caret(text: &[u8]) -> (&[u8], &[u8])
+    ensures front { result.0.now ≡ before_first (λ b. b == caret) text.now }
+    ensures back { result.1.now ≡ from_first caret text.now }
+{
+    match place_of(text, b'^') {
+        Some(place) => text.split_at(place),
+        None => text.split_at(text.len()),
+    }
+}
+
+#[tactic(auto, unfolding(crate::specs::Applied::pair_of))]
+fn read_pair(front: &[u8], back: &[u8]) -> Option<(Prefix, Operator)>
+    ensures { result ≡ pair_of front.now back.now }
+{
+    let prefix = Prefix::read(front)?;
+    let operator = Operator::read(back)?;
+    Some((prefix, operator))
+}
+
+#[tactic(auto, unfolding(crate::specs::Applied::ranged_of))]
+fn read_both(text: &[u8]) -> Option<(Prefix, Operator)>
+    ensures { result ≡ ranged_of text.now }
+{
+    let (front, back) = split_at_caret(text);
+    read_pair(front, back)
 }

@@ -4,3 +4,5 @@ pub mod FaultLemmas
 pub mod TrimLemmas
 pub mod EntryLemmas
 pub mod SoundLemmas
+pub mod FieldLemmas
+pub mod MeaningLemmas

@@ -7,12 +7,15 @@ use Rattle.rr_text.specs.Fields.{Field}
 abbrev pub value_column : ℕ
 value_column = 16
 
+-- a line behind blanks, or nothing where it is empty
+abbrev pub behind_blanks : ℕ → List ℕ → List ℕ
+behind_blanks count [] = []
+behind_blanks count (b ∷ bs) = replicate count 32 ++ b ∷ bs
+
 -- a name, a colon, blanks up to the column of values and at least one, and the first line of the
 -- value; where that is empty the name and the colon stand alone
 abbrev pub opening_line : List ℕ → List ℕ → List ℕ
-opening_line name [] = name ++ 58 ∷ []
-opening_line name (b ∷ bs) =
-    (name ++ 58 ∷ []) ++ (replicate (max 1 (value_column - (length name + 1))) 32 ++ b ∷ bs)
+opening_line name line = (name ++ 58 ∷ []) ++ behind_blanks (max 1 (value_column - (length name + 1))) line
 
 -- a further line of a value stands behind sixteen blanks, an empty one is `+`
 abbrev pub further_line : List ℕ → List ℕ

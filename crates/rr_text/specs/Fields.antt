@@ -1,7 +1,8 @@
 -- An attribute as plain data, and what is true of each (RFC 2622, 2).
-use Rattle.std.specs.Prelude.{ℕ, Bool, true, not, ◌≡◌, ◌<◌, length, List, [], ◌∷◌, map, if◌then◌else◌}
+use Rattle.std.specs.Prelude.{ℕ, Bool, true, not, ◌&&◌, ◌≡◌, ◌<◌, length, List, [], ◌∷◌, map, if◌then◌else◌}
 use Rattle.std.specs.List.{list_any, AllByRecursion}
 use Rattle.std.specs.Str.{bytes_eq}
+use Rattle.std.specs.Cmp.Lexicographic.{pointwise}
 use Rattle.std.specs.Char.{to_ascii_lowercase}
 use Rattle.rr_text.specs.Bytes.{is_name, is_refused, is_line_feed, trim}
 
@@ -35,3 +36,11 @@ is_named name field = bytes_eq field.name name
 abbrev pub with_value : List ℕ → List ℕ → Field → Field
 with_value name line field =
     if is_named name field then record { name = field.name; lines = line ∷ [] } else field
+
+-- whether two attributes are equal
+abbrev pub field_eq : Field → Field → Bool
+field_eq a b = bytes_eq a.name b.name && pointwise bytes_eq a.lines b.lines
+
+-- whether two lists of attributes are equal
+abbrev pub fields_eq : List Field → List Field → Bool
+fields_eq = pointwise field_eq

@@ -3,6 +3,7 @@ pub mod Lines
 pub mod Blocks
 pub mod Faults
 pub mod Fields
+pub mod FieldEquality
 pub mod Entries
 pub mod Meanings
 pub mod CanonicalText

@@ -1,6 +1,6 @@
 //! Attributes: a name, and a value of one line or more.
 
-ghost use Rattle.std.specs.Prelude.{◌≡◌, ◌↔◌, IfOk, IsTrue, true};
+ghost use Rattle.std.specs.Prelude.{◌≡◌, [], ◌∷◌, IfOk};
 
 use crate::text::Text;
 use std::alloc::{AllocError, Global};
@@ -22,6 +22,8 @@ impl Model for Attribute {
 }
 
 impl Attribute {
+    ghost use Rattle.rr_text.specs.Fields.{is_named};
+
     /// The attribute of this name and these lines.
     pub fn new(name: Text, lines: Vec<Text>) -> Attribute
         ensures name { result.name ≡ name }
@@ -43,4 +45,53 @@ impl Attribute {
     {
         self.lines.as_slice()
     }
+
+    /// Whether this is the name, which is given in lower case.
+    pub fn is_named(&self, name: &[u8]) -> bool
+        ensures { result ≡ is_named name.now self.now }
+    {
+        self.name() == name
+    }
+
+    /// An equal attribute; the error is want of memory.
+    pub fn copy(&self, alloc: Global) -> Result<Attribute, AllocError>
+        ensures { IfOk result (λ copy. copy ≡ self.now) }
+    {
+        let name = self.name.copy(alloc)?;
+        let lines = copy_lines(alloc, self.lines())?;
+        Ok(Attribute { name, lines })
+    }
+
+    /// A copy with this one line as its value; the error is want of memory.
+    pub fn with_line(&self, alloc: Global, line: &[u8]) -> Result<Attribute, AllocError>
+        ensures { IfOk result (λ made. made ≡ record { name = self.now.name; lines = line.now ∷ [] }) }
+    {
+        let name = self.name.copy(alloc)?;
+        let mut lines = Vec::with_capacity(alloc, 1)?;
+        lines.push(Text::from_slice(alloc, line)?)?;
+        Ok(Attribute { name, lines })
+    }
+}
+
+impl PartialEq for Attribute {
+    ghost use Rattle.rr_text.specs.Fields.{field_eq};
+    ghost use Rattle.rr_text.specs.FieldEquality.{field_eq-laws};
+
+    ghost eq = { field_eq };
+
+    ghost laws = { field_eq-laws };
+
+    fn eq(&self, other: &Attribute) -> bool {
+        self.name == other.name && self.lines == other.lines
+    }
+}
+
+fn copy_lines(alloc: Global, lines: &[Text]) -> Result<Vec<Text>, AllocError>
+    ensures { IfOk result (λ copy. copy.items ≡ lines.now) }
+{
+    let mut copy = Vec::with_capacity(alloc, lines.len())?;
+    for line in lines {
+        copy.push(line.copy(alloc)?)?;
+    }
+    Ok(copy)
 }

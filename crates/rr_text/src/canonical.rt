@@ -1,33 +1,92 @@
 //! Canonical text: printed, and read again.
 
-ghost use Rattle.std.specs.Prelude.{◌≡◌, ◌<◌, IfOk, IfSome, Some, List, length};
+ghost use Rattle.std.specs.Prelude.{◌≡◌, ◌≤◌, ◌<◌, ◌+◌, ◌-◌, ◌^◌, ◌++◌, max, IfOk, OnOk, IfSome, Some, List, length, replicate};
 ghost use Rattle.rr_text.specs.Fields.{Field, AreFields};
-ghost use Rattle.rr_text.specs.CanonicalText.{canonical};
+ghost use Rattle.rr_text.specs.CanonicalText as canon;
 
+use crate::attribute::Attribute;
+use crate::entry::read_paragraph;
+use crate::inspect::block_fault;
 use crate::paragraph::Paragraph;
 use crate::text::Text;
 use std::alloc::{AllocError, Global};
 
-/// The canonical text of a paragraph (profile). The error is want of memory.
-pub fn print(_alloc: Global, paragraph: &Paragraph) -> Result<Text, AllocError>
-    ensures { IfOk result (λ text. text ≡ canonical paragraph.now) }
+/// The column in which values begin.
+const VALUE_COLUMN: usize = 16;
+
+fn push_blanks(out: &mut Vec<u8>, count: usize) -> Result<(), AllocError>
+    requires { count ≤ 16 }
+    ensures { OnOk result (out.new.items ≡ out.old.items ++ replicate count 32) }
 {
-    let _ = paragraph;
-    Err(AllocError)
+    let blanks = [b' '; 16];
+    out.extend_from_slice(&blanks[..count])
 }
 
-/// The paragraph whose canonical text this is, or `None` where it is that of no paragraph with
-/// an attribute. There is no bound on the size. The error is want of memory.
-pub fn read_canonical(_alloc: Global, text: &[u8]) -> Result<Option<Paragraph>, AllocError>
-    ensures found {
-        IfOk result (λ read. IfSome read (λ paragraph.
-            (0 < length paragraph) × AreFields paragraph × (canonical paragraph ≡ text.now)))
-    }
-    ensures only {
-        IfOk result (λ read. (fields : List Field) → 0 < length fields → AreFields fields
-            → canonical fields ≡ text.now → read ≡ Some fields)
-    }
+/// The blanks between the colon after a name of this length and its value.
+fn blanks_after(name_len: usize) -> usize
+    requires { name_len < 2 ^ 63 }
+    ensures bound { result ≤ 16 }
+    ensures value { result ≡ max 1 (canon.value_column - (name_len + 1)) }
 {
-    let _ = text;
-    Err(AllocError)
+    VALUE_COLUMN.saturating_sub(name_len + 1).max(1)
+}
+
+/// The first line of a value behind its blanks, or nothing where it is empty.
+fn push_first_line(out: &mut Vec<u8>, blanks: usize, line: &[u8]) -> Result<(), AllocError>
+    requires { blanks ≤ 16 }
+    ensures { OnOk result (out.new.items ≡ out.old.items ++ canon.behind_blanks blanks line.now) }
+{
+    if line.is_empty() {
+        return Ok(());
+    }
+    push_blanks(out, blanks)?;
+    out.extend_from_slice(line)
+}
+
+fn push_opening(out: &mut Vec<u8>, name: &[u8], line: &[u8]) -> Result<(), AllocError>
+    ensures { OnOk result (out.new.items ≡ out.old.items ++ canon.ended (canon.opening_line name.now line.now)) }
+{
+    out.extend_from_slice(name)?;
+    out.push(b':')?;
+    push_first_line(out, blanks_after(name.len()), line)?;
+    out.push(b'\n')?;
+    Ok(())
+}
+
+fn push_further(out: &mut Vec<u8>, line: &[u8]) -> Result<(), AllocError>
+    ensures { OnOk result (out.new.items ≡ out.old.items ++ canon.ended (canon.further_line line.now)) }
+{
+    if line.is_empty() {
+        out.extend_from_slice(b"+\n")
+    } else {
+        push_blanks(out, VALUE_COLUMN)?;
+        out.extend_from_slice(line)?;
+        out.push(b'\n')?;
+        Ok(())
+    }
+}
+
+fn push_attribute(out: &mut Vec<u8>, attribute: &Attribute) -> Result<(), AllocError>
+    ensures { OnOk result (out.new.items ≡ out.old.items ++ canon.field_text attribute.now) }
+{
+    let Some((first, further)) = attribute.lines().split_first() else {
+        return Ok(());
+    };
+    push_opening(out, attribute.name(), first.as_slice())?;
+    for line in further {
+        push_further(out, line.as_slice())?;
+    }
+    Ok(())
+}
+
+/// The canonical text of a paragraph (profile). The error is want of memory.
+#[tactic(auto, unfolding(crate::specs::CanonicalText::canonical))]
+pub fn print(alloc: Global, paragraph: &Paragraph) -> Result<Text, AllocError>
+    ensures { IfOk result (λ text. text ≡ canon.canonical paragraph.now) }
+{
+    let mut out = Vec::new(alloc);
+    for attribute in paragraph.attributes() {
+        push_attribute(&mut out, attribute)?;
+    }
+    Ok(Text::from_vec(out))
 }

@@ -16,7 +16,7 @@ pub mod trim;
 pub mod value;
 
 pub use attribute::Attribute;
-pub use canonical::{print, read_canonical};
+pub use canonical::print;
 pub use fault::TextFault;
 
 pub use paragraph::Paragraph;

@@ -1,7 +1,8 @@
 //! Paragraphs: attributes in order.
 
-ghost use Rattle.std.specs.Prelude.{◌≡◌, ◌↔◌, IfOk, IsTrue, not, map, filter};
-ghost use Rattle.rr_text.specs.Fields.{AreFields, IsLine, is_named, with_value};
+ghost use Rattle.std.specs.Prelude.{◌≡◌, ◌↔◌, IsTrue, IfOk, not, map, filter};
+ghost use Rattle.rr_text.specs.Fields.{AreFields, IsLine, is_named};
+ghost use Rattle.rr_text.specs.Fields as fields;
 
 use crate::attribute::Attribute;
 use std::alloc::{AllocError, Global};
@@ -42,18 +43,77 @@ impl Paragraph {
     }
 
     /// An equal paragraph; the error is want of memory.
-    pub fn copy(&self, _alloc: Global) -> Result<Paragraph, AllocError>
+    pub fn copy(&self, alloc: Global) -> Result<Paragraph, AllocError>
         ensures { IfOk result (λ copy. copy ≡ self.now) }
     {
-        Err(AllocError)
+        let attributes = copy_attributes(alloc, self.attributes())?;
+        Ok(Paragraph { attributes })
+    }
+
+    /// The paragraph less its attributes of this name, which is given in lower case.
+    pub fn without(self, name: &[u8]) -> Paragraph
+        ensures { result ≡ filter (λ field. not (is_named name.now field)) self }
+    {
+        let mut attributes = self.attributes;
+        attributes.retain(|attribute| !attribute.is_named(name));
+        Paragraph { attributes }
     }
 
     /// A copy in which each attribute of this name, which is given in lower case, has this one
     /// line as its value; the error is want of memory.
-    pub fn with_values(&self, _alloc: Global, _name: &[u8], _line: &[u8]) -> Result<Paragraph, AllocError>
-        requires { IsLine _line.now }
-        ensures { IfOk result (λ made. made ≡ map (with_value _name.now _line.now) self.now) }
+    pub fn with_values(&self, alloc: Global, name: &[u8], line: &[u8]) -> Result<Paragraph, AllocError>
+        requires { IsLine line.now }
+        ensures { IfOk result (λ made. made ≡ map (fields.with_value name.now line.now) self.now) }
     {
-        Err(AllocError)
+        let attributes = with_values(alloc, self.attributes(), name, line)?;
+        Ok(Paragraph { attributes })
     }
+}
+
+impl PartialEq for Paragraph {
+    ghost use Rattle.rr_text.specs.Fields.{fields_eq};
+    ghost use Rattle.rr_text.specs.FieldEquality.{fields_eq-laws};
+
+    ghost eq = { fields_eq };
+
+    ghost laws = { fields_eq-laws };
+
+    /// Whether the attributes are the same, and so the canonical text.
+    fn eq(&self, other: &Paragraph) -> bool
+        ensures value { result ≡ fields_eq self.now other.now }
+        ensures same { IsTrue result ↔ (self.now ≡ other.now) }
+    {
+        self.attributes == other.attributes
+    }
+}
+
+fn copy_attributes(alloc: Global, attributes: &[Attribute]) -> Result<Vec<Attribute>, AllocError>
+    ensures { IfOk result (λ copy. copy.items ≡ attributes.now) }
+{
+    let mut copy = Vec::with_capacity(alloc, attributes.len())?;
+    for attribute in attributes {
+        copy.push(attribute.copy(alloc)?)?;
+    }
+    Ok(copy)
+}
+
+/// A copy of an attribute, with this line as its value where it has this name.
+fn with_value(alloc: Global, attribute: &Attribute, name: &[u8], line: &[u8]) -> Result<Attribute, AllocError>
+    ensures { IfOk result (λ made. made ≡ fields.with_value name.now line.now attribute.now) }
+{
+    if attribute.is_named(name) {
+        attribute.with_line(alloc, line)
+    } else {
+        attribute.copy(alloc)
+    }
+}
+
+fn with_values(alloc: Global, attributes: &[Attribute], name: &[u8], line: &[u8]) -> Result<Vec<Attribute>, AllocError>
+    ensures { IfOk result (λ made. made.items ≡ map (fields.with_value name.now line.now) attributes.now) }
+{
+    let mut made = Vec::with_capacity(alloc, attributes.len())?;
+    for attribute in attributes {
+        made.push(with_value(alloc, attribute, name, line)?)?;
+    }
+    Ok(made)
 }

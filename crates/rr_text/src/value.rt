@@ -1,17 +1,62 @@
 //! What values say.
 
-ghost use Rattle.std.specs.Prelude.{◌≡◌, IfOk};
-ghost use Rattle.rr_text.specs.Meanings.{value_meaning};
+ghost use Rattle.std.specs.Prelude.{◌≡◌, IfOk, map};
+ghost use Rattle.std.specs.List.{before_first, join_with_byte, position};
+ghost use Rattle.rr_text.specs.Bytes.{is_hash};
+ghost use Rattle.rr_text.specs.Meanings as meanings;
 
 use crate::attribute::Attribute;
 use crate::text::Text;
+use crate::trim::trim;
 use std::alloc::{AllocError, Global};
+
+#[inline]
+fn hash_place(line: &[u8]) -> Option<usize>
+    ensures { result ≡ position is_hash line.now }
+{
+    line.iter().position(|byte| *byte == b'#')
+}
+
+/// What stands before the comment of a line.
+#[tactic(auto, using(crate::proofs::FaultLemmas::found_at, crate::proofs::FaultLemmas::none_at))]
+fn before_comment(line: &[u8]) -> &[u8]
+    ensures { result.now ≡ before_first is_hash line.now }
+{
+    match hash_place(line) {
+        Some(place) => line.split_at(place).0,
+        None => line,
+    }
+}
+
+/// A line less its comment.
+fn uncommented(line: &[u8]) -> &[u8]
+    ensures { result.now ≡ meanings.uncommented line.now }
+{
+    trim(before_comment(line))
+}
+
+/// Lines less their comments, joined by one space.
+fn join_uncommented(alloc: Global, lines: &[Text]) -> Result<Vec<u8>, AllocError>
+    ensures { IfOk result (λ joined. joined.items ≡ join_with_byte 32 (map meanings.uncommented lines.now)) }
+{
+    let mut joined = Vec::new(alloc);
+    let Some((first, further)) = lines.split_first() else {
+        return Ok(joined);
+    };
+    joined.extend_from_slice(uncommented(first.as_slice()))?;
+    for line in further {
+        joined.push(b' ')?;
+        joined.extend_from_slice(uncommented(line.as_slice()))?;
+    }
+    Ok(joined)
+}
 
 /// What the value of an attribute says: its lines without their comments, joined by one space
 /// (RFC 2622, section 2). The error is want of memory.
-pub fn meaning(_alloc: Global, attribute: &Attribute) -> Result<Text, AllocError>
-    ensures { IfOk result (λ text. text ≡ value_meaning attribute.now.lines) }
+#[tactic(auto, unfolding(crate::specs::Meanings::value_meaning))]
+pub fn meaning(alloc: Global, attribute: &Attribute) -> Result<Text, AllocError>
+    ensures { IfOk result (λ text. text ≡ meanings.value_meaning attribute.now.lines) }
 {
-    let _ = attribute;
-    Err(AllocError)
+    let joined = join_uncommented(alloc, attribute.lines())?;
+    Text::from_slice(alloc, trim(joined.as_slice()))
 }

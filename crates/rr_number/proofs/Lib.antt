@@ -1,5 +1,6 @@
 pub mod AddressLemmas
 pub mod AsNumberLemmas
+pub mod AsSpanLemmas
 pub mod Choices
 pub mod ComponentTexts
 pub mod Components

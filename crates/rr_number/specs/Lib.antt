@@ -1,6 +1,7 @@
 pub mod Addresses
 pub mod Applied
 pub mod AsNumbers
+pub mod AsSpans
 pub mod Bounds
 pub mod Cuts
 pub mod Dashes

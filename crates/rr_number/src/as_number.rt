@@ -1,5 +1,5 @@
 //! AS numbers.
-ghost use Rattle.std.specs.Prelude.{◌≡◌, ◌+◌, ◌≤◌, ℕ, IfSome, Some, SomeIff};
+ghost use Rattle.std.specs.Prelude.{◌≡◌, ◌++◌, length, ◌+◌, ◌≤◌, ℕ, IfSome, Some, SomeIff};
 ghost use Rattle.rr_io.specs.Sending.{Writes};
 ghost use Rattle.rr_number.specs.Numerals.{number_of};
 ghost use Rattle.rr_number.specs.AsNumbers.{as_number_of, as_number_text, greatest_as_number, IsAsNumber};
@@ -8,8 +8,8 @@ use crate::digits::read_number;
 use crate::letter_case::spells;
 use crate::short_text::ShortText;
 use rr_io::{Sink, write_all};
-use std::io;
 use std::marker::Model;
+use std::{fmt, io};
 
 /// The greatest AS number (RFC 2622, 2).
 const GREATEST: u32 = 65_535;
@@ -48,6 +48,14 @@ impl AsNumber {
         }
     }
 
+    /// The AS of a number that is known not to be above the greatest.
+    pub(crate) fn known(number: u32) -> Self
+        requires { number ≤ greatest_as_number }
+        ensures { result ≡ number }
+    {
+        AsNumber { number }
+    }
+
     /// The number.
     pub fn number(self) -> u32
         ensures value { result ≡ self }
@@ -74,9 +82,18 @@ impl AsNumber {
         ensures { result ≡ as_number_text self }
     {
         let mut text = ShortText::new();
+        self.push_to(&mut text);
+        text
+    }
+
+    /// Appends the printed text, at most 12 bytes.
+    pub(crate) fn push_to(self, text: &mut ShortText)
+        requires { length text.old + 12 ≤ 40 }
+        ensures value { text.new ≡ text.old ++ as_number_text self }
+        ensures short { length text.new ≤ length text.old + 12 }
+    {
         text.push_str("AS");
         text.push_number(self.number);
-        text
     }
 
     /// Writes the printed text. After a fault the writer has taken a front of it.
@@ -85,6 +102,12 @@ impl AsNumber {
         ensures aside { W.aside writer.new ≡ W.aside writer.old }
     {
         write_all(writer, self.text().as_bytes())
+    }
+}
+
+impl fmt::Display for AsNumber {
+    fn fmt<W: fmt::Write>(&self, f: &mut fmt::Formatter<W>) -> fmt::Result {
+        f.pad(self.text().as_str())
     }
 }
 

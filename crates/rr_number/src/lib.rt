@@ -4,6 +4,7 @@
 
 mod address;
 mod as_number;
+mod as_span;
 mod dash;
 mod digits;
 mod letter_case;
@@ -18,6 +19,7 @@ pub mod span;
 
 pub use address::Address;
 pub use as_number::AsNumber;
+pub use as_span::AsSpan;
 pub use name::Name;
 pub use operator::{LengthBounds, Operator};
 pub use prefix::Prefix;

@@ -1,0 +1,131 @@
+//! Blocks of AS numbers, the keys of as-blocks.
+
+ghost use Rattle.std.specs.Prelude.{◌≡◌, ◌≤◌, IfSome, Some};
+ghost use Rattle.rr_io.specs.Sending.{Writes};
+ghost use Rattle.rr_number.specs.AsSpans.{IsAsSpan, IsAsSpanText, as_pair_of, as_span_of, as_span_text};
+ghost use Rattle.rr_number.specs.Spans.{Ends};
+
+use crate::dash::cut_at_dash;
+use crate::short_text::ShortText;
+use crate::{AsNumber, Span};
+use rr_io::{Sink, write_all};
+use std::marker::Model;
+use std::{fmt, io};
+
+/// The AS numbers from a first to a last one, both included, as the key of an as-block has them;
+/// ordered by the first number, then by the last (RFC 2725, 8; profile).
+#[derive(Clone, Copy, Debug, PartialEq, Eq, PartialOrd, Ord)]
+pub struct AsSpan {
+    span: Span,
+}
+
+impl Model for AsSpan {
+    ghost use Rattle.rr_number.specs.AsSpans.{IsAsSpan};
+    ghost use Rattle.rr_number.specs.Spans.{Ends};
+
+    ghost Value = { Ends };
+
+    ghost view = { λ a. a.span };
+
+    ghost invariant = { λ a. IsAsSpan a.span };
+
+    ghost inverse = { λ s. record { span = s } };
+}
+
+impl AsSpan {
+    /// The block from `first` to `last`.
+    pub fn new(first: AsNumber, last: AsNumber) -> Self
+        requires { first ≤ last }
+        ensures { result ≡ record { first = first; last = last } }
+    {
+        AsSpan {
+            span: Span::new(first.number(), last.number()),
+        }
+    }
+
+    /// The first AS number.
+    pub fn first(self) -> AsNumber
+        ensures { result ≡ self.first }
+    {
+        AsNumber::known(self.span.first())
+    }
+
+    /// The last AS number.
+    pub fn last(self) -> AsNumber
+        ensures { result ≡ self.last }
+    {
+        AsNumber::known(self.span.last())
+    }
+
+    /// The block's numbers.
+    pub fn span(self) -> Span
+        ensures value { result ≡ self }
+        ensures bound { IsAsSpan self }
+    {
+        self.span
+    }
+
+    /// The block that the text spells: two AS numbers with `-` between them, which may have blanks
+    /// on either side, the first not above the last (profile).
+    pub fn read(text: &[u8]) -> Option<Self>
+        ensures found { IfSome result (λ block. IsAsSpanText text.now block) }
+        ensures only { (block : Ends) → IsAsSpanText text.now block → result ≡ Some block }
+        ensures exact { result ≡ as_span_of text.now }
+    {
+        read_block(text)
+    }
+
+    /// The printed text: the two AS numbers with ` - ` between them.
+    pub fn text(self) -> ShortText
+        ensures { result ≡ as_span_text self }
+    {
+        let mut text = ShortText::new();
+        self.first().push_to(&mut text);
+        text.push_str(" - ");
+        self.last().push_to(&mut text);
+        text
+    }
+
+    /// Writes the printed text. After a fault the writer has taken a front of it.
+    pub fn print_to<W: Sink>(&self, writer: &mut W) -> io::Result<()>
+        ensures writes { Writes (W.told writer.old) (W.told writer.new) (as_span_text self.now) result }
+        ensures aside { W.aside writer.new ≡ W.aside writer.old }
+    {
+        write_all(writer, self.text().as_bytes())
+    }
+}
+
+#[tactic(auto, unfolding(crate::specs::AsSpans::as_span_of))]
+fn read_block(text: &[u8]) -> Option<AsSpan>
+    ensures { result ≡ as_span_of text.now }
+{
+    match cut_at_dash(text) {
+        Some((first, last)) => join(first, last),
+        None => None,
+    }
+}
+
+/// The block between the AS numbers of two texts, if they are.
+#[tactic(auto, unfolding(crate::specs::AsSpans::as_pair_of))]
+fn join(first: &[u8], last: &[u8]) -> Option<AsSpan>
+    ensures { result ≡ as_pair_of first.now last.now }
+{
+    let first = AsNumber::read(first)?;
+    let last = AsNumber::read(last)?;
+    if first <= last {
+        Some(AsSpan::new(first, last))
+    } else {
+        None
+    }
+}
+
+impl fmt::Display for AsSpan {
+    fn fmt<W: fmt::Write>(&self, f: &mut fmt::Formatter<W>) -> fmt::Result {
+        f.pad(self.text().as_str())
+    }
+}
+
+/// A block is read again from its printed text.
+pub fn printed_blocks_are_read()
+    ensures { (block : Ends) → IsAsSpan block → IsAsSpanText (as_span_text block) block }
+{}

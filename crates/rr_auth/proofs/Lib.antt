@@ -1,0 +1,5 @@
+pub mod Crossing
+pub mod Keeping
+pub mod KeyLaws
+pub mod Members
+pub mod Seen

@@ -1,0 +1,57 @@
+-- What an object sees in the registry that it is judged in.
+use Rattle.std.proofs.Common.{◌≡◌, ℕ, Bool, true, false, cond, ◌||◌, List, [], ◌∷◌, ◌++◌, refl, sym, ap, ◌∙◌}
+use Rattle.std.specs.Prelude.{Option, None, Some, is_none, map, filter, ◌&&◌}
+use Rattle.std.specs.Str.{bytes_eq}
+use Rattle.std.specs.Ordering.{nat_cmp, eq_by_cmp}
+use Rattle.std.specs.Cmp.Lexicographic.{slice_cmp, nat_list_eq_equiv, texts_ties}
+use Rattle.std.specs.FinMap.{get, insert, get-insert}
+use Rattle.std.proofs.lemmas.List.Folds.{list_any-append}
+use Rattle.rr_object.specs.declared.key.Key.{Key}
+use Rattle.rr_object.specs.declared.key.Key.TheVariants.{Mntner, AsBlock, AutNum, Inetnum, Route, AsSet, RouteSet}
+use Rattle.rr_object.specs.Objects.{Obj}
+use Rattle.rr_auth.specs.KeyOrder.{key_cmp}
+use Rattle.rr_auth.specs.Registries.{Reg, maintainer, names_nobody, is_mntner_of, with_mntner, seen_by}
+use Rattle.std.specs.List.{list_any}
+use Rattle.rr_number.specs.Prefixes.{PrefixParts}
+use Rattle.rr_auth.specs.Authority.{grants}
+use Rattle.rr_object.specs.Parts.{GrantParts}
+use Rattle.rr_auth.specs.Passing.{passes, name_passes}
+use Rattle.rr_auth.proofs.KeyLaws.{keys_total}
+
+-- mntners' keys tie where their names are equal
+pub mntners_tie : (n m : List ℕ) → eq_by_cmp key_cmp (Mntner n) (Mntner m) ≡ bytes_eq m n
+mntners_tie n m = sym (texts_ties n m) ∙ nat_list_eq_equiv.symm n m
+
+maintainer_with : (r : Reg) (k : Key) (o : Obj) (n : List ℕ) → maintainer (with_mntner r k o) n ≡ cond (is_mntner_of n k) (Some o) (maintainer r n)
+maintainer_with r (Mntner m) o n =
+    get-insert keys_total r (Mntner m) o (Mntner n) ∙ ap (λ b. cond b (Some o) (get r (Mntner n))) (mntners_tie n m)
+maintainer_with r (AsBlock s) o n = refl
+maintainer_with r (AutNum m) o n = refl
+maintainer_with r (Inetnum s) o n = refl
+maintainer_with r (Route p m) o n = refl
+maintainer_with r (AsSet m) o n = refl
+maintainer_with r (RouteSet m) o n = refl
+
+-- the mntner of a name in the registry that an object sees: itself, where it is that mntner
+pub maintainer_seen : (r : Reg) (o : Obj) (n : List ℕ) → maintainer (seen_by (Some o) r) n ≡ cond (is_mntner_of n o.key) (Some o) (maintainer r n)
+maintainer_seen r o n = maintainer_with r o.key o n
+
+-- an entry's name is looked up as the name itself
+pub names_nobody_map : (r : Reg) (es : List GrantParts) → names_nobody r (map (λ g. g.name) es) ≡ list_any (λ g. is_none (maintainer r g.name)) es
+names_nobody_map r [] = refl
+names_nobody_map r (e ∷ es) = ap (λ b. is_none (maintainer r e.name) || b) (names_nobody_map r es)
+
+-- the names of the entries that pass a test pass where some entry passes it and its name passes
+pub passes_granted : (r : Reg) (z : List (List ℕ)) (p : PrefixParts) (es : List GrantParts)
+    → passes r z (map (λ g. g.name) (filter (grants p) es)) ≡ list_any (λ g. grants p g && name_passes r z g.name) es
+passes_granted r z p [] = refl
+passes_granted r z p (e ∷ es) =
+    elim (grants p e) as (λ b. passes r z (map (λ g. g.name) (cond b (e ∷ filter (grants p) es) (filter (grants p) es)))
+        ≡ ((b && name_passes r z e.name) || list_any (λ g. grants p g && name_passes r z g.name) es)) [
+      | true ↦ ap (λ b. name_passes r z e.name || b) (passes_granted r z p es)
+      | false ↦ passes_granted r z p es
+    ]
+
+-- a list of names names nobody where a part of it does
+pub names_nobody_append : (r : Reg) (xs ys : List (List ℕ)) → names_nobody r (xs ++ ys) ≡ (names_nobody r xs || names_nobody r ys)
+names_nobody_append r xs ys = list_any-append _ xs ys

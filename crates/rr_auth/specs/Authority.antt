@@ -1,0 +1,28 @@
+-- Whose names an object asks for below it (RFC 2725, 9 and 10).
+use Rattle.std.specs.Prelude.{ℕ, Bool, true, false, ◌==◌, ◌||◌, List, length, map, filter, if◌then◌else◌}
+use Rattle.std.specs.List.{list_any}
+use Rattle.rr_number.specs.Prefixes.{PrefixParts}
+use Rattle.rr_number.specs.Ranges.{admits}
+use Rattle.rr_object.specs.declared.key.Key.{Key}
+use Rattle.rr_object.specs.declared.key.Key.TheVariants.{Mntner, AsBlock, AutNum, Inetnum, Route, AsSet, RouteSet}
+use Rattle.rr_object.specs.Parts.{GrantParts}
+use Rattle.rr_object.specs.Objects.{Obj}
+
+-- Below an object its mnt-lower decides where it has one, else its mnt-by (RFC 2725, 9).
+abbrev pub lower_of : Obj → List (List ℕ)
+lower_of o = if length o.lower == 0 then o.maintainers else o.lower
+
+-- An entry of mnt-routes grants a prefix where it is for any, or has a range that admits it (RFC 2725, 9).
+abbrev pub grants : PrefixParts → GrantParts → Bool
+grants p g = g.any || list_any (λ range. admits range p) g.ranges
+
+abbrev pub is_aut_num : Key → Bool
+is_aut_num (AutNum n) = true
+is_aut_num _ = false
+
+-- For a route of the prefix the entries of an object's mnt-routes that grant it decide, where it has any entry (RFC 2725, 9);
+-- else mnt-by of an aut-num, and of another object what decides below it (profile).
+abbrev pub routes_of : Obj → PrefixParts → List (List ℕ)
+routes_of o p =
+    if length o.routes == 0 then (if is_aut_num o.key then o.maintainers else lower_of o)
+    else map (λ g. g.name) (filter (grants p) o.routes)

@@ -1,0 +1,74 @@
+-- The closest objects of a class to a span (RFC 2725, 9).
+use Rattle.std.specs.Prelude.{◌≡◌, ℕ, Bool, true, false, not, ◌==◌, ◌&&◌, ◌||◌, List, Option, None, Some, nat_le, if◌then◌else◌}
+use Rattle.std.specs.List.{list_all, find, filter_map}
+use Rattle.std.specs.Option.{option_map_or, option_and_then}
+use Rattle.std.specs.FinMap.{values}
+use Rattle.rr_number.specs.Spans.{Ends, covers, size}
+use Rattle.rr_number.specs.Prefixes.{PrefixParts, span_of}
+use Rattle.rr_object.specs.declared.key.Key.{Key}
+use Rattle.rr_object.specs.declared.key.Key.TheVariants.{Mntner, AsBlock, AutNum, Inetnum, Route, AsSet, RouteSet}
+use Rattle.rr_object.specs.Objects.{Obj}
+use Rattle.rr_auth.specs.Registries.{Reg}
+
+-- The span of a key of one class: of an inetnum, of an as-block, of a route.
+abbrev pub inetnum_span : Key → Option Ends
+inetnum_span (Inetnum s) = Some s
+inetnum_span _ = None
+
+abbrev pub block_span : Key → Option Ends
+block_span (AsBlock s) = Some s
+block_span _ = None
+
+abbrev pub route_span : Key → Option Ends
+route_span (Route p n) = Some (span_of p)
+route_span _ = None
+
+-- The object is not of the class, does not cover the span, or is no smaller than the spanned ends.
+abbrev pub is_no_closer : (Key → Option Ends) → Ends → Ends → Obj → Bool
+is_no_closer class s t x = option_map_or (λ u. not (covers u s) || nat_le (size t) (size u)) (class x.key) true
+
+-- An object of a list is closest to a span where it covers the span, and no other of its class that covers the span
+-- has a smaller one. An equal span counts (RFC 2725, 9).
+abbrev pub is_closest : (Key → Option Ends) → List Obj → Ends → Obj → Bool
+is_closest class all s o =
+    option_map_or (λ t. covers t s && list_all (is_no_closer class s t) all) (class o.key) false
+
+-- The closest object of a class that is listed.
+abbrev pub closest_of : (Key → Option Ends) → List Obj → Ends → Option Obj
+closest_of class all s = find (is_closest class all s) all
+
+-- The closest inetnum, and the closest as-block, of a registry: there is one at most, since spans do not cross.
+abbrev pub closest_inetnum : Reg → Ends → Option Obj
+closest_inetnum r s = closest_of inetnum_span (values r) s
+
+abbrev pub closest_block : Reg → Ends → Option Obj
+closest_block r s = closest_of block_span (values r) s
+
+-- The prefix of a route's key.
+abbrev pub route_prefix : Key → Option PrefixParts
+route_prefix (Route p n) = Some p
+route_prefix _ = None
+
+-- The prefix of the closest routes to a prefix: there can be several routes, of one prefix and several origins
+-- (RFC 2725, 9).
+abbrev pub prefix_of_closest : List Obj → PrefixParts → Option PrefixParts
+prefix_of_closest all p = option_and_then (λ o. route_prefix o.key) (closest_of route_span all (span_of p))
+
+abbrev pub closest_routes : Reg → PrefixParts → Option PrefixParts
+closest_routes r p = prefix_of_closest (values r) p
+
+-- Two prefixes are the same.
+abbrev pub same_prefix : PrefixParts → PrefixParts → Bool
+same_prefix p q = p.address == q.address && p.length == q.length
+
+-- The origin of a key, where it is that of a route of the prefix.
+abbrev pub origin_at : PrefixParts → Key → Option ℕ
+origin_at q (Route p n) = if same_prefix p q then Some n else None
+origin_at q _ = None
+
+-- The origins of the routes of a prefix, in order.
+abbrev pub origins_among : List Obj → PrefixParts → List ℕ
+origins_among all p = filter_map (λ o. origin_at p o.key) all
+
+abbrev pub origins : Reg → PrefixParts → List ℕ
+origins r p = origins_among (values r) p

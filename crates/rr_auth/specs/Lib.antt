@@ -1,0 +1,8 @@
+pub mod Authority
+pub mod Closest
+pub mod Conditions
+pub mod KeyOrder
+pub mod Paragraphs
+pub mod Passing
+pub mod Registries
+pub mod Verdicts

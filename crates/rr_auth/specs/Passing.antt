@@ -1,0 +1,25 @@
+-- Which maintainers' names pass with a set of secrets.
+use Rattle.std.specs.Prelude.{ℕ, Bool, false, ◌++◌, List, Option}
+use Rattle.std.specs.List.{list_any}
+use Rattle.std.specs.Option.{option_map_or}
+use Rattle.std.specs.Str.{bytes_eq}
+use Rattle.sha2.specs.Sha256.{sha256}
+use Rattle.rr_object.specs.Parts.{AuthParts}
+use Rattle.rr_object.specs.Objects.{Obj}
+use Rattle.rr_auth.specs.Registries.{Reg, maintainer}
+
+-- A secret fits a line where the digest is that of the salt and then the secret (profile; FIPS 180-4).
+abbrev pub fits_line : AuthParts → List ℕ → Bool
+fits_line line secret = bytes_eq (sha256 (line.salt ++ secret)) line.digest
+
+-- Some secret fits one of the maintainer's lines (profile).
+abbrev pub fits : List (List ℕ) → Obj → Bool
+fits secrets o = list_any (λ line. list_any (fits_line line) secrets) o.auths
+
+-- The name is that of a maintainer which some secret fits.
+abbrev pub name_passes : Reg → List (List ℕ) → List ℕ → Bool
+name_passes r secrets name = option_map_or (fits secrets) (maintainer r name) false
+
+-- A list of names passes where one of them does: some secret fits one of the maintainers named (RFC 2622, 3.1).
+abbrev pub passes : Reg → List (List ℕ) → List (List ℕ) → Bool
+passes r secrets names = list_any (name_passes r secrets) names

@@ -1,0 +1,80 @@
+-- A registry: a finite map from keys to objects, and when it is sound.
+use Rattle.std.specs.Prelude.{◌≡◌, ℕ, Bool, false, not, ◌&&◌, List, Option, None, Some, is_none}
+use Rattle.std.specs.List.{list_any}
+use Rattle.std.specs.Str.{bytes_eq}
+use Rattle.std.specs.FinMap.{FinMap, get, insert, values}
+use Rattle.rr_number.specs.Spans.{crosses, IsSpan}
+use Rattle.rr_number.specs.Prefixes.{IsMasked}
+use Rattle.rr_object.specs.declared.key.Key.{Key}
+use Rattle.rr_object.specs.declared.key.Key.TheVariants.{Mntner, AsBlock, AutNum, Inetnum, Route, AsSet, RouteSet}
+use Rattle.rr_object.specs.Objects.{Obj, names_of}
+use Rattle.rr_auth.specs.KeyOrder.{key_cmp}
+
+-- A registry has at most one object of a class and key.
+abbrev pub Reg : Type 0
+Reg = FinMap key_cmp Obj
+
+-- The maintainer of a name is the mntner whose key it is (RFC 2622, 3.1).
+abbrev pub maintainer : Reg → List ℕ → Option Obj
+maintainer r name = get r (Mntner name)
+
+-- Some name of the list has no mntner in the registry.
+abbrev pub names_nobody : Reg → List (List ℕ) → Bool
+names_nobody r names = list_any (λ n. is_none (maintainer r n)) names
+
+-- A registry with an object in it, where that is a mntner, and else as it is: so a mntner that is added sees itself
+-- (profile).
+abbrev pub with_mntner : Reg → Key → Obj → Reg
+with_mntner r (Mntner name) o = insert r (Mntner name) o
+with_mntner r (AsBlock s) o = r
+with_mntner r (AutNum n) o = r
+with_mntner r (Inetnum s) o = r
+with_mntner r (Route p n) o = r
+with_mntner r (AsSet name) o = r
+with_mntner r (RouteSet name) o = r
+
+-- The registry that an object is judged in: with itself, where it is a mntner that is added.
+abbrev pub seen_by : Option Obj → Reg → Reg
+seen_by None r = r
+seen_by (Some o) r = with_mntner r o.key o
+
+-- Two keys cross where both are inetnums, or both as-blocks, whose spans cross (profile).
+abbrev pub keys_cross : Key → Key → Bool
+keys_cross (AsBlock s) (AsBlock t) = crosses s t
+keys_cross (Inetnum s) (Inetnum t) = crosses s t
+keys_cross _ _ = false
+
+-- Some object of the registry crosses the key.
+abbrev pub crosses_some : Reg → Key → Bool
+crosses_some r k = list_any (λ o. keys_cross o.key k) (values r)
+
+-- The key is that of the mntner of this name.
+abbrev pub is_mntner_of : List ℕ → Key → Bool
+is_mntner_of name (Mntner n) = bytes_eq n name
+is_mntner_of name _ = false
+
+-- An object other than the maintainer of this name names it.
+abbrev pub names_another : List ℕ → Obj → Bool
+names_another name o = not (is_mntner_of name o.key) && list_any (λ n. bytes_eq n name) (names_of o)
+
+-- Some object of the registry, other than the maintainer of this name, names it.
+abbrev pub is_named : Reg → List ℕ → Bool
+is_named r name = list_any (names_another name) (values r)
+
+-- A key's span has its ends in order, and its prefix no bit past its length (profile).
+abbrev pub IsKey : Key → Type 0
+IsKey (Mntner name) = Unit {0}
+IsKey (AsBlock s) = IsSpan s
+IsKey (AutNum n) = Unit {0}
+IsKey (Inetnum s) = IsSpan s
+IsKey (Route p n) = IsMasked p
+IsKey (AsSet name) = Unit {0}
+IsKey (RouteSet name) = Unit {0}
+
+-- A registry is sound where each object stands under its own key, every maintainer that an object names is in it,
+-- and no two inetnums and no two as-blocks cross (profile).
+pub record Sound (r : Reg) : Type 0 where
+  pub keyed : (k : Key) (o : Obj) → get r k ≡ Some o → o.key ≡ k
+  pub formed : (k : Key) (o : Obj) → get r k ≡ Some o → IsKey k
+  pub named : (k : Key) (o : Obj) → get r k ≡ Some o → names_nobody r (names_of o) ≡ false
+  pub apart : (k l : Key) (o x : Obj) → get r k ≡ Some o → get r l ≡ Some x → keys_cross k l ≡ false

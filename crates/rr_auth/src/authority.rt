@@ -1,0 +1,129 @@
+//! Whose names an object asks for below it.
+
+ghost use Rattle.std.specs.Prelude.{◌≡◌, ◌&&◌, map, filter, IfOk};
+ghost use Rattle.std.specs.List.{list_any};
+ghost use Rattle.rr_number.specs.Ranges.{admits};
+ghost use Rattle.rr_auth.specs.Authority.{grants, is_aut_num, lower_of, routes_of};
+ghost use Rattle.rr_auth.specs.Passing.{name_passes, passes};
+ghost use Rattle.rr_auth.specs.Conditions.{lower_passes, routes_pass};
+
+use crate::book::Book;
+use crate::passing::{name_passes, names_pass};
+use crate::secrets::Secrets;
+use rr_number::{Name, Prefix, Range};
+use rr_object::{Grant, Key, Object};
+use std::alloc::{AllocError, Global};
+
+/// The names that decide below the object: its mnt-lower where it has one, else its mnt-by (RFC 2725, 9).
+pub fn lower_names(object: &Object) -> &[Name]
+    ensures { result.now ≡ lower_of object.now }
+{
+    if object.lower().is_empty() {
+        object.maintainers()
+    } else {
+        object.lower()
+    }
+}
+
+/// The names that decide about a route of the prefix below the object: those of its mnt-routes that grant the prefix,
+/// where it has mnt-routes; else the mnt-by of an aut-num, and of another object `lower_names` (RFC 2725, 9; profile).
+/// The error is want of memory.
+pub fn route_names(alloc: Global, object: &Object, prefix: Prefix) -> Result<Vec<Name>, AllocError>
+    ensures { IfOk result (λ names. names.items ≡ routes_of object.now prefix) }
+{
+    if !object.routes().is_empty() {
+        granted_names(alloc, object.routes(), prefix)
+    } else if is_aut_num(object.key()) {
+        copy_names(alloc, object.maintainers())
+    } else {
+        copy_names(alloc, lower_names(object))
+    }
+}
+
+/// The names of the entries that grant the prefix.
+fn granted_names(alloc: Global, entries: &[Grant], prefix: Prefix) -> Result<Vec<Name>, AllocError>
+    ensures { IfOk result (λ names. names.items ≡ map (λ g. g.name) (filter (grants prefix) entries.now)) }
+{
+    let mut names = Vec::new(alloc);
+    for entry in entries {
+        if grants_prefix(entry, prefix) {
+            let name = entry.name().copy(alloc)?;
+            names.push(name)?;
+        }
+    }
+    Ok(names)
+}
+
+/// Equal names.
+fn copy_names(alloc: Global, names: &[Name]) -> Result<Vec<Name>, AllocError>
+    ensures { IfOk result (λ copies. copies.items ≡ names.now) }
+{
+    let mut copies = Vec::new(alloc);
+    for name in names {
+        let copy = name.copy(alloc)?;
+        copies.push(copy)?;
+    }
+    Ok(copies)
+}
+
+/// Whether an entry of mnt-routes grants the prefix.
+fn grants_prefix(entry: &Grant, prefix: Prefix) -> bool
+    ensures { result ≡ grants prefix entry.now }
+{
+    entry.any() || some_range_admits(entry.ranges(), prefix)
+}
+
+fn some_range_admits(ranges: &[Range], prefix: Prefix) -> bool
+    ensures { result ≡ list_any (λ range. admits range prefix) ranges.now }
+{
+    ranges.iter().any(|range| range.admits(prefix))
+}
+
+fn is_aut_num(key: &Key) -> bool
+    ensures { result ≡ is_aut_num key.now }
+{
+    matches!(key, Key::AutNum(_))
+}
+
+/// Whether the names that decide below the object pass.
+pub fn lower_passes<B: Book>(book: &B, secrets: &Secrets, object: &Object) -> bool
+    ensures { result ≡ lower_passes (B.contents book.now) secrets.now object.now }
+{
+    names_pass(book, None, secrets, lower_names(object))
+}
+
+/// Whether the names that decide about routes of the prefix below the object pass.
+pub fn routes_pass<B: Book>(book: &B, secrets: &Secrets, object: &Object, prefix: Prefix) -> bool
+    ensures { result ≡ routes_pass (B.contents book.now) secrets.now prefix object.now }
+{
+    if !object.routes().is_empty() {
+        some_grant_passes(book, secrets, object.routes(), prefix)
+    } else if is_aut_num(object.key()) {
+        names_pass(book, None, secrets, object.maintainers())
+    } else {
+        lower_passes(book, secrets, object)
+    }
+}
+
+/// Whether the name of an entry that grants the prefix passes.
+#[tactic(auto, using(crate::proofs::Seen::passes_granted))]
+fn some_grant_passes<B: Book>(book: &B, secrets: &Secrets, entries: &[Grant], prefix: Prefix) -> bool
+    ensures { result ≡ passes (B.contents book.now) secrets.now (map (λ g. g.name) (filter (grants prefix) entries.now)) }
+{
+    some_entry_passes(book, secrets, entries, prefix)
+}
+
+fn some_entry_passes<B: Book>(book: &B, secrets: &Secrets, entries: &[Grant], prefix: Prefix) -> bool
+    ensures { result ≡ list_any (λ g. grants prefix g && name_passes (B.contents book.now) secrets.now g.name) entries.now }
+{
+    entries
+        .iter()
+        .any(|entry| entry_passes(book, secrets, entry, prefix))
+}
+
+/// Whether the entry grants the prefix and its name passes.
+fn entry_passes<B: Book>(book: &B, secrets: &Secrets, entry: &Grant, prefix: Prefix) -> bool
+    ensures { result ≡ (grants prefix entry.now && name_passes (B.contents book.now) secrets.now entry.now.name) }
+{
+    grants_prefix(entry, prefix) && name_passes(book, None, secrets, entry.name())
+}

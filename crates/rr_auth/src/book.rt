@@ -1,0 +1,53 @@
+//! Registries, as the verdict asks about them.
+
+ghost use Rattle.std.specs.Prelude.{◌≡◌, IfOk};
+ghost use Rattle.std.specs.Option.{option_copied};
+ghost use Rattle.std.specs.FinMap.{get};
+
+use rr_number::{AsNumber, Name, Prefix, Span};
+use rr_object::{Key, Object};
+use std::alloc::{AllocError, Global};
+
+/// One sound registry. Its calls are answers over a finite map from keys to objects; none but `origins` takes memory.
+pub trait Book {
+    ghost use Rattle.rr_auth.specs.Registries.{Reg, Sound, maintainer, crosses_some, is_named};
+    ghost use Rattle.rr_auth.specs.Closest.{closest_inetnum, closest_block, closest_routes, origins};
+
+    ghost contents: { Self → Reg };
+
+    /// Tells a caller's proof that the registry is sound; it does nothing.
+    fn sound(&self)
+        ensures { Sound (contents self.now) };
+
+    /// The object of the key.
+    fn get(&self, key: &Key) -> Option<&Object>
+        ensures { option_copied result ≡ get (contents self.now) key.now };
+
+    /// The mntner of the name.
+    fn maintainer(&self, name: &Name) -> Option<&Object>
+        ensures { option_copied result ≡ maintainer (contents self.now) name.now };
+
+    /// The smallest inetnum that covers the span; an equal one counts (RFC 2725, 9).
+    fn closest_inetnum(&self, span: Span) -> Option<&Object>
+        ensures { option_copied result ≡ closest_inetnum (contents self.now) span };
+
+    /// The smallest as-block that covers the span; an equal one counts (RFC 2725, 9).
+    fn closest_block(&self, span: Span) -> Option<&Object>
+        ensures { option_copied result ≡ closest_block (contents self.now) span };
+
+    /// The prefix of the closest routes that cover the prefix; an equal one counts (RFC 2725, 9).
+    fn closest_routes(&self, prefix: Prefix) -> Option<Prefix>
+        ensures { result ≡ closest_routes (contents self.now) prefix };
+
+    /// The origins of the routes of exactly this prefix, ascending; the error is want of memory.
+    fn origins(&self, alloc: Global, prefix: Prefix) -> Result<Vec<AsNumber>, AllocError>
+        ensures { IfOk result (λ v. v.items ≡ origins (contents self.now) prefix) };
+
+    /// Whether an inetnum or as-block of the registry crosses the key, being of its class (profile).
+    fn crosses(&self, key: &Key) -> bool
+        ensures { result ≡ crosses_some (contents self.now) key.now };
+
+    /// Whether an object other than the maintainer of this name names it (profile).
+    fn names_maintainer(&self, name: &Name) -> bool
+        ensures { result ≡ is_named (contents self.now) name.now };
+}

@@ -1,0 +1,12 @@
+//! Items: what a submission asks for.
+
+use rr_object::{Key, Object};
+
+/// One item of a submission (profile).
+#[derive(Debug, Drop)]
+pub enum Item {
+    /// The object is to be registered, in place of one that stands under its key.
+    Submit(Object),
+    /// The object of this key is to be deleted.
+    Delete(Key),
+}

@@ -1,0 +1,216 @@
+//! The verdict on an item.
+
+ghost use Rattle.std.specs.Prelude.{◌≡◌, ◌∷◌, [], IfOk};
+ghost use Rattle.std.specs.List.{list_any};
+ghost use Rattle.std.specs.Option.{option_copied};
+ghost use Rattle.std.specs.FinMap.{get};
+ghost use Rattle.rr_number.specs.Prefixes.{span_of};
+ghost use Rattle.rr_auth.specs.Closest.{closest_inetnum};
+ghost use Rattle.rr_auth.specs.Conditions.{is_in_use, lacks_origin, lower_passes, origin_refuses, route_passes, routes_pass};
+ghost use Rattle.rr_auth.specs.Verdicts.{addition, below, below_parent, below_space, change, deletion, first_of, place, submission, verdict};
+
+use crate::authority::{lower_passes, routes_pass};
+use crate::book::Book;
+use crate::item::Item;
+use crate::paragraphs::same_paragraph;
+use crate::passing::{names_pass, object_names_nobody};
+use crate::secrets::Secrets;
+use crate::verdict::Verdict;
+use rr_number::{AsNumber, Prefix, SetName, Span};
+use rr_object::{Code, Key, Object};
+use std::alloc::{AllocError, Global};
+
+/// The verdict on an item over the book's registry (RFC 2725, 9; profile); the error is want of memory.
+pub fn judge<B: Book>(alloc: Global, book: &B, secrets: &Secrets, item: &Item) -> Result<Verdict, AllocError>
+    ensures { IfOk result (λ v. v ≡ verdict (B.contents book.now) secrets.now item.now) }
+{
+    match item {
+        Item::Submit(object) => judge_object(alloc, book, secrets, object),
+        Item::Delete(key) => Ok(judge_deletion(book, secrets, key)),
+    }
+}
+
+/// The verdict on an object: an addition where its key is new, else a change.
+fn judge_object<B: Book>(alloc: Global, book: &B, secrets: &Secrets, object: &Object) -> Result<Verdict, AllocError>
+    ensures { IfOk result (λ v. v ≡ submission (get (B.contents book.now) object.now.key) (B.contents book.now) secrets.now object.now) }
+{
+    match book.get(object.key()) {
+        None => judge_addition(alloc, book, secrets, object),
+        Some(stored) => Ok(judge_change(book, secrets, stored, object)),
+    }
+}
+
+fn judge_addition<B: Book>(alloc: Global, book: &B, secrets: &Secrets, object: &Object) -> Result<Verdict, AllocError>
+    ensures { IfOk result (λ v. v ≡ addition (B.contents book.now) secrets.now object.now) }
+{
+    if object_names_nobody(book, Some(object), object) {
+        Ok(Verdict::Refuse(Code::E10))
+    } else if !names_pass(book, Some(object), secrets, object.maintainers()) {
+        Ok(Verdict::Refuse(Code::E11))
+    } else {
+        judge_place(alloc, book, secrets, object.key())
+    }
+}
+
+fn judge_change<B: Book>(book: &B, secrets: &Secrets, stored: &Object, object: &Object) -> Verdict
+    ensures { result ≡ change (B.contents book.now) secrets.now stored.now object.now }
+{
+    if object_names_nobody(book, None, object) {
+        Verdict::Refuse(Code::E10)
+    } else if !names_pass(book, None, secrets, stored.maintainers()) {
+        Verdict::Refuse(Code::E11)
+    } else if same_paragraph(stored.paragraph(), object.paragraph()) {
+        Verdict::Same
+    } else {
+        Verdict::Change
+    }
+}
+
+fn judge_deletion<B: Book>(book: &B, secrets: &Secrets, key: &Key) -> Verdict
+    ensures { result ≡ deletion (get (B.contents book.now) key.now) (B.contents book.now) secrets.now key.now }
+{
+    match book.get(key) {
+        None => Verdict::Refuse(Code::E18),
+        Some(stored) => {
+            if !names_pass(book, None, secrets, stored.maintainers()) {
+                Verdict::Refuse(Code::E11)
+            } else if is_in_use(book, key) {
+                Verdict::Refuse(Code::E17)
+            } else {
+                Verdict::Delete
+            }
+        }
+    }
+}
+
+fn is_in_use<B: Book>(book: &B, key: &Key) -> bool
+    ensures { result ≡ is_in_use (B.contents book.now) key.now }
+{
+    match key {
+        Key::Mntner(name) => book.names_maintainer(name),
+        _ => false,
+    }
+}
+
+/// What the place of a new object in the hierarchy says of it.
+fn judge_place<B: Book>(alloc: Global, book: &B, secrets: &Secrets, key: &Key) -> Result<Verdict, AllocError>
+    ensures { IfOk result (λ v. v ≡ place (B.contents book.now) secrets.now key.now) }
+{
+    if book.crosses(key) {
+        return Ok(Verdict::Refuse(Code::E16));
+    }
+    match key {
+        Key::Mntner(_) => Ok(Verdict::Add),
+        Key::AsBlock(span) => Ok(judge_below(book, secrets, book.closest_block(*span))),
+        Key::AutNum(number) => Ok(judge_below(book, secrets, book.closest_block(span_of_number(*number)))),
+        Key::Inetnum(span) => Ok(judge_below(book, secrets, book.closest_inetnum(*span))),
+        Key::Route(prefix, origin) => judge_route(alloc, book, secrets, *prefix, *origin),
+        Key::AsSet(name) => judge_as_set(alloc, book, secrets, name),
+        Key::RouteSet(name) => judge_route_set(alloc, book, secrets, name),
+    }
+}
+
+/// The span of an AS number alone.
+fn span_of_number(number: AsNumber) -> Span
+    ensures { result ≡ record { first = number; last = number } }
+{
+    Span::new(number.number(), number.number())
+}
+
+/// The verdict on an object whose closest cover, or parent, is this one.
+fn judge_below<B: Book>(book: &B, secrets: &Secrets, cover: Option<&Object>) -> Verdict
+    ensures { result ≡ below (lower_passes (B.contents book.now) secrets.now) (option_copied cover.entry) }
+{
+    match cover {
+        None => Verdict::Refuse(Code::E12),
+        Some(cover) => {
+            if lower_passes(book, secrets, cover) {
+                Verdict::Add
+            } else {
+                Verdict::Refuse(Code::E13)
+            }
+        }
+    }
+}
+
+fn judge_as_set<B: Book>(_alloc: Global, _book: &B, _secrets: &Secrets, _name: &SetName) -> Result<Verdict, AllocError>
+    ensures { IfOk result (λ v. v ≡ below_parent (B.contents _book.now) _secrets.now Key.AsSet _name.now) }
+{
+    Err(AllocError)
+}
+
+fn judge_route_set<B: Book>(_alloc: Global, _book: &B, _secrets: &Secrets, _name: &SetName) -> Result<Verdict, AllocError>
+    ensures { IfOk result (λ v. v ≡ below_parent (B.contents _book.now) _secrets.now Key.RouteSet _name.now) }
+{
+    Err(AllocError)
+}
+
+/// The verdict on a route: its origin's aut-num decides first, then the space that it lies in.
+fn judge_route<B: Book>(alloc: Global, book: &B, secrets: &Secrets, prefix: Prefix, origin: AsNumber) -> Result<Verdict, AllocError>
+    ensures { IfOk result (λ v. v ≡ first_of (
+        record { holds = lacks_origin (B.contents book.now) (Key.Route prefix origin); code = Code.E14 } ∷ (
+        record { holds = origin_refuses (B.contents book.now) secrets.now (Key.Route prefix origin); code = Code.E15 } ∷ []))
+        (below_space (B.contents book.now) secrets.now prefix)) }
+{
+    match book.get(&Key::AutNum(origin)) {
+        None => Ok(Verdict::Refuse(Code::E14)),
+        Some(aut_num) => {
+            if routes_pass(book, secrets, aut_num, prefix) {
+                judge_space(alloc, book, secrets, prefix)
+            } else {
+                Ok(Verdict::Refuse(Code::E15))
+            }
+        }
+    }
+}
+
+/// The verdict of the routes or the inetnum that a route lies below.
+fn judge_space<B: Book>(alloc: Global, book: &B, secrets: &Secrets, prefix: Prefix) -> Result<Verdict, AllocError>
+    ensures { IfOk result (λ v. v ≡ below_space (B.contents book.now) secrets.now prefix) }
+{
+    match book.closest_routes(prefix) {
+        None => Ok(judge_inetnum_space(book, secrets, prefix)),
+        Some(closest) => {
+            let origins = book.origins(alloc, closest)?;
+            if some_route_passes(book, secrets, prefix, closest, &origins) {
+                Ok(Verdict::Add)
+            } else {
+                Ok(Verdict::Refuse(Code::E13))
+            }
+        }
+    }
+}
+
+/// The verdict of the closest inetnum on a route that no route covers.
+fn judge_inetnum_space<B: Book>(book: &B, secrets: &Secrets, prefix: Prefix) -> Verdict
+    ensures { result ≡ below (routes_pass (B.contents book.now) secrets.now prefix) (closest_inetnum (B.contents book.now) (span_of prefix)) }
+{
+    match book.closest_inetnum(prefix.span()) {
+        None => Verdict::Refuse(Code::E12),
+        Some(inetnum) => {
+            if routes_pass(book, secrets, inetnum, prefix) {
+                Verdict::Add
+            } else {
+                Verdict::Refuse(Code::E13)
+            }
+        }
+    }
+}
+
+/// Whether a route of the closest prefix and one of these origins authorises a route of the prefix.
+fn some_route_passes<B: Book>(book: &B, secrets: &Secrets, prefix: Prefix, closest: Prefix, origins: &[AsNumber]) -> bool
+    ensures { result ≡ list_any (route_passes (B.contents book.now) secrets.now prefix closest) origins.now }
+{
+    origins
+        .iter()
+        .any(|origin| route_passes(book, secrets, prefix, closest, *origin))
+}
+
+fn route_passes<B: Book>(book: &B, secrets: &Secrets, prefix: Prefix, closest: Prefix, origin: AsNumber) -> bool
+    ensures { result ≡ route_passes (B.contents book.now) secrets.now prefix closest origin }
+{
+    match book.get(&Key::Route(closest, origin)) {
+        Some(route) => routes_pass(book, secrets, route, prefix),
+        None => false,
+    }
+}

@@ -1,0 +1,20 @@
+//! Who may change a registry: secrets, the authority of maintainers, and the verdict on an item
+//! (RFC 2725, sections 9 and 10).
+#![tactic(auto)]
+
+mod authority;
+mod book;
+mod item;
+mod judging;
+mod paragraphs;
+mod passing;
+mod secrets;
+mod verdict;
+
+pub use authority::{lower_names, route_names};
+pub use book::Book;
+pub use item::Item;
+pub use judging::judge;
+pub use passing::passes;
+pub use secrets::{Secret, Secrets};
+pub use verdict::Verdict;

@@ -1,0 +1,113 @@
+//! Which maintainers pass with which secrets.
+
+ghost use Rattle.std.specs.Prelude.{◌≡◌, is_none};
+ghost use Rattle.std.specs.List.{list_any};
+ghost use Rattle.std.specs.Option.{option_copied};
+ghost use Rattle.rr_object.specs.Objects.{names_of};
+ghost use Rattle.rr_auth.specs.Passing.{fits, fits_line, name_passes, passes};
+ghost use Rattle.rr_auth.specs.Registries.{is_mntner_of, maintainer, names_nobody, seen_by};
+
+use crate::book::Book;
+use crate::secrets::{Secret, Secrets};
+use rr_number::Name;
+use rr_object::{Auth, Grant, Key, Object};
+use sha2::{Digest, Sha256};
+
+/// Whether some secret fits one of the maintainer's lines: SHA-256 of the salt and then the secret is the line's
+/// digest (profile; FIPS 180-4).
+pub fn passes(maintainer: &Object, secrets: &Secrets) -> bool
+    ensures { result ≡ fits secrets.now maintainer.now }
+{
+    some_line_fits(maintainer.auths(), secrets.as_slice())
+}
+
+fn some_line_fits(lines: &[Auth], secrets: &[Secret]) -> bool
+    ensures { result ≡ list_any (λ line. list_any (fits_line line) secrets.now) lines.now }
+{
+    lines.iter().any(|line| some_secret_fits(line, secrets))
+}
+
+fn some_secret_fits(line: &Auth, secrets: &[Secret]) -> bool
+    ensures { result ≡ list_any (fits_line line.now) secrets.now }
+{
+    secrets.iter().any(|secret| fits_line(line, secret))
+}
+
+fn fits_line(line: &Auth, secret: &Secret) -> bool
+    ensures { result ≡ fits_line line.now secret.now }
+{
+    let mut hasher = Sha256::new();
+    hasher.update(line.salt());
+    hasher.update(secret.as_bytes());
+    hasher.finalize() == *line.digest()
+}
+
+/// The mntner of the name; the object itself where it is added and is that one.
+#[tactic(auto, using(crate::proofs::Seen::maintainer_seen))]
+pub fn maintainer_seen<'a, B: Book>(book: &'a B, own: Option<&'a Object>, name: &Name) -> Option<&'a Object>
+    ensures { option_copied result ≡ maintainer (seen_by (option_copied own.entry) (B.contents book.now)) name.now }
+{
+    match own {
+        None => book.maintainer(name),
+        Some(object) => {
+            if is_mntner_of(object.key(), name) {
+                Some(object)
+            } else {
+                book.maintainer(name)
+            }
+        }
+    }
+}
+
+fn is_mntner_of(key: &Key, name: &Name) -> bool
+    ensures { result ≡ is_mntner_of name.now key.now }
+{
+    match key {
+        Key::Mntner(own) => own == name,
+        _ => false,
+    }
+}
+
+/// Whether the name is that of a maintainer which some secret fits.
+pub fn name_passes<B: Book>(book: &B, own: Option<&Object>, secrets: &Secrets, name: &Name) -> bool
+    ensures { result ≡ name_passes (seen_by (option_copied own.entry) (B.contents book.now)) secrets.now name.now }
+{
+    match maintainer_seen(book, own, name) {
+        Some(maintainer) => passes(maintainer, secrets),
+        None => false,
+    }
+}
+
+/// Whether one of the names passes.
+pub fn names_pass<B: Book>(book: &B, own: Option<&Object>, secrets: &Secrets, names: &[Name]) -> bool
+    ensures { result ≡ passes (seen_by (option_copied own.entry) (B.contents book.now)) secrets.now names.now }
+{
+    names.iter().any(|name| name_passes(book, own, secrets, name))
+}
+
+/// Whether some name is that of no maintainer.
+pub fn names_nobody<B: Book>(book: &B, own: Option<&Object>, names: &[Name]) -> bool
+    ensures { result ≡ names_nobody (seen_by (option_copied own.entry) (B.contents book.now)) names.now }
+{
+    names.iter().any(|name| maintainer_seen(book, own, name).is_none())
+}
+
+/// Whether the name of some entry is that of no maintainer.
+fn entries_name_nobody<B: Book>(book: &B, own: Option<&Object>, entries: &[Grant]) -> bool
+    ensures { result ≡ list_any (λ g. is_none (maintainer (seen_by (option_copied own.entry) (B.contents book.now)) g.name)) entries.now }
+{
+    entries
+        .iter()
+        .any(|entry| maintainer_seen(book, own, entry.name()).is_none())
+}
+
+/// Whether the object names a maintainer that is not registered.
+#[tactic(auto, using(crate::proofs::Seen::names_nobody_append, crate::proofs::Seen::names_nobody_map))]
+pub fn object_names_nobody<B: Book>(book: &B, own: Option<&Object>, object: &Object) -> bool
+    ensures { result ≡ names_nobody (seen_by (option_copied own.entry) (B.contents book.now)) (names_of object.now) }
+{
+    names_nobody(book, own, object.maintainers())
+        || names_nobody(book, own, object.lower())
+        || entries_name_nobody(book, own, object.routes())
+        || names_nobody(book, own, object.by_ref().names())
+}

@@ -1,0 +1,18 @@
+//! Verdicts on items.
+
+use rr_object::Code;
+
+/// What is to be done with an item.
+#[derive(Clone, Copy, Debug, PartialEq, Eq)]
+pub enum Verdict {
+    /// The object is new and is added.
+    Add,
+    /// The object takes the place of the stored one.
+    Change,
+    /// The object has the text of the stored one: nothing is to be done.
+    Same,
+    /// The stored object is deleted.
+    Delete,
+    /// The item is refused, and the registry stays as it is.
+    Refuse(Code),
+}

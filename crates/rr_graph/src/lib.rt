@@ -5,8 +5,14 @@ ghost use Rattle.std.specs.Prelude.{◌≡◌, ◌↔◌, Contains, IfOk, OnOk};
 ghost use Rattle.std.proofs.lemmas.Map.Lookups.{CmpEqualImpliesEq};
 ghost use Rattle.rr_graph.specs.Chain.{HasNoRepeats, IsReached, MoreThan};
 
+mod backward;
+mod gathering;
+mod labels;
+mod pairs;
 mod walk;
 
+pub use gathering::{Gathered, gather};
+pub use labels::{Edge, Labelled};
 use std::alloc::{AllocError, AllocFailed, Global};
 use std::error::Error;
 use std::fmt;

@@ -3,7 +3,7 @@
 ghost use Rattle.std.specs.Prelude.{◌≡◌, ◌==◌, Contains, IfOk, filter, map};
 ghost use Rattle.std.proofs.lemmas.Map.Lookups.{exact_unsigned};
 
-use crate::{Graph, ReachFault, reach};
+use crate::{Edge, Graph, Labelled, ReachFault, gather, reach};
 use std::alloc::{AllocError, Global};
 use std::test::Fail;
 
@@ -83,4 +83,118 @@ fn one_node_more_than_the_limit_is_too_many(rt: HostRuntime) {
             Err(ReachFault::TooMany)
         )
     );
+}
+
+/// A labelled graph by its edges, each from the first number to the second, and the values of its nodes. A label
+/// doubles a value and adds itself, unless the sum is above 100.
+#[derive(Drop)]
+struct Doubling<'a> {
+    edges: &'a [(u8, u8, u8)],
+    values: &'a [(u8, u8)],
+}
+
+impl Labelled for Doubling<'_> {
+    ghost use Rattle.rr_graph.specs.declared.labels.Edge.{Edge};
+    ghost use Rattle.std.specs.Prelude.{◌==◌, ◌+◌, ◌*◌, ℕ, Contains, Option, Some, None, filter, if◌then◌else◌, map, nat_le};
+    ghost use Rattle.std.proofs.lemmas.Map.Lookups.{exact_unsigned};
+
+    type Node = u8;
+
+    type Label = u8;
+
+    type Value = u8;
+
+    ghost edge = { λ s a b label. Contains {X = Edge ℕ ℕ} (map (λ e. record { to = e.1; label = e.2 }) (filter (λ e. e.0 == a) s.edges.now)) (record { to = b; label = label }) };
+
+    ghost own = { λ s a value. Contains (map (λ v. v.1) (filter (λ v. v.0 == a) s.values.now)) value };
+
+    ghost passed = { λ label value. if nat_le (2 * value + label) 100 then Some (2 * value + label) else None };
+
+    ghost exact_nodes = { exact_unsigned };
+
+    ghost exact_values = { exact_unsigned };
+
+    fn edges(&self, alloc: Global, node: &u8) -> Result<Vec<Edge<u8, u8>>, AllocError> {
+        edges_of(alloc, self.edges, *node)
+    }
+
+    fn values(&self, alloc: Global, node: &u8) -> Result<Vec<u8>, AllocError> {
+        values_of(alloc, self.values, *node)
+    }
+
+    fn pass(&self, label: u8, value: u8) -> Option<u8> {
+        let sum = 2 * u16::from(value) + u16::from(label);
+        if sum <= 100 { Some(sum as u8) } else { None }
+    }
+
+    fn copy(&self, _alloc: Global, node: &u8) -> Result<u8, AllocError> {
+        Ok(*node)
+    }
+}
+
+/// The edges that leave a number.
+fn edges_of(
+    alloc: Global,
+    edges: &[(u8, u8, u8)],
+    from: u8,
+) -> Result<Vec<Edge<u8, u8>>, AllocError>
+    ensures { IfOk result (λ found. found.items ≡ map (λ e. record { to = e.1; label = e.2 }) (filter (λ e. e.0 == from) edges.now)) }
+{
+    edges
+        .iter()
+        .filter(|e| e.0 == from)
+        .map(|e| Edge {
+            to: e.1,
+            label: e.2,
+        })
+        .collect(alloc)
+}
+
+/// The values of a number.
+fn values_of(alloc: Global, values: &[(u8, u8)], node: u8) -> Result<Vec<u8>, AllocError>
+    ensures { IfOk result (λ found. found.items ≡ map (λ v. v.1) (filter (λ v. v.0 == node) values.now)) }
+{
+    values
+        .iter()
+        .filter(|v| v.0 == node)
+        .map(|v| v.1)
+        .collect(alloc)
+}
+
+#[test]
+fn a_cycle_is_followed_until_its_label_drops_the_value(rt: HostRuntime) -> Result<(), Fail> {
+    let graph = Doubling {
+        edges: &[(1, 1, 1), (2, 1, 0)],
+        values: &[(1, 20)],
+    };
+    let found = gather(rt.alloc(), &graph, &1, 3)?;
+    assert_eq!(rt; found.values.as_slice(), [20, 41, 83].as_slice());
+    assert_eq!(rt; found.nodes.as_slice(), [1].as_slice());
+    assert!(rt; matches!(gather(rt.alloc(), &graph, &1, 2), Err(ReachFault::TooMany)));
+    Ok(())
+}
+
+#[test]
+fn labels_act_from_the_last_to_the_first(rt: HostRuntime) -> Result<(), Fail> {
+    let graph = Doubling {
+        edges: &[(1, 2, 1), (2, 3, 0)],
+        values: &[(3, 5)],
+    };
+    let found = gather(rt.alloc(), &graph, &1, 3)?;
+    assert_eq!(rt; found.values.as_slice(), [21].as_slice());
+    Ok(())
+}
+
+#[test]
+fn a_dropped_value_leaves_its_node_reached(rt: HostRuntime) -> Result<(), Fail> {
+    let graph = Doubling {
+        edges: &[(4, 5, 99)],
+        values: &[(5, 1), (5, 0), (6, 7)],
+    };
+    let mut found = gather(rt.alloc(), &graph, &4, 3)?;
+    assert_eq!(rt; found.values.as_slice(), [99].as_slice());
+    found.nodes.sort_unstable();
+    assert_eq!(rt; found.nodes.as_slice(), [4, 5].as_slice());
+    assert!(rt; matches!(gather(rt.alloc(), &graph, &4, 2), Err(ReachFault::TooMany)));
+    Ok(())
 }

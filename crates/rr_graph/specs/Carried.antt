@@ -1,0 +1,50 @@
+-- Values that labelled edges carry back. What is found at the node to which an edge leads is found at the node that
+-- it leaves too, once the edge's label has passed it.
+use Rattle.std.specs.Prelude.{◌≡◌, ℕ, ◌⊎◌, List, [], ◌∷◌, Option, Some, Contains, option_and_then}
+use Rattle.rr_graph.specs.Chain.{IsChain, IsReached, MoreThan}
+use Rattle.rr_graph.specs.declared.labels.Edge.{Edge}
+
+module _ {N L : Type 0} (edge : N → N → L → Type 0) where
+  -- Labelled edges lead from `a` through the node of each in turn, the last of which is `b`. (profile)
+  abbrev pub IsLabelledChain : N → List (Edge N L) → N → Type 0
+  IsLabelledChain a [] b = a ≡ b
+  IsLabelledChain a (e ∷ es) b = edge a e.to e.label × IsLabelledChain e.to es b
+
+  -- Some edge leads from one node to the other, whatever its label.
+  abbrev pub Leads : N → N → Type 0
+  Leads a b = (label : L) × edge a b label
+
+  -- Edges lead to the node from the start, whatever their labels.
+  abbrev pub IsNamed : N → N → Type 0
+  IsNamed start node = IsReached Leads (start ∷ []) node
+
+-- What becomes of a value that is put through the labels of a chain, the last first, unless a label drops it. (profile)
+abbrev pub put_through : {N L V : Type 0} → (L → V → Option V) → List (Edge N L) → V → Option V
+put_through passed [] value = Some value
+put_through passed (e ∷ es) value = option_and_then (passed e.label) (put_through passed es value)
+
+module _ {N L V : Type 0} (edge : N → N → L → Type 0) (own : N → V → Type 0) (passed : L → V → Option V) where
+  -- A chain from the node ends where a value is own, which its labels, the last first, make into this value. (profile)
+  abbrev pub IsFound : N → V → Type 0
+  IsFound a value = (chain : List (Edge N L)) × (b : N) × (begun : V) × IsLabelledChain edge a chain b × own b begun × (put_through passed chain begun ≡ Some value)
+
+  -- A node that is reached from the start, with a value that is found at it.
+  abbrev pub IsFoundPair : N → N × V → Type 0
+  IsFoundPair start p = IsNamed edge start p.0 × IsFound p.0 p.1
+
+  -- More than `limit` nodes are reached, or more than `limit` pairs of a reached node and a value found at it. (profile)
+  abbrev pub IsTooMany : ℕ → N → Type 0
+  IsTooMany limit start = MoreThan limit (IsNamed edge start) ⊎ MoreThan limit (IsFoundPair start)
+
+-- The pair of one of the nodes and a value of its own.
+abbrev pub IsOwnPair : {N V : Type 0} → (N → V → Type 0) → List N → N × V → Type 0
+IsOwnPair own nodes p = Contains nodes p.0 × own p.0 p.1
+
+module _ {N L V : Type 0} (edge : N → N → L → Type 0) (own : N → V → Type 0) (passed : L → V → Option V) where
+  -- The value of a pair is carried back to another pair over an edge that leaves one of the nodes.
+  abbrev pub CarriesBack : List N → N × V → N × V → Type 0
+  CarriesBack nodes p q = (label : L) × Contains nodes q.0 × edge q.0 p.0 label × (passed label p.1 ≡ Some q.1)
+
+  -- A node and a value that comes back to it from a value of its own of one of the nodes, over edges that leave these.
+  abbrev pub IsCarriedPair : List N → N × V → Type 0
+  IsCarriedPair nodes p = (q : N × V) × (chain : List (N × V)) × IsOwnPair own nodes q × IsChain (CarriesBack nodes) q chain p

@@ -1,0 +1,144 @@
+//! Which values are found at a node of a labelled graph.
+
+ghost use Rattle.std.specs.Prelude.{◌≡◌, ◌↔◌, Contains, IfOk, OnOk, [], ◌∷◌, map};
+ghost use Rattle.rr_graph.specs.Chain.{HasNoRepeats, IsReached, MoreThan};
+ghost use Rattle.std.specs.List.Sorted.{IsStrictlySortedBy};
+ghost use Rattle.rr_graph.specs.Carried.{IsCarriedPair, IsFound, IsNamed, IsTooMany, Leads};
+
+use crate::backward::reversed;
+use crate::labels::{Edge, Labelled};
+use crate::pairs::{Pairs, own_pairs};
+use crate::{Graph, ReachFault, reach};
+use std::alloc::{AllocError, Global};
+use std::collections::BTreeSet;
+
+/// A labelled graph without its labels.
+#[derive(Drop)]
+struct Unlabelled<'a, G> {
+    graph: &'a G,
+}
+
+impl<G: Labelled> Graph for Unlabelled<'_, G> {
+    type Node = G::Node;
+
+    ghost edge = { λ s. Leads (G.edge s.graph.now) };
+
+    ghost exact = { G.exact_nodes };
+
+    fn successors(&self, alloc: Global, node: &G::Node) -> Result<Vec<G::Node>, AllocError> {
+        ends(alloc, self.graph.edges(alloc, node)?)
+    }
+
+    fn copy(&self, alloc: Global, node: &G::Node) -> Result<G::Node, AllocError> {
+        self.graph.copy(alloc, node)
+    }
+}
+
+/// The nodes to which the edges lead.
+fn ends<N: Drop, L: Drop>(alloc: Global, edges: Vec<Edge<N, L>>) -> Result<Vec<N>, AllocError>
+    ensures { IfOk result (λ nodes. nodes.items ≡ map (λ edge. edge.to) edges.items) }
+{
+    edges.into_iter().map(|edge| edge.to).collect(alloc)
+}
+
+/// The nodes that are reached from the start.
+fn named<G: Labelled>(
+    alloc: Global,
+    graph: &G,
+    start: &G::Node,
+    limit: usize,
+) -> Result<Vec<G::Node>, ReachFault>
+    ensures found { IfOk result (λ nodes. (node : G.Node) → Contains nodes.items node ↔ IsNamed (G.edge graph.now) start.now node) }
+    ensures once { IfOk result (λ nodes. HasNoRepeats nodes.items) }
+    ensures few { OnOk result (¬ MoreThan limit (IsNamed (G.edge graph.now) start.now)) }
+    ensures many { result ≡ Err ReachFault.TooMany → MoreThan limit (IsNamed (G.edge graph.now) start.now) }
+{
+    let mut starts = Vec::new(alloc);
+    starts.push(graph.copy(alloc, start)?)?;
+    reach(alloc, &Unlabelled { graph }, starts, limit)
+}
+
+/// What is found from a node of a labelled graph.
+#[derive(Drop)]
+pub struct Gathered<N, V> {
+    /// The nodes that are reached, each once, in no promised order.
+    pub nodes: Vec<N>,
+    /// The values that are found at the node, in ascending order.
+    pub values: Vec<V>,
+}
+
+/// Lists what is found at `start`: the nodes that chains of edges lead to from it, itself included, and each value
+/// that a node at the end of such a chain has by itself and that the labels of the chain, from the last to the first,
+/// make into this value, none dropping it. It takes O((P + E) log P) steps for P pairs of a reached node and a value
+/// found at it, and E edges between them.
+///
+/// The fault is `TooMany` exactly where more than `limit` nodes are reached, or more than `limit` such pairs are,
+/// want of memory aside.
+pub fn gather<G: Labelled>(
+    alloc: Global,
+    graph: &G,
+    start: &G::Node,
+    limit: usize,
+) -> Result<Gathered<G::Node, G::Value>, ReachFault>
+    ensures nodes { IfOk result (λ gathered. (node : G.Node) → Contains gathered.nodes.items node ↔ IsNamed (G.edge graph.now) start.now node) }
+    ensures once { IfOk result (λ gathered. HasNoRepeats gathered.nodes.items) }
+    ensures values { IfOk result (λ gathered. (value : G.Value) → Contains gathered.values.items value ↔ IsFound (G.edge graph.now) (G.own graph.now) G.passed start.now value) }
+    ensures sorted { IfOk result (λ gathered. IsStrictlySortedBy G.Value.cmp gathered.values.items) }
+    ensures few { OnOk result (¬ IsTooMany (G.edge graph.now) (G.own graph.now) G.passed limit start.now) }
+    ensures many { result ≡ Err ReachFault.TooMany → IsTooMany (G.edge graph.now) (G.own graph.now) G.passed limit start.now }
+{
+    let nodes = named(alloc, graph, start, limit)?;
+    let pairs = found_pairs(alloc, graph, &nodes, limit)?;
+    let values = values_at::<G>(alloc, &pairs, start)?;
+    Ok(Gathered { nodes, values })
+}
+
+/// The pairs of one of the nodes and a value that is carried back to it from one of them over edges between them.
+fn found_pairs<G: Labelled>(
+    alloc: Global,
+    graph: &G,
+    nodes: &[G::Node],
+    limit: usize,
+) -> Result<Vec<(G::Node, G::Value)>, ReachFault>
+    ensures found { IfOk result (λ pairs. (p : _) → Contains pairs.items p ↔ IsCarriedPair (G.edge graph.now) (G.own graph.now) G.passed nodes.now p) }
+    ensures few { OnOk result (¬ MoreThan limit (IsCarriedPair (G.edge graph.now) (G.own graph.now) G.passed nodes.now)) }
+    ensures many { result ≡ Err ReachFault.TooMany → MoreThan limit (IsCarriedPair (G.edge graph.now) (G.own graph.now) G.passed nodes.now) }
+{
+    let starts = own_pairs(alloc, graph, nodes)?;
+    let backward = reversed(alloc, graph, nodes)?;
+    reach(
+        alloc,
+        &Pairs {
+            graph,
+            backward: &backward,
+        },
+        starts,
+        limit,
+    )
+}
+
+/// The values that are paired with the node, in ascending order.
+fn values_at<G: Labelled>(
+    alloc: Global,
+    pairs: &[(G::Node, G::Value)],
+    node: &G::Node,
+) -> Result<Vec<G::Value>, AllocError>
+    ensures found { IfOk result (λ values. (value : G.Value) → Contains values.items value ↔ Contains pairs.now (node.now, value)) }
+    ensures sorted { IfOk result (λ values. IsStrictlySortedBy G.Value.cmp values.items) }
+{
+    let mut values = BTreeSet::new(alloc);
+    for pair in pairs {
+        if pair.0 == *node {
+            values.insert(pair.1)?;
+        }
+    }
+    ascending(alloc, values)
+}
+
+/// The values of the set, in ascending order.
+fn ascending<V: Ord + Drop>(alloc: Global, values: BTreeSet<V>) -> Result<Vec<V>, AllocError>
+    ensures same { IfOk result (λ list. list.items ≡ values.keys) }
+    ensures sorted { IfOk result (λ list. IsStrictlySortedBy V.cmp list.items) }
+{
+    values.into_iter().collect(alloc)
+}

@@ -1,0 +1,63 @@
+//! Graphs whose edges carry labels, and whose nodes have values.
+
+ghost use Rattle.std.specs.Prelude.{◌≡◌, ◌↔◌, Contains, IfOk, Option};
+ghost use Rattle.std.proofs.lemmas.Map.Lookups.{CmpEqualImpliesEq};
+
+use std::alloc::{AllocError, Global};
+
+/// An edge, as the node that it leaves sees it.
+#[derive(Drop)]
+pub struct Edge<N, L> {
+    /// The node to which the edge leads.
+    pub to: N,
+    /// What it does to the values that are found there.
+    pub label: L,
+}
+
+/// A directed graph whose edges carry labels. Nodes have values of their own, and a label makes a value into
+/// another or drops it.
+pub trait Labelled {
+    /// A node. Two nodes compare `Equal` only where they are the same.
+    type Node: Ord + Drop;
+
+    /// A label of an edge.
+    type Label: Copy + Drop;
+
+    /// A value. Two values compare `Equal` only where they are the same.
+    type Value: Ord + Copy + Drop;
+
+    /// An edge with this label leads from the first node to the second.
+    ghost edge: { Self → Self.Node → Self.Node → Self.Label → Type 0 };
+
+    /// The node has the value by itself.
+    ghost own: { Self → Self.Node → Self.Value → Type 0 };
+
+    /// What the label makes of the value; nothing where it drops it.
+    ghost passed: { Self.Label → Self.Value → Option Self.Value };
+
+    /// Lists the edges that leave the node, in any order, where one may come twice.
+    fn edges(
+        &self,
+        alloc: Global,
+        node: &Self::Node,
+    ) -> Result<Vec<Edge<Self::Node, Self::Label>>, AllocError>
+        ensures { IfOk result (λ edges. (to : Self.Node) (label : Self.Label) → Contains edges.items (record { to = to; label = label }) ↔ edge self.now node.now to label) };
+
+    /// Lists the values that the node has by itself, in any order, where one may come twice.
+    fn values(&self, alloc: Global, node: &Self::Node) -> Result<Vec<Self::Value>, AllocError>
+        ensures { IfOk result (λ values. (value : Self.Value) → Contains values.items value ↔ own self.now node.now value) };
+
+    /// What the label makes of the value; nothing where it drops it.
+    fn pass(&self, label: Self::Label, value: Self::Value) -> Option<Self::Value>
+        ensures { result ≡ passed label value };
+
+    /// Makes an equal node.
+    fn copy(&self, alloc: Global, node: &Self::Node) -> Result<Self::Node, AllocError>
+        ensures { IfOk result (λ same. same ≡ node.now) };
+
+    /// The order tells nodes apart.
+    ghost exact_nodes: { CmpEqualImpliesEq Self.Node.cmp };
+
+    /// The order tells values apart.
+    ghost exact_values: { CmpEqualImpliesEq Self.Value.cmp };
+}

@@ -92,11 +92,6 @@ impl fmt::Display for Address {
     }
 }
 
-/// What is printed is read again: the text of an address spells it.
-pub fn printed_addresses_are_read()
-    ensures { (address : ℕ) → address < 2 ^ 32 → IsAddress (address_text address) address }
-{}
-
 #[inline]
 fn read_octet(text: &[u8]) -> Option<u8>
     ensures { result ≡ octet_of text.now }

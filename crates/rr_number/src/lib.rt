@@ -7,6 +7,7 @@ mod as_number;
 mod as_span;
 mod dash;
 mod digits;
+pub mod laws;
 mod letter_case;
 mod name;
 mod operator;
@@ -28,3 +29,6 @@ pub use set_kind::SetKind;
 pub use set_name::SetName;
 pub use short_text::ShortText;
 pub use span::Span;
+
+#[cfg(test)]
+mod number_tests;

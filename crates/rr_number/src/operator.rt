@@ -152,11 +152,6 @@ impl fmt::Display for Operator {
     }
 }
 
-/// What is printed is read again: the text of an operator spells it.
-pub fn printed_operators_are_read()
-    ensures { (operator : Operator) → IsOperatorValue operator → IsOperator (operator_text operator) operator }
-{}
-
 fn push_lengths(text: &mut ShortText, low: u8, high: u8)
     requires { length text.old + 8 ≤ 40 }
     ensures value { text.new ≡ text.old ++ lengths_text low high }

@@ -126,31 +126,6 @@ impl fmt::Display for Prefix {
     }
 }
 
-/// What is printed is read again: the text of a prefix spells it.
-pub fn printed_prefixes_are_read()
-    ensures { (prefix : PrefixParts) → IsMasked prefix → IsPrefix (prefix_text prefix) prefix }
-{}
-
-/// The span of a prefix has its ends in order and below 2^32.
-pub fn prefixes_have_spans()
-    ensures { PrefixesHaveSpans }
-{}
-
-/// Two prefixes lie apart, or one covers the other.
-pub fn prefixes_never_cross()
-    ensures { PrefixesNeverCross }
-{}
-
-/// A prefix is no longer than one that it covers.
-pub fn prefixes_cover_longer_ones()
-    ensures { CoversLonger }
-{}
-
-/// Only equal prefixes have the same addresses.
-pub fn spans_tell_prefixes()
-    ensures { SpansTellPrefixes }
-{}
-
 /// How many addresses share their first bits, so many of them.
 #[inline]
 fn count(length: u8) -> u64

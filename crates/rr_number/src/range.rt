@@ -150,24 +150,6 @@ pub fn read_ranged(text: &[u8]) -> Option<(Prefix, Operator)>
     read_both(text)
 }
 
-/// Under an operator a range admits what its prefix covers, of the lengths that the operator's row gives; where it
-/// is dropped, no prefix has such a length.
-pub fn operators_admit_what_they_say()
-    ensures { OperatorsAdmit }
-{}
-
-/// What an operator makes of a range is a range.
-pub fn operators_keep_ranges()
-    ensures { OperatorsKeepRanges }
-{}
-
-/// What is printed is read again: the text of a range spells its prefix and an operator, and this makes the range of
-/// the prefix alone.
-pub fn printed_ranges_are_read()
-    ensures spelled { PrintedRangesAreRead }
-    ensures made { PrintedOperatorsMakeRanges }
-{}
-
 /// The text before the first caret, and from it on.
 fn split_at_caret(text: &[u8]) -> (&[u8], &[u8])
     ensures front { result.0.now ≡ before_first (λ b. b == caret) text.now }

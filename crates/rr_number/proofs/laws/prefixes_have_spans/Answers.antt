@@ -1,5 +1,5 @@
 use Rattle.rr_number.proofs.PrefixSpans.{IsSpan-prefix}
-use Rattle.rr_number.proofs.prefix.prefixes_have_spans.Goals as goal
+use Rattle.rr_number.proofs.laws.prefixes_have_spans.Goals as goal
 
 pub returns : goal.returns
 returns c = IsSpan-prefix

@@ -1,6 +1,6 @@
 use Rattle.rr_number.proofs.RangeLemmas.{operator_for-made}
 use Rattle.rr_number.proofs.RangedLemmas.{IsRanged-text}
-use Rattle.rr_number.proofs.range.printed_ranges_are_read.Goals as goal
+use Rattle.rr_number.proofs.laws.printed_ranges_are_read.Goals as goal
 
 pub returns-clause-spelled : goal.returns-clause-spelled
 returns-clause-spelled c = IsRanged-text

@@ -1,0 +1,61 @@
+//! What holds of addresses, prefixes, operators and ranges together. Each function states a law and does nothing.
+ghost use Rattle.std.specs.Prelude.{ℕ, ◌<◌, ◌^◌};
+ghost use Rattle.rr_number.specs.Addresses.{IsAddress, address_text};
+ghost use Rattle.rr_number.specs.Operators.{IsOperator, IsOperatorValue, operator_text};
+ghost use Rattle.rr_number.specs.PrefixLaws.{CoversLonger, PrefixesHaveSpans, PrefixesNeverCross, SpansTellPrefixes};
+ghost use Rattle.rr_number.specs.Prefixes.{PrefixParts, IsMasked, IsPrefix, prefix_text};
+ghost use Rattle.rr_number.specs.RangeLaws.{OperatorsAdmit, OperatorsKeepRanges, PrintedOperatorsMakeRanges, PrintedRangesAreRead};
+ghost use Rattle.rr_number.specs.declared.operator.Operator.{Operator};
+
+/// What is printed is read again: the text of an address spells it.
+pub fn printed_addresses_are_read()
+    ensures { (address : ℕ) → address < 2 ^ 32 → IsAddress (address_text address) address }
+{}
+
+/// What is printed is read again: the text of a prefix spells it.
+pub fn printed_prefixes_are_read()
+    ensures { (prefix : PrefixParts) → IsMasked prefix → IsPrefix (prefix_text prefix) prefix }
+{}
+
+/// What is printed is read again: the text of an operator spells it.
+pub fn printed_operators_are_read()
+    ensures { (operator : Operator) → IsOperatorValue operator → IsOperator (operator_text operator) operator }
+{}
+
+/// What is printed is read again: the text of a range spells its prefix and an operator, and this makes the range of
+/// the prefix alone.
+pub fn printed_ranges_are_read()
+    ensures spelled { PrintedRangesAreRead }
+    ensures made { PrintedOperatorsMakeRanges }
+{}
+
+/// The span of a prefix has its ends in order and below 2^32.
+pub fn prefixes_have_spans()
+    ensures { PrefixesHaveSpans }
+{}
+
+/// Two prefixes lie apart, or one covers the other.
+pub fn prefixes_never_cross()
+    ensures { PrefixesNeverCross }
+{}
+
+/// A prefix is no longer than one that it covers.
+pub fn prefixes_cover_longer_ones()
+    ensures { CoversLonger }
+{}
+
+/// Only equal prefixes have the same addresses.
+pub fn spans_tell_prefixes()
+    ensures { SpansTellPrefixes }
+{}
+
+/// Under an operator a range admits what its prefix covers, of the lengths that the operator's row gives; where it
+/// is dropped, no prefix has such a length.
+pub fn operators_admit_what_they_say()
+    ensures { OperatorsAdmit }
+{}
+
+/// What an operator makes of a range is a range.
+pub fn operators_keep_ranges()
+    ensures { OperatorsKeepRanges }
+{}

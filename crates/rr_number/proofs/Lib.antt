@@ -12,12 +12,13 @@ pub mod Multiples
 pub mod NameLemmas
 pub mod NumberCase
 pub mod OperatorLemmas
+pub mod ParentLemmas
 pub mod PrefixLemmas
 pub mod PrefixSpans
+pub mod RangeLemmas
+pub mod RangedLemmas
 pub mod SetNameLemmas
 pub mod SetTexts
 pub mod SetWords
-pub mod RangeLemmas
-pub mod RangedLemmas
 pub mod SpanOrder
 pub mod SpanTextLemmas

@@ -67,10 +67,10 @@ each-printed kind (c ∷ cs) each =
     let parts = and_parts (is_component kind c) (list_all (is_component kind) cs) each in
     and_from _ _ (is_component-printed kind c parts.0) (each-printed kind cs parts.1)
 
-or_left : (x y : Bool) → x ≡ true → (x || y) ≡ true
+pub or_left : (x y : Bool) → x ≡ true → (x || y) ≡ true
 or_left x y is = ap (λ t. t || y) is
 
-or_right : (x y : Bool) → y ≡ true → (x || y) ≡ true
+pub or_right : (x y : Bool) → y ≡ true → (x || y) ≡ true
 or_right true y is = refl
 or_right false y is = is
 

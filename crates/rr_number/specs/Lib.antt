@@ -8,6 +8,7 @@ pub mod Dashes
 pub mod Names
 pub mod Numerals
 pub mod Operators
+pub mod Parents
 pub mod PrefixLaws
 pub mod Prefixes
 pub mod RangeLaws

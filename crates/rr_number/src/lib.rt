@@ -26,7 +26,7 @@ pub use operator::{LengthBounds, Operator};
 pub use prefix::Prefix;
 pub use range::{Range, read_ranged};
 pub use set_kind::SetKind;
-pub use set_name::SetName;
+pub use set_name::{Parent, SetName};
 pub use short_text::ShortText;
 pub use span::Span;
 

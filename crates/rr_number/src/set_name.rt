@@ -11,10 +11,13 @@ ghost use Rattle.rr_io.specs.Sending.{Writes};
 ghost use Rattle.rr_number.specs.Names.{is_reserved, upper};
 ghost use Rattle.rr_number.specs.SetNames.{has_prefix, kind_of, IsSetText, component_text, components, is_any_set, is_as_number, is_component, is_name_of_kind, is_set_name, is_set_word, prefix_of, set_name_of, set_text};
 
+mod parent;
+
 use crate::digits::cut;
 use crate::letter_case::spells;
 use crate::name::{is_name, is_reserved_in_any_case, to_upper};
 use crate::{AsNumber, SetKind};
+pub use parent::Parent;
 use rr_io::{Sink, write_all};
 use std::alloc::{AllocError, Global};
 use std::cmp::Ordering;

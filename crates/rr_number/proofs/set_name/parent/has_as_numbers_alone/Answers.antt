@@ -1,0 +1,11 @@
+use Rattle.std.proofs.Common.{rules, ◌==◌}
+use Rattle.std.proofs.lemmas.Iterator.Search.{all_from_yields_List}
+use Rattle.std.proofs.lemmas.Iterator.Splits.{YieldsList-from_slice_split}
+use Rattle.rr_number.specs.SetNames.{is_as_number}
+use Rattle.rr_number.proofs.set_name.parent.has_as_numbers_alone.Goals as goal
+
+pub returns : goal.returns
+returns c =
+    all_from_yields_List is_as_number _ _ _ c.all.ensures.ran
+    (YieldsList-from_slice_split _ (λ b. b == 58) c.args.bytes.now c.split.ensures.rest c.split.ensures.done c.split.ensures.closure (λ x b q k. search rules))
+    (λ x b q k. search rules)

@@ -1,0 +1,30 @@
+-- What names the parent of a set.
+use Rattle.std.specs.Prelude.{ℕ, List, [], ◌∷◌, Option, None, Some, if◌then◌else◌}
+use Rattle.std.specs.List.{join_with_byte, list_all}
+use Rattle.std.specs.Option.{option_map, option_map_or}
+use Rattle.rr_number.specs.AsNumbers.{as_number_of}
+use Rattle.rr_number.specs.SetNames.{components, is_as_number}
+use Rattle.rr_number.specs.declared.set_name.parent.Parent.{Parent}
+use Rattle.rr_number.specs.declared.set_name.parent.Parent.TheVariants.{Number, Set, Bare}
+
+-- all parts but the last
+abbrev pub but_last : List (List ℕ) → List (List ℕ)
+but_last [] = []
+but_last (c ∷ []) = []
+but_last (c ∷ d ∷ ds) = c ∷ but_last (d ∷ ds)
+
+-- The text of all components but the last, if there are several.
+abbrev pub front_by : List (List ℕ) → Option (List ℕ)
+front_by [] = None
+front_by (c ∷ cs) = Some (join_with_byte 58 (c ∷ cs))
+
+unfoldable pub front_of : List ℕ → Option (List ℕ)
+front_of text = front_by (but_last (components text))
+
+-- A text names an AS, or nothing where it has AS numbers alone, several of them, or else a set (RFC 2622, 5; profile).
+abbrev pub named_by : List ℕ → Parent
+named_by text = option_map_or Number (as_number_of text) (if list_all is_as_number (components text) then Bare else Set text)
+
+-- A set is below what all components of its name but the last name (RFC 2622, 5; RFC 2725, 9).
+abbrev pub parent_of : List ℕ → Option Parent
+parent_of text = option_map named_by (front_of text)

@@ -1,0 +1,71 @@
+//! The parents of sets.
+
+ghost use Rattle.std.specs.Prelude.{◌≡◌, IfOk};
+ghost use Rattle.std.specs.List.{list_all};
+ghost use Rattle.std.specs.Option.{option_copied};
+ghost use Rattle.rr_number.specs.Parents.{front_of, named_by, parent_of};
+ghost use Rattle.rr_number.specs.SetNames.{components, is_as_number};
+
+use super::SetName;
+use crate::AsNumber;
+use crate::digits::cut;
+use std::alloc::{AllocError, Global};
+
+/// What all components of a set's name but the last name (RFC 2622, 5; RFC 2725, 9).
+#[derive(Debug, PartialEq, Eq, Drop)]
+pub enum Parent {
+    /// They are one AS number: its aut-num.
+    Number(AsNumber),
+    /// They are a set's name: that set.
+    Set(SetName),
+    /// They are several AS numbers alone, which name nothing.
+    Bare,
+}
+
+impl SetName {
+    /// What all components but the last name; `None` where there is one component.
+    pub fn parent(&self, alloc: Global) -> Result<Option<Parent>, AllocError>
+        ensures { IfOk result (λ parent. parent ≡ parent_of self.now) }
+    {
+        let Some(front) = front(&self.bytes) else {
+            return Ok(None);
+        };
+        if let Some(number) = AsNumber::read(front) {
+            return Ok(Some(Parent::Number(number)));
+        }
+        if has_as_numbers_alone(front) {
+            return Ok(Some(Parent::Bare));
+        }
+        let bytes = Vec::from_slice(alloc, front)?;
+        Ok(Some(Parent::Set(SetName { bytes })))
+    }
+}
+
+/// The text before the last colon, if there is one.
+fn front(bytes: &[u8]) -> Option<&[u8]>
+    ensures { option_copied result ≡ front_of bytes.now }
+{
+    let mut last = bytes;
+    'components: while let Some((_, after)) = cut(last, b':') {
+        last = after;
+    }
+    if last.len() == bytes.len() {
+        return None;
+    }
+    let (front, _) = bytes.split_at(bytes.len() - last.len() - 1);
+    Some(front)
+}
+
+fn has_as_numbers_alone(bytes: &[u8]) -> bool
+    ensures { result ≡ list_all is_as_number (components bytes.now) }
+{
+    bytes
+        .split(|b| *b == b':')
+        .all(|component| is_as_number(component))
+}
+
+fn is_as_number(component: &[u8]) -> bool
+    ensures { result ≡ is_as_number component.now }
+{
+    AsNumber::read(component).is_some()
+}

@@ -1,9 +1,10 @@
 -- Lemmas on the blocks of a text.
-use Rattle.std.proofs.Common.{◌≡◌, ℕ, ◌+◌, ◌-◌, ◌<◌, ◌≤◌, Bool, true, false, not, ◌&&◌, cond, List, [], ◌∷◌, ◌++◌, ◌⊎◌, length, take, drop, refl, sym, ap, subst, ◌∙◌, inl, inr, arith, append_assoc, length-append, map, filter}
+use Rattle.std.proofs.Common.{◌≡◌, ◌≢◌, ℕ, ◌+◌, ◌-◌, ◌<◌, ◌≤◌, Bool, true, false, not, ◌&&◌, cond, List, [], ◌∷◌, ◌++◌, ◌⊎◌, length, take, drop, refl, sym, ap, subst, ◌∙◌, inl, inr, arith, append_assoc, length-append, map, filter}
 use Rattle.std.specs.List.{slice_split, onto_first}
 use Rattle.rr_text.specs.Bytes.{is_line_feed}
 use Rattle.rr_text.specs.Lines.{text_lines, are_whole_lines, is_blank_line, is_skipped_line, is_paragraph_line}
-use Rattle.std.proofs.lemmas.List.{take_at, drop_at, append-nil, take-append-drop, length-take-le}
+use Rattle.std.proofs.lemmas.List.Elements.{filter-append}
+use Rattle.std.proofs.lemmas.List.{take_at, drop_at, append-nil, map-append, take-append-drop, length-take-le}
 use Rattle.rr_text.proofs.LineLemmas.{text_lines-append, are_whole_lines-append}
 use Rattle.rr_text.specs.Blocks.{blocks, from_unskipped, has_line, until_blank, from_blank, starts_block}
 
@@ -193,3 +194,42 @@ taken_at text from left rest block after within is_left front same starts some c
       begun,
       ap (λ bs. blocks (text_lines bs)) is_left ∙ (sym same ∙ (found ∙ ap (λ bs. text_lines block ∷ blocks (text_lines bs)) (sym place.rest))),
     )
+
+pub no_blocks : blocks [] ≡ []
+unfolding blocks from_unskipped
+no_blocks = refl
+
+some_onto : (line : List ℕ) (parts : List (List (List ℕ))) → onto_first line parts ≢ []
+some_onto line [] e = cc
+some_onto line (part ∷ parts) e = cc
+
+split_onto : (line : List ℕ) (parts more : List (List (List ℕ))) → parts ≢ [] → onto_first line (parts ++ more) ≡ onto_first line parts ++ more
+split_onto line [] more h = absurd (h refl)
+split_onto line (part ∷ parts) more h = refl
+
+some_part_by : (t : Bool) (line : List ℕ) (others : List (List ℕ)) → is_blank_line line ≡ t → slice_split is_blank_line (line ∷ others) ≢ []
+some_part_by true line others h = rw h (λ e. cc)
+some_part_by false line others h = rw h (some_onto line (slice_split is_blank_line others))
+
+some_part : (lines : List (List ℕ)) → slice_split is_blank_line lines ≢ []
+some_part [] = λ e. cc
+some_part (line ∷ others) = some_part_by (is_blank_line line) line others refl
+
+split_append_by : (t : Bool) (line : List ℕ) (others rest : List (List ℕ)) (more : List (List (List ℕ))) → is_blank_line line ≡ t
+    → slice_split is_blank_line (others ++ rest) ≡ slice_split is_blank_line others ++ more
+    → slice_split is_blank_line ((line ∷ others) ++ rest) ≡ slice_split is_blank_line (line ∷ others) ++ more
+split_append_by true line others rest more h rec = rw h (ap (λ ps. [] ∷ ps) rec)
+split_append_by false line others rest more h rec = rw h (ap (onto_first line) rec ∙ split_onto line (slice_split is_blank_line others) more (some_part others))
+
+split_append : (lines : List (List ℕ)) (blank : List ℕ) (others : List (List ℕ)) → is_blank_line blank ≡ true
+    → slice_split is_blank_line (lines ++ blank ∷ others) ≡ slice_split is_blank_line lines ++ slice_split is_blank_line others
+split_append [] blank others h = rw h refl
+split_append (line ∷ lines) blank others h = split_append_by (is_blank_line line) line lines (blank ∷ others) (slice_split is_blank_line others) refl (split_append lines blank others h)
+
+-- a blank line keeps the blocks before and behind it apart
+pub blocks_apart : (lines : List (List ℕ)) (blank : List ℕ) (others : List (List ℕ)) → is_blank_line blank ≡ true → blocks (lines ++ blank ∷ others) ≡ blocks lines ++ blocks others
+unfolding blocks
+blocks_apart lines blank others h =
+    ap (λ ps. filter has_line (map from_unskipped ps)) (split_append lines blank others h)
+    ∙ (ap (filter has_line) (map-append from_unskipped (slice_split is_blank_line lines) (slice_split is_blank_line others))
+    ∙ filter-append has_line (map from_unskipped (slice_split is_blank_line lines)) (map from_unskipped (slice_split is_blank_line others)))

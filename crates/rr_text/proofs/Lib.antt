@@ -6,3 +6,5 @@ pub mod EntryLemmas
 pub mod SoundLemmas
 pub mod FieldLemmas
 pub mod MeaningLemmas
+pub mod WholeLemmas
+pub mod RoundTrip

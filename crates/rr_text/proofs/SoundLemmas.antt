@@ -39,11 +39,11 @@ unfolding text_lines
 last_lines [] = tt
 last_lines (b ∷ bs) = last_by (is_line_feed b) b bs refl (last_lines bs)
 
-and_left : (a b : Bool) → (a && b) ≡ true → a ≡ true
+pub and_left : (a b : Bool) → (a && b) ≡ true → a ≡ true
 and_left true b h = refl
 and_left false b h = cc
 
-and_right : (a b : Bool) → (a && b) ≡ true → b ≡ true
+pub and_right : (a b : Bool) → (a && b) ≡ true → b ≡ true
 and_right true b h = h
 and_right false b h = cc
 
@@ -67,18 +67,18 @@ unfolding trim_start
 last_start [] h = h
 last_start (b ∷ bs) h = start_by (λ l. only_last l ≡ true) (is_blank b) b bs refl h (last_start bs (last_tail b bs h))
 
-or_left : (a b : Bool) → (a || b) ≡ false → a ≡ false
+pub or_left : (a b : Bool) → (a || b) ≡ false → a ≡ false
 or_left true b h = h
 or_left false b h = refl
 
-or_right : (a b : Bool) → (a || b) ≡ false → b ≡ false
+pub or_right : (a b : Bool) → (a || b) ≡ false → b ≡ false
 or_right true b h = cc
 or_right false b h = h
 
-any_tail : (p : ℕ → Bool) (b : ℕ) (bs : List ℕ) → list_any p (b ∷ bs) ≡ false → list_any p bs ≡ false
+pub any_tail : (p : ℕ → Bool) (b : ℕ) (bs : List ℕ) → list_any p (b ∷ bs) ≡ false → list_any p bs ≡ false
 any_tail p b bs h = or_right (p b) (list_any p bs) h
 
-any_cons : (p : ℕ → Bool) (b : ℕ) (bs : List ℕ) → p b ≡ false → list_any p bs ≡ false → list_any p (b ∷ bs) ≡ false
+pub any_cons : (p : ℕ → Bool) (b : ℕ) (bs : List ℕ) → p b ≡ false → list_any p bs ≡ false → list_any p (b ∷ bs) ≡ false
 any_cons p b bs h e = rw h e
 
 any_drop : (p : ℕ → Bool) (n : ℕ) (bs : List ℕ) → list_any p bs ≡ false → list_any p (drop n bs) ≡ false
@@ -109,7 +109,7 @@ feed_by : (t : Bool) (b : ℕ) → is_blank b ≡ t → list_any is_line_feed (b
 feed_by true b h = rw h refl
 feed_by false b h = rw h (grind (arith, nat_tests))
 
-not_false : (a : Bool) → not a ≡ true → a ≡ false
+pub not_false : (a : Bool) → not a ≡ true → a ≡ false
 not_false true h = cc
 not_false false h = refl
 
@@ -165,7 +165,7 @@ trim-trim bs =
     let begins_so = begins_end (trim_start bs) (begins_start bs) in
     ap trim_end (start_same (trim bs) begins_so) ∙ end_end (trim_start bs)
 
-false_not : (a : Bool) → a ≡ false → not a ≡ true
+pub false_not : (a : Bool) → a ≡ false → not a ≡ true
 false_not true h = cc
 false_not false h = refl
 
@@ -183,7 +183,7 @@ lower_begins (b ∷ bs) h = grind (arith, nat_tests)
 lower_byte : (b : ℕ) → is_name_byte b ≡ true → is_name_byte (to_ascii_lowercase b) ≡ true
 lower_byte b h = grind (arith, nat_tests)
 
-and_both : (a b : Bool) → a ≡ true → b ≡ true → (a && b) ≡ true
+pub and_both : (a b : Bool) → a ≡ true → b ≡ true → (a && b) ≡ true
 and_both a b h e = rw (h, e) refl
 
 lower_all : (name : List ℕ) → list_all is_name_byte name ≡ true → list_all is_name_byte (map to_ascii_lowercase name) ≡ true

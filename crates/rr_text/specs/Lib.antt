@@ -8,3 +8,4 @@ pub mod Entries
 pub mod Meanings
 pub mod CanonicalText
 pub mod WholePart
+pub mod Laws

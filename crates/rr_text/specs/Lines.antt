@@ -1,5 +1,5 @@
 -- The lines of a text, and what kind of line each is (RFC 2622, 2).
-use Rattle.std.specs.Prelude.{ℕ, Bool, true, false, not, ◌==◌, ◌||◌, ◌&&◌, List, [], ◌∷◌, if◌then◌else◌}
+use Rattle.std.specs.Prelude.{ℕ, Bool, true, false, not, ◌==◌, ◌≡◌, ◌||◌, ◌&&◌, List, [], ◌∷◌, if◌then◌else◌}
 use Rattle.std.specs.List.{list_all, onto_first}
 use Rattle.rr_text.specs.declared.line.LineKind.{LineKind}
 use Rattle.rr_text.specs.declared.line.LineKind.TheVariants.{Blank, Skipped, Continuation, Opening}
@@ -47,3 +47,8 @@ are_whole_lines (b ∷ c ∷ cs) = are_whole_lines (c ∷ cs)
 -- a line of a paragraph: neither blank nor skipped
 abbrev pub is_paragraph_line : List ℕ → Bool
 is_paragraph_line line = not (is_blank_line line) && not (is_skipped_line line)
+
+-- one line with the LF that ends it
+pub record IsWholeLine (line : List ℕ) : Type 0 where
+  pub single : text_lines line ≡ line ∷ []
+  pub ended : are_whole_lines line ≡ true

@@ -90,3 +90,28 @@ pub fn print(alloc: Global, paragraph: &Paragraph) -> Result<Text, AllocError>
     }
     Ok(Text::from_vec(out))
 }
+
+/// The paragraph whose canonical text this is, or `None` where it is that of no paragraph with
+/// an attribute. There is no bound on the size. The error is want of memory.
+pub fn read_canonical(alloc: Global, text: &[u8]) -> Result<Option<Paragraph>, AllocError>
+    ensures found { IfOk result (λ read. IfSome read (λ paragraph. canon.canonical paragraph ≡ text.now)) }
+    ensures fields { IfOk result (λ read. IfSome read (λ paragraph. (0 < length paragraph) × AreFields paragraph)) }
+    ensures only {
+        IfOk result (λ read. (fields : List Field) → 0 < length fields → AreFields fields
+            → canon.canonical fields ≡ text.now → read ≡ Some fields)
+    }
+{
+    if block_fault(text).is_some() {
+        return Ok(None);
+    }
+    let paragraph = read_paragraph(alloc, text)?;
+    if paragraph.attributes().is_empty() {
+        return Ok(None);
+    }
+    let printed = print(alloc, &paragraph)?;
+    if printed.as_slice() == text {
+        Ok(Some(paragraph))
+    } else {
+        Ok(None)
+    }
+}

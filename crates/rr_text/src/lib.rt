@@ -7,6 +7,7 @@ pub mod canonical;
 pub mod entry;
 pub mod fault;
 pub mod inspect;
+pub mod laws;
 pub mod line;
 
 pub mod paragraph;
@@ -14,12 +15,14 @@ pub mod reader;
 pub mod text;
 pub mod trim;
 pub mod value;
+pub mod whole;
 
 pub use attribute::Attribute;
-pub use canonical::print;
+pub use canonical::{print, read_canonical};
 pub use fault::TextFault;
 
 pub use paragraph::Paragraph;
 pub use reader::{next_paragraph, skip_paragraph};
 pub use text::Text;
 pub use value::meaning;
+pub use whole::whole_part;

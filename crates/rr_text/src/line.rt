@@ -106,6 +106,13 @@ pub fn has_refused_byte(line: &[u8]) -> bool
     line.iter().any(|byte| is_refused_byte(*byte))
 }
 
+/// Whether a line has the LF that ends it.
+pub fn has_line_feed(line: &[u8]) -> bool
+    ensures { result ≡ list_any is_line_feed line.now }
+{
+    line.iter().any(|byte| *byte == b'\n')
+}
+
 #[inline]
 fn first_line_feed(text: &[u8]) -> Option<usize>
     ensures { result ≡ position is_line_feed text.now }

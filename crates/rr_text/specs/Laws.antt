@@ -1,0 +1,28 @@
+-- What is true of texts and their entries.
+use Rattle.std.specs.Prelude.{ℕ, true, ◌≡◌, ◌<◌, ◌≤◌, length, List, [], ◌∷◌, ◌++◌, Ok}
+use Rattle.rr_text.specs.Lines.{are_whole_lines, IsWholeLine, is_blank_line, is_skipped_line}
+use Rattle.rr_text.specs.Fields.{Field, AreFields}
+use Rattle.rr_text.specs.Entries.{entries, size_limit}
+use Rattle.rr_text.specs.CanonicalText.{canonical}
+
+-- two paragraphs with the same canonical text are the same
+abbrev pub CanonicalDetermines : Type 0
+CanonicalDetermines = (a b : List Field) → AreFields a → AreFields b → canonical a ≡ canonical b → a ≡ b
+
+-- canonical text that is not too large spells its paragraph and nothing else
+abbrev pub CanonicalSpells : Type 0
+CanonicalSpells = (fields : List Field) → 0 < length fields → AreFields fields → length (canonical fields) ≤ size_limit → entries (canonical fields) ≡ Ok fields ∷ []
+
+-- whole lines and a blank line keep their entries apart from what follows
+abbrev pub BlankLineJoins : Type 0
+BlankLineJoins = (front blank back : List ℕ) → are_whole_lines front ≡ true → IsWholeLine blank → is_blank_line blank ≡ true
+    → entries (front ++ (blank ++ back)) ≡ entries front ++ entries back
+
+-- a dump is canonical texts, each with an empty line behind it
+abbrev pub CanonicalLeads : Type 0
+CanonicalLeads = (fields : List Field) (rest : List ℕ) → 0 < length fields → AreFields fields → length (canonical fields) ≤ size_limit
+    → entries (canonical fields ++ 10 ∷ rest) ≡ Ok fields ∷ entries rest
+
+-- a skipped line that is no part of a block spells nothing
+abbrev pub SkippedLinePassed : Type 0
+SkippedLinePassed = (line rest : List ℕ) → IsWholeLine line → is_skipped_line line ≡ true → entries (line ++ rest) ≡ entries rest

@@ -1,3 +1,4 @@
 pub mod InsertFaults
 pub mod SpanLists
+pub mod SpanMapLaws
 pub mod SpanMaps

@@ -2,12 +2,18 @@
 
 ghost use Rattle.std.specs.Prelude.{◌≡◌};
 
+use std::fmt::Debug;
+use thiserror::Error;
+
 /// Why a value was not inserted at a span. The value comes back with the fault.
-#[derive(Debug, Drop, PartialEq, Eq)]
+#[derive(Debug, Drop, PartialEq, Eq, Error)]
+#[error_bound(T: Debug)]
 pub enum InsertFault<T> {
     /// The span crosses one that is held.
+    #[error("the span crosses one that is held")]
     Overlap(T),
     /// Memory was refused.
+    #[error("out of memory")]
     Memory(T),
 }
 

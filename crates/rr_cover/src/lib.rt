@@ -2,6 +2,7 @@
 #![tactic(auto)]
 
 mod insert_fault;
+pub mod laws;
 mod span_list;
 
 pub use insert_fault::InsertFault;

@@ -216,3 +216,6 @@ fn spans_inside<T>(
         .filter(|held| span.covers(*held))
         .collect(alloc)
 }
+
+#[cfg(test)]
+mod tests;

@@ -1,0 +1,15 @@
+//! Laws of maps of spans, for readers and for the proofs of other crates. Nothing calls these functions.
+
+ghost use Rattle.rr_cover.specs.SpanMapLaws.{ClosestIsOne, CoveringIsWhole, InsideIsWhole, ListsRise};
+
+/// Where no two spans held cross, at most one is closest to a span.
+pub fn closest_is_one<T>()
+    ensures { ClosestIsOne T }
+{}
+
+/// The lists of covering and of inner spans are whole, in order, and without repeats.
+pub fn lists_are_whole<T>()
+    ensures covering { CoveringIsWhole T }
+    ensures inside { InsideIsWhole T }
+    ensures rise { ListsRise T }
+{}

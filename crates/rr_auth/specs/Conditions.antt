@@ -1,12 +1,13 @@
 -- The conditions under which an item is refused, each over the registry, the secrets and the key or object.
-use Rattle.std.specs.Prelude.{ℕ, Bool, true, false, not, ◌&&◌, ◌==◌, if◌then◌else◌, List, Option, None, Some, is_none}
-use Rattle.std.specs.List.{list_any, before_last}
+use Rattle.std.specs.Prelude.{ℕ, Bool, true, false, not, ◌&&◌, List, Option, None, Some, is_none}
+use Rattle.std.specs.List.{list_any}
 use Rattle.std.specs.Option.{option_map_or, option_and_then}
 use Rattle.std.specs.FinMap.{get}
 use Rattle.rr_number.specs.Spans.{Ends}
 use Rattle.rr_number.specs.Prefixes.{PrefixParts, span_of}
-use Rattle.rr_number.specs.AsNumbers.{as_number_of}
-use Rattle.rr_number.specs.SetNames.{is_set_name}
+use Rattle.rr_number.specs.Parents.{parent_of}
+use Rattle.rr_number.specs.declared.set_name.parent.Parent.{Parent}
+use Rattle.rr_number.specs.declared.set_name.parent.Parent.TheVariants.{Number, Set, Bare}
 use Rattle.rr_object.specs.declared.key.Key.{Key}
 use Rattle.rr_object.specs.declared.key.Key.TheVariants.{Mntner, AsBlock, AutNum, Inetnum, Route, AsSet, RouteSet}
 use Rattle.rr_object.specs.Objects.{Obj, names_of}
@@ -41,18 +42,15 @@ abbrev pub origin_refuses : Reg → List (List ℕ) → Key → Bool
 origin_refuses r z (Route p n) = not (option_map_or (routes_pass r z p) (get r (AutNum n)) false)
 origin_refuses r z _ = false
 
--- A set's name without its last component, where it has several (RFC 2622, 5).
-abbrev pub parent_of : List ℕ → Option (List ℕ)
-parent_of name = if list_any (λ b. b == 58) name then Some (before_last (λ b. b == 58) name) else None
-
--- The key that such a name is: of an aut-num, or of a set of the same kind; several AS numbers alone are none
--- (RFC 2622, 5).
-abbrev pub parent_key : (List ℕ → Key) → List ℕ → Option Key
-parent_key set name =
-    option_map_or (λ n. Some (AutNum n)) (as_number_of name) (if is_set_name name then Some (set name) else None)
+-- The key that a set's name without its last component is: of an aut-num, or of a set of the same kind; several AS
+-- numbers alone are none (RFC 2622, 5).
+abbrev pub parent_key : (List ℕ → Key) → Parent → Option Key
+parent_key set (Number n) = Some (AutNum n)
+parent_key set (Set name) = Some (set name)
+parent_key set Bare = None
 
 -- The object of that key.
-abbrev pub parent_object : Reg → (List ℕ → Key) → List ℕ → Option Obj
+abbrev pub parent_object : Reg → (List ℕ → Key) → Parent → Option Obj
 parent_object r set parent = option_and_then (get r) (parent_key set parent)
 
 -- E12 of a set: it has several components, and nothing is registered under all but the last (RFC 2725, 9).

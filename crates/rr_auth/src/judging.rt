@@ -2,11 +2,11 @@
 
 ghost use Rattle.std.specs.Prelude.{◌≡◌, ◌∷◌, [], IfOk};
 ghost use Rattle.std.specs.List.{list_any};
-ghost use Rattle.std.specs.Option.{option_copied};
+ghost use Rattle.std.specs.Option.{option_and_then, option_copied};
 ghost use Rattle.std.specs.FinMap.{get};
 ghost use Rattle.rr_number.specs.Prefixes.{span_of};
 ghost use Rattle.rr_auth.specs.Closest.{closest_inetnum};
-ghost use Rattle.rr_auth.specs.Conditions.{is_in_use, lacks_origin, lower_passes, origin_refuses, route_passes, routes_pass};
+ghost use Rattle.rr_auth.specs.Conditions.{is_in_use, lacks_origin, lower_passes, origin_refuses, parent_key, route_passes, routes_pass};
 ghost use Rattle.rr_auth.specs.Verdicts.{addition, below, below_parent, below_space, change, deletion, first_of, place, submission, verdict};
 
 use crate::authority::{lower_passes, routes_pass};
@@ -16,7 +16,7 @@ use crate::paragraphs::same_paragraph;
 use crate::passing::{names_pass, object_names_nobody};
 use crate::secrets::Secrets;
 use crate::verdict::Verdict;
-use rr_number::{AsNumber, Prefix, SetName, Span};
+use rr_number::{AsNumber, Parent, Prefix, SetName, Span};
 use rr_object::{Code, Key, Object};
 use std::alloc::{AllocError, Global};
 
@@ -133,16 +133,54 @@ fn judge_below<B: Book>(book: &B, secrets: &Secrets, cover: Option<&Object>) -> 
     }
 }
 
-fn judge_as_set<B: Book>(_alloc: Global, _book: &B, _secrets: &Secrets, _name: &SetName) -> Result<Verdict, AllocError>
-    ensures { IfOk result (λ v. v ≡ below_parent (B.contents _book.now) _secrets.now Key.AsSet _name.now) }
+fn judge_as_set<B: Book>(alloc: Global, book: &B, secrets: &Secrets, name: &SetName) -> Result<Verdict, AllocError>
+    ensures { IfOk result (λ v. v ≡ below_parent (B.contents book.now) secrets.now Key.AsSet name.now) }
 {
-    Err(AllocError)
+    match name.parent(alloc)? {
+        None => Ok(Verdict::Add),
+        Some(parent) => Ok(judge_below_parent(book, secrets, as_set_parent(parent))),
+    }
 }
 
-fn judge_route_set<B: Book>(_alloc: Global, _book: &B, _secrets: &Secrets, _name: &SetName) -> Result<Verdict, AllocError>
-    ensures { IfOk result (λ v. v ≡ below_parent (B.contents _book.now) _secrets.now Key.RouteSet _name.now) }
+fn judge_route_set<B: Book>(alloc: Global, book: &B, secrets: &Secrets, name: &SetName) -> Result<Verdict, AllocError>
+    ensures { IfOk result (λ v. v ≡ below_parent (B.contents book.now) secrets.now Key.RouteSet name.now) }
 {
-    Err(AllocError)
+    match name.parent(alloc)? {
+        None => Ok(Verdict::Add),
+        Some(parent) => Ok(judge_below_parent(book, secrets, route_set_parent(parent))),
+    }
+}
+
+/// The key of an as-set's parent; none where that is several AS numbers alone.
+fn as_set_parent(parent: Parent) -> Option<Key>
+    ensures { result ≡ parent_key Key.AsSet parent }
+{
+    match parent {
+        Parent::Number(number) => Some(Key::AutNum(number)),
+        Parent::Set(name) => Some(Key::AsSet(name)),
+        Parent::Bare => None,
+    }
+}
+
+/// The key of a route-set's parent; none where that is several AS numbers alone.
+fn route_set_parent(parent: Parent) -> Option<Key>
+    ensures { result ≡ parent_key Key.RouteSet parent }
+{
+    match parent {
+        Parent::Number(number) => Some(Key::AutNum(number)),
+        Parent::Set(name) => Some(Key::RouteSet(name)),
+        Parent::Bare => None,
+    }
+}
+
+/// The verdict on a set whose parent has this key.
+fn judge_below_parent<B: Book>(book: &B, secrets: &Secrets, parent: Option<Key>) -> Verdict
+    ensures { result ≡ below (lower_passes (B.contents book.now) secrets.now) (option_and_then (get (B.contents book.now)) parent) }
+{
+    match parent {
+        None => Verdict::Refuse(Code::E12),
+        Some(key) => judge_below(book, secrets, book.get(&key)),
+    }
 }
 
 /// The verdict on a route: its origin's aut-num decides first, then the space that it lies in.

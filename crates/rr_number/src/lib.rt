@@ -31,4 +31,6 @@ pub use short_text::ShortText;
 pub use span::Span;
 
 #[cfg(test)]
+mod name_tests;
+#[cfg(test)]
 mod number_tests;

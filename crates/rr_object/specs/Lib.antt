@@ -1,7 +1,14 @@
+pub mod Auths
 pub mod Classes
 pub mod Codes
+pub mod Cuts
 pub mod Faults
+pub mod Grants
+pub mod Items
+pub mod KeySpellings
 pub mod Keys
 pub mod Kinds
+pub mod Members
 pub mod Objects
 pub mod Parts
+pub mod Readings

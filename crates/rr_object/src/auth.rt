@@ -1,7 +1,8 @@
 //! Lines of `auth`.
 
-ghost use Rattle.std.specs.Prelude.{◌≡◌, length};
+ghost use Rattle.std.specs.Prelude.{◌≡◌, IfOk};
 
+use std::alloc::{AllocError, Global};
 use std::marker::Model;
 
 /// How many bytes a SHA-256 digest has (FIPS 180-4).
@@ -23,6 +24,18 @@ impl Model for Auth {
 }
 
 impl Auth {
+    /// The digest with a copy of its salt; the error is want of memory.
+    pub(crate) fn new(
+        alloc: Global,
+        salt: &[u8],
+        digest: [u8; DIGEST_BYTES],
+    ) -> Result<Auth, AllocError>
+        ensures { IfOk result (λ auth. auth ≡ record { salt = salt.now; digest = digest }) }
+    {
+        let salt = Vec::from_slice(alloc, salt)?;
+        Ok(Auth { salt, digest })
+    }
+
     /// The salt, 0 to 16 letters or digits.
     pub fn salt(&self) -> &[u8]
         ensures { result.now ≡ self.now.salt }

@@ -1,8 +1,9 @@
 //! Entries of `mnt-routes`.
 
-ghost use Rattle.std.specs.Prelude.{◌≡◌};
+ghost use Rattle.std.specs.Prelude.{◌≡◌, IfOk};
 
 use rr_number::{Name, Range};
+use std::alloc::AllocError;
 use std::marker::Model;
 
 /// An entry of `mnt-routes`: a maintainer, and for which prefixes it may authorise routes (RFC 2725, 9.6).
@@ -22,6 +23,8 @@ impl Model for Grant {
 }
 
 impl Grant {
+    ghost use Rattle.rr_object.specs.Grants.{with_range};
+
     /// The entry of this maintainer: for each prefix, or for those that one of the ranges admits.
     pub fn new(name: Name, any: bool, ranges: Vec<Range>) -> Grant
         ensures name { result.name ≡ name }
@@ -29,6 +32,21 @@ impl Grant {
         ensures ranges { result.ranges ≡ ranges.items }
     {
         Grant { name, any, ranges }
+    }
+
+    /// The entry for one range more, where there is one; the error is want of memory.
+    pub(crate) fn with_range(self, range: Option<Range>) -> Result<Grant, AllocError>
+        ensures { IfOk result (λ grant. grant ≡ with_range self range) }
+    {
+        let Grant {
+            name,
+            any,
+            mut ranges,
+        } = self;
+        if let Some(range) = range {
+            ranges.push(range)?;
+        }
+        Ok(Grant { name, any, ranges })
     }
 
     /// The maintainer.

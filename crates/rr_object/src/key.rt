@@ -4,7 +4,7 @@ ghost use Rattle.std.specs.Prelude.{◌≡◌, IfOk};
 ghost use Rattle.rr_object.specs.Keys.{class_of};
 
 use crate::class::Class;
-use rr_number::{AsNumber, Name, Prefix, SetName, Span};
+use rr_number::{AsNumber, AsSpan, Name, Prefix, SetName, Span};
 use std::alloc::{AllocError, Global};
 
 /// What names an object among those of the registry. Keys are ordered by the numbers of their classes, then by
@@ -14,7 +14,7 @@ pub enum Key {
     /// A maintainer's name.
     Mntner(Name),
     /// The first and the last number of a block.
-    AsBlock(Span),
+    AsBlock(AsSpan),
     /// The number of an autonomous system.
     AutNum(AsNumber),
     /// The first and the last address of a block.

@@ -2,17 +2,29 @@
 #![tactic(auto)]
 
 pub mod auth;
+pub mod auths;
 pub mod by_ref;
 pub mod class;
 pub mod code;
+mod counts;
+mod cut;
 pub mod fault;
 pub mod grant;
+mod grants;
+mod item;
 pub mod key;
+mod key_text;
+mod keyword;
 pub mod kind;
+mod lists;
 pub mod member;
+mod members;
 pub mod object;
+pub mod paragraph_key;
+mod reading;
 
 pub use auth::Auth;
+pub use auths::read_auth;
 pub use by_ref::ByRef;
 pub use class::Class;
 pub use code::Code;
@@ -21,4 +33,5 @@ pub use grant::Grant;
 pub use key::Key;
 pub use kind::{Kind, Occurs};
 pub use member::{Member, MemberSet};
-pub use object::Object;
+pub use object::{Object, public};
+pub use paragraph_key::key_of;

@@ -1,0 +1,79 @@
+-- The object of a paragraph, from what its attributes say.
+use Rattle.std.proofs.Common.{◌≡◌, ℕ, List, Option, Some, Result, Ok, Err, true, false, refl, rules}
+use Rattle.rr_text.specs.Fields.{Field}
+use Rattle.rr_object.specs.declared.fault.ObjectFault.TheVariants.{BadCount, BadValue}
+use Rattle.rr_object.specs.declared.key.Key.{Key}
+use Rattle.rr_object.specs.declared.kind.Kind.TheVariants.{MntBy, MntLower, MntRoutes, Auth, Members, MbrsByRef, MemberOf}
+use Rattle.rr_object.specs.declared.member.Member.{Member}
+use Rattle.rr_object.specs.Auths.{auth_item}
+use Rattle.rr_object.specs.Grants.{grants_of}
+use Rattle.rr_object.specs.Items.{meant}
+use Rattle.rr_object.specs.Keys.{class_of}
+use Rattle.rr_object.specs.KeySpellings.{key_of}
+use Rattle.rr_object.specs.Members.{set_item}
+use Rattle.rr_object.specs.Objects.{Obj}
+use Rattle.rr_object.specs.Parts.{AuthParts, ByRefParts, GrantParts}
+use Rattle.rr_object.specs.Readings.{by_ref_of, has_bad_authority, has_bad_membership, has_bad_text, has_bad_value, is_miscounted, items_read, maintainers_of, member_item, obj_at, obj_of}
+
+pub miscounted : (fields : List Field) (key : Key) → key_of fields ≡ Ok key → is_miscounted (class_of key) fields ≡ true → obj_of fields ≡ Err BadCount
+unfolding obj_of
+miscounted fields key read count = rw (read, count) refl
+
+bad_steps : (fields : List Field) (key : Key) → key_of fields ≡ Ok key → is_miscounted (class_of key) fields ≡ false
+    → has_bad_value (class_of key) fields ≡ true → obj_of fields ≡ Err BadValue
+unfolding obj_of
+bad_steps fields key read count bad = rw (read, count, bad) refl
+
+pub bad_text : (fields : List Field) (key : Key) → key_of fields ≡ Ok key → is_miscounted (class_of key) fields ≡ false
+    → has_bad_text fields ≡ true → obj_of fields ≡ Err BadValue
+unfolding has_bad_value
+bad_text fields key read count bad = bad_steps fields key read count (rw bad refl)
+
+pub bad_authority : (fields : List Field) (key : Key) → key_of fields ≡ Ok key → is_miscounted (class_of key) fields ≡ false
+    → has_bad_text fields ≡ false → has_bad_authority (class_of key) fields ≡ true → obj_of fields ≡ Err BadValue
+unfolding has_bad_value
+bad_authority fields key read count text bad = bad_steps fields key read count (rw (text, bad) refl)
+
+pub bad_membership : (fields : List Field) (key : Key) → key_of fields ≡ Ok key → is_miscounted (class_of key) fields ≡ false
+    → has_bad_text fields ≡ false → has_bad_authority (class_of key) fields ≡ false → has_bad_membership (class_of key) fields ≡ true
+    → obj_of fields ≡ Err BadValue
+unfolding has_bad_value
+bad_membership fields key read count text authority bad = bad_steps fields key read count (rw (text, authority, bad) refl)
+
+good_value : (fields : List Field) (key : Key) → has_bad_text fields ≡ false → has_bad_authority (class_of key) fields ≡ false
+    → has_bad_membership (class_of key) fields ≡ false → has_bad_value (class_of key) fields ≡ false
+unfolding has_bad_value
+good_value fields key text authority membership = rw (text, authority, membership) refl
+
+good_steps : (fields : List Field) (key : Key) → key_of fields ≡ Ok key → is_miscounted (class_of key) fields ≡ false
+    → has_bad_value (class_of key) fields ≡ false → obj_of fields ≡ Ok (obj_at key fields)
+unfolding obj_of
+good_steps fields key read count good = rw (read, count, good) refl
+
+obj_at-parts : (fields : List Field) (key : Key) (maintainers lower : List (List ℕ)) (routes : List GrantParts)
+    (auths : List AuthParts) (members : List Member) (by_ref : ByRefParts) (member_of : List (List ℕ))
+    → maintainers ≡ maintainers_of MntBy (class_of key) fields → lower ≡ maintainers_of MntLower (class_of key) fields
+    → grants_of (items_read MntRoutes (class_of key) fields) ≡ Some routes
+    → auths ≡ meant auth_item (items_read Auth (class_of key) fields)
+    → members ≡ meant (member_item (class_of key)) (items_read Members (class_of key) fields)
+    → by_ref ≡ by_ref_of (items_read MbrsByRef (class_of key) fields)
+    → member_of ≡ meant set_item (items_read MemberOf (class_of key) fields)
+    → obj_at key fields ≡ record { key = key; paragraph = fields; maintainers = maintainers; lower = lower; routes = routes; auths = auths; members = members; by_ref = by_ref; member_of = member_of }
+unfolding obj_at
+obj_at-parts fields key maintainers lower routes auths members by_ref member_of ma lo ro au me by mo =
+    rw (ma, lo, ro, au, me, by, mo) refl
+
+pub obj_read : (fields : List Field) (key : Key) (maintainers lower : List (List ℕ)) (routes : List GrantParts)
+    (auths : List AuthParts) (members : List Member) (by_ref : ByRefParts) (member_of : List (List ℕ))
+    → key_of fields ≡ Ok key → is_miscounted (class_of key) fields ≡ false
+    → has_bad_text fields ≡ false → has_bad_authority (class_of key) fields ≡ false → has_bad_membership (class_of key) fields ≡ false
+    → maintainers ≡ maintainers_of MntBy (class_of key) fields → lower ≡ maintainers_of MntLower (class_of key) fields
+    → grants_of (items_read MntRoutes (class_of key) fields) ≡ Some routes
+    → auths ≡ meant auth_item (items_read Auth (class_of key) fields)
+    → members ≡ meant (member_item (class_of key)) (items_read Members (class_of key) fields)
+    → by_ref ≡ by_ref_of (items_read MbrsByRef (class_of key) fields)
+    → member_of ≡ meant set_item (items_read MemberOf (class_of key) fields)
+    → obj_of fields ≡ Ok (record { key = key; paragraph = fields; maintainers = maintainers; lower = lower; routes = routes; auths = auths; members = members; by_ref = by_ref; member_of = member_of })
+obj_read fields key maintainers lower routes auths members by_ref member_of read count text authority membership ma lo ro au me by mo =
+    rw (← obj_at-parts fields key maintainers lower routes auths members by_ref member_of ma lo ro au me by mo)
+    (good_steps fields key read count (good_value fields key text authority membership))

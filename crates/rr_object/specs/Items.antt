@@ -1,0 +1,69 @@
+-- The values of a paragraph's attributes, and the items of lists.
+use Rattle.std.specs.Prelude.{ℕ, Bool, not, ◌==◌, ◌||◌, length, List, [], ◌∷◌, ◌++◌, Option, Some, None, is_some, filter, map, if◌then◌else◌}
+use Rattle.std.specs.List.{flat_map, filter_map, list_all, slice_split}
+use Rattle.std.specs.Char.{to_ascii_lowercase}
+use Rattle.std.specs.Str.{bytes_eq}
+use Rattle.rr_text.specs.Bytes.{is_blank}
+use Rattle.rr_text.specs.Fields.{Field, is_named}
+use Rattle.rr_text.specs.Meanings.{value_meaning}
+
+-- what the attributes of this name say, in order (RFC 2622, 2)
+abbrev pub values_of : List ℕ → List Field → List (List ℕ)
+values_of name fields = map (λ field. value_meaning field.lines) (filter (is_named name) fields)
+
+-- the one value, where there is one alone
+abbrev pub only : {X : Type 0} → List X → Option X
+only [] = None
+only (value ∷ []) = Some value
+only (value ∷ (other ∷ others)) = None
+
+-- list items are separated by commas or blanks (RFC 2622, 2; blanks: profile)
+abbrev pub is_separator : ℕ → Bool
+is_separator b = (b == 44) || is_blank b
+
+abbrev pub is_filled : {X : Type 0} → List X → Bool
+is_filled xs = not (length xs == 0)
+
+-- the parts of a text between bytes that pass a test; empty parts are ignored
+abbrev pub parts_at : (ℕ → Bool) → List ℕ → List (List ℕ)
+parts_at test text = filter is_filled (slice_split test text)
+
+-- the items of a list; empty ones are ignored (RFC 2622, 2; profile)
+unfoldable pub items : List ℕ → List (List ℕ)
+items text = parts_at is_separator text
+
+-- the words of a text
+unfoldable pub words : List ℕ → List (List ℕ)
+words text = parts_at is_blank text
+
+-- the values of an attribute that is repeated are one list (RFC 2622, 2): a comma ends each
+abbrev pub joined : List (List ℕ) → List ℕ
+joined values = flat_map (λ value. value ++ 44 ∷ []) values
+
+abbrev pub is_brace : ℕ → Bool
+is_brace b = (b == 123) || (b == 125)
+
+-- a brace is an item by itself, also where no blank stands beside it (profile)
+abbrev pub spaced : List ℕ → List ℕ
+spaced text = flat_map (λ b. if is_brace b then 32 ∷ (b ∷ (32 ∷ [])) else b ∷ []) text
+
+-- each item is well spelled; `read` gives nothing for a bad one
+abbrev pub are_good : {X : Type 0} → (List ℕ → Option (Option X)) → List (List ℕ) → Bool
+are_good read listed = list_all (λ item. is_some (read item)) listed
+
+-- what an item stands for: nothing where it is badly spelled, and where it is well spelled and dropped
+abbrev pub meant_by : {X : Type 0} → Option (Option X) → Option X
+meant_by None = None
+meant_by (Some meant) = meant
+
+-- what the items stand for
+abbrev pub meant : {X : Type 0} → (List ℕ → Option (Option X)) → List (List ℕ) → List X
+meant read listed = filter_map (λ item. meant_by (read item)) listed
+
+-- a text with its letters in lower case
+abbrev pub lowered : List ℕ → List ℕ
+lowered text = map to_ascii_lowercase text
+
+-- an item is a keyword, which is given in lower case; letter case is ignored (RFC 2622, 2)
+unfoldable pub is_keyword : List ℕ → List ℕ → Bool
+is_keyword word item = bytes_eq (lowered item) word

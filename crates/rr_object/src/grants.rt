@@ -1,0 +1,154 @@
+//! Reading entries of `mnt-routes`.
+
+ghost use Rattle.std.specs.Prelude.{◌≡◌, ◌≢◌, ◌++◌, map, IfErr, IfOk, None, OnOk, Some};
+ghost use Rattle.std.specs.Option.{option_to_list};
+ghost use Rattle.rr_number.specs.Names.{maintainer_name_of};
+ghost use Rattle.rr_object.specs.Grants.{for_each_prefix, for_no_prefix, grants_of, is_any, is_closing, is_opening, last_entry, next_entry, range_item, with_range};
+ghost use Rattle.rr_object.specs.declared.fault.ObjectFault.TheVariants.{BadValue, Memory};
+ghost use Rattle.rr_object.specs.declared.grants.Begun.TheVariants.{Braced, Named};
+
+use crate::fault::ObjectFault;
+use crate::grant::Grant;
+use crate::keyword::is_keyword;
+use rr_number::{Name, Range, read_ranged};
+use std::alloc::{AllocError, Global};
+
+/// What was read of an entry.
+#[derive(Debug, Drop)]
+pub(crate) enum Begun {
+    /// Nothing.
+    Nothing,
+    /// Its maintainer.
+    Named(Name),
+    /// Its maintainer, an opening brace and ranges.
+    Braced(Grant),
+}
+
+/// The entries that the items spell.
+#[tactic(auto, unfolding(crate::specs::Grants::entries_behind))]
+pub(crate) fn read_grants(alloc: Global, listed: &[&[u8]]) -> Result<Vec<Grant>, ObjectFault>
+    ensures good { IfOk result (λ read. grants_of (map (λ item. item.now) listed.now) ≡ Some read.items) }
+    ensures bad { IfErr result (λ fault. fault ≢ Memory
+        → (fault ≡ BadValue) × (grants_of (map (λ item. item.now) listed.now) ≡ None)) }
+{
+    let mut read = Vec::new(alloc);
+    let mut begun = Begun::Nothing;
+    'items: for item in listed {
+        let (ended, next) = next_entry(alloc, begun, item)?;
+        push_ended(&mut read, ended)?;
+        begun = next;
+    }
+    let ended = last_entry(alloc, begun)?;
+    push_ended(&mut read, ended)?;
+    Ok(read)
+}
+
+/// Adds an entry that was ended, if one was.
+fn push_ended(read: &mut Vec<Grant>, ended: Option<Grant>) -> Result<(), AllocError>
+    ensures { OnOk result (read.new.items ≡ read.old.items ++ option_to_list ended) }
+{
+    if let Some(grant) = ended {
+        read.push(grant)?;
+    }
+    Ok(())
+}
+
+/// The entry that the end of the items ends, if it ends one.
+fn last_entry(alloc: Global, begun: Begun) -> Result<Option<Grant>, ObjectFault>
+    ensures good { IfOk result (λ ended. last_entry begun ≡ Some (option_to_list ended)) }
+    ensures bad { IfErr result (λ fault. (fault ≡ BadValue) × (last_entry begun ≡ None)) }
+{
+    match begun {
+        Begun::Nothing => Ok(None),
+        Begun::Named(name) => Ok(Some(Grant::new(name, true, Vec::new(alloc)))),
+        Begun::Braced(_) => Err(ObjectFault::BadValue),
+    }
+}
+
+/// The entry that an item ends, if it ends one, and what is begun then.
+#[tactic(auto, unfolding(crate::specs::Grants::next_entry))]
+fn next_entry(
+    alloc: Global,
+    begun: Begun,
+    item: &[u8],
+) -> Result<(Option<Grant>, Begun), ObjectFault>
+    ensures good { IfOk result (λ next. next_entry begun item.now ≡ Some next) }
+    ensures bad { IfErr result (λ fault. fault ≢ Memory → (fault ≡ BadValue) × (next_entry begun item.now ≡ None)) }
+{
+    match begun {
+        Begun::Nothing => Ok((None, Begun::Named(read_maintainer(alloc, item)?))),
+        Begun::Named(name) => behind_name(alloc, name, item),
+        Begun::Braced(grant) => in_braces(grant, item),
+    }
+}
+
+#[tactic(auto, unfolding(crate::specs::Grants::next_entry))]
+fn behind_name(
+    alloc: Global,
+    name: Name,
+    item: &[u8],
+) -> Result<(Option<Grant>, Begun), ObjectFault>
+    ensures good { IfOk result (λ next. next_entry (Named name) item.now ≡ Some next) }
+    ensures bad { IfErr result (λ fault. fault ≢ Memory → (fault ≡ BadValue) × (next_entry (Named name) item.now ≡ None)) }
+{
+    if is_any(item) {
+        Ok((
+            Some(Grant::new(name, true, Vec::new(alloc))),
+            Begun::Nothing,
+        ))
+    } else if item == b"{".as_slice() {
+        Ok((
+            None,
+            Begun::Braced(Grant::new(name, false, Vec::new(alloc))),
+        ))
+    } else {
+        let next = read_maintainer(alloc, item)?;
+        Ok((
+            Some(Grant::new(name, true, Vec::new(alloc))),
+            Begun::Named(next),
+        ))
+    }
+}
+
+#[tactic(auto, unfolding(crate::specs::Grants::next_entry))]
+fn in_braces(grant: Grant, item: &[u8]) -> Result<(Option<Grant>, Begun), ObjectFault>
+    ensures good { IfOk result (λ next. next_entry (Braced grant) item.now ≡ Some next) }
+    ensures bad { IfErr result (λ fault. fault ≢ Memory → (fault ≡ BadValue) × (next_entry (Braced grant) item.now ≡ None)) }
+{
+    if item == b"}".as_slice() {
+        Ok((Some(grant), Begun::Nothing))
+    } else {
+        let range = read_range(item)?;
+        Ok((None, Begun::Braced(grant.with_range(range)?)))
+    }
+}
+
+/// The maintainer's name that an item spells.
+pub(crate) fn read_maintainer(alloc: Global, item: &[u8]) -> Result<Name, ObjectFault>
+    ensures good { IfOk result (λ name. maintainer_name_of item.now ≡ Some name) }
+    ensures bad { IfErr result (λ fault. fault ≢ Memory → (fault ≡ BadValue) × (maintainer_name_of item.now ≡ None)) }
+{
+    match Name::read_maintainer(alloc, item)? {
+        Some(name) => Ok(name),
+        None => Err(ObjectFault::BadValue),
+    }
+}
+
+/// The range that an item spells, `None` where it is dropped.
+#[tactic(auto, unfolding(crate::specs::Grants::range_item))]
+pub(crate) fn read_range(item: &[u8]) -> Result<Option<Range>, ObjectFault>
+    ensures good { IfOk result (λ range. range_item item.now ≡ Some range) }
+    ensures bad { IfErr result (λ fault. (fault ≡ BadValue) × (range_item item.now ≡ None)) }
+{
+    match read_ranged(item) {
+        Some((prefix, operator)) => Ok(operator.apply(Range::of(prefix))),
+        None => Err(ObjectFault::BadValue),
+    }
+}
+
+/// Whether an item is the keyword `ANY`.
+pub(crate) fn is_any(item: &[u8]) -> bool
+    ensures { result ≡ is_any item.now }
+{
+    is_keyword(item, b"any")
+}

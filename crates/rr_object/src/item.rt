@@ -1,0 +1,41 @@
+//! Items of lists: each kind of list has its own.
+
+ghost use Rattle.std.specs.Prelude.{◌≡◌, ◌≢◌, false, true, map, IfErr, IfOk, List, None, Option, Some, ℕ};
+ghost use Rattle.rr_object.specs.Items.{are_good, meant};
+ghost use Rattle.rr_object.specs.declared.fault.ObjectFault.TheVariants.{BadValue, Memory};
+
+use crate::fault::ObjectFault;
+use std::alloc::{AllocError, Global};
+
+/// How the items of a list are read.
+pub(crate) trait ReadItem {
+    /// What an item stands for.
+    type Item: Drop;
+
+    // what an item stands for, if anything; nothing at all where it is badly spelled
+    ghost item_of: { List ℕ → Option (Option Self.Item) };
+
+    /// What the item stands for, `None` where it is well spelled and stands for nothing.
+    fn read_item(alloc: Global, item: &[u8]) -> Result<Option<Self::Item>, ObjectFault>
+        ensures good { IfOk result (λ read. item_of item.now ≡ Some read) }
+        ensures bad { IfErr result (λ fault. fault ≢ Memory → (fault ≡ BadValue) × (item_of item.now ≡ None)) };
+}
+
+/// What the items stand for.
+pub(crate) fn read_items<R: ReadItem>(
+    alloc: Global,
+    listed: &[&[u8]],
+) -> Result<Vec<R::Item>, ObjectFault>
+    ensures good { IfOk result (λ _. are_good R.item_of (map (λ item. item.now) listed.now) ≡ true) }
+    ensures value { IfOk result (λ read. read.items ≡ meant R.item_of (map (λ item. item.now) listed.now)) }
+    ensures bad { IfErr result (λ fault. fault ≢ Memory
+        → (fault ≡ BadValue) × (are_good R.item_of (map (λ item. item.now) listed.now) ≡ false)) }
+{
+    let mut read = Vec::new(alloc);
+    'items: for item in listed {
+        if let Some(value) = R::read_item(alloc, item)? {
+            read.push(value).map_err(AllocError::from)?;
+        }
+    }
+    Ok(read)
+}

@@ -1,0 +1,94 @@
+//! Keys read from texts.
+
+ghost use Rattle.std.specs.Prelude.{◌≡◌, IfOk, map};
+ghost use Rattle.rr_number.specs.Names.{maintainer_name_of};
+ghost use Rattle.rr_object.specs.KeySpellings.{as_set_key_of, inetnum_span_of, is_prefix_span, key_of_text, route_key_of, route_key_of_words, route_set_key_of};
+ghost use Rattle.rr_object.specs.declared.class.Class.TheVariants as class;
+
+use crate::class::Class;
+use crate::key::Key;
+use crate::lists::words;
+use crate::members::is_as_set;
+use rr_number::{AsNumber, AsSpan, Name, Prefix, SetName, Span};
+use std::alloc::{AllocError, Global};
+
+impl Key {
+    /// The key of a class that a text spells, as in a query: for a route its prefix, blanks and its origin. `None` where it
+    /// spells none; the error is want of memory.
+    #[tactic(auto, unfolding(crate::specs::KeySpellings::key_of_text))]
+    pub fn read(alloc: Global, class: Class, text: &[u8]) -> Result<Option<Key>, AllocError>
+        ensures { IfOk result (λ key. key ≡ key_of_text class text.now) }
+    {
+        match class {
+            Class::Mntner => Ok(Name::read_maintainer(alloc, text)?.map(Key::Mntner)),
+            Class::AsBlock => Ok(AsSpan::read(text).map(Key::AsBlock)),
+            Class::AutNum => Ok(AsNumber::read(text).map(Key::AutNum)),
+            Class::Inetnum => Ok(read_inetnum_span(text).map(Key::Inetnum)),
+            Class::Route => read_route(alloc, text),
+            Class::AsSet => Ok(read_as_set(alloc, text)?.map(Key::AsSet)),
+            Class::RouteSet => Ok(read_route_set(alloc, text)?.map(Key::RouteSet)),
+        }
+    }
+}
+
+#[tactic(auto, unfolding(crate::specs::KeySpellings::key_of_text))]
+fn read_route(alloc: Global, text: &[u8]) -> Result<Option<Key>, AllocError>
+    ensures { IfOk result (λ key. key ≡ key_of_text class.Route text.now) }
+{
+    let found = words(alloc, text)?;
+    Ok(route_of_words(&found))
+}
+
+fn route_of_words(found: &[&[u8]]) -> Option<Key>
+    ensures { result ≡ route_key_of_words (map (λ word. word.now) found.now) }
+{
+    match found {
+        [prefix, origin] => route_key_of(prefix, origin),
+        _ => None,
+    }
+}
+
+/// The key of a route of this prefix and this origin.
+pub(crate) fn route_key_of(prefix: &[u8], origin: &[u8]) -> Option<Key>
+    ensures { result ≡ route_key_of prefix.now origin.now }
+{
+    let prefix = Prefix::read(prefix)?;
+    let origin = AsNumber::read(origin)?;
+    Some(Key::Route(prefix, origin))
+}
+
+#[tactic(auto, unfolding(crate::specs::KeySpellings::inetnum_span_of))]
+fn read_inetnum_span(text: &[u8]) -> Option<Span>
+    ensures { result ≡ inetnum_span_of text.now }
+{
+    match Span::read(text) {
+        Some(span) if is_prefix_span(span) => Some(span),
+        _ => None,
+    }
+}
+
+/// Whether a span of addresses is that of a prefix.
+fn is_prefix_span(span: Span) -> bool
+    ensures { result ≡ is_prefix_span span }
+{
+    let size = span.size();
+    size.is_power_of_two() && u64::from(span.first()) % size == 0
+}
+
+fn read_as_set(alloc: Global, text: &[u8]) -> Result<Option<SetName>, AllocError>
+    ensures { IfOk result (λ name. name ≡ as_set_key_of text.now) }
+{
+    match SetName::read(alloc, text)? {
+        Some(name) if is_as_set(name.kind()) && !name.is_any() => Ok(Some(name)),
+        _ => Ok(None),
+    }
+}
+
+fn read_route_set(alloc: Global, text: &[u8]) -> Result<Option<SetName>, AllocError>
+    ensures { IfOk result (λ name. name ≡ route_set_key_of text.now) }
+{
+    match SetName::read(alloc, text)? {
+        Some(name) if !is_as_set(name.kind()) && !name.is_any() => Ok(Some(name)),
+        _ => Ok(None),
+    }
+}

@@ -1,0 +1,87 @@
+//! The keys of paragraphs.
+
+ghost use Rattle.std.specs.Prelude.{◌≡◌, ◌≢◌, Err, IfErr, IfOk, Ok};
+ghost use Rattle.rr_object.specs.Items.{only};
+ghost use Rattle.rr_object.specs.KeySpellings.{key_at, key_of, route_key_of};
+ghost use Rattle.rr_object.specs.declared.fault.ObjectFault.TheVariants.{Memory};
+ghost use Rattle.rr_object.specs.declared.class.Class.TheVariants as class;
+ghost use Rattle.std.specs.Option.{option_and_then};
+
+use crate::class::Class;
+use crate::fault::ObjectFault;
+use crate::key::Key;
+use crate::key_text::route_key_of;
+use crate::kind::Kind;
+use crate::lists::values_of;
+use rr_text::{Attribute, Paragraph, Text, meaning};
+use std::alloc::{AllocError, Global};
+
+/// The key of a paragraph: its first attribute names the class, and the value of that is the key; a route's key
+/// is the prefix and the one `origin` (RFC 2622, 2 and 4). `UnknownClass` where there is no attribute or the first names no
+/// class, `BadKey` where what it says is no key of the class, or want of memory.
+pub fn key_of(alloc: Global, paragraph: &Paragraph) -> Result<Key, ObjectFault>
+    ensures ok { IfOk result (λ key. key_of paragraph.now ≡ Ok key) }
+    ensures fault { IfErr result (λ fault. fault ≢ Memory → key_of paragraph.now ≡ Err fault) }
+{
+    key_among(alloc, paragraph, paragraph.attributes())
+}
+
+#[tactic(auto, unfolding(crate::specs::KeySpellings::key_of))]
+fn key_among(
+    alloc: Global,
+    paragraph: &Paragraph,
+    attributes: &[Attribute],
+) -> Result<Key, ObjectFault>
+    requires { attributes.now ≡ paragraph.now }
+    ensures ok { IfOk result (λ key. key_of attributes.now ≡ Ok key) }
+    ensures fault { IfErr result (λ fault. fault ≢ Memory → key_of attributes.now ≡ Err fault) }
+{
+    let [first, ..] = attributes else {
+        return Err(ObjectFault::UnknownClass);
+    };
+    let Some(class) = Class::named(first.name()) else {
+        return Err(ObjectFault::UnknownClass);
+    };
+    let text = meaning(alloc, first)?;
+    match key_at(alloc, class, text.as_slice(), paragraph)? {
+        Some(key) => Ok(key),
+        None => Err(ObjectFault::BadKey),
+    }
+}
+
+/// The key of an object of a class whose class attribute means this text.
+#[tactic(auto, unfolding(crate::specs::KeySpellings::key_at))]
+fn key_at(
+    alloc: Global,
+    class: Class,
+    text: &[u8],
+    paragraph: &Paragraph,
+) -> Result<Option<Key>, AllocError>
+    ensures { IfOk result (λ key. key ≡ key_at class text.now paragraph.now) }
+{
+    match class {
+        Class::Route => route_key_at(alloc, text, paragraph),
+        _ => Key::read(alloc, class, text),
+    }
+}
+
+#[tactic(auto, unfolding(crate::specs::KeySpellings::key_at))]
+fn route_key_at(
+    alloc: Global,
+    text: &[u8],
+    paragraph: &Paragraph,
+) -> Result<Option<Key>, AllocError>
+    ensures { IfOk result (λ key. key ≡ key_at class.Route text.now paragraph.now) }
+{
+    let origins = values_of(alloc, paragraph, Kind::Origin.name().as_bytes())?;
+    Ok(route_key_with(text, &origins))
+}
+
+fn route_key_with(text: &[u8], origins: &[Text]) -> Option<Key>
+    ensures { result ≡ option_and_then (route_key_of text.now) (only origins.now) }
+{
+    match origins {
+        [origin] => route_key_of(text, origin.as_slice()),
+        _ => None,
+    }
+}

@@ -1,0 +1,262 @@
+//! What the attributes of a paragraph say.
+
+ghost use Rattle.std.specs.Prelude.{◌≡◌, ◌≢◌, IfErr, IfOk, None, Some, false, map, true};
+ghost use Rattle.std.specs.List.{list_any};
+ghost use Rattle.std.specs.Option.{option_and_then};
+ghost use Rattle.rr_number.specs.Names.{name_of};
+ghost use Rattle.rr_object.specs.Auths.{auth_item};
+ghost use Rattle.rr_object.specs.Grants.{grants_of, is_any};
+ghost use Rattle.rr_object.specs.Items.{are_good, items, meant, only};
+ghost use Rattle.rr_object.specs.Readings.{by_ref_of, has_bad_authority, has_bad_membership, has_bad_text, is_from, is_kept_out, items_read, maintainers_of, member_item, source_of};
+ghost use Rattle.rr_object.specs.Members.{referrer_item, set_item};
+ghost use Rattle.rr_object.specs.declared.fault.ObjectFault.TheVariants.{BadValue, Memory};
+ghost use Rattle.rr_object.specs.declared.kind.Kind.TheVariants as kinds;
+
+use crate::auth::Auth;
+use crate::by_ref::ByRef;
+use crate::class::Class;
+use crate::counts::list_text;
+use crate::fault::ObjectFault;
+use crate::grant::Grant;
+use crate::grants::{is_any, read_grants};
+use crate::item::{ReadItem, read_items};
+use crate::kind::Kind;
+use crate::lists::{items, values_of};
+use crate::member::Member;
+use crate::members::{AsSetMembers, Auths, Maintainers, Referrers, RouteSetMembers, Sets};
+use rr_number::{Name, SetName};
+use rr_text::{Attribute, Paragraph, Text};
+use std::alloc::{AllocError, Global};
+
+/// What an object says of whose secrets decide.
+#[derive(Debug, Drop)]
+pub(crate) struct Authority {
+    pub(crate) maintainers: Vec<Name>,
+    pub(crate) lower: Vec<Name>,
+    pub(crate) routes: Vec<Grant>,
+    pub(crate) auths: Vec<Auth>,
+}
+
+/// What an object says of sets.
+#[derive(Debug, Drop)]
+pub(crate) struct Membership {
+    pub(crate) members: Vec<Member>,
+    pub(crate) by_ref: ByRef,
+    pub(crate) member_of: Vec<SetName>,
+}
+
+/// Whether an attribute has a name that is kept out, or the source is no name.
+#[tactic(auto, unfolding(crate::specs::Readings::has_bad_text))]
+pub(crate) fn has_bad_text(alloc: Global, paragraph: &Paragraph) -> Result<bool, AllocError>
+    ensures { IfOk result (λ bad. bad ≡ has_bad_text paragraph.now) }
+{
+    if has_kept_out(paragraph.attributes()) {
+        return Ok(true);
+    }
+    Ok(source_of(alloc, paragraph)?.is_none())
+}
+
+fn has_kept_out(attributes: &[Attribute]) -> bool
+    ensures { result ≡ list_any is_kept_out attributes.now }
+{
+    attributes.iter().any(|attribute| is_kept_out(attribute))
+}
+
+fn is_kept_out(attribute: &Attribute) -> bool
+    ensures { result ≡ is_kept_out attribute.now }
+{
+    attribute.name() == b"password".as_slice() || attribute.name() == b"delete".as_slice()
+}
+
+/// Whether the source of a paragraph is this one; letter case is ignored.
+pub(crate) fn is_from(
+    alloc: Global,
+    source: &Name,
+    paragraph: &Paragraph,
+) -> Result<bool, AllocError>
+    ensures { IfOk result (λ same. same ≡ is_from source.now paragraph.now) }
+{
+    match source_of(alloc, paragraph)? {
+        Some(name) => Ok(name.as_bytes() == source.as_bytes()),
+        None => Ok(false),
+    }
+}
+
+fn source_of(alloc: Global, paragraph: &Paragraph) -> Result<Option<Name>, AllocError>
+    ensures { IfOk result (λ source. source ≡ source_of paragraph.now) }
+{
+    let values = values_of(alloc, paragraph, Kind::Source.name().as_bytes())?;
+    source_among(alloc, &values)
+}
+
+fn source_among(alloc: Global, values: &[Text]) -> Result<Option<Name>, AllocError>
+    ensures { IfOk result (λ source. source ≡ option_and_then name_of (only values.now)) }
+{
+    match values {
+        [value] => Name::read(alloc, value.as_slice()),
+        _ => Ok(None),
+    }
+}
+
+/// What an object of the class says of whose secrets decide.
+#[tactic(auto, unfolding(crate::specs::Readings::has_bad_authority))]
+pub(crate) fn read_authority(
+    alloc: Global,
+    class: Class,
+    paragraph: &Paragraph,
+) -> Result<Authority, ObjectFault>
+    ensures good { IfOk result (λ _. has_bad_authority class paragraph.now ≡ false) }
+    ensures maintainers { IfOk result (λ said. said.maintainers.items ≡ maintainers_of kinds.MntBy class paragraph.now) }
+    ensures lower { IfOk result (λ said. said.lower.items ≡ maintainers_of kinds.MntLower class paragraph.now) }
+    ensures routes { IfOk result (λ said. grants_of (items_read kinds.MntRoutes class paragraph.now) ≡ Some said.routes.items) }
+    ensures auths { IfOk result (λ said. said.auths.items ≡ meant auth_item (items_read kinds.Auth class paragraph.now)) }
+    ensures bad { IfErr result (λ fault. fault ≢ Memory → (fault ≡ BadValue) × (has_bad_authority class paragraph.now ≡ true)) }
+{
+    let maintainers = read_listed::<Maintainers>(alloc, class, Kind::MntBy, paragraph)?;
+    let lower = read_listed::<Maintainers>(alloc, class, Kind::MntLower, paragraph)?;
+    let routes = read_routes(alloc, class, paragraph)?;
+    let auths = read_auths(alloc, class, paragraph)?;
+    Ok(Authority {
+        maintainers,
+        lower,
+        routes,
+        auths,
+    })
+}
+
+/// What an object of the class says of sets.
+#[tactic(auto, unfolding(crate::specs::Readings::has_bad_membership))]
+pub(crate) fn read_membership(
+    alloc: Global,
+    class: Class,
+    paragraph: &Paragraph,
+) -> Result<Membership, ObjectFault>
+    ensures good { IfOk result (λ _. has_bad_membership class paragraph.now ≡ false) }
+    ensures members { IfOk result (λ said. said.members.items ≡ meant (member_item class) (items_read kinds.Members class paragraph.now)) }
+    ensures by_ref { IfOk result (λ said. said.by_ref ≡ by_ref_of (items_read kinds.MbrsByRef class paragraph.now)) }
+    ensures member_of { IfOk result (λ said. said.member_of.items ≡ meant set_item (items_read kinds.MemberOf class paragraph.now)) }
+    ensures bad { IfErr result (λ fault. fault ≢ Memory → (fault ≡ BadValue) × (has_bad_membership class paragraph.now ≡ true)) }
+{
+    let members = read_members(alloc, class, paragraph)?;
+    let by_ref = read_by_ref(alloc, class, paragraph)?;
+    let member_of = read_listed::<Sets>(alloc, class, Kind::MemberOf, paragraph)?;
+    Ok(Membership {
+        members,
+        by_ref,
+        member_of,
+    })
+}
+
+/// The text in which the items of an attribute stand, empty where the class does not read it.
+#[tactic(auto, unfolding(crate::specs::Readings::items_read, crate::specs::Readings::items_of, crate::specs::Items::items), using(crate::proofs::Listed::items_among_list))]
+fn text_read(
+    alloc: Global,
+    class: Class,
+    kind: Kind,
+    paragraph: &Paragraph,
+) -> Result<Vec<u8>, AllocError>
+    requires { kind ≢ kinds.Auth }
+    ensures { IfOk result (λ text. items text.items ≡ items_read kind class paragraph.now) }
+{
+    if !kind.is_read(class) {
+        return Ok(Vec::new(alloc));
+    }
+    let values = values_of(alloc, paragraph, kind.name().as_bytes())?;
+    list_text(alloc, kind, &values)
+}
+
+/// What the items of an attribute stand for.
+fn read_listed<R: ReadItem>(
+    alloc: Global,
+    class: Class,
+    kind: Kind,
+    paragraph: &Paragraph,
+) -> Result<Vec<R::Item>, ObjectFault>
+    requires { kind ≢ kinds.Auth }
+    ensures good { IfOk result (λ _. are_good R.item_of (items_read kind class paragraph.now) ≡ true) }
+    ensures value { IfOk result (λ read. read.items ≡ meant R.item_of (items_read kind class paragraph.now)) }
+    ensures bad { IfErr result (λ fault. fault ≢ Memory
+        → (fault ≡ BadValue) × (are_good R.item_of (items_read kind class paragraph.now) ≡ false)) }
+{
+    let text = text_read(alloc, class, kind, paragraph)?;
+    let listed = items(alloc, &text)?;
+    read_items::<R>(alloc, &listed)
+}
+
+fn read_routes(
+    alloc: Global,
+    class: Class,
+    paragraph: &Paragraph,
+) -> Result<Vec<Grant>, ObjectFault>
+    ensures good { IfOk result (λ read. grants_of (items_read kinds.MntRoutes class paragraph.now) ≡ Some read.items) }
+    ensures bad { IfErr result (λ fault. fault ≢ Memory
+        → (fault ≡ BadValue) × (grants_of (items_read kinds.MntRoutes class paragraph.now) ≡ None)) }
+{
+    let text = text_read(alloc, class, Kind::MntRoutes, paragraph)?;
+    let listed = items(alloc, &text)?;
+    read_grants(alloc, &listed)
+}
+
+#[tactic(auto, unfolding(crate::specs::Readings::items_read, crate::specs::Readings::items_of))]
+fn read_auths(alloc: Global, class: Class, paragraph: &Paragraph) -> Result<Vec<Auth>, ObjectFault>
+    ensures good { IfOk result (λ _. are_good auth_item (items_read kinds.Auth class paragraph.now) ≡ true) }
+    ensures value { IfOk result (λ read. read.items ≡ meant auth_item (items_read kinds.Auth class paragraph.now)) }
+    ensures bad { IfErr result (λ fault. fault ≢ Memory
+        → (fault ≡ BadValue) × (are_good auth_item (items_read kinds.Auth class paragraph.now) ≡ false)) }
+{
+    if !Kind::Auth.is_read(class) {
+        return Ok(Vec::new(alloc));
+    }
+    let values = values_of(alloc, paragraph, Kind::Auth.name().as_bytes())?;
+    let listed = as_slices(alloc, &values)?;
+    read_items::<Auths>(alloc, &listed)
+}
+
+fn as_slices(alloc: Global, values: &[Text]) -> Result<Vec<&[u8]>, AllocError>
+    ensures { IfOk result (λ listed. map (λ item. item.now) listed.items ≡ values.now) }
+{
+    let mut listed = Vec::new(alloc);
+    'values: for value in values {
+        listed.push(value.as_slice())?;
+    }
+    Ok(listed)
+}
+
+fn read_members(
+    alloc: Global,
+    class: Class,
+    paragraph: &Paragraph,
+) -> Result<Vec<Member>, ObjectFault>
+    ensures good { IfOk result (λ _. are_good (member_item class) (items_read kinds.Members class paragraph.now) ≡ true) }
+    ensures value { IfOk result (λ read. read.items ≡ meant (member_item class) (items_read kinds.Members class paragraph.now)) }
+    ensures bad { IfErr result (λ fault. fault ≢ Memory
+        → (fault ≡ BadValue) × (are_good (member_item class) (items_read kinds.Members class paragraph.now) ≡ false)) }
+{
+    match class {
+        Class::AsSet => read_listed::<AsSetMembers>(alloc, class, Kind::Members, paragraph),
+        _ => read_listed::<RouteSetMembers>(alloc, class, Kind::Members, paragraph),
+    }
+}
+
+fn read_by_ref(alloc: Global, class: Class, paragraph: &Paragraph) -> Result<ByRef, ObjectFault>
+    ensures good { IfOk result (λ _. are_good referrer_item (items_read kinds.MbrsByRef class paragraph.now) ≡ true) }
+    ensures value { IfOk result (λ read. read ≡ by_ref_of (items_read kinds.MbrsByRef class paragraph.now)) }
+    ensures bad { IfErr result (λ fault. fault ≢ Memory
+        → (fault ≡ BadValue) × (are_good referrer_item (items_read kinds.MbrsByRef class paragraph.now) ≡ false)) }
+{
+    let text = text_read(alloc, class, Kind::MbrsByRef, paragraph)?;
+    let listed = items(alloc, &text)?;
+    let names = read_items::<Referrers>(alloc, &listed)?;
+    Ok(ByRef::new(has_any(&listed), names))
+}
+
+fn has_any(listed: &[&[u8]]) -> bool
+    ensures { result ≡ list_any is_any (map (λ item. item.now) listed.now) }
+{
+    'items: for item in listed {
+        if is_any(item) {
+            return true;
+        }
+    }
+    false
+}

@@ -101,7 +101,7 @@ fn judge_place<B: Book>(alloc: Global, book: &B, secrets: &Secrets, key: &Key) -
     }
     match key {
         Key::Mntner(_) => Ok(Verdict::Add),
-        Key::AsBlock(span) => Ok(judge_below(book, secrets, book.closest_block(*span))),
+        Key::AsBlock(block) => Ok(judge_below(book, secrets, book.closest_block(block.span()))),
         Key::AutNum(number) => Ok(judge_below(book, secrets, book.closest_block(span_of_number(*number)))),
         Key::Inetnum(span) => Ok(judge_below(book, secrets, book.closest_inetnum(*span))),
         Key::Route(prefix, origin) => judge_route(alloc, book, secrets, *prefix, *origin),

@@ -6,19 +6,19 @@ use Rattle.std.specs.Option.{option_and_then, option_map}
 use Rattle.rr_number.specs.Cuts.{cut_at}
 use Rattle.rr_number.specs.Numerals.{IsNumber, number_of}
 
--- The separator, '.'.
+-- The separator of octets, '.' (RFC 2622, 2).
 abbrev pub dot : ℕ
 dot = 46
 
--- An octet is spelled in one to three digits, and is below 256.
+-- An octet is below 256 (RFC 2622, 2), and spelled in one to three digits (profile).
 abbrev pub IsOctet : List ℕ → ℕ → Type 0
 IsOctet text n = IsNumber 3 256 text n
 
--- the address of four octets, the first of them the highest
+-- The address of four octets has the first of them as its highest (RFC 791, 3.2).
 abbrev pub join_octets : ℕ → ℕ → ℕ → ℕ → ℕ
 join_octets w x y z = ((w * 256 + x) * 256 + y) * 256 + z
 
--- four texts with dots between them
+-- Four texts with dots between them (RFC 2622, 2).
 abbrev pub dotted : List ℕ → List ℕ → List ℕ → List ℕ → List ℕ
 dotted a b c d = a ++ (dot ∷ (b ++ (dot ∷ (c ++ (dot ∷ d)))))
 
@@ -39,17 +39,17 @@ pub record IsAddress (text : List ℕ) (address : ℕ) : Type 0 where
   pub spelled : text ≡ dotted a b c d
   pub value : address ≡ join_octets w x y z
 
--- the octet that the text spells, if it does
+-- The octet that the text spells, if it does (RFC 2622, 2).
 abbrev pub octet_of : List ℕ → Option ℕ
 octet_of text = number_of 3 256 text
 
--- the address of four octets' texts, if they are
+-- The address of four texts, if each spells an octet (RFC 2622, 2).
 unfoldable pub joined_of : List ℕ → List ℕ → List ℕ → List ℕ → Option ℕ
 joined_of a b c d =
     option_and_then (λ w. option_and_then (λ x. option_and_then (λ y. option_map (λ z. join_octets w x y z)
     (octet_of d)) (octet_of c)) (octet_of b)) (octet_of a)
 
--- the address that the text spells, if it does
+-- The address that the text spells, if it does (RFC 2622, 2).
 unfoldable pub address_of : List ℕ → Option ℕ
 address_of text =
     option_and_then (λ first. option_and_then (λ second. option_and_then (λ third.

@@ -22,16 +22,16 @@ pub record IsRanged (text : List ℕ) (prefix : PrefixParts) (operator : Operato
   pub first : IsPrefix front prefix
   pub second : IsOperator back operator
 
--- the prefix and the operator of two texts, if they are
+-- The prefix and the operator of two texts, if they spell them (RFC 2622, 2).
 unfoldable pub pair_of : List ℕ → List ℕ → Option (PrefixParts × Operator)
 pair_of front back =
     option_and_then (λ prefix. option_map (λ operator. (prefix, operator)) (operator_of back)) (prefix_of front)
 
--- the prefix with its operator that the text spells, if it does
+-- The prefix with its operator that the text spells, if it does (RFC 2622, 2).
 unfoldable pub ranged_of : List ℕ → Option (PrefixParts × Operator)
 ranged_of text = pair_of (before_first (λ b. b == caret) text) (from_first caret text)
 
--- whether these are the bounds
+-- Whether there are bounds, and these (profile).
 abbrev pub is_bounds : Option Bounds → Bounds → Bool
 is_bounds None b = false
 is_bounds (Some c) b = c.low == b.low && c.high == b.high

@@ -1,7 +1,7 @@
 -- Bounds on the lengths of prefixes.
 use Rattle.std.specs.Prelude.{ℕ, ◌≤◌}
 
--- a least and a greatest length of prefixes
+-- A least and a greatest length of prefixes (RFC 2622, 2).
 pub record Bounds : Type 0 where
   pub low : ℕ
   pub high : ℕ

@@ -3,7 +3,8 @@ use Rattle.std.specs.Prelude.{◌≡◌, ℕ, ◌<◌, ◌≤◌, Bool, true, �
 use Rattle.std.specs.Str.{all_ascii_digits}
 use Rattle.std.specs.Str.Parse.{digits_value}
 
--- A text spells a number in one to `most` digits, leading zeros among them, where the number is below the limit.
+-- A text spells a number in one to `most` digits, leading zeros among them, where the number is below the limit
+-- (profile).
 pub record IsNumber (most limit : ℕ) (text : List ℕ) (n : ℕ) : Type 0 where
   pub digits : all_ascii_digits text ≡ true
   pub some : 0 < length text
@@ -11,13 +12,13 @@ pub record IsNumber (most limit : ℕ) (text : List ℕ) (n : ℕ) : Type 0 wher
   pub value : digits_value 10 text ≡ n
   pub fits : n < limit
 
--- whether the text spells a number so
+-- Whether the text spells a number so (profile).
 abbrev pub is_number : ℕ → ℕ → List ℕ → Bool
 is_number most limit text =
     all_ascii_digits text
     && (nat_lt 0 (length text) && (nat_le (length text) most && nat_lt (digits_value 10 text) limit))
 
--- the number that the text spells so, if it does
+-- The number that the text spells so, if it does (profile).
 unfoldable pub number_of : ℕ → ℕ → List ℕ → Option ℕ
 number_of most limit text =
     if is_number most limit text then Some (digits_value 10 text) else None

@@ -9,7 +9,7 @@ use Rattle.rr_number.specs.Prefixes.{IsLength, length_of}
 use Rattle.rr_number.specs.declared.operator.Operator.{Operator}
 use Rattle.rr_number.specs.declared.operator.Operator.TheVariants.{Plain, Plus, Minus, Lengths}
 
--- The bytes of operators: '^', '+' and '-'.
+-- The bytes of operators: '^', '+' and '-' (RFC 2622, 2).
 abbrev pub caret : ℕ
 caret = 94
 
@@ -42,39 +42,39 @@ IsOperator text Plus = text ≡ caret ∷ plus ∷ []
 IsOperator text Minus = text ≡ caret ∷ dash ∷ []
 IsOperator text (Lengths b) = IsOneLength text b ⊎ IsTwoLengths text b
 
--- the lengths of an operator are bounds
+-- The lengths of an operator are bounds (RFC 2622, 2).
 abbrev pub IsOperatorValue : Operator → Type 0
 IsOperatorValue Plain = Unit {0}
 IsOperatorValue Plus = Unit {0}
 IsOperatorValue Minus = Unit {0}
 IsOperatorValue (Lengths b) = IsBounds b
 
--- the operator of two lengths, where the first is not above the second
+-- The operator of two lengths, where the first is not above the second (RFC 2622, 2).
 abbrev pub lengths_from : ℕ → ℕ → Option Operator
 lengths_from low high =
     if nat_le low high then Some (Lengths (record { low = low; high = high })) else None
 
--- the operator of one length's text
+-- The operator of one length's text (RFC 2622, 2).
 unfoldable pub one_length_of : List ℕ → Option Operator
 one_length_of text = option_map (λ n. Lengths (record { low = n; high = n })) (length_of text)
 
--- the operator of two lengths' texts
+-- The operator of two lengths' texts (RFC 2622, 2).
 unfoldable pub two_lengths_of : List ℕ → List ℕ → Option Operator
 two_lengths_of first second =
     option_and_then (λ low. option_and_then (λ high. lengths_from low high) (length_of second)) (length_of first)
 
--- the operator whose text after the caret is cut so at its first dash, or not at all
+-- The operator whose text after the caret is cut so at its first dash, or not at all (RFC 2622, 2).
 abbrev pub lengths_cut_of : List ℕ → Option (List ℕ × List ℕ) → Option Operator
 lengths_cut_of text None = one_length_of text
 lengths_cut_of text (Some parts) = two_lengths_of parts.0 parts.1
 
--- the operator whose text after the caret is this
+-- The operator whose text after the caret is this (RFC 2622, 2).
 unfoldable pub carried_of : List ℕ → Option Operator
 carried_of text =
     if bytes_eq text (plus ∷ []) then Some Plus
     else (if bytes_eq text (dash ∷ []) then Some Minus else lengths_cut_of text (cut_at dash text))
 
--- the operator that the text spells, if it does
+-- The operator that the text spells, if it does (RFC 2622, 2; nothing: profile).
 unfoldable pub operator_of : List ℕ → Option Operator
 operator_of [] = Some Plain
 operator_of (b ∷ bs) = if b == caret then carried_of bs else None
@@ -103,6 +103,6 @@ tabled (Lengths c) b = record { low = max c.low b.low; high = c.high }
 abbrev pub kept : Bounds → Option Bounds
 kept b = if nat_le b.low b.high && nat_le b.low 32 then Some b else None
 
--- what an operator makes of a least and a greatest length, if it drops none
+-- What an operator makes of a least and a greatest length, if it does not drop them (RFC 2622, 2).
 unfoldable pub lengths_under : Operator → Bounds → Option Bounds
 lengths_under operator b = kept (tabled operator b)

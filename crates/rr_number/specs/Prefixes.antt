@@ -7,16 +7,16 @@ use Rattle.rr_number.specs.Cuts.{cut_at}
 use Rattle.rr_number.specs.Numerals.{IsNumber, number_of}
 use Rattle.rr_number.specs.Spans.{Ends}
 
--- a prefix as its first address and its length
+-- A prefix as its first address and its length (RFC 2622, 2).
 pub record PrefixParts : Type 0 where
   pub address : ℕ
   pub length : ℕ
 
--- how many addresses share the first bits, so many of them
+-- How many addresses share their first bits, so many of them (RFC 2622, 2).
 abbrev pub count_of : ℕ → ℕ
 count_of length = 2 ^ (32 - length)
 
--- The address is one, the length is at most 32, and the bits past the length are zero.
+-- The address is one, the length is at most 32 (RFC 2622, 2), and the bits past the length are zero (profile).
 pub record IsMasked (p : PrefixParts) : Type 0 where
   pub short : p.length ≤ 32
   pub fits : p.address < 2 ^ 32
@@ -30,11 +30,11 @@ masked address length = record { address = address - address % count_of length; 
 abbrev pub span_of : PrefixParts → Ends
 span_of p = record { first = p.address; last = p.address + (count_of p.length - 1) }
 
--- The separator, '/'.
+-- The separator of address and length, '/' (RFC 2622, 2).
 abbrev pub slash : ℕ
 slash = 47
 
--- A length is spelled in one or two digits, and is at most 32 (RFC 2622, 2).
+-- A length is at most 32 (RFC 2622, 2), and spelled in one or two digits (profile).
 abbrev pub IsLength : List ℕ → ℕ → Type 0
 IsLength text n = IsNumber 2 33 text n
 
@@ -49,16 +49,16 @@ pub record IsPrefix (text : List ℕ) (p : PrefixParts) : Type 0 where
   pub spelled : text ≡ address_text ++ (slash ∷ length_text)
   pub value : p ≡ masked address length
 
--- the length that the text spells, if it does
+-- The length that the text spells, if it does (RFC 2622, 2).
 abbrev pub length_of : List ℕ → Option ℕ
 length_of text = number_of 2 33 text
 
--- the prefix of an address's and a length's text, if they are
+-- The prefix of two texts, if they spell an address and a length (RFC 2622, 2).
 unfoldable pub masked_of : List ℕ → List ℕ → Option PrefixParts
 masked_of address length =
     option_and_then (λ a. option_map (λ l. masked a l) (length_of length)) (address_of address)
 
--- the prefix that the text spells, if it does
+-- The prefix that the text spells, if it does (RFC 2622, 2).
 unfoldable pub prefix_of : List ℕ → Option PrefixParts
 prefix_of text = option_and_then (λ parts. masked_of parts.0 parts.1) (cut_at slash text)
 

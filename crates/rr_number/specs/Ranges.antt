@@ -4,24 +4,24 @@ use Rattle.rr_number.specs.Bounds.{Bounds}
 use Rattle.rr_number.specs.Prefixes.{PrefixParts, IsMasked, span_of}
 use Rattle.rr_number.specs.Spans.{covers}
 
--- a range as its prefix, its least and its greatest length
+-- A range as its prefix, its least and its greatest length (RFC 2622, 2).
 pub record RangeParts : Type 0 where
   pub prefix : PrefixParts
   pub low : ℕ
   pub high : ℕ
 
--- The prefix is one, and the lengths go up from its own to 32 at most.
+-- The prefix is one, and the lengths go up from its own to 32 at most (RFC 2622, 2).
 pub record IsRange (r : RangeParts) : Type 0 where
   pub masked : IsMasked r.prefix
   pub inside : r.prefix.length ≤ r.low
   pub ordered : r.low ≤ r.high
   pub short : r.high ≤ 32
 
--- the range of a prefix with these lengths
+-- The range of a prefix with these lengths (RFC 2622, 2).
 abbrev pub range_of : PrefixParts → Bounds → RangeParts
 range_of p b = record { prefix = p; low = b.low; high = b.high }
 
--- the lengths of a range
+-- The lengths of a range (RFC 2622, 2).
 abbrev pub bounds_of : RangeParts → Bounds
 bounds_of r = record { low = r.low; high = r.high }
 

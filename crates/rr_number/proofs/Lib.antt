@@ -17,6 +17,7 @@ pub mod PrefixLemmas
 pub mod PrefixSpans
 pub mod RangeLemmas
 pub mod RangedLemmas
+pub mod SetKinds
 pub mod SetNameLemmas
 pub mod SetTexts
 pub mod SetWords

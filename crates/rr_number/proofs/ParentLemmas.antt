@@ -89,7 +89,7 @@ components-front_by (c ∷ cs) front lack found =
     ap components (sym joined) ∙ components-join c cs lack
 
 -- the components are those of the front and one more
-front_parts : (text front : List ℕ) → front_of text ≡ Some front → (last : List ℕ) × (components text ≡ components front ++ (last ∷ []))
+pub front_parts : (text front : List ℕ) → front_of text ≡ Some front → (last : List ℕ) × (components text ≡ components front ++ (last ∷ []))
 unfolding front_of
 front_parts text front found =
     let some = some_component text in

@@ -22,7 +22,7 @@ pub is_component-upper : (kind : SetKind) (c : List ℕ) → is_component kind (
 is_component-upper kind c = rw (as_number_of-upper c, is_set_word-upper kind c) refl
 
 -- an AS number does not begin as a set's word does
-no_word_begins : (kind : SetKind) (text : List ℕ) → upper (take 2 text) ≡ codes "AS" → all_ascii_digits (drop 2 text) ≡ true → 0 < length (drop 2 text) → starts_with nat_eq (upper text) (prefix_of kind) ≡ false
+pub no_word_begins : (kind : SetKind) (text : List ℕ) → upper (take 2 text) ≡ codes "AS" → all_ascii_digits (drop 2 text) ≡ true → 0 < length (drop 2 text) → starts_with nat_eq (upper text) (prefix_of kind) ≡ false
 no_word_begins kind [] begins digits some = absurd (cc)
 no_word_begins kind (a ∷ []) begins digits some = absurd (cc)
 no_word_begins kind (a ∷ b ∷ []) begins digits some = absurd (omega arith)

@@ -13,6 +13,7 @@ pub mod PrefixLaws
 pub mod Prefixes
 pub mod RangeLaws
 pub mod Ranges
+pub mod SetNameLaws
 pub mod SetNames
 pub mod SpanLaws
 pub mod SpanTexts

@@ -9,6 +9,7 @@ ghost use Rattle.std.specs.Ordering.{as_partial_cmp, nat_cmp};
 ghost use Rattle.std.specs.List.{list_all, list_any, starts_with};
 ghost use Rattle.rr_io.specs.Sending.{Writes};
 ghost use Rattle.rr_number.specs.Names.{is_reserved, upper};
+ghost use Rattle.rr_number.specs.SetNameLaws.{ComponentsArePrinted, FrontsLackTheLast, KindsAreTold, SetNamesAreReadAgain, SetNamesIgnoreCase};
 ghost use Rattle.rr_number.specs.SetNames.{has_prefix, kind_of, IsSetText, component_text, components, is_any_set, is_as_number, is_component, is_name_of_kind, is_set_name, is_set_word, prefix_of, set_name_of, set_text};
 
 mod parent;
@@ -255,3 +256,13 @@ fn push_component(alloc: Global, text: &mut Vec<u8>, component: &[u8]) -> Result
     }
     Ok(())
 }
+
+/// A set's name is read again from its printed text, in any letter case; the components beside AS numbers tell its
+/// kind, and its parent has all of them but the last.
+pub fn set_names_are_read_again()
+    ensures again { SetNamesAreReadAgain }
+    ensures case_ignored { SetNamesIgnoreCase }
+    ensures components { ComponentsArePrinted }
+    ensures kinds { KindsAreTold }
+    ensures fronts { FrontsLackTheLast }
+{}

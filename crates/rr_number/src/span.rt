@@ -160,3 +160,6 @@ fn read_span(text: &[u8]) -> Option<Span>
         None => Some(Prefix::read(text)?.span()),
     }
 }
+
+#[cfg(test)]
+mod tests;

@@ -1,0 +1,41 @@
+-- A registry as a list of objects in the order of their keys.
+use Rattle.std.specs.Prelude.{◌≡◌, ℕ, Bool, true, false, not, List, [], ◌∷◌, map, slice_get}
+use Rattle.std.specs.List.{position_or_len}
+use Rattle.std.specs.Option.{option_map_or}
+use Rattle.std.specs.Ordering.{eq_by_cmp, is_gt}
+use Rattle.std.specs.FinMap.{from_sorted, is_sorted}
+use Rattle.std.specs.FinMap.Entries.{by_order}
+use Rattle.rr_object.specs.declared.key.Key.{Key}
+use Rattle.rr_object.specs.Objects.{Obj}
+use Rattle.rr_auth.specs.KeyOrder.{key_cmp}
+use Rattle.rr_auth.specs.Registries.{Reg, Sound}
+
+-- An object stands under its own key.
+abbrev pub entry : Obj → Key × Obj
+entry o = (o.key, o)
+
+-- The keys of the objects strictly rise (profile).
+abbrev pub is_in_order : List Obj → Bool
+is_in_order os = is_sorted key_cmp (map entry os)
+
+-- The registry of objects in order.
+abbrev pub book_of : List Obj → Reg
+book_of os = from_sorted (map entry os)
+
+-- A list of objects in order whose registry is sound.
+pub record IsBook (os : List Obj) : Type 0 where
+  pub ordered : is_in_order os ≡ true
+  pub sound : Sound (book_of os)
+
+-- The objects with one put into its place, for one of its key that stood there.
+abbrev pub put_in : Obj → List Obj → List Obj
+put_in o [] = o ∷ []
+put_in o (x ∷ xs) = by_order (key_cmp o.key x.key) (o ∷ (x ∷ xs)) (o ∷ xs) (x ∷ put_in o xs)
+
+-- The first place whose key is not below the key.
+abbrev pub place_of : Key → List Obj → ℕ
+place_of k os = position_or_len (λ o. not (is_gt (key_cmp k o.key))) os
+
+-- The object at a place has the key.
+abbrev pub stands_at : Key → List Obj → ℕ → Bool
+stands_at k os i = option_map_or (λ x. eq_by_cmp key_cmp k x.key) (slice_get os i) false

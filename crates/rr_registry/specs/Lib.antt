@@ -1,0 +1,5 @@
+pub mod Books
+pub mod Classes
+pub mod Loading
+pub mod RunLaws
+pub mod Runs

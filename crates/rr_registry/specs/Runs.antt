@@ -1,0 +1,45 @@
+-- What becomes of items: the outcome of each, and the registry after them.
+use Rattle.std.specs.Prelude.{◌≡◌, ℕ, ◌⊎◌, List, [], ◌∷◌}
+use Rattle.rr_object.specs.declared.code.Code.TheVariants.{E90}
+use Rattle.rr_auth.specs.declared.item.Item.{Item}
+use Rattle.rr_auth.specs.declared.verdict.Verdict.{Verdict}
+use Rattle.rr_auth.specs.declared.verdict.Verdict.TheVariants.{Add, Change, Same, Delete, Refuse}
+use Rattle.rr_auth.specs.Registries.{Reg}
+use Rattle.rr_auth.specs.Verdicts.{verdict, after}
+use Rattle.rr_registry.specs.declared.outcome.Outcome.{Outcome}
+use Rattle.rr_registry.specs.declared.run.Submitted.{Submitted}
+use Rattle.rr_registry.specs.declared.outcome.Outcome.TheVariants.{Added, Changed, Same as Unchanged, Deleted, Refused}
+
+-- The outcome that a verdict leads to.
+abbrev pub outcome_of : Verdict → Outcome
+outcome_of Add = Added
+outcome_of Change = Changed
+outcome_of Same = Unchanged
+outcome_of Delete = Deleted
+outcome_of (Refuse code) = Refused code
+
+-- A verdict on an item was carried out: the outcome and the effect are the verdict's (profile).
+pub record IsDone (before : Reg) (judged : Verdict) (item : Item) (outcome : Outcome) (then : Reg) : Type 0 where
+  pub outcome_is : outcome ≡ outcome_of judged
+  pub effect : then ≡ after judged before item
+
+-- Memory was wanting: the item is refused and nothing changes (profile).
+pub record IsWant (before : Reg) (outcome : Outcome) (then : Reg) : Type 0 where
+  pub outcome_is : outcome ≡ Refused E90
+  pub effect : then ≡ before
+
+-- A verdict on an item was carried out, or memory was wanting.
+abbrev pub IsCarriedOut : Reg → Verdict → Item → Outcome → Reg → Type 0
+IsCarriedOut before judged item outcome then = IsDone before judged item outcome then ⊎ IsWant before outcome then
+
+-- What one item, with the secrets given with it, does to a registry.
+abbrev pub IsStep : Reg → List (List ℕ) → Item → Outcome → Reg → Type 0
+IsStep before z item outcome then = IsCarriedOut before (verdict before z item) item outcome then
+
+-- Each item in turn has its outcome and its effect (profile).
+abbrev pub Run : Reg → List Submitted → List Outcome → Reg → Type 0
+Run before [] [] then = then ≡ before
+Run before [] (outcome ∷ outcomes) then = ⊥
+Run before (item ∷ items) [] then = ⊥
+Run before (item ∷ items) (outcome ∷ outcomes) then =
+    (between : Reg) × (IsStep before item.secrets item.item outcome between × Run between items outcomes then)

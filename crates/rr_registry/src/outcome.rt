@@ -1,0 +1,18 @@
+//! Outcomes of items.
+
+use rr_object::Code;
+
+/// What became of an item.
+#[derive(Clone, Copy, Debug, PartialEq, Eq)]
+pub enum Outcome {
+    /// The object was added.
+    Added,
+    /// The object took the place of the stored one.
+    Changed,
+    /// The object has the text of the stored one; nothing changed.
+    Same,
+    /// The object was deleted.
+    Deleted,
+    /// The item was refused; nothing changed.
+    Refused(Code),
+}

@@ -1,0 +1,129 @@
+//! Registries, and what items do to them.
+
+ghost use Rattle.std.specs.Prelude.{◌≡◌, ◌⊎◌};
+ghost use Rattle.std.specs.FinMap.{empty, insert, remove, values};
+ghost use Rattle.rr_auth.specs.declared.verdict.Verdict.TheVariants.{Add, Change, Delete};
+ghost use Rattle.rr_registry.specs.Runs.{IsCarriedOut, IsStep, IsWant};
+
+use crate::keys::well_formed;
+use crate::outcome::Outcome;
+use crate::plain_book::PlainBook;
+use rr_auth::{Book, Item, Secrets, Verdict, judge};
+use rr_object::{Code, Key, Object};
+use std::alloc::Global;
+use std::marker::Model;
+
+/// A registry; contracts see the finite map from keys to objects. It is always sound.
+#[derive(Drop)]
+pub struct Registry {
+    book: PlainBook,
+}
+
+impl Model for Registry {
+    ghost use Rattle.rr_auth.specs.Registries.{Reg};
+    ghost use Rattle.std.specs.FinMap as map;
+    ghost use Rattle.rr_object.specs.contracts.key.Key as key;
+    ghost use Rattle.rr_object.specs.contracts.object.Object as object;
+
+    ghost Value = { Reg };
+
+    ghost coded = { map.code (key.the_row).coded (object.the_row).coded };
+
+    ghost view = { λ a. a.book };
+}
+
+impl Registry {
+    ghost use Rattle.rr_auth.specs.Registries.{Sound};
+
+    /// A registry of no objects.
+    pub fn new(alloc: Global) -> Registry
+        ensures { result ≡ empty }
+    {
+        Registry {
+            book: PlainBook::new(alloc),
+        }
+    }
+
+    /// The book of the registry, over which other questions can be asked.
+    pub fn book(&self) -> &PlainBook
+        ensures { result.now ≡ self.now }
+    {
+        &self.book
+    }
+
+    /// The objects in the order of class and key.
+    pub fn objects(&self) -> &[Object]
+        ensures { result.now ≡ values self.now }
+    {
+        self.book.objects()
+    }
+
+    /// Tells a caller's proof that the registry is sound; it does nothing.
+    pub fn sound(&self)
+        ensures { Sound self.now }
+    {
+        self.book.sound();
+    }
+
+    /// Does with the item what its verdict says, over this registry and these secrets (RFC 2725, 9; profile). Where
+    /// memory is wanting the item is refused with E90 and nothing changes.
+    #[tactic(auto, using(rr_auth::proofs::Keeping::sound_added, rr_auth::proofs::Keeping::sound_changed, rr_auth::proofs::Keeping::sound_removed))]
+    pub fn apply(&mut self, alloc: Global, secrets: &Secrets, item: Item) -> Outcome
+        ensures { IsStep self.old secrets.now item result self.new }
+    {
+        self.sound();
+        match judge(alloc, &self.book, secrets, &item) {
+            Ok(verdict) => match item {
+                Item::Submit(object) => {
+                    well_formed(object.key());
+                    self.submit(verdict, object)
+                }
+                Item::Delete(key) => self.delete(verdict, &key),
+            },
+            Err(_) => Outcome::Refused(Code::E90),
+        }
+    }
+
+    /// Carries out the verdict on an object.
+    fn submit(&mut self, judged: Verdict, object: Object) -> Outcome
+        requires added { judged ≡ Add → Sound (insert self.old object.key object) }
+        requires changed { judged ≡ Change → Sound (insert self.old object.key object) }
+        ensures { IsCarriedOut self.old judged (Item.Submit object) result self.new }
+    {
+        match judged {
+            Verdict::Add => self.put(object, Outcome::Added),
+            Verdict::Change => self.put(object, Outcome::Changed),
+            Verdict::Same => Outcome::Same,
+            Verdict::Delete => Outcome::Deleted,
+            Verdict::Refuse(code) => Outcome::Refused(code),
+        }
+    }
+
+    /// Puts the object under its key, with this outcome.
+    fn put(&mut self, object: Object, done: Outcome) -> Outcome
+        requires { Sound (insert self.old object.key object) }
+        ensures { ((result ≡ done) × (self.new ≡ insert self.old object.key object)) ⊎ IsWant self.old result self.new }
+    {
+        match self.book.put(object) {
+            Ok(()) => done,
+            Err(_) => Outcome::Refused(Code::E90),
+        }
+    }
+
+    /// Carries out the verdict on a deletion.
+    fn delete(&mut self, judged: Verdict, key: &Key) -> Outcome
+        requires { judged ≡ Delete → Sound (remove self.old key.now) }
+        ensures { IsCarriedOut self.old judged (Item.Delete key.now) result self.new }
+    {
+        match judged {
+            Verdict::Delete => {
+                self.book.remove(key);
+                Outcome::Deleted
+            }
+            Verdict::Add => Outcome::Added,
+            Verdict::Change => Outcome::Changed,
+            Verdict::Same => Outcome::Same,
+            Verdict::Refuse(code) => Outcome::Refused(code),
+        }
+    }
+}

@@ -7,6 +7,7 @@ ghost use Rattle.rr_graph.specs.Carried.{IsCarriedPair, IsFound, IsNamed, IsTooM
 
 use crate::backward::reversed;
 use crate::labels::{Edge, Labelled};
+use crate::order::ascending;
 use crate::pairs::{Pairs, own_pairs};
 use crate::{Graph, ReachFault, reach};
 use std::alloc::{AllocError, Global};
@@ -133,12 +134,4 @@ fn values_at<G: Labelled>(
         }
     }
     ascending(alloc, values)
-}
-
-/// The values of the set, in ascending order.
-fn ascending<V: Ord + Drop>(alloc: Global, values: BTreeSet<V>) -> Result<Vec<V>, AllocError>
-    ensures same { IfOk result (λ list. list.items ≡ values.keys) }
-    ensures sorted { IfOk result (λ list. IsStrictlySortedBy V.cmp list.items) }
-{
-    values.into_iter().collect(alloc)
 }

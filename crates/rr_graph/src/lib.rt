@@ -8,11 +8,13 @@ ghost use Rattle.rr_graph.specs.Chain.{HasNoRepeats, IsReached, MoreThan};
 mod backward;
 mod gathering;
 mod labels;
+mod order;
 mod pairs;
 mod walk;
 
 pub use gathering::{Gathered, gather};
 pub use labels::{Edge, Labelled};
+pub use order::ascending;
 use std::alloc::{AllocError, AllocFailed, Global};
 use std::error::Error;
 use std::fmt;

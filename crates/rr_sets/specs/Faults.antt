@@ -1,0 +1,10 @@
+-- What a fault of a walk is for an expansion.
+use Rattle.rr_graph.specs.declared.ReachFault.{ReachFault}
+use Rattle.rr_graph.specs.declared.ReachFault.TheVariants as reach
+use Rattle.rr_sets.specs.declared.members.ExpandFault.{ExpandFault}
+use Rattle.rr_sets.specs.declared.members.ExpandFault.TheVariants as expand
+
+-- too many nodes are too many members, and want of memory stays so
+abbrev pub expand_fault_of : ReachFault → ExpandFault
+expand_fault_of reach.TooMany = expand.TooMany
+expand_fault_of reach.Memory = expand.Memory

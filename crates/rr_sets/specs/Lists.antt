@@ -1,0 +1,31 @@
+-- What the lists of a registry's objects have.
+use Rattle.std.specs.Prelude.{◌≡◌, ◌↔◌, ℕ, List, Contains, Some, map}
+use Rattle.std.proofs.Common.{Bor}
+use Rattle.std.specs.FinMap.{get}
+use Rattle.rr_auth.specs.Registries.{Reg}
+use Rattle.rr_graph.specs.Chain.{HasNoRepeats}
+use Rattle.rr_number.specs.Prefixes.{PrefixParts}
+use Rattle.rr_object.specs.Objects.{Obj}
+use Rattle.rr_object.specs.declared.key.Key.{Key}
+use Rattle.rr_object.specs.declared.key.Key.TheVariants.{AutNum, Route}
+
+-- the objects that references lend
+abbrev pub lent : List (Bor Obj) → List Obj
+lent objects = map (λ object. object.now) objects
+
+-- The list lends exactly the objects that have the property, each once.
+pub record ListsOnce (P : Obj → Type 0) (objects : List (Bor Obj)) : Type 0 where
+  pub same : (o : Obj) → Contains (lent objects) o ↔ P o
+  pub once : HasNoRepeats (lent objects)
+
+-- The object is a registered aut-num.
+abbrev pub IsAutNum : Reg → Obj → Type 0
+IsAutNum r o = (n : ℕ) × (get r (AutNum n) ≡ Some o)
+
+-- The object is a registered route.
+abbrev pub IsRoute : Reg → Obj → Type 0
+IsRoute r o = (prefix : PrefixParts) × (origin : ℕ) × (get r (Route prefix origin) ≡ Some o)
+
+-- The object is registered, and its `member-of` names the set (RFC 2622, 5).
+abbrev pub IsReferrer : Reg → List ℕ → Obj → Type 0
+IsReferrer r name o = (key : Key) × (get r key ≡ Some o) × Contains o.member_of name

@@ -1,0 +1,45 @@
+-- What a registered object says of sets.
+use Rattle.std.specs.Prelude.{◌≡◌, ℕ, Bool, ◌||◌, List, Option, None, Some, if◌then◌else◌, codes}
+use Rattle.std.specs.List.{list_any}
+use Rattle.std.specs.Str.{bytes_eq}
+use Rattle.rr_number.specs.declared.operator.Operator.{Operator}
+use Rattle.rr_number.specs.Ranges.{RangeParts}
+use Rattle.rr_object.specs.Objects.{Obj}
+use Rattle.rr_object.specs.Parts.{ByRefParts}
+use Rattle.rr_object.specs.declared.key.Key.{Key}
+use Rattle.rr_object.specs.declared.key.Key.TheVariants.{Mntner, AsBlock, AutNum, Inetnum, Route, AsSet, RouteSet}
+use Rattle.rr_object.specs.declared.member.Member.{Member}
+use Rattle.rr_object.specs.declared.member.Member.TheVariants as member
+use Rattle.rr_object.specs.declared.member.MemberSet.{MemberSet}
+use Rattle.rr_object.specs.declared.member.MemberSet.TheVariants as set
+
+-- A member that is the name of a set (RFC 2622, 5).
+abbrev pub set_listed : Member → Option (List ℕ)
+set_listed (member.Range r) = None
+set_listed (member.Set (set.AutNum n) operator) = None
+set_listed (member.Set (set.Set name) operator) = Some name
+
+-- A member that is an AS number (RFC 2622, 5).
+abbrev pub number_listed : Member → Option ℕ
+number_listed (member.Range r) = None
+number_listed (member.Set (set.AutNum n) operator) = Some n
+number_listed (member.Set (set.Set name) operator) = None
+
+-- The number of an aut-num's key.
+abbrev pub number_of_key : Key → Option ℕ
+number_of_key (Mntner name) = None
+number_of_key (AsBlock span) = None
+number_of_key (AutNum n) = Some n
+number_of_key (Inetnum span) = None
+number_of_key (Route prefix origin) = None
+number_of_key (AsSet name) = None
+number_of_key (RouteSet name) = None
+
+-- The set takes the object's word that it belongs to it: `mbrs-by-ref` lists `ANY` or a maintainer in its `mnt-by`
+-- (RFC 2622, 5.1).
+abbrev pub takes : ByRefParts → Obj → Bool
+takes by_ref object = by_ref.any || list_any (λ name. list_any (λ maintainer. bytes_eq maintainer name) object.maintainers) by_ref.names
+
+-- The name of the set of every registered AS (RFC 2622, 5.1).
+abbrev pub as_any : List ℕ
+as_any = codes "AS-ANY"

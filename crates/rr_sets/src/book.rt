@@ -1,0 +1,25 @@
+//! Registries, as the expansion of sets asks about them.
+
+ghost use Rattle.std.specs.Prelude.{◌≡◌, ◌↔◌, ℕ, IfOk};
+
+use rr_auth::Book;
+use rr_number::SetName;
+use rr_object::Object;
+use std::alloc::{AllocError, Global};
+
+/// A registry that can be asked for the objects that speak of sets. The errors are want of memory.
+pub trait SetBook: Book {
+    ghost use Rattle.rr_sets.specs.Lists.{IsAutNum, IsReferrer, IsRoute, ListsOnce};
+
+    /// Lists the aut-nums, each once, in any order.
+    fn aut_nums(&self, alloc: Global) -> Result<Vec<&Object>, AllocError>
+        ensures { IfOk result (λ objects. ListsOnce (IsAutNum (Self.contents self.now)) objects.items) };
+
+    /// Lists the routes, each once, in any order.
+    fn routes(&self, alloc: Global) -> Result<Vec<&Object>, AllocError>
+        ensures { IfOk result (λ objects. ListsOnce (IsRoute (Self.contents self.now)) objects.items) };
+
+    /// Lists the objects whose `member-of` names the set, each once, in any order.
+    fn referrers(&self, alloc: Global, name: &SetName) -> Result<Vec<&Object>, AllocError>
+        ensures { IfOk result (λ objects. ListsOnce (IsReferrer (Self.contents self.now) name.now) objects.items) };
+}

@@ -1,7 +1,8 @@
 -- The object of a paragraph, from what its attributes say.
-use Rattle.std.proofs.Common.{◌≡◌, ℕ, List, Option, Some, Result, Ok, Err, true, false, refl, rules}
+use Rattle.std.proofs.Common.{◌≡◌, ℕ, List, Option, Some, Result, Ok, Err, Bool, true, false, refl, rules, ap, sym, ◌∙◌, if◌then◌else◌}
 use Rattle.rr_text.specs.Fields.{Field}
-use Rattle.rr_object.specs.declared.fault.ObjectFault.TheVariants.{BadCount, BadValue}
+use Rattle.rr_object.specs.declared.fault.ObjectFault.TheVariants.{BadCount, BadValue, OtherSource}
+use Rattle.rr_object.specs.declared.fault.ObjectFault.{ObjectFault}
 use Rattle.rr_object.specs.declared.key.Key.{Key}
 use Rattle.rr_object.specs.declared.kind.Kind.TheVariants.{MntBy, MntLower, MntRoutes, Auth, Members, MbrsByRef, MemberOf}
 use Rattle.rr_object.specs.declared.member.Member.{Member}
@@ -13,7 +14,7 @@ use Rattle.rr_object.specs.KeySpellings.{key_of}
 use Rattle.rr_object.specs.Members.{set_item}
 use Rattle.rr_object.specs.Objects.{Obj}
 use Rattle.rr_object.specs.Parts.{AuthParts, ByRefParts, GrantParts}
-use Rattle.rr_object.specs.Readings.{by_ref_of, has_bad_authority, has_bad_membership, has_bad_text, has_bad_value, is_miscounted, items_read, maintainers_of, member_item, obj_at, obj_of}
+use Rattle.rr_object.specs.Readings.{by_ref_of, has_bad_authority, has_bad_membership, has_bad_text, has_bad_value, is_miscounted, items_read, maintainers_of, member_item, obj_at, obj_of, obj_of_key, object_of, is_from, result_and_then}
 
 pub miscounted : (fields : List Field) (key : Key) → key_of fields ≡ Ok key → is_miscounted (class_of key) fields ≡ true → obj_of fields ≡ Err BadCount
 unfolding obj_of
@@ -77,3 +78,52 @@ pub obj_read : (fields : List Field) (key : Key) (maintainers lower : List (List
 obj_read fields key maintainers lower routes auths members by_ref member_of read count text authority membership ma lo ro au me by mo =
     rw (← obj_at-parts fields key maintainers lower routes auths members by_ref member_of ma lo ro au me by mo)
     (good_steps fields key read count (good_value fields key text authority membership))
+
+-- what is read of a paragraph whose key was read keeps the paragraph and the key
+kept_value : (fields : List Field) (key : Key) (object : Obj) (b : Bool) → (if b then Err BadValue else Ok (obj_at key fields)) ≡ Ok object → object ≡ obj_at key fields
+kept_value fields key object true e = cc
+kept_value fields key object false e = cc
+
+kept_count : (fields : List Field) (key : Key) (object : Obj) (b c : Bool)
+    → (if b then Err BadCount else if c then Err BadValue else Ok (obj_at key fields)) ≡ Ok object → object ≡ obj_at key fields
+kept_count fields key object true c e = cc
+kept_count fields key object false c e = kept_value fields key object c e
+
+kept_key : (fields : List Field) (object : Obj) (read : Result Key ObjectFault) → result_and_then (obj_of_key fields) read ≡ Ok object
+    → (key : Key) × ((read ≡ Ok key) × (object ≡ obj_at key fields))
+kept_key fields object (Err fault) e = cc
+kept_key fields object (Ok key) e =
+    (key, (refl, kept_count fields key object (is_miscounted (class_of key) fields) (has_bad_value (class_of key) fields) e))
+
+kept : (fields : List Field) (object : Obj) → obj_of fields ≡ Ok object → (key : Key) × ((key_of fields ≡ Ok key) × (object ≡ obj_at key fields))
+unfolding obj_of
+kept fields object e = kept_key fields object (key_of fields) e
+
+paragraph_at : (key : Key) (fields : List Field) → (obj_at key fields).paragraph ≡ fields
+unfolding obj_at
+paragraph_at key fields = refl
+
+key_at : (key : Key) (fields : List Field) → (obj_at key fields).key ≡ key
+unfolding obj_at
+key_at key fields = refl
+
+pub kept_paragraph : (fields : List Field) (object : Obj) → obj_of fields ≡ Ok object → object.paragraph ≡ fields
+kept_paragraph fields object e =
+    let k = kept fields object e in ap (λ o. o.paragraph) k.1.1 ∙ paragraph_at k.0 fields
+
+pub kept_its_key : (fields : List Field) (object : Obj) → obj_of fields ≡ Ok object → key_of fields ≡ Ok object.key
+kept_its_key fields object e =
+    let k = kept fields object e in k.1.0 ∙ ap Ok (sym (ap (λ o. o.key) k.1.1 ∙ key_at k.0 fields))
+
+of_test : (object o : Obj) (b : Bool) → (if b then Ok o else Err OtherSource) ≡ Ok object → o ≡ object
+of_test object o true e = cc
+of_test object o false e = cc
+
+of_source : (object : Obj) (source : List ℕ) (fields : List Field) (read : Result Obj ObjectFault)
+    → result_and_then (λ o. if is_from source fields then Ok o else Err OtherSource) read ≡ Ok object → read ≡ Ok object
+of_source object source fields (Err fault) e = cc
+of_source object source fields (Ok o) e = ap Ok (of_test object o (is_from source fields) e)
+
+pub of_any_source : (fields : List Field) (source : List ℕ) (object : Obj) → object_of fields source ≡ Ok object → obj_of fields ≡ Ok object
+unfolding object_of
+of_any_source fields source object e = of_source object source fields (obj_of fields) e

@@ -6,6 +6,7 @@ pub mod Faults
 pub mod Grants
 pub mod Items
 pub mod KeySpellings
+pub mod KeyTexts
 pub mod Keys
 pub mod Kinds
 pub mod Members

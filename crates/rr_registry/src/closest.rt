@@ -69,7 +69,7 @@ fn block_span(key: &Key) -> Option<Span>
     ensures { result ≡ block_span key.now }
 {
     match key {
-        Key::AsBlock(span) => Some(*span),
+        Key::AsBlock(span) => Some(span.span()),
         _ => None,
     }
 }

@@ -28,7 +28,7 @@ pub(crate) fn well_formed(key: &Key)
     ensures { IsKey key.now }
 {
     match key {
-        Key::AsBlock(span) => span.ordered(),
+        Key::AsBlock(span) => span.span().ordered(),
         Key::Inetnum(span) => span.ordered(),
         Key::Route(prefix, _) => {
             let _length = prefix.length();

@@ -53,7 +53,7 @@ fn keys_cross(key: &Key, other: &Key) -> bool
 {
     match key {
         Key::AsBlock(span) => match other {
-            Key::AsBlock(other) => span.crosses(*other),
+            Key::AsBlock(other) => span.span().crosses(other.span()),
             _ => false,
         },
         Key::Inetnum(span) => match other {

@@ -12,6 +12,8 @@ pub mod line;
 
 pub mod paragraph;
 pub mod reader;
+#[cfg(test)]
+mod tests;
 pub mod text;
 pub mod trim;
 pub mod value;

@@ -5,6 +5,8 @@ ghost use Rattle.std.specs.List.{list_any, list_all, position};
 ghost use Rattle.rr_text.specs.Bytes.{is_blank, is_refused, is_line_feed, begins};
 ghost use Rattle.rr_text.specs.Lines.{is_blank_line, is_skipped_line, is_paragraph_line, is_continuation_sign, line_kind, opens_attribute, text_lines, are_whole_lines};
 
+use memchr::memchr;
+
 /// What kind of line a line is (RFC 2622, section 2).
 #[derive(Clone, Copy, Debug, PartialEq, Eq)]
 pub enum LineKind {
@@ -51,7 +53,7 @@ impl LineKind {
 pub fn is_blank_byte(byte: u8) -> bool
     ensures { result ≡ is_blank byte }
 {
-    byte == b' ' || byte == b'\t' || byte == b'\r' || byte == b'\n'
+    (byte == b' ') | (byte == b'\t') | (byte == b'\r') | (byte == b'\n')
 }
 
 /// Whether a byte may stand in skipped lines alone.
@@ -59,7 +61,7 @@ pub fn is_blank_byte(byte: u8) -> bool
 fn is_refused_byte(byte: u8) -> bool
     ensures { result ≡ is_refused byte }
 {
-    byte.is_ascii_control() && !is_blank_byte(byte)
+    byte.is_ascii_control() & !is_blank_byte(byte)
 }
 
 /// Whether a line is one of blanks alone, which ends a paragraph.
@@ -103,7 +105,11 @@ pub fn is_of_paragraph(line: &[u8]) -> bool
 pub fn has_refused_byte(line: &[u8]) -> bool
     ensures { result ≡ list_any is_refused line.now }
 {
-    line.iter().any(|byte| is_refused_byte(*byte))
+    let mut found = false;
+    for byte in line {
+        found |= is_refused_byte(*byte);
+    }
+    found
 }
 
 /// Whether a line has the LF that ends it.
@@ -114,10 +120,11 @@ pub fn has_line_feed(line: &[u8]) -> bool
 }
 
 #[inline]
+#[tactic(auto, using(crate::proofs::LineLemmas::place_found))]
 fn first_line_feed(text: &[u8]) -> Option<usize>
     ensures { result ≡ position is_line_feed text.now }
 {
-    text.iter().position(|byte| *byte == b'\n')
+    memchr(b'\n', text)
 }
 
 /// The first line of a text with the LF that ends it, and what follows it.

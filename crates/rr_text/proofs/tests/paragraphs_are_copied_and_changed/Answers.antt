@@ -1,0 +1,7 @@
+use Rattle.std.proofs.Common.{refl}
+use Rattle.rr_text.specs.Bytes.{trim_start, trim_end}
+use Rattle.rr_text.proofs.tests.paragraphs_are_copied_and_changed.Goals as goal
+
+pub with_values-requires : goal.with_values-requires
+unfolding trim_start trim_end
+with_values-requires c d = record { trimmed = refl; unbroken = refl; clean = refl }

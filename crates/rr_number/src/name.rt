@@ -15,8 +15,8 @@ use crate::letter_case::spells;
 use rr_io::{Sink, write_all};
 use std::alloc::{AllocError, Global};
 use std::cmp::Ordering;
-use std::io;
 use std::marker::Model;
+use std::{fmt, io};
 
 /// The most bytes that a name has (profile).
 const MOST_BYTES: usize = 80;
@@ -124,6 +124,16 @@ impl Name {
     {
         let bytes = Vec::from_slice(alloc, &self.bytes)?;
         Ok(Name { bytes })
+    }
+}
+
+/// Writes the name as it is kept, in upper case.
+impl fmt::Display for Name {
+    fn fmt<W: fmt::Write>(&self, f: &mut fmt::Formatter<W>) -> fmt::Result {
+        for byte in &self.bytes {
+            f.write_char(char::from(*byte))?;
+        }
+        Ok(())
     }
 }
 

@@ -22,8 +22,8 @@ pub use parent::Parent;
 use rr_io::{Sink, write_all};
 use std::alloc::{AllocError, Global};
 use std::cmp::Ordering;
-use std::io;
 use std::marker::Model;
+use std::{fmt, io};
 
 /// The most bytes that a set's name is spelled in (profile).
 const MOST_BYTES: usize = 255;
@@ -100,6 +100,15 @@ impl SetName {
     {
         let bytes = Vec::from_slice(alloc, &self.bytes)?;
         Ok(SetName { bytes })
+    }
+}
+
+impl fmt::Display for SetName {
+    fn fmt<W: fmt::Write>(&self, f: &mut fmt::Formatter<W>) -> fmt::Result {
+        for byte in &self.bytes {
+            f.write_char(char::from(*byte))?;
+        }
+        Ok(())
     }
 }
 

@@ -1,4 +1,5 @@
 pub mod DerivedOrder
+pub mod Gathering
 pub mod Names
 pub mod Order
 pub mod Places

@@ -49,13 +49,13 @@ mntner_key n (Route p m) = refl
 mntner_key n (AsSet m) = refl
 mntner_key n (RouteSet m) = refl
 
+pub by_name : (n : List ℕ) (os : List Obj) → find (λ o. eq_by_cmp key_cmp (Mntner n) o.key) os ≡ find (λ o. is_mntner_of n o.key) os
+by_name n [] = refl
+by_name n (x ∷ xs) = λ i. cond (mntner_key n x.key i) (Some x) (by_name n xs i)
+
 -- a mntner is looked up by its name
 pub maintainer_of_book : (os : List Obj) (n : List ℕ) → is_in_order os ≡ true → maintainer (book_of os) n ≡ find (λ o. is_mntner_of n o.key) os
-maintainer_of_book os n e = get_of_book os (Mntner n) e ∙ by_name os
-  where
-    by_name : (xs : List Obj) → find (λ o. eq_by_cmp key_cmp (Mntner n) o.key) xs ≡ find (λ o. is_mntner_of n o.key) xs
-    by_name [] = refl
-    by_name (x ∷ xs) = λ i. cond (mntner_key n x.key i) (Some x) (by_name xs i)
+maintainer_of_book os n e = get_of_book os (Mntner n) e ∙ by_name n os
 
 -- the entries of a list into which an object is put
 entries_put : (o : Obj) (os : List Obj) → map entry (put_in o os) ≡ put key_cmp o.key o (map entry os)

@@ -1,9 +1,11 @@
 -- When a list of objects is a sound registry, and what else is the matter with it.
-use Rattle.std.specs.Prelude.{◌≡◌, ℕ, ◌+◌, Bool, ◌⊎◌, List, [], ◌∷◌, Option, None, Some, position, if◌then◌else◌}
+use Rattle.std.specs.Prelude.{◌≡◌, ℕ, ◌+◌, Bool, true, false, ◌⊎◌, List, [], ◌∷◌, Option, None, Some, position, if◌then◌else◌}
 use Rattle.std.specs.Option.{option_map, option_or}
-use Rattle.std.specs.FinMap.{contains_key, empty, insert}
+use Rattle.std.specs.FinMap.{contains_key, empty, get, insert}
+use Rattle.rr_object.specs.declared.key.Key.{Key}
 use Rattle.rr_object.specs.Objects.{Obj, names_of}
-use Rattle.rr_auth.specs.Registries.{Reg, crosses_some, names_nobody}
+use Rattle.rr_auth.specs.Registries.{Reg, IsKey, crosses_some, keys_cross, names_nobody}
+use Rattle.rr_registry.specs.Books.{book_of, is_in_order}
 use Rattle.rr_registry.specs.declared.load.LoadFault.{LoadFault}
 use Rattle.rr_registry.specs.declared.load.LoadFault.TheVariants.{Duplicate, Overlap, Unnamed, Memory}
 
@@ -39,3 +41,22 @@ pub record IsTaken (os : List Obj) (r : Reg) : Type 0 where
 -- The fault is the list's, or memory was wanting.
 abbrev pub IsFaultOf : List Obj → LoadFault → Type 0
 IsFaultOf os fault = (fault ≡ Memory) ⊎ (load_fault os ≡ Some fault)
+
+-- Objects in order whose registry has each under its own well formed key and no two that cross: sound but for names.
+pub record IsApart (os : List Obj) : Type 0 where
+  pub ordered : is_in_order os ≡ true
+  pub keyed : (k : Key) (o : Obj) → get (book_of os) k ≡ Some o → o.key ≡ k
+  pub formed : (k : Key) (o : Obj) → get (book_of os) k ≡ Some o → IsKey k
+  pub apart : (k l : Key) (o x : Obj) → get (book_of os) k ≡ Some o → get (book_of os) l ≡ Some x → keys_cross k l ≡ false
+
+-- The n-th object was put among those before it.
+pub record IsTakenIn (before : List Obj) (n : ℕ) (o : Obj) (grown : List Obj) : Type 0 where
+  pub free : clash_of (book_of before) n o ≡ None
+  pub apart : IsApart grown
+  pub put : book_of grown ≡ insert (book_of before) o.key o
+
+-- The objects of a list were put in, one after the other.
+pub record IsGathered (os : List Obj) (grown : List Obj) : Type 0 where
+  pub free : clash empty 1 os ≡ None
+  pub apart : IsApart grown
+  pub whole : book_of grown ≡ gathered empty os

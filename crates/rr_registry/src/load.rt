@@ -1,9 +1,19 @@
 //! Lists of objects taken as registries.
 
-ghost use Rattle.std.specs.Prelude.{MatchResult};
+ghost use Rattle.std.specs.Prelude.{◌≡◌, ◌⊎◌, ◌++◌, ◌<◌, ◌^◌, None, Some, IfErr, IfSome, MatchResult, OnOk, find, is_none, length, map, position};
+ghost use Rattle.std.specs.List.{list_any};
+ghost use Rattle.std.specs.FinMap.{empty};
+ghost use Rattle.rr_object.specs.Objects.{names_of};
+ghost use Rattle.rr_auth.specs.Registries.{is_mntner_of};
+ghost use Rattle.rr_registry.specs.Books.{IsBook, book_of};
+ghost use Rattle.rr_registry.specs.Loading.{clash, clash_of, IsApart, IsGathered, IsTakenIn};
 
+use crate::keys::well_formed;
+use crate::lists;
+use crate::plain_book::PlainBook;
 use crate::registry::Registry;
-use rr_object::Object;
+use rr_number::Name;
+use rr_object::{Grant, Object};
 use std::alloc::Global;
 
 /// Why a list of objects is not taken as a registry. Objects are counted from 1.
@@ -24,9 +34,101 @@ impl Registry {
 
     /// The registry of these objects. The fault is the first key that stands twice or span that crosses one before it,
     /// else the first object that names a maintainer who is not in the list, or want of memory (profile).
-    pub fn from_objects(_alloc: Global, _objects: Vec<Object>) -> Result<Registry, LoadFault>
-        ensures { MatchResult result (IsTaken _objects.items) (IsFaultOf _objects.items) }
+    #[tactic(auto, using(crate::proofs::Gathering::clash_is_fault))]
+    pub fn from_objects(alloc: Global, objects: Vec<Object>) -> Result<Registry, LoadFault>
+        ensures { MatchResult result (IsTaken objects.items) (IsFaultOf objects.items) }
     {
-        Err(LoadFault::Memory)
+        let unnamed = first_unnamed(&objects);
+        match gather(alloc, objects) {
+            Err(fault) => Err(fault),
+            Ok(gathered) => match unnamed {
+                Some(i) => Err(LoadFault::Unnamed(i as u64 + 1)),
+                None => Ok(Registry::of(PlainBook::of(gathered))),
+            },
+        }
+    }
+}
+
+/// The place of the first object that names a maintainer who is not among the objects.
+fn first_unnamed(objects: &[Object]) -> Option<usize>
+    ensures value { result ≡ position (λ o. list_any (λ n. is_none (find (λ x. is_mntner_of n x.key) objects.now)) (names_of o)) objects.now }
+    ensures within { IfSome result (λ i. i < length objects.now) }
+{
+    objects
+        .iter()
+        .position(|object| names_nobody(objects, object))
+}
+
+/// Whether the object names a maintainer who is not among the objects.
+fn names_nobody(objects: &[Object], object: &Object) -> bool
+    ensures { result ≡ list_any (λ n. is_none (find (λ x. is_mntner_of n x.key) objects.now)) (names_of object.now) }
+{
+    some_unknown_in_routes(objects, object) || some_unknown(objects, object.by_ref().names())
+}
+
+/// Whether mnt-by, mnt-lower or mnt-routes names such a maintainer.
+fn some_unknown_in_routes(objects: &[Object], object: &Object) -> bool
+    ensures { result ≡ list_any (λ n. is_none (find (λ x. is_mntner_of n x.key) objects.now))
+        ((object.now.maintainers ++ object.now.lower) ++ map (λ g. g.name) object.now.routes) }
+{
+    some_unknown_in_lower(objects, object) || some_entry_unknown(objects, object.routes())
+}
+
+/// Whether mnt-by or mnt-lower names such a maintainer.
+fn some_unknown_in_lower(objects: &[Object], object: &Object) -> bool
+    ensures { result ≡ list_any (λ n. is_none (find (λ x. is_mntner_of n x.key) objects.now))
+        (object.now.maintainers ++ object.now.lower) }
+{
+    some_unknown(objects, object.maintainers()) || some_unknown(objects, object.lower())
+}
+
+fn some_entry_unknown(objects: &[Object], entries: &[Grant]) -> bool
+    ensures { result ≡ list_any (λ g. is_none (find (λ x. is_mntner_of g.name x.key) objects.now)) entries.now }
+{
+    entries
+        .iter()
+        .any(|entry| lists::find_mntner(objects, entry.name()).is_none())
+}
+
+fn some_unknown(objects: &[Object], names: &[Name]) -> bool
+    ensures { result ≡ list_any (λ n. is_none (find (λ x. is_mntner_of n x.key) objects.now)) names.now }
+{
+    names
+        .iter()
+        .any(|name| lists::find_mntner(objects, name).is_none())
+}
+
+/// The objects in order, or the first whose key stands twice or whose span crosses one before it.
+fn gather(alloc: Global, objects: Vec<Object>) -> Result<Vec<Object>, LoadFault>
+    ensures { MatchResult result
+        (λ gathered. IsGathered objects.items gathered.items)
+        (λ fault. (fault ≡ LoadFault.Memory) ⊎ (clash empty 1 objects.items ≡ Some fault)) }
+{
+    let mut gathered = Vec::new(alloc);
+    let mut n = 0;
+    for object in objects {
+        n += 1;
+        take_in(&mut gathered, n, object)?;
+    }
+    Ok(gathered)
+}
+
+/// Puts the n-th object among those before it.
+#[tactic(auto, using(crate::proofs::Gathering::put_apart, crate::proofs::Order::book_put, crate::proofs::Order::values_of_book, crate::proofs::Order::get_of_book))]
+fn take_in(gathered: &mut Vec<Object>, n: u64, object: Object) -> Result<(), LoadFault>
+    requires { IsApart gathered.old.items }
+    ensures ok { OnOk result (IsTakenIn gathered.old.items n object gathered.new.items) }
+    ensures err { IfErr result (λ fault. (fault ≡ LoadFault.Memory) ⊎ (clash_of (book_of gathered.old.items) n object ≡ Some fault)) }
+{
+    well_formed(object.key());
+    if lists::find_key(gathered, object.key()).is_some() {
+        return Err(LoadFault::Duplicate(n));
+    }
+    if lists::some_crosses(gathered, object.key()) {
+        return Err(LoadFault::Overlap(n));
+    }
+    match lists::put(gathered, object) {
+        Ok(()) => Ok(()),
+        Err(_) => Err(LoadFault::Memory),
     }
 }

@@ -37,6 +37,8 @@ impl Model for PlainBook {
 }
 
 impl PlainBook {
+    ghost use Rattle.rr_registry.specs.Books.{book_of, IsBook};
+
     /// A book of no objects.
     #[tactic(auto, using(crate::proofs::Order::empty_is_book, crate::proofs::Order::empty_book))]
     pub fn new(alloc: Global) -> PlainBook
@@ -45,6 +47,14 @@ impl PlainBook {
         PlainBook {
             objects: Vec::new(alloc),
         }
+    }
+
+    /// The book of these objects.
+    pub(crate) fn of(objects: Vec<Object>) -> PlainBook
+        requires { IsBook objects.items }
+        ensures { result ≡ book_of objects.items }
+    {
+        PlainBook { objects }
     }
 
     /// The objects in the order of class and key.

@@ -44,6 +44,13 @@ impl Registry {
         }
     }
 
+    /// The registry of this book.
+    pub(crate) fn of(book: PlainBook) -> Registry
+        ensures { result ≡ book }
+    {
+        Registry { book }
+    }
+
     /// The book of the registry, over which other questions can be asked.
     pub fn book(&self) -> &PlainBook
         ensures { result.now ≡ self.now }

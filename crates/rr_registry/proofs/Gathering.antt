@@ -1,0 +1,225 @@
+-- Objects that are put in one after the other, and when the whole is sound.
+use Rattle.std.proofs.Common.{◌≡◌, ℕ, suc, ◌+◌, ◌≤◌, length, Bool, true, false, cond, not, ◌||◌, ◌⊎◌, inl, inr, List, [], ◌∷◌, refl, sym, ap, subst, ◌∙◌, arith}
+use Rattle.std.specs.Prelude.{Option, None, Some, is_some, is_none, find, position, nat_lt, if◌then◌else◌}
+use Rattle.std.specs.List.{list_any, position_or_len}
+use Rattle.std.proofs.lemmas.Bool.{true≢false, lt-ltb, le-ltb, ltb-false}
+use Rattle.std.proofs.lemmas.Grind.{common_steps}
+use Rattle.std.specs.Option.{option_copied, option_map, option_or}
+use Rattle.std.specs.Borrow.{Bor}
+use Rattle.std.specs.Ordering.{eq_by_cmp}
+use Rattle.std.specs.FinMap.{contains_key, empty, get, insert, values, get-insert, get-empty}
+use Rattle.rr_object.specs.declared.key.Key.{Key}
+use Rattle.rr_object.specs.declared.key.Key.TheVariants.{Mntner}
+use Rattle.rr_object.specs.Objects.{Obj, names_of}
+use Rattle.rr_auth.specs.KeyOrder.{key_cmp}
+use Rattle.rr_auth.specs.Registries.{Reg, Sound, IsKey, maintainer, names_nobody, keys_cross, crosses_some, is_mntner_of}
+use Rattle.rr_auth.proofs.KeyLaws.{keys_total}
+use Rattle.rr_auth.proofs.Crossing.{keys_cross_back, crosses_itself}
+use Rattle.rr_auth.proofs.Members.{IsIn, found_in, none_passes}
+use Rattle.rr_auth.proofs.Keeping.{after_insert}
+use Rattle.rr_registry.specs.Books.{book_of, is_in_order, put_in, IsBook}
+use Rattle.rr_registry.specs.Loading.{gathered, clash, clash_of, load_fault, unnamed, IsApart, IsTakenIn, IsGathered}
+use Rattle.rr_registry.specs.declared.load.LoadFault.{LoadFault}
+use Rattle.rr_registry.specs.declared.load.LoadFault.TheVariants.{Duplicate, Overlap, Unnamed, Memory}
+use Rattle.rr_registry.proofs.Order.{book_put, by_name, empty_book, get_of_book, in_order_put, values_of_book}
+
+-- no objects are apart
+nothing : {A : Type 0} (x : A) → None ≡ Some x → ⊥
+nothing x e = cc
+
+-- one more object, whose key crosses none, leaves objects apart
+pub put_apart : (o : Obj) (os : List Obj) → IsApart os → IsKey o.key → crosses_some (book_of os) o.key ≡ false → IsApart (put_in o os)
+put_apart o os a formed free =
+    let r = book_of os in
+    let same = book_put o os a.ordered in
+    let outside : (l : Key) (x : Obj) → get r l ≡ Some x → keys_cross l o.key ≡ false =
+        λ l x f. ap (λ m. keys_cross m o.key) (sym (a.keyed l x f)) ∙ none_passes (λ y. keys_cross y.key o.key) x (values r) free (found_in r l x f) in
+    record {
+      ordered = in_order_put o os a.ordered;
+      keyed = λ k x f. after_insert (λ l y. y.key ≡ l) r o.key o refl a.keyed k x (sym (ap (λ m. get m k) same) ∙ f);
+      formed = λ k x f. after_insert (λ l y. IsKey l) r o.key o formed a.formed k x (sym (ap (λ m. get m k) same) ∙ f);
+      apart = λ k l x y f g.
+          after_insert (λ m u. keys_cross m l ≡ false) r o.key o
+            (after_insert (λ b v. keys_cross o.key b ≡ false) r o.key o (crosses_itself o.key)
+                (λ b v h. keys_cross_back o.key b ∙ outside b v h) l y (sym (ap (λ m. get m l) same) ∙ g))
+            (λ m u h. after_insert (λ b v. keys_cross m b ≡ false) r o.key o (outside m u h)
+                (λ b v i. a.apart m b u v h i) l y (sym (ap (λ w. get w l) same) ∙ g))
+            k x (sym (ap (λ m. get m k) same) ∙ f)
+    }
+
+-- a key that is there, or stands in a list, stands in what is gathered
+or_swap : (a b c : Bool) → ((a || b) || c) ≡ (b || (a || c))
+or_swap true true c = refl
+or_swap true false c = refl
+or_swap false b c = refl
+
+some_cond : {A : Type 0} (b : Bool) (x : A) (o : Option A) → is_some (cond b (Some x) o) ≡ (b || is_some o)
+some_cond true x o = refl
+some_cond false x o = refl
+
+stands_gathered : (r : Reg) (os : List Obj) (k : Key)
+    → is_some (get (gathered r os) k) ≡ (is_some (get r k) || is_some (find (λ o. eq_by_cmp key_cmp k o.key) os))
+stands_gathered r [] k = sym (or_none (is_some (get r k)))
+  where
+    or_none : (b : Bool) → (b || false) ≡ b
+    or_none true = refl
+    or_none false = refl
+stands_gathered r (o ∷ os) k =
+    let b = eq_by_cmp key_cmp k o.key in
+    let rest = is_some (find (λ x. eq_by_cmp key_cmp k x.key) os) in
+    stands_gathered (insert r o.key o) os k
+    ∙ ap (λ s. s || rest) (ap is_some (get-insert keys_total r o.key o k) ∙ some_cond b o (get r k))
+    ∙ or_swap b (is_some (get r k)) rest
+    ∙ ap (λ s. is_some (get r k) || s) (sym (some_cond b o (find (λ x. eq_by_cmp key_cmp k x.key) os)))
+
+-- what is gathered was there, or is of the list
+gathered_from : (r : Reg) (os : List Obj) (k : Key) (o : Obj) → get (gathered r os) k ≡ Some o → (get r k ≡ Some o) ⊎ IsIn o os
+gathered_from r [] k o f = inl f
+gathered_from r (x ∷ xs) k o f =
+    elim (gathered_from (insert r x.key x) xs k o f) as (λ _. (get r k ≡ Some o) ⊎ ((o ≡ x) ⊎ IsIn o xs)) [
+      | inl g ↦ from_insert (eq_by_cmp key_cmp k x.key) (sym (get-insert keys_total r x.key x k) ∙ g)
+      | inr i ↦ inr (inr i)
+    ]
+  where
+    from_insert : (b : Bool) → cond b (Some x) (get r k) ≡ Some o → (get r k ≡ Some o) ⊎ ((o ≡ x) ⊎ IsIn o xs)
+    from_insert true e = inr (inl cc)
+    from_insert false e = inl e
+
+-- where the first object that passes a test stands past the end, none passes it
+any_before : (p : Obj → Bool) (os : List Obj) → nat_lt (position_or_len p os) (length os) ≡ false → list_any p os ≡ false
+any_before p [] e = refl
+any_before p (x ∷ xs) e =
+    elim (p x) as (λ b. nat_lt (cond (not b) (1 + position_or_len p xs) 0) (suc (length xs)) ≡ false → (b || list_any p xs) ≡ false) [
+      | true ↦ λ f. absurd (true≢false (sym (lt-ltb 0 (suc (length xs)) (omega arith)) ∙ f))
+      | false ↦ λ f. any_before p xs (le-ltb (position_or_len p xs) (length xs) (let past : suc (length xs) ≤ 1 + position_or_len p xs = ltb-false _ _ f in omega arith))
+    ] e
+
+not_below : (p : Obj → Bool) (os : List Obj) → position p os ≡ None → nat_lt (position_or_len p os) (length os) ≡ false
+not_below p os e =
+    elim (nat_lt (position_or_len p os) (length os)) as (λ b. cond b (Some (position_or_len p os)) None ≡ None → b ≡ false) [
+      | true ↦ λ f. cc
+      | false ↦ λ f. refl
+    ] e
+
+-- where no object of a list passes a test for a place, none does
+no_place : (p : Obj → Bool) (os : List Obj) → position p os ≡ None → list_any p os ≡ false
+no_place p os e = any_before p os (not_below p os e)
+
+of_list : (os : List Obj) (k : Key) (o : Obj) → (get {R = key_cmp} empty k ≡ Some o) ⊎ IsIn o os → IsIn o os
+of_list os k o (inl f) = absurd (nothing o (sym (get-empty key_cmp k) ∙ f))
+of_list os k o (inr i) = i
+
+unmapped : (p : Option ℕ) → option_map (λ i. Unnamed (i + 1)) p ≡ None → p ≡ None
+unmapped None e = refl
+unmapped (Some i) e = cc
+
+-- a list whose objects are apart and name nobody unknown is a book
+pub gathered_is_book : (os grown : List Obj) → IsGathered os grown → unnamed (gathered empty os) os ≡ None → IsBook grown
+gathered_is_book os grown g e =
+    let r = gathered empty os in
+    let whole = g.whole in
+    record {
+      ordered = g.apart.ordered;
+      sound = record {
+        keyed = g.apart.keyed;
+        formed = g.apart.formed;
+        named = λ k o f.
+          subst (λ m. names_nobody m (names_of o) ≡ false) (sym whole)
+            (none_passes (λ x. names_nobody r (names_of x)) o os (no_place (λ x. names_nobody r (names_of x)) os (unmapped _ e))
+              (of_list os k o (gathered_from empty os k o (sym (ap (λ m. get m k) whole) ∙ f))));
+        apart = g.apart.apart
+      }
+    }
+
+-- a name that is of no mntner in a list is of none in what is gathered
+known_in_list : (os : List Obj) (n : List ℕ) → is_none (maintainer (gathered empty os) n) ≡ is_none (find (λ x. is_mntner_of n x.key) os)
+known_in_list os n =
+    ap not (stands_gathered empty os (Mntner n) ∙ ap (λ s. is_some s || is_some (find (λ o. eq_by_cmp key_cmp (Mntner n) o.key) os)) (get-empty key_cmp (Mntner n))
+        ∙ ap is_some (by_name n os))
+
+all_known : (os : List Obj) (ns : List (List ℕ)) → names_nobody (gathered empty os) ns ≡ list_any (λ n. is_none (find (λ x. is_mntner_of n x.key) os)) ns
+all_known os [] = refl
+all_known os (n ∷ ns) = λ i. known_in_list os n i || all_known os ns i
+
+same_position : (p q : Obj → Bool) → ((o : Obj) → p o ≡ q o) → (os : List Obj) → position p os ≡ position q os
+same_position p q h os = ap (λ f. position f os) (λ i o. h o i)
+
+-- the first object that names nobody in the list is the first that names nobody in what is gathered
+pub first_unnamed_is : (os : List Obj)
+    → unnamed (gathered empty os) os
+    ≡ option_map (λ i. Unnamed (i + 1)) (position (λ o. list_any (λ n. is_none (find (λ x. is_mntner_of n x.key) os)) (names_of o)) os)
+first_unnamed_is os = ap (option_map (λ i. Unnamed (i + 1))) (same_position _ _ (λ o. all_known os (names_of o)) os)
+
+-- a key that is found stands in the registry
+stands : (os : List Obj) (k : Key) → is_in_order os ≡ true → contains_key (book_of os) k ≡ is_some (find (λ x. eq_by_cmp key_cmp k x.key) os)
+stands os k e = ap is_some (get_of_book os k e)
+
+crossed : (os : List Obj) (k : Key) → is_in_order os ≡ true → crosses_some (book_of os) k ≡ list_any (λ x. keys_cross x.key k) os
+crossed os k e = ap (list_any (λ x. keys_cross x.key k)) (values_of_book os e)
+
+pub is_duplicate : (os : List Obj) (n : ℕ) (o : Obj) → IsApart os → is_some (find (λ x. eq_by_cmp key_cmp o.key x.key) os) ≡ true
+    → clash_of (book_of os) n o ≡ Some (Duplicate n)
+is_duplicate os n o a e =
+    ap (λ b. if b then Some (Duplicate n) else (if crosses_some (book_of os) o.key then Some (Overlap n) else None)) (stands os o.key a.ordered ∙ e)
+
+pub is_overlap : (os : List Obj) (n : ℕ) (o : Obj) → IsApart os → is_some (find (λ x. eq_by_cmp key_cmp o.key x.key) os) ≡ false
+    → list_any (λ x. keys_cross x.key o.key) os ≡ true → clash_of (book_of os) n o ≡ Some (Overlap n)
+is_overlap os n o a e f =
+    ap (λ b. if b then Some (Duplicate n) else (if crosses_some (book_of os) o.key then Some (Overlap n) else None)) (stands os o.key a.ordered ∙ e)
+    ∙ ap (λ b. if b then Some (Overlap n) else None) (crossed os o.key a.ordered ∙ f)
+
+pub taken_in : (os : List Obj) (n : ℕ) (o : Obj) (grown : List Obj) → IsApart os → IsKey o.key
+    → is_some (find (λ x. eq_by_cmp key_cmp o.key x.key) os) ≡ false → list_any (λ x. keys_cross x.key o.key) os ≡ false
+    → grown ≡ put_in o os → IsTakenIn os n o grown
+taken_in os n o grown a formed e f same = record {
+    free =
+        ap (λ b. if b then Some (Duplicate n) else (if crosses_some (book_of os) o.key then Some (Overlap n) else None)) (stands os o.key a.ordered ∙ e)
+        ∙ ap (λ b. if b then Some (Overlap n) else None) (crossed os o.key a.ordered ∙ f);
+    apart = subst IsApart (sym same) (put_apart o os a formed (crossed os o.key a.ordered ∙ f));
+    put = ap book_of same ∙ book_put o os a.ordered
+  }
+
+-- whether there is a value behind a reference
+pub copied_some : {A : Type 0} (o : Option (Bor A)) → is_some (option_copied o) ≡ is_some o
+copied_some None = refl
+copied_some (Some x) = refl
+
+-- what is found behind a reference is found
+pub found_by : {A : Type 0} (o : Option (Bor A)) (p : Option A) → option_copied o ≡ p → is_some o ≡ is_some p
+found_by o p e = sym (copied_some o) ∙ ap is_some e
+
+-- no objects are apart
+pub none_apart : IsApart []
+none_apart = record {
+    ordered = refl;
+    keyed = λ k o f. absurd (nothing o (sym (get_of_book [] k refl) ∙ f));
+    formed = λ k o f. absurd (nothing o (sym (get_of_book [] k refl) ∙ f));
+    apart = λ k l o x f g. absurd (nothing o (sym (get_of_book [] k refl) ∙ f))
+  }
+
+-- where gathering begins
+pub record IsStart (os xs fs : List Obj) : Type 0 where
+  pub apart : IsApart fs
+  pub same_clash : clash (book_of fs) 1 xs ≡ clash empty 1 os
+  pub same_whole : gathered (book_of fs) xs ≡ gathered empty os
+
+pub start : (os xs fs : List Obj) → fs ≡ [] → xs ≡ os → IsStart os xs fs
+start os xs fs e f = record {
+    apart = subst IsApart (sym e) none_apart;
+    same_clash = ap (λ r. clash r 1 xs) (ap book_of e ∙ empty_book) ∙ ap (clash empty 1) f;
+    same_whole = ap (λ r. gathered r xs) (ap book_of e ∙ empty_book) ∙ ap (gathered empty) f
+  }
+
+-- the place of the first object of a list that names a maintainer who is not in it
+abbrev pub first_place : List Obj → Option ℕ
+first_place os = position (λ o. list_any (λ n. is_none (find (λ x. is_mntner_of n x.key) os)) (names_of o)) os
+
+-- what the search for such an object says of the list's faults
+pub found_fault : (os : List Obj) (u : Option ℕ) → u ≡ first_place os → unnamed (gathered empty os) os ≡ option_map (λ i. Unnamed (i + 1)) u
+found_fault os u e = first_unnamed_is os ∙ ap (option_map (λ i. Unnamed (i + 1))) (sym e)
+
+pub fault_after : (os fs : List Obj) (f : Option LoadFault) → IsGathered os fs → unnamed (gathered empty os) os ≡ f → load_fault os ≡ f
+fault_after os fs f g e = ap (λ c. option_or c (unnamed (gathered empty os) os)) g.free ∙ e
+
+pub clash_is_fault : (os : List Obj) (f : LoadFault) → clash empty 1 os ≡ Some f → load_fault os ≡ Some f
+clash_is_fault os f e = ap (λ c. option_or c (unnamed (gathered empty os) os)) e

@@ -4,7 +4,7 @@ use Rattle.std.specs.Coded.{Coded, code_by, coded×, coded_ℕ}
 use Rattle.std.specs.declared.cmp.Ordering.{Ordering}
 use Rattle.std.specs.Ordering.{ordering_then, nat_cmp}
 
--- The two ends of a span, both of them in it (RFC 2622, 4; profile).
+-- The two ends of a span, both of them in it (profile).
 pub record Ends : Type 0 where
   pub first : ℕ
   pub last : ℕ

@@ -11,6 +11,7 @@ pub mod LetterCase
 pub mod Multiples
 pub mod NameLemmas
 pub mod NumberCase
+pub mod NumberOrders
 pub mod OperatorLemmas
 pub mod ParentLemmas
 pub mod PrefixLemmas

@@ -120,3 +120,9 @@ spans_tell p q is_p is_q same =
     let up : covers (span_of p) (span_of q) ≡ true = grind (arith, nat_tests) in
     let down : covers (span_of q) (span_of p) ≡ true = grind (arith, nat_tests) in
     same_parts p q one_address (omega (arith, covers_longer p q is_p is_q up, covers_longer q p is_q is_p down))
+
+-- only equal prefixes cover each other
+pub cover_each_other : (p q : PrefixParts) → IsMasked p → IsMasked q → covers (span_of p) (span_of q) ≡ true → covers (span_of q) (span_of p) ≡ true → p ≡ q
+cover_each_other p q is_p is_q up down =
+    let one_address : p.address ≡ q.address = grind (arith, nat_tests) in
+    same_parts p q one_address (omega (arith, covers_longer p q is_p is_q up, covers_longer q p is_q is_p down))

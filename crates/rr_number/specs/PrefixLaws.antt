@@ -1,6 +1,8 @@
 -- How prefixes lie among each other as sets of addresses.
 use Rattle.std.specs.Prelude.{◌≡◌, true, false, ◌≤◌}
-use Rattle.rr_number.specs.Prefixes.{PrefixParts, IsMasked, span_of}
+use Rattle.std.specs.Cmp.{IsTotalOrder}
+use Rattle.std.specs.FinMap.{IsAntisymmetric}
+use Rattle.rr_number.specs.Prefixes.{PrefixParts, IsMasked, prefix_cmp, span_of}
 use Rattle.rr_number.specs.Spans.{IsSpan, covers, crosses}
 
 -- The span of a prefix has its ends in order, both below 2^32 (RFC 2622, 2).
@@ -22,3 +24,14 @@ CoversLonger =
 abbrev pub SpansTellPrefixes : Type 0
 SpansTellPrefixes =
     (p q : PrefixParts) → IsMasked p → IsMasked q → span_of p ≡ span_of q → p ≡ q
+
+-- Only equal prefixes cover each other (RFC 2622, 2).
+abbrev pub CoverEachOtherAlone : Type 0
+CoverEachOtherAlone =
+    (p q : PrefixParts) → IsMasked p → IsMasked q → covers (span_of p) (span_of q) ≡ true
+    → covers (span_of q) (span_of p) ≡ true → p ≡ q
+
+-- The order of prefixes is total, and only equal prefixes tie (profile).
+pub record PrefixesAreOrdered : Type 0 where
+  pub total : IsTotalOrder prefix_cmp
+  pub exact : IsAntisymmetric prefix_cmp

@@ -1,6 +1,8 @@
 -- Prefixes (RFC 2622, 2): an address and how many of its first bits count.
 use Rattle.std.specs.Prelude.{◌≡◌, ℕ, ◌+◌, ◌-◌, ◌%◌, ◌^◌, ◌<◌, ◌≤◌, List, ◌∷◌, ◌++◌, Option}
 use Rattle.std.specs.Fmt.{decimal}
+use Rattle.std.specs.declared.cmp.Ordering.{Ordering}
+use Rattle.std.specs.Ordering.{ordering_then, nat_cmp}
 use Rattle.std.specs.Option.{option_and_then, option_map}
 use Rattle.rr_number.specs.Addresses.{IsAddress, address_of, address_text}
 use Rattle.rr_number.specs.Cuts.{cut_at}
@@ -29,6 +31,10 @@ masked address length = record { address = address - address % count_of length; 
 -- A prefix has the span of the addresses from its own on, as many as share its bits (RFC 2622, 2).
 abbrev pub span_of : PrefixParts → Ends
 span_of p = record { first = p.address; last = p.address + (count_of p.length - 1) }
+
+-- Prefixes are ordered by address, then by length (profile).
+abbrev pub prefix_cmp : PrefixParts → PrefixParts → Ordering
+prefix_cmp p q = ordering_then (nat_cmp p.address q.address) (nat_cmp p.length q.length)
 
 -- The separator of address and length, '/' (RFC 2622, 2).
 abbrev pub slash : ℕ

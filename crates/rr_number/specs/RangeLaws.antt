@@ -1,10 +1,12 @@
 -- What operators mean for ranges as sets of prefixes.
 use Rattle.std.specs.Prelude.{◌≡◌, ℕ, Bool, false, ◌&&◌, MatchOption, Some, nat_le}
+use Rattle.std.specs.Cmp.{IsTotalOrder}
+use Rattle.std.specs.FinMap.{IsAntisymmetric}
 use Rattle.rr_number.specs.Applied.{IsRanged, applied, operator_for, range_text}
 use Rattle.rr_number.specs.Bounds.{Bounds}
 use Rattle.rr_number.specs.Operators.{IsOperatorValue, tabled}
 use Rattle.rr_number.specs.Prefixes.{PrefixParts, IsMasked, span_of}
-use Rattle.rr_number.specs.Ranges.{RangeParts, IsRange, admits, bare, bounds_of}
+use Rattle.rr_number.specs.Ranges.{RangeParts, IsRange, admits, bare, bounds_of, range_cmp}
 use Rattle.rr_number.specs.Spans.{covers}
 use Rattle.rr_number.specs.declared.operator.Operator.{Operator}
 
@@ -32,3 +34,8 @@ PrintedRangesAreRead = (r : RangeParts) → IsRange r → IsRanged (range_text r
 -- That operator makes the range of the prefix alone (profile).
 abbrev pub PrintedOperatorsMakeRanges : Type 0
 PrintedOperatorsMakeRanges = (r : RangeParts) → IsRange r → applied (operator_for r) (bare r.prefix) ≡ Some r
+
+-- The order of ranges is total, and only equal ranges tie (profile).
+pub record RangesAreOrdered : Type 0 where
+  pub total : IsTotalOrder range_cmp
+  pub exact : IsAntisymmetric range_cmp

@@ -1,7 +1,9 @@
 -- Ranges of prefixes (RFC 2622, 2).
 use Rattle.std.specs.Prelude.{ℕ, ◌≤◌, Bool, ◌&&◌, nat_le}
+use Rattle.std.specs.declared.cmp.Ordering.{Ordering}
+use Rattle.std.specs.Ordering.{ordering_then, nat_cmp}
 use Rattle.rr_number.specs.Bounds.{Bounds}
-use Rattle.rr_number.specs.Prefixes.{PrefixParts, IsMasked, span_of}
+use Rattle.rr_number.specs.Prefixes.{PrefixParts, IsMasked, prefix_cmp, span_of}
 use Rattle.rr_number.specs.Spans.{covers}
 
 -- A range as its prefix, its least and its greatest length (RFC 2622, 2).
@@ -32,3 +34,8 @@ bare p = record { prefix = p; low = p.length; high = p.length }
 -- A range admits a prefix that its prefix covers and whose length lies between its two (RFC 2622, 2).
 abbrev pub admits : RangeParts → PrefixParts → Bool
 admits r q = covers (span_of r.prefix) (span_of q) && (nat_le r.low q.length && nat_le q.length r.high)
+
+-- Ranges are ordered by prefix, then by least and by greatest length (profile).
+abbrev pub range_cmp : RangeParts → RangeParts → Ordering
+range_cmp r s =
+    ordering_then (prefix_cmp r.prefix s.prefix) (ordering_then (nat_cmp r.low s.low) (nat_cmp r.high s.high))

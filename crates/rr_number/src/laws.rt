@@ -1,11 +1,17 @@
 //! What holds of addresses, prefixes, operators and ranges together. Each function states a law and does nothing.
-ghost use Rattle.std.specs.Prelude.{ℕ, ◌<◌, ◌^◌};
+ghost use Rattle.std.specs.Prelude.{◌≡◌, ℕ, ◌<◌, ◌^◌};
+ghost use Rattle.std.specs.Ordering.{nat_cmp};
 ghost use Rattle.rr_number.specs.Addresses.{IsAddress, address_text};
 ghost use Rattle.rr_number.specs.Operators.{IsOperator, IsOperatorValue, operator_text};
-ghost use Rattle.rr_number.specs.PrefixLaws.{CoversLonger, PrefixesHaveSpans, PrefixesNeverCross, SpansTellPrefixes};
-ghost use Rattle.rr_number.specs.Prefixes.{PrefixParts, IsMasked, IsPrefix, prefix_text};
-ghost use Rattle.rr_number.specs.RangeLaws.{OperatorsAdmit, OperatorsKeepRanges, PrintedOperatorsMakeRanges, PrintedRangesAreRead};
+ghost use Rattle.rr_number.specs.PrefixLaws.{CoverEachOtherAlone, CoversLonger, PrefixesAreOrdered, PrefixesHaveSpans, PrefixesNeverCross, SpansTellPrefixes};
+ghost use Rattle.rr_number.specs.Prefixes.{PrefixParts, IsMasked, IsPrefix, prefix_cmp, prefix_text};
+ghost use Rattle.rr_number.specs.RangeLaws.{OperatorsAdmit, OperatorsKeepRanges, PrintedOperatorsMakeRanges, PrintedRangesAreRead, RangesAreOrdered};
+ghost use Rattle.rr_number.specs.Ranges.{RangeParts, range_cmp};
 ghost use Rattle.rr_number.specs.declared.operator.Operator.{Operator};
+
+use crate::address::Address;
+use crate::prefix::Prefix;
+use crate::range::Range;
 
 /// What is printed is read again: the text of an address spells it.
 pub fn printed_addresses_are_read()
@@ -58,4 +64,26 @@ pub fn operators_admit_what_they_say()
 /// What an operator makes of a range is a range.
 pub fn operators_keep_ranges()
     ensures { OperatorsKeepRanges }
+{}
+
+/// Only equal prefixes cover each other.
+pub fn only_equal_prefixes_cover_each_other()
+    ensures { CoverEachOtherAlone }
+{}
+
+/// Addresses are ordered as numbers.
+pub fn addresses_are_ordered()
+    ensures { (a b : ℕ) → ⟦<Address as Ord>⟧.cmp a b ≡ nat_cmp a b }
+{}
+
+/// Prefixes are ordered by address, then by length, and only equal ones tie.
+pub fn prefixes_are_ordered()
+    ensures derived { (p q : PrefixParts) → ⟦<Prefix as Ord>⟧.cmp p q ≡ prefix_cmp p q }
+    ensures ordered { PrefixesAreOrdered }
+{}
+
+/// Ranges are ordered by prefix, then by least and by greatest length, and only equal ones tie.
+pub fn ranges_are_ordered()
+    ensures derived { (r s : RangeParts) → ⟦<Range as Ord>⟧.cmp r s ≡ range_cmp r s }
+    ensures ordered { RangesAreOrdered }
 {}

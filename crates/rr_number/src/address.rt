@@ -1,5 +1,5 @@
 //! Addresses.
-ghost use Rattle.std.specs.Prelude.{◌≡◌, ◌+◌, ◌<◌, ◌≤◌, ◌^◌, ◌++◌, ℕ, IfSome, length};
+ghost use Rattle.std.specs.Prelude.{◌≡◌, ◌+◌, ◌<◌, ◌≤◌, ◌^◌, ◌++◌, ℕ, IfSome, length, Some};
 ghost use Rattle.rr_io.specs.Sending.{Writes};
 ghost use Rattle.rr_number.specs.Addresses.{IsAddress, address_of, address_text, joined_of, octet_of};
 
@@ -87,6 +87,8 @@ impl Address {
 }
 
 impl fmt::Display for Address {
+    ghost output = { λ a. Some (address_text a) };
+
     fn fmt<W: fmt::Write>(&self, f: &mut fmt::Formatter<W>) -> fmt::Result {
         f.pad(self.text().as_str())
     }

@@ -1,5 +1,5 @@
 //! Range operators.
-ghost use Rattle.std.specs.Prelude.{◌≡◌, ◌+◌, ◌<◌, ◌≤◌, ◌↔◌, ◌++◌, IsSome, IfSome, length};
+ghost use Rattle.std.specs.Prelude.{◌≡◌, ◌+◌, ◌<◌, ◌≤◌, ◌↔◌, ◌++◌, IsSome, IfSome, length, Some};
 ghost use Rattle.rr_io.specs.Sending.{Writes};
 ghost use Rattle.rr_number.specs.Applied.{applied};
 ghost use Rattle.rr_number.specs.Bounds.{IsBounds};
@@ -147,6 +147,8 @@ impl Operator {
 }
 
 impl fmt::Display for Operator {
+    ghost output = { λ a. Some (operator_text a) };
+
     fn fmt<W: fmt::Write>(&self, f: &mut fmt::Formatter<W>) -> fmt::Result {
         f.pad(self.text().as_str())
     }

@@ -1,5 +1,5 @@
 //! Prefixes.
-ghost use Rattle.std.specs.Prelude.{◌≡◌, ◌+◌, ◌<◌, ◌≤◌, ◌++◌, IfSome, length};
+ghost use Rattle.std.specs.Prelude.{◌≡◌, ◌+◌, ◌<◌, ◌≤◌, ◌++◌, IfSome, length, Some};
 ghost use Rattle.rr_io.specs.Sending.{Writes};
 ghost use Rattle.rr_number.specs.Prefixes.{PrefixParts, count_of, masked, masked_of, length_of, prefix_of, prefix_text, span_of, IsMasked, IsPrefix};
 ghost use Rattle.rr_number.specs.PrefixLaws.{CoversLonger, PrefixesHaveSpans, PrefixesNeverCross, SpansTellPrefixes};
@@ -121,6 +121,8 @@ impl Prefix {
 }
 
 impl fmt::Display for Prefix {
+    ghost output = { λ a. Some (prefix_text a) };
+
     fn fmt<W: fmt::Write>(&self, f: &mut fmt::Formatter<W>) -> fmt::Result {
         f.pad(self.text().as_str())
     }

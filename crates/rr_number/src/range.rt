@@ -1,5 +1,5 @@
 //! Ranges of prefixes.
-ghost use Rattle.std.specs.Prelude.{◌≡◌, ◌+◌, ◌≤◌, ◌==◌, ◌++◌, IfSome, if◌then◌else◌, length, nat_le};
+ghost use Rattle.std.specs.Prelude.{◌≡◌, ◌+◌, ◌≤◌, ◌==◌, ◌++◌, IfSome, if◌then◌else◌, length, nat_le, Some};
 ghost use Rattle.std.specs.List.{before_first};
 ghost use Rattle.rr_io.specs.Sending.{Writes};
 ghost use Rattle.rr_number.specs.Applied.{IsRanged, operator_for, pair_of, range_text, ranged_of};
@@ -134,6 +134,8 @@ impl Range {
 }
 
 impl fmt::Display for Range {
+    ghost output = { λ a. Some (range_text a) };
+
     fn fmt<W: fmt::Write>(&self, f: &mut fmt::Formatter<W>) -> fmt::Result {
         f.pad(self.text().as_str())
     }

@@ -1,7 +1,6 @@
 -- Lemmas on the blocks of a text.
-use Rattle.std.proofs.Common.{◌≡◌, ◌≢◌, ℕ, ◌+◌, ◌-◌, ◌<◌, ◌≤◌, Bool, true, false, not, ◌&&◌, cond, List, [], ◌∷◌, ◌++◌, ◌⊎◌, length, take, drop, refl, sym, ap, subst, ◌∙◌, inl, inr, arith, append_assoc, length-append, map, filter}
+use Rattle.std.proofs.Common.{◌≡◌, ◌≢◌, ℕ, ◌+◌, ◌-◌, ◌<◌, ◌≤◌, Bool, true, false, not, ◌&&◌, List, [], ◌∷◌, ◌++◌, ◌⊎◌, length, take, drop, refl, sym, ap, ◌∙◌, inl, inr, arith, append_assoc, length-append, map, filter}
 use Rattle.std.specs.List.{slice_split, onto_first}
-use Rattle.rr_text.specs.Bytes.{is_line_feed}
 use Rattle.rr_text.specs.Lines.{text_lines, are_whole_lines, is_blank_line, is_skipped_line, is_paragraph_line}
 use Rattle.std.proofs.lemmas.List.Elements.{filter-append}
 use Rattle.std.proofs.lemmas.List.{take_at, drop_at, append-nil, map-append, take-append-drop, length-take-le}
@@ -67,7 +66,7 @@ pub blocks_front : (line : List ℕ) (others : List (List ℕ)) → is_blank_lin
 unfolding blocks from_unskipped until_blank from_blank
 blocks_front line others h s =
     let parts : slice_split is_blank_line (line ∷ others) ≡ (line ∷ until_blank others) ∷ parts_after (from_blank others) =
-        rw h (ap (onto_first line) (split_until others))
+    rw h (ap (onto_first line) (split_until others))
     in
     let rest : filter has_line (map from_unskipped (parts_after (from_blank others))) ≡ blocks (from_blank others) = later_blocks others in
     rw (parts, s, h) (ap (λ bs. (line ∷ until_blank others) ∷ bs) rest)
@@ -165,14 +164,14 @@ pub place_after : (text : List ℕ) (from : ℕ) (front rest block after : List 
 place_after text from front rest block after within left cut some =
     let all : drop from text ≡ (front ++ block) ++ after = passed_line (drop from text) rest block after front left cut in
     let whole : text ≡ (take from text ++ (front ++ block)) ++ after =
-        sym (take-append-drop from text) ∙ (ap (λ r. take from text ++ r) all ∙ sym (append_assoc (take from text) (front ++ block) after))
+    sym (take-append-drop from text) ∙ (ap (λ r. take from text ++ r) all ∙ sym (append_assoc (take from text) (front ++ block) after))
     in
     let lengths : length text ≡ (from + (length front + length block)) + length after =
-        ap length whole ∙ (length-append (take from text ++ (front ++ block)) after ∙ ap (λ n. n + length after) (length-append (take from text) (front ++ block) ∙ ap (λ n. n + length (front ++ block)) (length-take-le from text within) ∙ ap (λ n. from + n) (length-append front block)))
+    ap length whole ∙ (length-append (take from text ++ (front ++ block)) after ∙ ap (λ n. n + length after) (length-append (take from text) (front ++ block) ∙ ap (λ n. n + length (front ++ block)) (length-take-le from text within) ∙ ap (λ n. from + n) (length-append front block)))
     in record {
       past = omega arith;
       rest = ap (drop (length text - length after)) whole ∙ drop_at (take from text ++ (front ++ block)) after (length text - length after)
-        (omega (arith, lengths, length-append (take from text) (front ++ block), length-append front block, length-take-le from text within));
+          (omega (arith, lengths, length-append (take from text) (front ++ block), length-append front block, length-take-le from text within));
     }
 
 -- what is found where the text from a place on is cut into what stands before its first block, the
@@ -187,8 +186,7 @@ taken_at text from left rest block after within is_left front same starts some c
     let first : IsFront (text_lines rest) = front_of (text_lines rest) begins in
     let begun : starts_block (text_lines block) ≡ true = ap starts_block is_block ∙ first.starts in
     let place : IsPlace text from after = place_after text from front.0 rest block after within (is_left ∙ front.1) cut (some_bytes block begun) in
-    let found : blocks (text_lines rest) ≡ text_lines block ∷ blocks (text_lines after) = cc (first.first, is_block, is_after) in
-    (
+    let found : blocks (text_lines rest) ≡ text_lines block ∷ blocks (text_lines after) = cc (first.first, is_block, is_after) in (
       place.past,
       omega arith,
       begun,

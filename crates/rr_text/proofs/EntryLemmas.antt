@@ -1,5 +1,5 @@
 -- Lemmas on what the lines of a block give.
-use Rattle.std.proofs.Common.{◌≡◌, ℕ, ◌+◌, ◌<◌, ◌≤◌, Bool, true, false, not, cond, List, [], ◌∷◌, ◌++◌, length, take, drop, map, refl, sym, ap, ◌∙◌, arith, append_assoc, length-append, Option, Some, None, Result, Ok, Err, nat_lt, if◌then◌else◌}
+use Rattle.std.proofs.Common.{◌≡◌, ℕ, ◌<◌, ◌≤◌, Bool, true, false, List, [], ◌∷◌, ◌++◌, length, drop, map, refl, sym, ap, ◌∙◌, arith, append_assoc, Option, Err, nat_lt, if◌then◌else◌}
 use Rattle.std.proofs.lemmas.List.{append-nil, drop_all, map-append}
 use Rattle.std.specs.List.{concat, onto_first}
 use Rattle.std.proofs.lemmas.Bool.Decides.{nat_tests}
@@ -8,13 +8,13 @@ use Rattle.rr_text.specs.declared.fault.TextFault.TheVariants.{TooLarge}
 use Rattle.rr_text.specs.Faults.{block_fault}
 use Rattle.rr_text.specs.declared.line.LineKind.{LineKind}
 use Rattle.rr_text.specs.declared.line.LineKind.TheVariants.{Blank, Skipped, Continuation, Opening}
-use Rattle.rr_text.specs.Bytes.{is_line_feed, trim, trim_start, trim_end}
+use Rattle.rr_text.specs.Bytes.{is_line_feed, trim_start, trim_end}
 use Rattle.rr_text.specs.Lines.{text_lines, are_whole_lines, IsWholeLine, is_blank_line, is_skipped_line, line_kind, opens_attribute}
 use Rattle.rr_text.specs.Blocks.{blocks}
 use Rattle.rr_text.specs.Fields.{Field}
 use Rattle.rr_text.proofs.BlockLemmas.{blocks_none, blocks_apart, blocks_blank, blocks_skipped}
 use Rattle.rr_text.proofs.LineLemmas.{text_lines-append}
-use Rattle.rr_text.specs.Entries.{added_value, added_lines, continued_by, continued, opened_by, opened_field, block_fields, block_entry, entries, size_limit, unless_fault}
+use Rattle.rr_text.specs.Entries.{added_value, added_lines, continued, opened_field, block_fields, block_entry, entries, size_limit, unless_fault}
 
 pub added_empty : (line : List ℕ) → length line ≡ 0 → added_value line ≡ line
 unfolding trim_start trim_end
@@ -140,7 +140,7 @@ unfolding entries
 entries_joined front blank back whole line h =
     let behind : text_lines (blank ++ back) ≡ blank ∷ text_lines back = text_lines-append blank back line.ended ∙ ap (λ ls. ls ++ text_lines back) line.single in
     let lines : text_lines (front ++ (blank ++ back)) ≡ text_lines front ++ blank ∷ text_lines back =
-        text_lines-append front (blank ++ back) whole ∙ ap (λ ls. text_lines front ++ ls) behind
+    text_lines-append front (blank ++ back) whole ∙ ap (λ ls. text_lines front ++ ls) behind
     in ap (λ ls. map block_entry (blocks ls)) lines
     ∙ (ap (map block_entry) (blocks_apart (text_lines front) blank (text_lines back) h) ∙ map-append block_entry (blocks (text_lines front)) (blocks (text_lines back)))
 

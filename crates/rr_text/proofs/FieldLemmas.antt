@@ -1,6 +1,5 @@
 -- Lemmas on lists of attributes.
-use Rattle.std.proofs.Common.{◌≡◌, ℕ, ◌<◌, Bool, true, false, cond, List, [], ◌∷◌, map, filter, length, arith, refl, subst, sym}
-use Rattle.std.specs.List.{AllByRecursion}
+use Rattle.std.proofs.Common.{◌≡◌, ℕ, Bool, true, false, List, [], ◌∷◌, map, filter, arith, refl}
 use Rattle.rr_text.specs.Fields.{Field, IsLine, IsField, AreFields, is_named, with_value}
 
 kept_by : (t : Bool) (test : Field → Bool) (field : Field) (others : List Field) → test field ≡ t → IsField field → AreFields (filter test others) → AreFields (filter test (field ∷ others))

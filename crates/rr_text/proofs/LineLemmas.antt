@@ -1,5 +1,5 @@
 -- Lemmas on the lines of a text.
-use Rattle.std.proofs.Common.{◌≡◌, ◌≢◌, ℕ, ◌+◌, ◌<◌, ◌≤◌, Bool, true, false, not, cond, List, [], ◌∷◌, ◌++◌, ◌⊎◌, length, take, drop, Option, Some, None, refl, sym, ap, subst, ◌∙◌, inl, inr, arith, nat_lt, get_or, suc, zero, add-one, add-zero}
+use Rattle.std.proofs.Common.{◌≡◌, ◌≢◌, ℕ, ◌+◌, ◌<◌, ◌≤◌, Bool, true, false, not, cond, List, [], ◌∷◌, ◌++◌, length, take, drop, Option, Some, None, refl, ap, ◌∙◌, arith, get_or, suc, zero, add-one}
 use Rattle.std.proofs.lemmas.Bool.Decides.{nat_tests}
 use Rattle.std.proofs.lemmas.List.Sums.{position_or_len_is}
 use Rattle.memchr.specs.Find.{IsFirstByte}
@@ -114,10 +114,10 @@ untrue false h = refl
 pub place_found : (test : ℕ → Bool) (bs : List ℕ) (place : Option ℕ) → IsFirstByte test bs place → place ≡ position test bs
 place_found test bs None h =
     let at : position_or_len test bs ≡ length bs =
-        position_or_len_is test bs (length bs) 0 (omega arith) (λ k lt. untrue (test (get_or bs k 0)) (h k (omega arith) lt)) (λ lt. absurd (omega arith))
+    position_or_len_is test bs (length bs) 0 (omega arith) (λ k lt. untrue (test (get_or bs k 0)) (h k (omega arith) lt)) (λ lt. absurd (omega arith))
     in grind (arith, nat_tests)
 place_found test bs (Some k) h =
     let within : k < length bs = h.0.high in
     let at : position_or_len test bs ≡ k =
-        position_or_len_is test bs k 0 (omega arith) (λ j lt. untrue (test (get_or bs j 0)) (h.0.before j (omega arith) lt)) (λ lt. h.1)
+    position_or_len_is test bs k 0 (omega arith) (λ j lt. untrue (test (get_or bs j 0)) (h.0.before j (omega arith) lt)) (λ lt. h.1)
     in grind (arith, nat_tests)

@@ -1,13 +1,13 @@
 -- Canonical text spells its paragraph again.
-use Rattle.std.proofs.Common.{◌≡◌, ◌≢◌, ◌==◌, ℕ, ◌+◌, ◌-◌, ◌<◌, ◌≤◌, max, Bool, true, false, not, ◌&&◌, ◌||◌, cond, if◌then◌else◌, List, [], ◌∷◌, ◌++◌, length, take, drop, map, replicate, refl, sym, ap, ◌∙◌, arith, append_assoc, length-append, suc, zero, Option, Some, None, Result, Ok}
+use Rattle.std.proofs.Common.{◌≡◌, ◌==◌, ℕ, ◌+◌, ◌-◌, ◌<◌, ◌≤◌, max, Bool, true, false, ◌&&◌, ◌||◌, List, [], ◌∷◌, ◌++◌, length, take, drop, map, replicate, refl, sym, ap, ◌∙◌, arith, append_assoc, length-append, suc, zero, None, Ok}
 use Rattle.std.proofs.lemmas.Bool.Decides.{nat_tests}
 use Rattle.std.proofs.lemmas.List.{drop_at, take_at, append-nil}
 use Rattle.std.proofs.lemmas.List.Folds.{list_any-append}
 use Rattle.std.specs.List.{list_any, list_all, flat_map, AllByRecursion, onto_first, before_first, after_first, position_or_len}
 use Rattle.std.specs.Char.{to_ascii_lowercase, is_ascii_alphabetic}
-use Rattle.rr_text.specs.declared.line.LineKind.TheVariants.{Blank, Skipped, Continuation, Opening}
+use Rattle.rr_text.specs.declared.line.LineKind.TheVariants.{Continuation, Opening}
 use Rattle.rr_text.specs.Bytes.{is_line_feed, is_blank, is_refused, is_colon, is_name, is_name_byte, begins, trim, trim_start, trim_end, before_trimmed}
-use Rattle.rr_text.specs.Lines.{text_lines, are_whole_lines, IsWholeLine, line_kind, is_blank_line, is_skipped_line, is_remark_sign, is_continuation_sign}
+use Rattle.rr_text.specs.Lines.{text_lines, are_whole_lines, IsWholeLine, line_kind, is_blank_line, is_skipped_line, is_remark_sign}
 use Rattle.rr_text.specs.Faults.{written_name, opening_fault, fault_by_kind, line_fault, later_fault, block_fault}
 use Rattle.rr_text.specs.Entries.{added_value, opened_value, continued, block_fields, opened_field, block_entry, entries, size_limit}
 use Rattle.rr_text.specs.Blocks.{blocks, until_blank, from_blank}
@@ -323,12 +323,12 @@ field_by name (first ∷ further) rest bytes letter lower some good none =
     let more : continued (further_lines further ++ rest) ≡ further = further_continued further rest good.1 ∙ (ap (λ ls. further ++ ls) none ∙ append-nil further) in
     let named : map to_ascii_lowercase (written_name line) ≡ name = ap (map to_ascii_lowercase) opens.name_is ∙ lower in
     let field : opened_field line (continued (further_lines further ++ rest)) ≡ make name (first ∷ further) =
-        ap (λ n. make n (opened_value line ∷ continued (further_lines further ++ rest))) named
-        ∙ (ap (λ v. make name (v ∷ continued (further_lines further ++ rest))) opens.value_is ∙ ap (λ ls. make name (first ∷ ls)) more)
+    ap (λ n. make n (opened_value line ∷ continued (further_lines further ++ rest))) named
+    ∙ (ap (λ v. make name (v ∷ continued (further_lines further ++ rest))) opens.value_is ∙ ap (λ ls. make name (first ∷ ls)) more)
     in (
       continued_none line (further_lines further ++ rest) kind,
       fields_opened line (further_lines further ++ rest) kind
-      ∙ (ap (λ f. f ∷ block_fields (further_lines further ++ rest)) field ∙ ap (λ fs. make name (first ∷ further) ∷ fs) (further_fields further rest good.1)),
+          ∙ (ap (λ f. f ∷ block_fields (further_lines further ++ rest)) field ∙ ap (λ fs. make name (first ∷ further) ∷ fs) (further_fields further rest good.1)),
     )
 
 canonical_read : (fields : List Field) → AreFields fields → (continued (canonical_lines fields) ≡ []) × (block_fields (canonical_lines fields) ≡ fields)
@@ -379,7 +379,7 @@ opened_faultless is_first name first named bytes letter good =
     let line = ended (opening_line name first) in
     let opens : IsOpeningOf name first line = opening_of name first bytes good.trimmed in
     let clean : list_any is_refused line ≡ false = clean_ended (opening_line name first)
-        (any_opening is_refused name first refl refl (any_none is_refused name_no_refused name bytes) (not_false _ good.clean))
+    (any_opening is_refused name first refl refl (any_none is_refused name_no_refused name bytes) (not_false _ good.clean))
     in opening_clean is_first line (opening_kind name first letter).0 clean (opening_faultless line name opens.colon opens.name_is named)
 
 value_faultless : (name : List ℕ) (lines rest : List (List ℕ)) → is_name name ≡ true → list_all is_name_byte name ≡ true → begins is_ascii_alphabetic name ≡ true → AllByRecursion IsLine lines
@@ -457,7 +457,7 @@ unfolding value_lines NoBlank
 value_blocks name [] rest letter some good h = absurd (omega arith)
 value_blocks name (first ∷ further) rest letter some good h =
     blocks_alone (ended (opening_line name first)) (further_lines further ++ rest)
-        ((opening_kind name first letter).1, no_blank_append (further_lines further) rest (further_no_blank further good.1) h) (opening_kind name first letter).2
+    ((opening_kind name first letter).1, no_blank_append (further_lines further) rest (further_no_blank further good.1) h) (opening_kind name first letter).2
 
 canonical_blocks : (fields : List Field) → 0 < length fields → AreFields fields → blocks (canonical_lines fields) ≡ canonical_lines fields ∷ []
 unfolding canonical_lines
@@ -471,7 +471,7 @@ canonical_spells fields some good small =
     let lines = canonical_text_lines fields good in
     let all : blocks (text_lines (canonical fields)) ≡ text_lines (canonical fields) ∷ [] = ap blocks lines ∙ (canonical_blocks fields some good ∙ ap (λ ls. ls ∷ []) (sym lines)) in
     let entry : block_entry (text_lines (canonical fields)) ≡ Ok fields =
-        entry_small (canonical fields) None small (sym (canonical_faultless fields good)) ∙ ap (λ fs. Ok fs) (canonical_fields fields good)
+    entry_small (canonical fields) None small (sym (canonical_faultless fields good)) ∙ ap (λ fs. Ok fs) (canonical_fields fields good)
     in ap (map block_entry) all ∙ ap (λ e. e ∷ []) entry
 
 further_whole : (further : List (List ℕ)) → are_whole_lines (flat_map (λ line. ended (further_line line)) further) ≡ true

@@ -1,9 +1,9 @@
 -- A block without a fault gives good attributes.
-use Rattle.std.proofs.Common.{◌≡◌, ◌≢◌, ℕ, ◌+◌, ◌<◌, ◌≤◌, Bool, true, false, not, ◌&&◌, ◌||◌, cond, List, [], ◌∷◌, ◌++◌, length, take, drop, map, refl, sym, ap, ◌∙◌, arith, Option, Some, None, suc, zero, nat_le, if◌then◌else◌}
+use Rattle.std.proofs.Common.{◌≡◌, ◌≢◌, ℕ, ◌<◌, Bool, true, false, not, ◌&&◌, ◌||◌, List, [], ◌∷◌, length, drop, map, refl, sym, ap, ◌∙◌, arith, Option, Some, None, suc, zero, nat_le, if◌then◌else◌}
 use Rattle.std.proofs.lemmas.Bool.Decides.{nat_tests}
 use Rattle.std.proofs.lemmas.List.{length-map}
 use Rattle.std.proofs.lemmas.Str.Ascii.{lowercase-lowercase}
-use Rattle.std.specs.List.{list_any, list_all, AllByRecursion, onto_first, before_first, after_first}
+use Rattle.std.specs.List.{list_any, list_all, AllByRecursion, onto_first, after_first}
 use Rattle.std.specs.Option.{option_or}
 use Rattle.std.specs.Char.{to_ascii_lowercase, is_ascii_alphabetic}
 use Rattle.rr_text.specs.declared.fault.TextFault.{TextFault}
@@ -14,8 +14,8 @@ use Rattle.rr_text.specs.Bytes.{is_line_feed, is_colon, is_blank, is_refused, is
 use Rattle.rr_text.specs.Lines.{text_lines, line_kind, is_blank_line, is_skipped_line, is_continuation_sign}
 use Rattle.rr_text.specs.Blocks.{starts_block}
 use Rattle.rr_text.specs.Faults.{written_name, opening_fault, fault_by_kind, line_fault, later_fault, block_fault}
-use Rattle.rr_text.specs.Fields.{Field, IsLine, IsField, AreFields}
-use Rattle.rr_text.specs.Entries.{added_value, opened_value, continued, opened_field, opened_by, block_fields}
+use Rattle.rr_text.specs.Fields.{IsLine, IsField, AreFields}
+use Rattle.rr_text.specs.Entries.{continued, opened_field, opened_by, block_fields}
 
 -- an LF stands in the last place alone
 pub only_last : List ℕ → Bool
@@ -194,7 +194,7 @@ lower_name : (name : List ℕ) → is_name name ≡ true → is_name (map to_asc
 lower_name name h =
     let front = and_left (begins is_ascii_alphabetic name && list_all is_name_byte name) (nat_le (length name) 64) h in
     and_both _ _ (and_both _ _ (lower_begins name (and_left _ _ front)) (lower_all name (and_right (begins is_ascii_alphabetic name) _ front)))
-        (ap (λ n. nat_le n 64) (length-map name to_ascii_lowercase) ∙ and_right (begins is_ascii_alphabetic name && list_all is_name_byte name) _ h)
+    (ap (λ n. nat_le n 64) (length-map name to_ascii_lowercase) ∙ and_right (begins is_ascii_alphabetic name && list_all is_name_byte name) _ h)
 
 lower_lower : (name : List ℕ) → map to_ascii_lowercase (map to_ascii_lowercase name) ≡ map to_ascii_lowercase name
 lower_lower [] = refl
@@ -311,5 +311,5 @@ some_fields (line ∷ others) h none =
     let first = first_good line (or_none (line_fault true line) (later_fault others) none).0 in
     let is : line_kind line ≡ Opening = kind_by (is_blank_line line) (is_skipped_line line) (begins is_continuation_sign line) h first.1 in
     let fields : block_fields (line ∷ others) ≡ opened_field line (continued others) ∷ block_fields others =
-        ap (λ kind. opened_by line kind (continued others) (block_fields others)) is
+    ap (λ kind. opened_by line kind (continued others) (block_fields others)) is
     in rw fields (omega arith)

@@ -1,5 +1,5 @@
 -- Lemmas on texts less the blanks round them.
-use Rattle.std.proofs.Common.{◌≡◌, ℕ, Bool, true, false, cond, List, [], ◌∷◌, ◌++◌, length, arith, refl, sym, ap, ◌∙◌}
+use Rattle.std.proofs.Common.{◌≡◌, ℕ, true, false, List, [], ◌∷◌, ◌++◌, length, arith, refl, ap, ◌∙◌}
 use Rattle.rr_text.specs.Bytes.{is_blank, trim_start, trim_end, before_trimmed}
 
 pub trim_start_blank : (b : ℕ) (bs : List ℕ) → is_blank b ≡ true → trim_start (b ∷ bs) ≡ trim_start bs

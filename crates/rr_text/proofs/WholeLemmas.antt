@@ -1,6 +1,6 @@
 -- Lemmas on the part of a text up to its last blank line.
-use Rattle.std.proofs.Common.{◌≡◌, ℕ, ◌+◌, ◌-◌, ◌<◌, ◌≤◌, Bool, true, false, cond, List, [], ◌∷◌, ◌++◌, length, take, drop, refl, sym, ap, ◌∙◌, arith, append_assoc, length-append, if◌then◌else◌}
-use Rattle.std.proofs.lemmas.List.{append-nil, take_at, take_all}
+use Rattle.std.proofs.Common.{◌≡◌, ℕ, ◌+◌, ◌-◌, ◌≤◌, Bool, true, false, List, [], ◌∷◌, ◌++◌, length, take, refl, sym, ap, ◌∙◌, arith, append_assoc, length-append, if◌then◌else◌}
+use Rattle.std.proofs.lemmas.List.{append-nil, take_at}
 use Rattle.std.specs.List.{concat}
 use Rattle.rr_text.specs.Lines.{text_lines}
 use Rattle.rr_text.specs.WholePart.{closes, kept_before, closed_lines, whole_part}
@@ -56,9 +56,9 @@ searched_more text done rest line after end next found cut lines is =
       whole = whole;
       within = rw end_is (within_by (closes line) end (length (done ++ line)) (length (done ++ line)) within (omega arith));
       value = found.value ∙ (ap (λ ls. whole_from (take end text) done (closed_lines ls)) lines
-        ∙ (more_by (closes line) (take end text) done line (closed_lines (text_lines after))
-        ∙ ap (λ kept. whole_from kept (done ++ line) (closed_lines (text_lines after)))
-            (end_by (closes line) text (done ++ line) after end whole ∙ ap (λ n. take n text) (sym end_is))));
+          ∙ (more_by (closes line) (take end text) done line (closed_lines (text_lines after))
+          ∙ ap (λ kept. whole_from kept (done ++ line) (closed_lines (text_lines after)))
+          (end_by (closes line) text (done ++ line) after end whole ∙ ap (λ n. take n text) (sym end_is))));
     }
 
 pub searched_all : (text done rest : List ℕ) (end : ℕ) → IsSearched text end done rest → length rest ≡ 0 → take end text ≡ whole_part text

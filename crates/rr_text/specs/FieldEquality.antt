@@ -1,9 +1,8 @@
 -- That `==` on attributes is equality.
-use Rattle.std.specs.Prelude.{ℕ, Bool, true, ◌&&◌, ◌≡◌, List, refl}
+use Rattle.std.specs.Prelude.{ℕ, ◌≡◌, List}
 use Rattle.std.specs.Bool.{Decides}
-use Rattle.std.specs.Str.{bytes_eq}
 use Rattle.std.specs.Cmp.{IsPartialEquivalence, decided, partial_equiv_from_equiv}
-use Rattle.std.specs.Cmp.Lexicographic.{pointwise, pointwise_decides, bytes_decides}
+use Rattle.std.specs.Cmp.Lexicographic.{pointwise_decides, bytes_decides}
 use Rattle.std.proofs.Common.{ap, ◌∙◌}
 use Rattle.std.proofs.lemmas.Bool.Decides.{Decides-and, Decides-like}
 use Rattle.rr_text.specs.Fields.{Field, field_eq, fields_eq}
@@ -16,7 +15,7 @@ same_field a b h =
 pub field_eq-Decides : (a b : Field) → Decides (field_eq a b) (a ≡ b)
 field_eq-Decides a b =
     Decides-like _ (same_field a b) (λ e. (ap (λ f. f.name) e, ap (λ f. f.lines) e))
-        (Decides-and _ _ (bytes_decides a.name b.name) (pointwise_decides bytes_decides a.lines b.lines))
+    (Decides-and _ _ (bytes_decides a.name b.name) (pointwise_decides bytes_decides a.lines b.lines))
 
 -- `==` on attributes is symmetric and transitive
 pub field_eq-laws : IsPartialEquivalence field_eq

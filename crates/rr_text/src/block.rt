@@ -44,12 +44,10 @@ fn split_block(text: &[u8]) -> (&[u8], &[u8])
 pub fn take_block(text: &[u8], from: usize) -> Option<(&[u8], usize)>
     requires { from ≤ length text.now }
     ensures none { IfNone result (blocks (text_lines (drop from text.now)) ≡ []) }
-    ensures found {
-        IfSome result (λ taken. (from < taken.1) × (taken.1 ≤ length text.now)
-            × (starts_block (text_lines taken.0.now) ≡ true)
-            × (blocks (text_lines (drop from text.now))
-                ≡ text_lines taken.0.now ∷ blocks (text_lines (drop taken.1 text.now))))
-    }
+    ensures found { IfSome result (λ taken. (from < taken.1) × (taken.1 ≤ length text.now)
+        × (starts_block (text_lines taken.0.now) ≡ true)
+        × (blocks (text_lines (drop from text.now))
+        ≡ text_lines taken.0.now ∷ blocks (text_lines (drop taken.1 text.now)))) }
 {
     let (_, left) = text.split_at(from);
     let rest = skip_to_block(left);

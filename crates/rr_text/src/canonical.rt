@@ -96,10 +96,8 @@ pub fn print(alloc: Global, paragraph: &Paragraph) -> Result<Text, AllocError>
 pub fn read_canonical(alloc: Global, text: &[u8]) -> Result<Option<Paragraph>, AllocError>
     ensures found { IfOk result (λ read. IfSome read (λ paragraph. canon.canonical paragraph ≡ text.now)) }
     ensures fields { IfOk result (λ read. IfSome read (λ paragraph. (0 < length paragraph) × AreFields paragraph)) }
-    ensures only {
-        IfOk result (λ read. (fields : List Field) → 0 < length fields → AreFields fields
-            → canon.canonical fields ≡ text.now → read ≡ Some fields)
-    }
+    ensures only { IfOk result (λ read. (fields : List Field) → 0 < length fields → AreFields fields
+        → canon.canonical fields ≡ text.now → read ≡ Some fields) }
 {
     if block_fault(text).is_some() {
         return Ok(None);

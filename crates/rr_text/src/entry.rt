@@ -41,7 +41,10 @@ fn split_colon(line: &[u8]) -> (&[u8], &[u8])
 fn lower_name(alloc: Global, name: &[u8]) -> Result<Text, AllocError>
     ensures { IfOk result (λ text. text ≡ map to_ascii_lowercase name.now) }
 {
-    let lower = name.iter().map(|byte| byte.to_ascii_lowercase()).collect(alloc)?;
+    let lower = name
+        .iter()
+        .map(|byte| byte.to_ascii_lowercase())
+        .collect(alloc)?;
     Ok(Text::from_vec(lower))
 }
 
@@ -57,7 +60,12 @@ fn added_value(alloc: Global, line: &[u8]) -> Result<Text, AllocError>
 }
 
 /// Adds what a line adds to the lines of a value.
-fn push_added(alloc: Global, lines: &mut Vec<Text>, line: &[u8], kind: LineKind) -> Result<(), AllocError>
+fn push_added(
+    alloc: Global,
+    lines: &mut Vec<Text>,
+    line: &[u8],
+    kind: LineKind,
+) -> Result<(), AllocError>
     ensures { OnOk result (lines.new.items ≡ lines.old.items ++ entries.added_lines line.now kind) }
 {
     match kind {
@@ -70,7 +78,11 @@ fn push_added(alloc: Global, lines: &mut Vec<Text>, line: &[u8], kind: LineKind)
 }
 
 /// The first line of a value with the lines that continue it, and the text from the next attribute on.
-fn value_lines<'t>(alloc: Global, first: Text, text: &'t [u8]) -> Result<(Vec<Text>, &'t [u8]), AllocError>
+fn value_lines<'t>(
+    alloc: Global,
+    first: Text,
+    text: &'t [u8],
+) -> Result<(Vec<Text>, &'t [u8]), AllocError>
     ensures lines { IfOk result (λ read. read.0.items ≡ first ∷ entries.continued (text_lines text.now)) }
     ensures rest { IfOk result (λ read. entries.block_fields (text_lines read.1.now) ≡ entries.block_fields (text_lines text.now)) }
     ensures shorter { IfOk result (λ read. length read.1.now ≤ length text.now) }
@@ -91,7 +103,11 @@ fn value_lines<'t>(alloc: Global, first: Text, text: &'t [u8]) -> Result<(Vec<Te
 }
 
 /// The attribute that a line opens, and the text from the next one on.
-fn read_attribute<'t>(alloc: Global, line: &[u8], after: &'t [u8]) -> Result<(Attribute, &'t [u8]), AllocError>
+fn read_attribute<'t>(
+    alloc: Global,
+    line: &[u8],
+    after: &'t [u8],
+) -> Result<(Attribute, &'t [u8]), AllocError>
     ensures value { IfOk result (λ read. read.0 ≡ entries.opened_field line.now (entries.continued (text_lines after.now))) }
     ensures rest { IfOk result (λ read. entries.block_fields (text_lines read.1.now) ≡ entries.block_fields (text_lines after.now)) }
     ensures shorter { IfOk result (λ read. length read.1.now ≤ length after.now) }
@@ -105,11 +121,14 @@ fn read_attribute<'t>(alloc: Global, line: &[u8], after: &'t [u8]) -> Result<(At
 
 /// Adds the attribute that a line opens, and gives the text that is left; a line that opens none is
 /// passed.
-fn push_opened<'t>(alloc: Global, fields: &mut Vec<Attribute>, line: &[u8], after: &'t [u8]) -> Result<&'t [u8], AllocError>
-    ensures fields {
-        IfOk result (λ rest. fields.new.items ++ entries.block_fields (text_lines rest.now)
-            ≡ fields.old.items ++ entries.block_fields (line.now ∷ text_lines after.now))
-    }
+fn push_opened<'t>(
+    alloc: Global,
+    fields: &mut Vec<Attribute>,
+    line: &[u8],
+    after: &'t [u8],
+) -> Result<&'t [u8], AllocError>
+    ensures fields { IfOk result (λ rest. fields.new.items ++ entries.block_fields (text_lines rest.now)
+        ≡ fields.old.items ++ entries.block_fields (line.now ∷ text_lines after.now)) }
     ensures shorter { IfOk result (λ rest. length rest.now ≤ length after.now) }
 {
     if !LineKind::of(line).opens_attribute() {
@@ -146,13 +165,9 @@ pub fn read_paragraph(alloc: Global, block: &[u8]) -> Result<Paragraph, AllocErr
 /// The entry of a block.
 pub fn read_entry(alloc: Global, block: &[u8]) -> Result<Paragraph, TextFault>
     requires { starts_block (text_lines block.now) ≡ true }
-    ensures found {
-        IfOk result (λ paragraph. (0 < length paragraph) × AreFields paragraph
-            × (entries.block_entry (text_lines block.now) ≡ Ok paragraph))
-    }
-    ensures fault {
-        IfErr result (λ fault. fault ≢ TextFault.Memory → entries.block_entry (text_lines block.now) ≡ Err fault)
-    }
+    ensures found { IfOk result (λ paragraph. (0 < length paragraph) × AreFields paragraph
+        × (entries.block_entry (text_lines block.now) ≡ Ok paragraph)) }
+    ensures fault { IfErr result (λ fault. fault ≢ TextFault.Memory → entries.block_entry (text_lines block.now) ≡ Err fault) }
 {
     if block.len() > SIZE_LIMIT {
         return Err(TextFault::TooLarge);

@@ -6,29 +6,24 @@ ghost use Rattle.rr_text.specs.Laws as laws;
 /// Canonical text determines its paragraph, whatever its size.
 pub fn canonical_text_determines()
     ensures { laws.CanonicalDetermines }
-{
-}
+{}
 
 /// Canonical text of at most 65,536 bytes spells its paragraph alone.
 pub fn canonical_text_spells()
     ensures { laws.CanonicalSpells }
-{
-}
+{}
 
 /// A blank line joins the entries of the texts before and behind it.
 pub fn blank_line_joins()
     ensures { laws.BlankLineJoins }
-{
-}
+{}
 
 /// Canonical text and a blank line put their paragraph before the entries of what follows.
 pub fn canonical_text_leads()
     ensures { laws.CanonicalLeads }
-{
-}
+{}
 
 /// A skipped line before a text spells nothing.
 pub fn skipped_line_is_passed()
     ensures { laws.SkippedLinePassed }
-{
-}
+{}

@@ -9,7 +9,6 @@ pub mod fault;
 pub mod inspect;
 pub mod laws;
 pub mod line;
-
 pub mod paragraph;
 pub mod reader;
 #[cfg(test)]
@@ -22,7 +21,6 @@ pub mod whole;
 pub use attribute::Attribute;
 pub use canonical::{print, read_canonical};
 pub use fault::TextFault;
-
 pub use paragraph::Paragraph;
 pub use reader::{next_paragraph, skip_paragraph};
 pub use text::Text;

@@ -61,7 +61,12 @@ impl Paragraph {
 
     /// A copy in which each attribute of this name, which is given in lower case, has this one
     /// line as its value; the error is want of memory.
-    pub fn with_values(&self, alloc: Global, name: &[u8], line: &[u8]) -> Result<Paragraph, AllocError>
+    pub fn with_values(
+        &self,
+        alloc: Global,
+        name: &[u8],
+        line: &[u8],
+    ) -> Result<Paragraph, AllocError>
         requires { IsLine line.now }
         ensures { IfOk result (λ made. made ≡ map (fields.with_value name.now line.now) self.now) }
     {
@@ -98,7 +103,12 @@ fn copy_attributes(alloc: Global, attributes: &[Attribute]) -> Result<Vec<Attrib
 }
 
 /// A copy of an attribute, with this line as its value where it has this name.
-fn with_value(alloc: Global, attribute: &Attribute, name: &[u8], line: &[u8]) -> Result<Attribute, AllocError>
+fn with_value(
+    alloc: Global,
+    attribute: &Attribute,
+    name: &[u8],
+    line: &[u8],
+) -> Result<Attribute, AllocError>
     ensures { IfOk result (λ made. made ≡ fields.with_value name.now line.now attribute.now) }
 {
     if attribute.is_named(name) {
@@ -108,7 +118,12 @@ fn with_value(alloc: Global, attribute: &Attribute, name: &[u8], line: &[u8]) ->
     }
 }
 
-fn with_values(alloc: Global, attributes: &[Attribute], name: &[u8], line: &[u8]) -> Result<Vec<Attribute>, AllocError>
+fn with_values(
+    alloc: Global,
+    attributes: &[Attribute],
+    name: &[u8],
+    line: &[u8],
+) -> Result<Vec<Attribute>, AllocError>
     ensures { IfOk result (λ made. made.items ≡ map (fields.with_value name.now line.now) attributes.now) }
 {
     let mut made = Vec::with_capacity(alloc, attributes.len())?;

@@ -12,19 +12,19 @@ use std::alloc::Global;
 
 /// The first paragraph of the text from a place on, with the place after it; `None` where there
 /// is no more (RFC 2622, section 2). After a fault, `skip_paragraph` gives the place to go on at.
-pub fn next_paragraph(alloc: Global, text: &[u8], from: usize) -> Result<Option<(Paragraph, usize)>, TextFault>
+pub fn next_paragraph(
+    alloc: Global,
+    text: &[u8],
+    from: usize,
+) -> Result<Option<(Paragraph, usize)>, TextFault>
     requires { from ≤ length text.now }
     ensures none { IfOk result (λ next. next ≡ None → entries (drop from text.now) ≡ []) }
-    ensures found {
-        IfOk result (λ next. IfSome next (λ found.
-            entries (drop from text.now) ≡ Ok found.0 ∷ entries (drop found.1 text.now)))
-    }
+    ensures found { IfOk result (λ next. IfSome next (λ found.
+        entries (drop from text.now) ≡ Ok found.0 ∷ entries (drop found.1 text.now))) }
     ensures place { IfOk result (λ next. IfSome next (λ found. (from < found.1) × (found.1 ≤ length text.now))) }
     ensures fields { IfOk result (λ next. IfSome next (λ found. (0 < length found.0) × AreFields found.0)) }
-    ensures fault {
-        IfErr result (λ fault. fault ≢ TextFault.Memory
-            → entries (drop from text.now) ≡ Err fault ∷ drop 1 (entries (drop from text.now)))
-    }
+    ensures fault { IfErr result (λ fault. fault ≢ TextFault.Memory
+        → entries (drop from text.now) ≡ Err fault ∷ drop 1 (entries (drop from text.now))) }
 
     // Memory is asked for only where there is a paragraph.
     ensures memory { IfErr result (λ fault. 0 < length (entries (drop from text.now))) }

@@ -1,6 +1,9 @@
 //! Worked texts, and what no clause says.
 
-use crate::{Paragraph, Text, TextFault, meaning, next_paragraph, print, read_canonical, skip_paragraph, whole_part};
+use crate::{
+    Paragraph, Text, TextFault, meaning, next_paragraph, print, read_canonical, skip_paragraph,
+    whole_part,
+};
 use std::alloc::Global;
 use std::process::Abort;
 use std::test::Fail;
@@ -10,13 +13,17 @@ const DIGEST: &str = "ba7816bf8f01cfea414140de5dae2223b00361a396177a9cb410ff61f2
 /// A text with CR LF at each line end but the last, folded values and a skipped line.
 fn folded(alloc: Global) -> Result<String, Fail> {
     let digest = DIGEST;
-    let text = format!(in alloc; "Mntner: A-MNT\r\ndescr: first # note\r\n\tsecond\r\n+\r\n% skipped\r\n+third\r\nauth: SHA256-PW\r\n ab:{digest}\r\nmnt-by: A-MNT\r\nsource: test")?;
+    let text = format!(in alloc;
+        "Mntner: A-MNT\r\ndescr: first # note\r\n\tsecond\r\n+\r\n% skipped\r\n+third\r\nauth: SHA256-PW\r\n ab:{digest}\r\nmnt-by: A-MNT\r\nsource: test"
+    )?;
     Ok(text)
 }
 
 fn canonical(alloc: Global) -> Result<String, Fail> {
     let digest = DIGEST;
-    let text = format!(in alloc; "mntner:         A-MNT\ndescr:          first # note\n                second\n+\n                third\nauth:           SHA256-PW\n                ab:{digest}\nmnt-by:         A-MNT\nsource:         test\n")?;
+    let text = format!(in alloc;
+        "mntner:         A-MNT\ndescr:          first # note\n                second\n+\n                third\nauth:           SHA256-PW\n                ab:{digest}\nmnt-by:         A-MNT\nsource:         test\n"
+    )?;
     Ok(text)
 }
 
@@ -42,7 +49,13 @@ fn folded_text_is_read_and_printed(rt: HostRuntime) -> Result<(), Fail> {
     let printed = print(alloc, &paragraph)?;
     let expected = canonical(alloc)?;
     assert_eq!(rt; printed.as_slice(), expected.as_bytes());
-    let names = [b"mntner".as_slice(), b"descr", b"auth", b"mnt-by", b"source"];
+    let names = [
+        b"mntner".as_slice(),
+        b"descr",
+        b"auth",
+        b"mnt-by",
+        b"source",
+    ];
     assert_eq!(rt; paragraph.attributes().len(), names.len());
     for (attribute, name) in paragraph.attributes().iter().zip(names.iter()) {
         assert_eq!(rt; attribute.name(), *name);
@@ -69,7 +82,13 @@ fn canonical_text_is_read_again(rt: HostRuntime) -> Result<(), Fail> {
     let read = read_canonical(alloc, text.as_bytes())?.ok_or("canonical")?;
     let (paragraph, _) = first(&rt, alloc, text.as_bytes());
     assert!(rt; read == paragraph);
-    for other in [b"".as_slice(), b"descr: x\n", b"descr:          x", b"descr:          x\n\n", b"no colon\n"] {
+    for other in [
+        b"".as_slice(),
+        b"descr: x\n",
+        b"descr:          x",
+        b"descr:          x\n\n",
+        b"no colon\n",
+    ] {
         let none = read_canonical(alloc, other)?;
         assert!(rt; none.is_none(), "of {other:?}");
     }
@@ -83,10 +102,13 @@ fn paragraphs_are_copied_and_changed(rt: HostRuntime) -> Result<(), Fail> {
     let (paragraph, _) = first(&rt, alloc, text);
     let copy = paragraph.copy(alloc)?;
     assert!(rt; copy == paragraph);
-    let hidden = paragraph.with_values(alloc, b"auth", b"# filtered")?.without(b"password");
+    let hidden = paragraph
+        .with_values(alloc, b"auth", b"# filtered")?
+        .without(b"password");
     assert!(rt; hidden != paragraph);
     let printed = print(alloc, &hidden)?;
-    let expected = b"mntner:         A-MNT\nauth:           # filtered\nauth:           # filtered\n";
+    let expected =
+        b"mntner:         A-MNT\nauth:           # filtered\nauth:           # filtered\n";
     assert_eq!(rt; printed.as_slice(), expected.as_slice());
     Ok(())
 }
@@ -103,7 +125,9 @@ fn sized(alloc: Global, more: usize, byte: u8) -> Result<Vec<u8>, Fail> {
     }
     text.push(b'\n')?;
     for _ in 0..1_000 {
-        text.extend_from_slice(b"% a skipped line counts for the size of its paragraph: 64 bytes\n")?;
+        text.extend_from_slice(
+            b"% a skipped line counts for the size of its paragraph: 64 bytes\n",
+        )?;
     }
     text.extend_from_slice(b"+z\n")?;
     Ok(text)
@@ -116,11 +140,17 @@ fn size_decides_before_other_faults(rt: HostRuntime) -> Result<(), Fail> {
     assert_eq!(rt; whole.len(), 65_536);
     assert_eq!(rt; fault_of(alloc, whole.as_slice()), None);
     let faulty = sized(alloc, 0, 0)?;
-    assert_eq!(rt; fault_of(alloc, faulty.as_slice()), Some(TextFault::BadByte));
+    assert_eq!(rt;
+        fault_of(alloc, faulty.as_slice()),
+        Some(TextFault::BadByte)
+    );
     for byte in [b'a', 0] {
         let larger = sized(alloc, 1, byte)?;
         assert_eq!(rt; larger.len(), 65_537);
-        assert_eq!(rt; fault_of(alloc, larger.as_slice()), Some(TextFault::TooLarge));
+        assert_eq!(rt;
+            fault_of(alloc, larger.as_slice()),
+            Some(TextFault::TooLarge)
+        );
     }
     Ok(())
 }
@@ -155,8 +185,14 @@ fn names_have_64_bytes_at_most(rt: HostRuntime) -> Result<(), Fail> {
     let name = "a-_0aaaaaaaaaaaaaaaaaaaaaaaaaaaaaaaaaaaaaaaaaaaaaaaaaaaaaaaaaaaaa";
     assert_eq!(rt; name.len(), 65);
     let longer = format!(in alloc; "{name}: x")?;
-    assert_eq!(rt; fault_of(alloc, longer.as_bytes()), Some(TextFault::BadName));
-    assert_eq!(rt; fault_of(alloc, &longer.as_bytes()[1..]), Some(TextFault::BadName));
+    assert_eq!(rt;
+        fault_of(alloc, longer.as_bytes()),
+        Some(TextFault::BadName)
+    );
+    assert_eq!(rt;
+        fault_of(alloc, &longer.as_bytes()[1..]),
+        Some(TextFault::BadName)
+    );
     Ok(())
 }
 
@@ -165,14 +201,22 @@ fn high_bytes_are_kept(rt: HostRuntime) -> Result<(), Fail> {
     let alloc = rt.alloc();
     let (paragraph, _) = first(&rt, alloc, b"descr: \xff\x80 caf\xe9\n% \x00\x07\n");
     let printed = print(alloc, &paragraph)?;
-    assert_eq!(rt; printed.as_slice(), b"descr:          \xff\x80 caf\xe9\n".as_slice());
+    assert_eq!(rt;
+        printed.as_slice(),
+        b"descr:          \xff\x80 caf\xe9\n".as_slice()
+    );
     Ok(())
 }
 
 #[test]
 fn skipped_lines_alone_are_no_paragraph(rt: HostRuntime) -> Result<(), Fail> {
     let alloc = rt.alloc();
-    for text in [b"".as_slice(), b"\n\n", b"% one\n# two", b" \t\r\n%\n\n#\n \n"] {
+    for text in [
+        b"".as_slice(),
+        b"\n\n",
+        b"% one\n# two",
+        b" \t\r\n%\n\n#\n \n",
+    ] {
         let next = next_paragraph(alloc, text, 0).map_err(|_| "fault")?;
         assert!(rt; next.is_none(), "of {text:?}");
         assert_eq!(rt; skip_paragraph(text, 0), text.len());

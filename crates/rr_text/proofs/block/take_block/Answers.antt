@@ -1,9 +1,9 @@
 -- The first block is what stands before the first blank line behind the place where it starts.
-use Rattle.std.proofs.Common.{◌≡◌, ◌<◌, ◌++◌, ◌∷◌, ◌∙◌, List, [], ℕ, length, drop, sym, ap, true, arith, ⊎_elim}
+use Rattle.std.proofs.Common.{◌≡◌, ◌<◌, ◌∙◌, length, sym, ap, arith}
 use Rattle.std.proofs.lemmas.Bool.Decides.{nat_tests}
 use Rattle.rr_text.specs.Lines.{text_lines}
-use Rattle.rr_text.specs.Blocks.{blocks, starts_block, until_blank, from_blank}
-use Rattle.rr_text.proofs.BlockLemmas.{blocks_none, front_of, IsFront, some_bytes, place_after, IsPlace, taken_at}
+use Rattle.rr_text.specs.Blocks.{blocks}
+use Rattle.rr_text.proofs.BlockLemmas.{blocks_none, taken_at}
 use Rattle.rr_text.proofs.block.take_block.Goals as goal
 
 pub returns-then-is_empty-clause-none : goal.returns-then-is_empty-clause-none
@@ -15,4 +15,4 @@ pub returns-clause-found : goal.returns-clause-found
 returns-clause-found c =
     let some : 0 < length c.skip_to_block-rest.result.now = grind (arith, nat_tests) in
     taken_at _ _ _ _ _ _ c.requires (sym c.split_at.ensures.back) c.skip_to_block-rest.ensures.after c.skip_to_block-rest.ensures.same c.skip_to_block-rest.ensures.starts some
-        c.split_block.ensures.whole c.split_block.ensures.block c.split_block.ensures.after
+    c.split_block.ensures.whole c.split_block.ensures.block c.split_block.ensures.after

@@ -1,4 +1,4 @@
-use Rattle.std.proofs.Common.{◌≡◌, ◌++◌, take}
+use Rattle.std.proofs.Common.{◌≡◌, take}
 use Rattle.std.specs.List.{flat_map}
 use Rattle.rr_text.specs.CanonicalText as canon
 use Rattle.rr_text.proofs.canonical.print.Given as goal

@@ -1,5 +1,5 @@
 -- A canonical text has no fault, gives its attributes, and is printed as it stands.
-use Rattle.std.proofs.Common.{◌≡◌, ◌∙◌, sym, ap, length, arith, List, ℕ, is_some, Some, None}
+use Rattle.std.proofs.Common.{◌≡◌, ◌∙◌, ap, length, arith, is_some, Some, None}
 use Rattle.std.proofs.lemmas.Bool.Decides.{nat_tests}
 use Rattle.std.proofs.lemmas.Slice.Eq.{bytes_eq-Decides}
 use Rattle.rr_text.specs.CanonicalText as canon
@@ -29,7 +29,7 @@ pub returns-else-eq-clause-only : goal.returns-else-eq-clause-only
 returns-else-eq-clause-only c = λ fields some good same.
     let again = canonical_again c.args.text.now fields good same in
     let is : c.as_slice.result.now ≡ c.args.text.now =
-        c.as_slice.ensures ∙ (c.in_ok-printed.ensures ∙ (ap canon.canonical (c.in_ok-paragraph.ensures.value ∙ again.1) ∙ same))
+    c.as_slice.ensures ∙ (c.in_ok-printed.ensures ∙ (ap canon.canonical (c.in_ok-paragraph.ensures.value ∙ again.1) ∙ same))
     in
     let equal = (bytes_eq-Decides c.as_slice.result.now c.args.text.now).1 is in
     cc (equal, c.eq.ensures)

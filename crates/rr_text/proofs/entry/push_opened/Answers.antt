@@ -1,8 +1,7 @@
 -- A line adds the attribute that it opens, if it opens one.
-use Rattle.std.proofs.Common.{◌≡◌, ◌∙◌, ◌++◌, ◌∷◌, List, [], sym, ap}
+use Rattle.std.proofs.Common.{◌++◌, sym, ap}
 use Rattle.rr_text.specs.Lines.{text_lines}
-use Rattle.rr_text.specs.Entries as entries
-use Rattle.rr_text.proofs.EntryLemmas.{further, opened, fields_step}
+use Rattle.rr_text.proofs.EntryLemmas.{further, fields_step}
 use Rattle.rr_text.proofs.entry.push_opened.Goals as goal
 
 pub returns-then-not-opens_attribute-clause-fields : goal.returns-then-not-opens_attribute-clause-fields

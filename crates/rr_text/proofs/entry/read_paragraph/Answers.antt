@@ -1,5 +1,5 @@
 -- What a block without a fault gives is good.
-use Rattle.std.proofs.Common.{◌≡◌, List, sym, subst}
+use Rattle.std.proofs.Common.{List, sym, subst}
 use Rattle.rr_text.specs.Fields.{Field, AreFields}
 use Rattle.rr_text.proofs.SoundLemmas.{sound}
 use Rattle.rr_text.proofs.entry.read_paragraph.Goals as goal

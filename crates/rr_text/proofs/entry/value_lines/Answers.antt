@@ -1,7 +1,6 @@
 -- The lines read so far and those that the rest gives stay the same list.
-use Rattle.std.proofs.Common.{◌≡◌, ◌≤◌, ◌∙◌, ◌++◌, ◌∷◌, List, [], length, sym, ap, false, arith}
+use Rattle.std.proofs.Common.{◌≡◌, ◌∙◌, length, sym, ap, arith}
 use Rattle.std.proofs.lemmas.Bool.Decides.{nat_tests}
-use Rattle.rr_text.specs.Lines.{text_lines}
 use Rattle.rr_text.specs.Entries as entries
 use Rattle.rr_text.proofs.EntryLemmas.{continued_step, continued_end, further, opened, entries_none}
 use Rattle.rr_text.proofs.entry.value_lines.Goals as goal
@@ -9,7 +8,7 @@ use Rattle.rr_text.proofs.entry.value_lines.Goals as goal
 pub returns-then-opens_attribute-clause-lines : goal.returns-then-opens_attribute-clause-lines
 returns-then-opens_attribute-clause-lines c =
     continued_end _ _ _ c.lines.invariant.lines
-        (ap entries.continued c.split_line.ensures.lines ∙ (opened _ _ _ c.of-kind.ensures (cc)).lines)
+    (ap entries.continued c.split_line.ensures.lines ∙ (opened _ _ _ c.of-kind.ensures (cc)).lines)
 
 pub lines-preserved : goal.lines-preserved
 lines-preserved c = record {

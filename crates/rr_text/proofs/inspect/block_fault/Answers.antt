@@ -1,5 +1,5 @@
 -- The fault of the first line comes before that of the later ones.
-use Rattle.std.proofs.Common.{◌≡◌, ◌∙◌, ◌∷◌, length, List, ℕ, sym, ap, arith}
+use Rattle.std.proofs.Common.{◌∙◌, sym, ap, arith}
 use Rattle.std.proofs.lemmas.Bool.Decides.{nat_tests}
 use Rattle.std.specs.Option.{option_or}
 use Rattle.rr_text.specs.Lines.{text_lines}

@@ -1,5 +1,5 @@
 -- The first fault is that of the first faulty line.
-use Rattle.std.proofs.Common.{◌≡◌, ◌∙◌, ◌∷◌, length, List, ℕ, Option, Some, None, sym, ap, arith}
+use Rattle.std.proofs.Common.{◌≡◌, ◌∙◌, length, sym, ap, arith}
 use Rattle.std.proofs.lemmas.Bool.Decides.{nat_tests}
 use Rattle.rr_text.specs.Lines.{text_lines}
 use Rattle.rr_text.specs.Faults as faults

@@ -1,8 +1,7 @@
 -- The first line ends at the first LF, and where there is none it is the whole text.
-use Rattle.std.proofs.Common.{◌≡◌, List, ℕ, ◌∷◌, [], refl, inl, inr, ◌∙◌, ap, sym, arith}
+use Rattle.std.proofs.Common.{inl, inr, arith}
 use Rattle.std.proofs.lemmas.Grind.{common_steps}
-use Rattle.rr_text.specs.Lines.{text_lines}
-use Rattle.rr_text.proofs.LineLemmas.{IsCut, cut_some, cut_none, no_lines}
+use Rattle.rr_text.proofs.LineLemmas.{cut_some, cut_none, no_lines}
 use Rattle.rr_text.proofs.line.split_line.Goals as goal
 
 pub returns-in-Some-clause-lines : goal.returns-in-Some-clause-lines

@@ -1,5 +1,5 @@
 -- The first entry is that of the first block.
-use Rattle.std.proofs.Common.{◌≡◌, ◌∙◌, ◌∷◌, Ok, ap, drop}
+use Rattle.std.proofs.Common.{◌∙◌, ◌∷◌, ap, drop}
 use Rattle.std.proofs.lemmas.Result.{err_from_is_err_and}
 use Rattle.rr_text.specs.Entries.{entries}
 use Rattle.rr_text.proofs.EntryLemmas.{entries_empty, entries_more, entries_fault, entries_some}
@@ -19,5 +19,5 @@ pub returns-in-None-clause-none : goal.returns-in-None-clause-none
 returns-in-None-clause-none c = λ _. entries_empty _ c.in-None.ensures.none
 
 pub returns-in_ok-paragraph-in-Some-clause-found : goal.returns-in_ok-paragraph-in-Some-clause-found
-returns-in_ok-paragraph-in-Some-clause-found c = 
+returns-in_ok-paragraph-in-Some-clause-found c =
     entries_more _ _ _ c.in-Some.ensures.found.3 ∙ ap (λ e. e ∷ entries (drop c.in-Some.place c.args.text.now)) c.in_ok-paragraph-in-Some.ensures.found.2

@@ -1,9 +1,7 @@
 -- Each line behind the first one came with its space.
-use Rattle.std.proofs.Common.{◌≡◌, ◌≤◌, ◌++◌, ◌∷◌, List, [], ℕ, length, take, arith}
+use Rattle.std.proofs.Common.{◌≡◌, ◌∷◌, take, arith}
 use Rattle.std.proofs.lemmas.List.{take_all}
 use Rattle.std.proofs.lemmas.Grind.{common_steps}
-use Rattle.std.specs.List.{flat_map}
-use Rattle.rr_text.specs.Meanings as meanings
 use Rattle.rr_text.proofs.MeaningLemmas.{joined_all}
 use Rattle.rr_text.proofs.value.join_uncommented.Goals as goal
 

@@ -1,7 +1,7 @@
 -- The search keeps the end of the last line that closes.
-use Rattle.std.proofs.Common.{◌≡◌, ◌∙◌, ◌++◌, List, [], ℕ, length, arith}
+use Rattle.std.proofs.Common.{◌≡◌, ◌∙◌, ◌++◌, [], length, arith}
 use Rattle.std.proofs.lemmas.Bool.Decides.{nat_tests}
-use Rattle.rr_text.proofs.WholeLemmas.{IsSearched, searched_none, searched_more, searched_all}
+use Rattle.rr_text.proofs.WholeLemmas.{searched_none, searched_more, searched_all}
 use Rattle.rr_text.proofs.whole.whole_part.Goals as goal
 
 pub lines-init : goal.lines-init

@@ -1,4 +1,4 @@
-use Rattle.std.proofs.Common.{◌≡◌, List, sym, subst}
+use Rattle.std.proofs.Common.{List}
 use Rattle.rr_text.specs.Fields.{Field, AreFields}
 use Rattle.rr_text.proofs.FieldLemmas.{AreFields-with_value}
 use Rattle.rr_text.proofs.paragraph.Paragraph.with_values.Goals as goal

@@ -7,7 +7,7 @@ use Rattle.rr_text.proofs.paragraph.Paragraph.without.Goals as goal
 pub invariant_of-result : goal.invariant_of-result
 invariant_of-result c =
     let kept : c.retain.new.self.items ≡ filter (λ field. not (is_named c.args.name.now field)) c.self.inside.attributes.items =
-        filter_same _ (λ field. not (is_named c.args.name.now field)) _ (λ x b f k. search rules) _ _ c.retain.ensures.filtered
+    filter_same _ (λ field. not (is_named c.args.name.now field)) _ (λ x b f k. search rules) _ _ c.retain.ensures.filtered
     in
     let P : List Field → Type 0 = AreFields in
     subst P (sym kept) (AreFields-filter _ _ c.self.invariant)
@@ -15,6 +15,6 @@ invariant_of-result c =
 pub returns : goal.returns
 returns c =
     let kept : c.retain.new.self.items ≡ filter (λ field. not (is_named c.args.name.now field)) c.self.inside.attributes.items =
-        filter_same _ (λ field. not (is_named c.args.name.now field)) _ (λ x b f k. search rules) _ _ c.retain.ensures.filtered
+    filter_same _ (λ field. not (is_named c.args.name.now field)) _ (λ x b f k. search rules) _ _ c.retain.ensures.filtered
     in
     kept ∙ ap (filter (λ field. not (is_named c.args.name.now field))) c.self.view_is

@@ -1,5 +1,3 @@
-use Rattle.std.proofs.Common.{◌≡◌, List}
-use Rattle.std.proofs.lemmas.Bool.Decides.{Decides-at}
 use Rattle.rr_text.specs.FieldEquality.{fields_eq-Decides}
 use Rattle.rr_text.proofs.paragraph.ParagraphPartialEq.eq.Goals as goal
 

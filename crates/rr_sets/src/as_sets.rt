@@ -1,16 +1,25 @@
 //! The expansion of as-sets.
 
-ghost use Rattle.std.specs.Prelude.{◌≡◌, ◌↔◌, ℕ, List, true, false, Contains, IfOk, OnOk};
+ghost use Rattle.std.specs.Prelude.{◌≡◌, ◌↔◌, ℕ, List, not, true, false, Contains, IfOk, IsTrue, OnOk, filter};
+ghost use Rattle.std.specs.BTreeSet.{IsFromIterResult};
+ghost use Rattle.std.specs.Option.{option_copied};
 ghost use Rattle.std.specs.Ordering.{nat_cmp};
 ghost use Rattle.std.specs.Cmp.Lexicographic.{slice_cmp};
+ghost use Rattle.std.specs.List.{filter_map};
 ghost use Rattle.std.specs.List.Sorted.{IsStrictlySortedBy};
+ghost use Rattle.std.proofs.lemmas.Map.Lookups.{CmpEqualImpliesEq};
 ghost use Rattle.rr_graph.specs.Chain.{MoreThan};
-ghost use Rattle.rr_sets.specs.AsSets.{InAsSet, IsMissing, IsReachedSet, has_as_set};
+ghost use Rattle.rr_sets.specs.AsSets.{InAsSet, IsDirect, IsMissing, IsReachedSet, ListsSet, has_as_set};
+ghost use Rattle.rr_sets.specs.SetObjects.{set_listed};
 
 use crate::book::SetBook;
+use crate::direct::{as_set, direct_numbers, is_as_any};
 use crate::members::{ExpandFault, Members};
+use rr_graph::{Graph, ReachFault, ascending, reach};
 use rr_number::{AsNumber, SetName};
-use std::alloc::Global;
+use rr_object::{Member, MemberSet};
+use std::alloc::{AllocError, Global};
+use std::collections::BTreeSet;
 
 /// Lists the AS numbers that an as-set stands for: those that it and the sets that it reaches by their `members` list
 /// or have by `mbrs-by-ref`; those of `AS-ANY` are all that are registered (RFC 2622, 5.1). The names of sets reached
@@ -34,5 +43,165 @@ pub fn expand_as_set<B: SetBook>(
     ensures many_known { result ≡ Err ExpandFault.TooMany → has_as_set (B.contents book.now) name.now ≡ true }
     ensures many { result ≡ Err ExpandFault.TooMany → MoreThan limit (IsReachedSet (B.contents book.now) name.now) }
 {
-    Err(ExpandFault::Memory)
+    if !has_as_set(alloc, book, name)? {
+        return Err(ExpandFault::NoSuchSet);
+    }
+    expand_known(alloc, book, name, limit)
+}
+
+/// Lists what a set that there is stands for.
+fn expand_known<B: SetBook>(
+    alloc: Global,
+    book: &B,
+    name: &SetName,
+    limit: usize,
+) -> Result<Members<AsNumber>, ExpandFault>
+    ensures found { IfOk result (λ members. (n : ℕ) → Contains members.found.items n ↔ InAsSet (B.contents book.now) name.now n) }
+    ensures missing { IfOk result (λ members. (s : List ℕ) → Contains members.missing.items s ↔ IsMissing (B.contents book.now) name.now s) }
+    ensures found_sorted { IfOk result (λ members. IsStrictlySortedBy ⟦<AsNumber as Ord>⟧.cmp members.found.items) }
+    ensures missing_sorted { IfOk result (λ members. IsStrictlySortedBy (slice_cmp nat_cmp) members.missing.items) }
+    ensures few { OnOk result (¬ MoreThan limit (IsReachedSet (B.contents book.now) name.now)) }
+    ensures known { result ≡ Err ExpandFault.NoSuchSet → ⊥ }
+    ensures many { result ≡ Err ExpandFault.TooMany → MoreThan limit (IsReachedSet (B.contents book.now) name.now) }
+{
+    let names = reached_sets(alloc, book, name, limit)?;
+    let members = members_of(alloc, book, &names)?;
+    Ok(members)
+}
+
+/// What is in one of the sets itself, and which of the names are no as-set's.
+fn members_of<B: SetBook>(
+    alloc: Global,
+    book: &B,
+    names: &[SetName],
+) -> Result<Members<AsNumber>, AllocError>
+    ensures found { IfOk result (λ members. (n : ℕ) → Contains members.found.items n ↔ ((s : List ℕ) × Contains names.now s × IsDirect (B.contents book.now) s n)) }
+    ensures missing { IfOk result (λ members. (s : List ℕ) → Contains members.missing.items s ↔ (Contains names.now s × (has_as_set (B.contents book.now) s ≡ false))) }
+    ensures found_sorted { IfOk result (λ members. IsStrictlySortedBy ⟦<AsNumber as Ord>⟧.cmp members.found.items) }
+    ensures missing_sorted { IfOk result (λ members. IsStrictlySortedBy (slice_cmp nat_cmp) members.missing.items) }
+{
+    let found = sorted(alloc, numbers_in(alloc, book, names)?)?;
+    let missing = sorted(alloc, missing_names(alloc, book, names)?)?;
+    Ok(Members { found, missing })
+}
+
+/// The names of as-sets. An edge leads from a registered one to each name that it lists.
+#[derive(Drop)]
+struct AsSets<'a, B: SetBook> {
+    book: &'a B,
+}
+
+impl<B: SetBook> Graph for AsSets<'_, B> {
+    ghost use Rattle.std.proofs.lemmas.Map.Lookups.{exact_bytes};
+
+    type Node = SetName;
+
+    ghost edge = { λ s. ListsSet (B.contents s.book.now) };
+
+    ghost exact = { exact_bytes };
+
+    fn successors(&self, alloc: Global, name: &SetName) -> Result<Vec<SetName>, AllocError> {
+        match as_set(alloc, self.book, name)? {
+            Some(object) => sets_listed(alloc, object.members()),
+            None => Ok(Vec::new(alloc)),
+        }
+    }
+
+    fn copy(&self, alloc: Global, name: &SetName) -> Result<SetName, AllocError> {
+        name.copy(alloc)
+    }
+}
+
+/// The names that chains of listed names lead to.
+fn reached_sets<B: SetBook>(
+    alloc: Global,
+    book: &B,
+    name: &SetName,
+    limit: usize,
+) -> Result<Vec<SetName>, ReachFault>
+    ensures found { IfOk result (λ names. (s : List ℕ) → Contains names.items s ↔ IsReachedSet (B.contents book.now) name.now s) }
+    ensures few { OnOk result (¬ MoreThan limit (IsReachedSet (B.contents book.now) name.now)) }
+    ensures many { result ≡ Err ReachFault.TooMany → MoreThan limit (IsReachedSet (B.contents book.now) name.now) }
+{
+    let mut starts = Vec::new(alloc);
+    starts.push(name.copy(alloc)?)?;
+    reach(alloc, &AsSets { book }, starts, limit)
+}
+
+/// The names of sets among the members.
+fn sets_listed(alloc: Global, members: &[Member]) -> Result<Vec<SetName>, AllocError>
+    ensures { IfOk result (λ names. names.items ≡ filter_map set_listed members.now) }
+{
+    let mut names = Vec::new(alloc);
+    for member in members {
+        if let Some(name) = set_listed(member) {
+            names.push(name.copy(alloc)?)?;
+        }
+    }
+    Ok(names)
+}
+
+/// The name of a set that the member is.
+fn set_listed(member: &Member) -> Option<&SetName>
+    ensures { option_copied result ≡ set_listed member.now }
+{
+    match member {
+        Member::Set(MemberSet::Set(name), _) => Some(name),
+        _ => None,
+    }
+}
+
+/// Whether there is an as-set of the name.
+fn has_as_set<B: SetBook>(alloc: Global, book: &B, name: &SetName) -> Result<bool, AllocError>
+    ensures { IfOk result (λ known. known ≡ has_as_set (B.contents book.now) name.now) }
+{
+    let registered = as_set(alloc, book, name)?.is_some();
+    Ok(registered || is_as_any(name))
+}
+
+/// The AS numbers that are in one of the sets itself.
+fn numbers_in<B: SetBook>(
+    alloc: Global,
+    book: &B,
+    names: &[SetName],
+) -> Result<Vec<AsNumber>, AllocError>
+    ensures { IfOk result (λ numbers. (n : ℕ) → Contains numbers.items n ↔ ((s : List ℕ) × Contains names.now s × IsDirect (B.contents book.now) s n)) }
+{
+    let mut numbers = Vec::new(alloc);
+    for name in names {
+        numbers.extend_from_slice(&direct_numbers(alloc, book, name)?)?;
+    }
+    Ok(numbers)
+}
+
+/// Those of the names that are no as-set's.
+fn missing_names<B: SetBook>(
+    alloc: Global,
+    book: &B,
+    names: &[SetName],
+) -> Result<Vec<SetName>, AllocError>
+    ensures { IfOk result (λ missing. missing.items ≡ filter (λ s. not (has_as_set (B.contents book.now) s)) names.now) }
+{
+    let mut missing = Vec::new(alloc);
+    for name in names {
+        if !has_as_set(alloc, book, name)? {
+            missing.push(name.copy(alloc)?)?;
+        }
+    }
+    Ok(missing)
+}
+
+/// The list in ascending order, without repeats.
+fn sorted<T: Ord + Drop>(alloc: Global, list: Vec<T>) -> Result<Vec<T>, AllocError>
+    ensures same { CmpEqualImpliesEq T.cmp → IfOk result (λ sorted. (x : T) → Contains sorted.items x ↔ Contains list.items x) }
+    ensures sorted { IfOk result (λ sorted. IsStrictlySortedBy T.cmp sorted.items) }
+{
+    ascending(alloc, set_of(alloc, list)?)
+}
+
+/// The set of what the list has.
+fn set_of<T: Ord + Drop>(alloc: Global, list: Vec<T>) -> Result<BTreeSet<T>, AllocError>
+    ensures { IfOk result (λ set. IsFromIterResult T.cmp list.items set) }
+{
+    list.into_iter().collect(alloc)
 }

@@ -3,6 +3,7 @@
 
 mod as_sets;
 mod book;
+mod direct;
 mod members;
 
 pub use as_sets::expand_as_set;

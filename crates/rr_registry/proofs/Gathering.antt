@@ -33,18 +33,18 @@ put_apart o os a formed free =
     let r = book_of os in
     let same = book_put o os a.ordered in
     let outside : (l : Key) (x : Obj) → get r l ≡ Some x → keys_cross l o.key ≡ false =
-        λ l x f. ap (λ m. keys_cross m o.key) (sym (a.keyed l x f)) ∙ none_passes (λ y. keys_cross y.key o.key) x (values r) free (found_in r l x f) in
+    λ l x f. ap (λ m. keys_cross m o.key) (sym (a.keyed l x f)) ∙ none_passes (λ y. keys_cross y.key o.key) x (values r) free (found_in r l x f) in
     record {
       ordered = in_order_put o os a.ordered;
       keyed = λ k x f. after_insert (λ l y. y.key ≡ l) r o.key o refl a.keyed k x (sym (ap (λ m. get m k) same) ∙ f);
       formed = λ k x f. after_insert (λ l y. IsKey l) r o.key o formed a.formed k x (sym (ap (λ m. get m k) same) ∙ f);
       apart = λ k l x y f g.
           after_insert (λ m u. keys_cross m l ≡ false) r o.key o
-            (after_insert (λ b v. keys_cross o.key b ≡ false) r o.key o (crosses_itself o.key)
-                (λ b v h. keys_cross_back o.key b ∙ outside b v h) l y (sym (ap (λ m. get m l) same) ∙ g))
-            (λ m u h. after_insert (λ b v. keys_cross m b ≡ false) r o.key o (outside m u h)
-                (λ b v i. a.apart m b u v h i) l y (sym (ap (λ w. get w l) same) ∙ g))
-            k x (sym (ap (λ m. get m k) same) ∙ f)
+          (after_insert (λ b v. keys_cross o.key b ≡ false) r o.key o (crosses_itself o.key)
+          (λ b v h. keys_cross_back o.key b ∙ outside b v h) l y (sym (ap (λ m. get m l) same) ∙ g))
+          (λ m u h. after_insert (λ b v. keys_cross m b ≡ false) r o.key o (outside m u h)
+          (λ b v i. a.apart m b u v h i) l y (sym (ap (λ w. get w l) same) ∙ g))
+          k x (sym (ap (λ m. get m k) same) ∙ f);
     }
 
 -- a key that is there, or stands in a list, stands in what is gathered
@@ -124,18 +124,18 @@ gathered_is_book os grown g e =
         keyed = g.apart.keyed;
         formed = g.apart.formed;
         named = λ k o f.
-          subst (λ m. names_nobody m (names_of o) ≡ false) (sym whole)
+            subst (λ m. names_nobody m (names_of o) ≡ false) (sym whole)
             (none_passes (λ x. names_nobody r (names_of x)) o os (no_place (λ x. names_nobody r (names_of x)) os (unmapped _ e))
-              (of_list os k o (gathered_from empty os k o (sym (ap (λ m. get m k) whole) ∙ f))));
-        apart = g.apart.apart
-      }
+            (of_list os k o (gathered_from empty os k o (sym (ap (λ m. get m k) whole) ∙ f))));
+        apart = g.apart.apart;
+      };
     }
 
 -- a name that is of no mntner in a list is of none in what is gathered
 known_in_list : (os : List Obj) (n : List ℕ) → is_none (maintainer (gathered empty os) n) ≡ is_none (find (λ x. is_mntner_of n x.key) os)
 known_in_list os n =
     ap not (stands_gathered empty os (Mntner n) ∙ ap (λ s. is_some s || is_some (find (λ o. eq_by_cmp key_cmp (Mntner n) o.key) os)) (get-empty key_cmp (Mntner n))
-        ∙ ap is_some (by_name n os))
+    ∙ ap is_some (by_name n os))
 
 all_known : (os : List Obj) (ns : List (List ℕ)) → names_nobody (gathered empty os) ns ≡ list_any (λ n. is_none (find (λ x. is_mntner_of n x.key) os)) ns
 all_known os [] = refl
@@ -172,12 +172,12 @@ pub taken_in : (os : List Obj) (n : ℕ) (o : Obj) (grown : List Obj) → IsApar
     → is_some (find (λ x. eq_by_cmp key_cmp o.key x.key) os) ≡ false → list_any (λ x. keys_cross x.key o.key) os ≡ false
     → grown ≡ put_in o os → IsTakenIn os n o grown
 taken_in os n o grown a formed e f same = record {
-    free =
-        ap (λ b. if b then Some (Duplicate n) else (if crosses_some (book_of os) o.key then Some (Overlap n) else None)) (stands os o.key a.ordered ∙ e)
-        ∙ ap (λ b. if b then Some (Overlap n) else None) (crossed os o.key a.ordered ∙ f);
-    apart = subst IsApart (sym same) (put_apart o os a formed (crossed os o.key a.ordered ∙ f));
-    put = ap book_of same ∙ book_put o os a.ordered
-  }
+  free =
+      ap (λ b. if b then Some (Duplicate n) else (if crosses_some (book_of os) o.key then Some (Overlap n) else None)) (stands os o.key a.ordered ∙ e)
+      ∙ ap (λ b. if b then Some (Overlap n) else None) (crossed os o.key a.ordered ∙ f);
+  apart = subst IsApart (sym same) (put_apart o os a formed (crossed os o.key a.ordered ∙ f));
+  put = ap book_of same ∙ book_put o os a.ordered;
+}
 
 -- whether there is a value behind a reference
 pub copied_some : {A : Type 0} (o : Option (Bor A)) → is_some (option_copied o) ≡ is_some o
@@ -191,11 +191,11 @@ found_by o p e = sym (copied_some o) ∙ ap is_some e
 -- no objects are apart
 pub none_apart : IsApart []
 none_apart = record {
-    ordered = refl;
-    keyed = λ k o f. absurd (nothing o (sym (get_of_book [] k refl) ∙ f));
-    formed = λ k o f. absurd (nothing o (sym (get_of_book [] k refl) ∙ f));
-    apart = λ k l o x f g. absurd (nothing o (sym (get_of_book [] k refl) ∙ f))
-  }
+  ordered = refl;
+  keyed = λ k o f. absurd (nothing o (sym (get_of_book [] k refl) ∙ f));
+  formed = λ k o f. absurd (nothing o (sym (get_of_book [] k refl) ∙ f));
+  apart = λ k l o x f g. absurd (nothing o (sym (get_of_book [] k refl) ∙ f));
+}
 
 -- where gathering begins
 pub record IsStart (os xs fs : List Obj) : Type 0 where
@@ -205,10 +205,10 @@ pub record IsStart (os xs fs : List Obj) : Type 0 where
 
 pub start : (os xs fs : List Obj) → fs ≡ [] → xs ≡ os → IsStart os xs fs
 start os xs fs e f = record {
-    apart = subst IsApart (sym e) none_apart;
-    same_clash = ap (λ r. clash r 1 xs) (ap book_of e ∙ empty_book) ∙ ap (clash empty 1) f;
-    same_whole = ap (λ r. gathered r xs) (ap book_of e ∙ empty_book) ∙ ap (gathered empty) f
-  }
+  apart = subst IsApart (sym e) none_apart;
+  same_clash = ap (λ r. clash r 1 xs) (ap book_of e ∙ empty_book) ∙ ap (clash empty 1) f;
+  same_whole = ap (λ r. gathered r xs) (ap book_of e ∙ empty_book) ∙ ap (gathered empty) f;
+}
 
 -- the place of the first object of a list that names a maintainer who is not in it
 abbrev pub first_place : List Obj → Option ℕ

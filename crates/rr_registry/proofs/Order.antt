@@ -62,8 +62,8 @@ entries_put : (o : Obj) (os : List Obj) → map entry (put_in o os) ≡ put key_
 entries_put o [] = refl
 entries_put o (x ∷ xs) =
     elim (key_cmp o.key x.key) as (λ r. key_cmp o.key x.key ≡ r
-        → map entry (by_order r (o ∷ x ∷ xs) (o ∷ xs) (x ∷ put_in o xs))
-        ≡ by_order r ((o.key, o) ∷ (entry x ∷ map entry xs)) ((x.key, o) ∷ map entry xs) (entry x ∷ put key_cmp o.key o (map entry xs))) [
+    → map entry (by_order r (o ∷ x ∷ xs) (o ∷ xs) (x ∷ put_in o xs))
+    ≡ by_order r ((o.key, o) ∷ (entry x ∷ map entry xs)) ((x.key, o) ∷ map entry xs) (entry x ∷ put key_cmp o.key o (map entry xs))) [
       | Less ↦ λ e. refl
       | Equal ↦ λ e. ap (λ k. (k, o) ∷ map entry xs) (keys_exact o.key x.key e)
       | Greater ↦ λ e. ap (λ es. entry x ∷ es) (entries_put o xs)
@@ -88,7 +88,7 @@ entries_others : (k : Key) (os : List Obj) → map entry (others k os) ≡ where
 entries_others k [] = refl
 entries_others k (x ∷ xs) =
     elim (not (eq_by_cmp key_cmp k x.key)) as (λ b. map entry (cond b (x ∷ others k xs) (others k xs))
-        ≡ cond b (entry x ∷ where_key key_cmp (λ y. not (eq_by_cmp key_cmp k y)) (map entry xs)) (where_key key_cmp (λ y. not (eq_by_cmp key_cmp k y)) (map entry xs))) [
+    ≡ cond b (entry x ∷ where_key key_cmp (λ y. not (eq_by_cmp key_cmp k y)) (map entry xs)) (where_key key_cmp (λ y. not (eq_by_cmp key_cmp k y)) (map entry xs))) [
       | true ↦ ap (λ es. entry x ∷ es) (entries_others k xs)
       | false ↦ entries_others k xs
     ]
@@ -124,8 +124,8 @@ empty_is_book =
         keyed = λ k o f. absurd (never k o f);
         formed = λ k o f. absurd (never k o f);
         named = λ k o f. absurd (never k o f);
-        apart = λ k l o x f g. absurd (never k o f)
-      }
+        apart = λ k l o x f g. absurd (never k o f);
+      };
     }
 
 pub empty_book : book_of [] ≡ empty
@@ -134,15 +134,15 @@ empty_book = same_map keys_total keys_exact _ _ (λ q. get_of_book [] q refl ∙
 -- a book stays one where what it becomes is sound
 pub put_is_book : (o : Obj) (os : List Obj) → IsBook os → Sound (insert (book_of os) o.key o) → IsBook (put_in o os)
 put_is_book o os b s = record {
-    ordered = in_order_put o os b.ordered;
-    sound = subst Sound (sym (book_put o os b.ordered)) s
-  }
+  ordered = in_order_put o os b.ordered;
+  sound = subst Sound (sym (book_put o os b.ordered)) s;
+}
 
 pub others_are_book : (k : Key) (os : List Obj) → IsBook os → Sound (remove (book_of os) k) → IsBook (others k os)
 others_are_book k os b s = record {
-    ordered = in_order_others k os b.ordered;
-    sound = subst Sound (sym (book_others k os b.ordered)) s
-  }
+  ordered = in_order_others k os b.ordered;
+  sound = subst Sound (sym (book_others k os b.ordered)) s;
+}
 
 -- a list that is a book's is the list of its registry's objects
 pub told : (r : Reg) (os xs : List Obj) → book_of os ≡ r → is_in_order os ≡ true → xs ≡ os → xs ≡ values r

@@ -38,7 +38,7 @@ unfolding put_at
 put_at_place o [] = refl
 put_at_place o (x ∷ xs) =
     elim (key_cmp o.key x.key) as (λ r. key_cmp o.key x.key ≡ r
-        → by_order r (o ∷ x ∷ xs) (o ∷ xs) (x ∷ put_in o xs) ≡ put_at o (x ∷ xs) (cond (not (not (is_gt r))) (1 + place_of o.key xs) 0)) [
+    → by_order r (o ∷ x ∷ xs) (o ∷ xs) (x ∷ put_in o xs) ≡ put_at o (x ∷ xs) (cond (not (not (is_gt r))) (1 + place_of o.key xs) 0)) [
       | Less ↦ λ e. sym (ap (λ r. cond (is_eq r) (o ∷ xs) (o ∷ x ∷ xs)) e)
       | Equal ↦ λ e. sym (ap (λ r. cond (is_eq r) (o ∷ xs) (o ∷ x ∷ xs)) e)
       | Greater ↦ λ e. ap (λ ys. x ∷ ys) (put_at_place o xs) ∙ sym (later_put x o xs (place_of o.key xs))

@@ -115,7 +115,11 @@ fn some_entry_names(entries: &[Grant], name: &Name) -> bool
 }
 
 /// The origins of the routes of the prefix, in the order of the objects.
-pub(crate) fn origins(alloc: Global, objects: &[Object], prefix: Prefix) -> Result<Vec<AsNumber>, AllocError>
+pub(crate) fn origins(
+    alloc: Global,
+    objects: &[Object],
+    prefix: Prefix,
+) -> Result<Vec<AsNumber>, AllocError>
     ensures { IfOk result (λ v. v.items ≡ origins_among objects.now prefix) }
 {
     objects

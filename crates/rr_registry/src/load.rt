@@ -85,9 +85,7 @@ fn some_unknown_in_lower(objects: &[Object], object: &Object) -> bool
 fn some_entry_unknown(objects: &[Object], entries: &[Grant]) -> bool
     ensures { result ≡ list_any (λ g. is_none (find (λ x. is_mntner_of g.name x.key) objects.now)) entries.now }
 {
-    entries
-        .iter()
-        .any(|entry| lists::find_mntner(objects, entry.name()).is_none())
+    entries.iter().any(|entry| lists::find_mntner(objects, entry.name()).is_none())
 }
 
 fn some_unknown(objects: &[Object], names: &[Name]) -> bool

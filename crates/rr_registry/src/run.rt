@@ -21,7 +21,11 @@ impl Registry {
 
     /// Applies the items in turn and gives the outcome of each; the error is want of memory for the outcomes, before
     /// the first item, and leaves the registry as it was.
-    pub fn run_items(&mut self, alloc: Global, items: Vec<Submitted>) -> Result<Vec<Outcome>, AllocError>
+    pub fn run_items(
+        &mut self,
+        alloc: Global,
+        items: Vec<Submitted>,
+    ) -> Result<Vec<Outcome>, AllocError>
         ensures run { IfOk result (λ outcomes. Run self.old items.items outcomes.items self.new) }
         ensures err { OnErr result (self.new ≡ self.old) }
     {

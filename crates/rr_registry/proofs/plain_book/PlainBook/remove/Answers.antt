@@ -10,7 +10,7 @@ invariant_of-self c =
     let k = c.args.key.now in
     let before = c.self.inside.objects.items in
     subst IsBook (sym c.remove.ensures) (others_are_book k before c.self.invariant
-        (subst (λ r. Sound (remove r k)) (sym c.self.view_is) c.requires))
+    (subst (λ r. Sound (remove r k)) (sym c.self.view_is) c.requires))
 
 pub returns : goal.returns
 returns c =

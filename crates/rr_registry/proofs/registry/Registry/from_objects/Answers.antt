@@ -20,5 +20,5 @@ returns-in-None c =
     let place = rw c.deref.ensures.value at c.first_unnamed-unnamed.ensures.value in
     record {
       faultless = fault_after os c.in-Ok.gathered.items _ c.in-Ok.ensures (found_fault os _ (sym c.in-None.is ∙ place));
-      whole = c.of-in-None.ensures ∙ c.of.ensures ∙ c.in-Ok.ensures.whole
+      whole = c.of-in-None.ensures ∙ c.of.ensures ∙ c.in-Ok.ensures.whole;
     }

@@ -1,2 +1,8 @@
+pub mod Asking
+pub mod Exits
 pub mod Filters
+pub mod Giving
 pub mod Joins
+pub mod Passing
+pub mod Progress
+pub mod Writings

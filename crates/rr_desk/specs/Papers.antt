@@ -1,5 +1,5 @@
 -- What the paragraph of a submission holds beside an object (profile).
-use Rattle.std.specs.Prelude.{ℕ, Bool, not, ◌&&◌, List, codes, filter, map}
+use Rattle.std.specs.Prelude.{ℕ, Bool, not, List, codes, filter, map}
 use Rattle.std.specs.List.{list_all, list_any, join_with_byte}
 use Rattle.rr_text.specs.Fields.{Field, is_named}
 
@@ -11,13 +11,9 @@ is_password field = is_named (codes "password") field
 abbrev pub is_delete : Field → Bool
 is_delete field = is_named (codes "delete") field
 
--- an attribute of the object itself
-abbrev pub is_own : Field → Bool
-is_own field = not (is_password field) && not (is_delete field)
-
 -- the paragraph of the object: all but the attributes `password` and `delete`
 abbrev pub own_fields : List Field → List Field
-own_fields fields = filter is_own fields
+own_fields fields = filter (λ field. not (is_delete field)) (filter (λ field. not (is_password field)) fields)
 
 -- a secret is the lines of its value joined by one space, `#` kept
 abbrev pub secret_of : Field → List ℕ

@@ -2,8 +2,17 @@
 #![tactic(auto)]
 
 mod ending;
+mod items;
+mod line;
 mod paper;
+mod request;
 mod secret;
+mod serving;
+mod submission;
 
 pub use ending::{Ending, write_last_line};
-pub use paper::{asks_deletion, is_secrets_alone, own_paragraph};
+pub use items::next_item;
+pub use line::write_item_line;
+pub use request::Request;
+pub use serving::submit;
+pub use submission::{DeskFault, Done};

@@ -1,0 +1,32 @@
+//! What submissions answer.
+
+use thiserror::Error;
+
+/// How many items a submission had, and how many of them were refused.
+#[derive(Clone, Copy, Debug, PartialEq, Eq)]
+pub struct Done {
+    /// The items.
+    pub items: u64,
+    /// Those that were refused.
+    pub refused: u64,
+}
+
+/// Why a submission was cut short; `items` were decided before that.
+#[derive(Clone, Copy, Debug, PartialEq, Eq, Error)]
+pub enum DeskFault {
+    /// A read failed, or there were too many.
+    #[error("the submission could not be read after {items} items")]
+    ReadFault {
+        /// The items that were decided.
+        items: u64,
+    },
+    /// A write of the report failed.
+    #[error("the report could not be written after {items} items")]
+    WriteFault {
+        /// The items that were decided.
+        items: u64,
+    },
+    /// Memory ran out before the first item.
+    #[error("out of memory")]
+    Memory,
+}

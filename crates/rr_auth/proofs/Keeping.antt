@@ -67,18 +67,18 @@ pub sound_insert : (r : Reg) (o : Obj) → Sound r → IsKey o.key
     → ((l : Key) (x : Obj) → get r l ≡ Some x → keys_cross l o.key ≡ false)
     → Sound (insert r o.key o)
 sound_insert r o s formed named apart = record {
-    keyed = after_insert (λ l x. x.key ≡ l) r o.key o refl s.keyed;
-    formed = after_insert (λ l x. IsKey l) r o.key o formed s.formed;
-    named = after_insert (λ l x. names_nobody (insert r o.key o) (names_of x) ≡ false) r o.key o named
-        (λ l x f. kept_names r o.key o (names_of x) (s.named l x f));
-    apart = λ k l x y f g.
-        after_insert (λ a u. keys_cross a l ≡ false) r o.key o
-            (after_insert (λ b v. keys_cross o.key b ≡ false) r o.key o (crosses_itself o.key)
-                (λ b v h. keys_cross_back o.key b ∙ apart b v h) l y g)
-            (λ a u h. after_insert (λ b v. keys_cross a b ≡ false) r o.key o (apart a u h)
-                (λ b v i. s.apart a b u v h i) l y g)
-            k x f
-  }
+  keyed = after_insert (λ l x. x.key ≡ l) r o.key o refl s.keyed;
+  formed = after_insert (λ l x. IsKey l) r o.key o formed s.formed;
+  named = after_insert (λ l x. names_nobody (insert r o.key o) (names_of x) ≡ false) r o.key o named
+      (λ l x f. kept_names r o.key o (names_of x) (s.named l x f));
+  apart = λ k l x y f g.
+      after_insert (λ a u. keys_cross a l ≡ false) r o.key o
+      (after_insert (λ b v. keys_cross o.key b ≡ false) r o.key o (crosses_itself o.key)
+      (λ b v h. keys_cross_back o.key b ∙ apart b v h) l y g)
+      (λ a u h. after_insert (λ b v. keys_cross a b ≡ false) r o.key o (apart a u h)
+      (λ b v i. s.apart a b u v h i) l y g)
+      k x f;
+}
 
 -- what the conditions of an addition say
 apart_from : (r : Reg) (k : Key) → Sound r → crosses_some r k ≡ false → (l : Key) (x : Obj) → get r l ≡ Some x → keys_cross l k ≡ false
@@ -210,13 +210,13 @@ all_kept r k (n ∷ ns) h e =
 -- a deletion of what nobody names leaves a sound registry sound
 sound_without : (r : Reg) (k : Key) → Sound r → is_in_use r k ≡ false → Sound (remove r k)
 sound_without r k s e = record {
-    keyed = λ l x f. s.keyed l x (still_there r k l x f).1;
-    formed = λ l x f. s.formed l x (still_there r k l x f).1;
-    named = λ l x f.
-        let there = still_there r k l x f in
-        all_kept r k (names_of x) (λ n i. unnamed_key r k l x n s e there.1 there.0 i) (s.named l x there.1);
-    apart = λ l m x y f g. s.apart l m x y (still_there r k l x f).1 (still_there r k m y g).1
-  }
+  keyed = λ l x f. s.keyed l x (still_there r k l x f).1;
+  formed = λ l x f. s.formed l x (still_there r k l x f).1;
+  named = λ l x f.
+      let there = still_there r k l x f in
+      all_kept r k (names_of x) (λ n i. unnamed_key r k l x n s e there.1 there.0 i) (s.named l x there.1);
+  apart = λ l m x y f g. s.apart l m x y (still_there r k l x f).1 (still_there r k m y g).1;
+}
 
 -- a deletion that is not refused leaves a sound registry sound
 pub sound_removed : (r : Reg) (z : List (List ℕ)) (k : Key) → Sound r → verdict r z (DeleteItem k) ≡ Delete → Sound (remove r k)

@@ -3,3 +3,4 @@ pub mod Keeping
 pub mod KeyLaws
 pub mod Members
 pub mod Seen
+pub mod Steps

@@ -47,7 +47,7 @@ pub passes_granted : (r : Reg) (z : List (List ℕ)) (p : PrefixParts) (es : Lis
 passes_granted r z p [] = refl
 passes_granted r z p (e ∷ es) =
     elim (grants p e) as (λ b. passes r z (map (λ g. g.name) (cond b (e ∷ filter (grants p) es) (filter (grants p) es)))
-        ≡ ((b && name_passes r z e.name) || list_any (λ g. grants p g && name_passes r z g.name) es)) [
+    ≡ ((b && name_passes r z e.name) || list_any (λ g. grants p g && name_passes r z g.name) es)) [
       | true ↦ ap (λ b. name_passes r z e.name || b) (passes_granted r z p es)
       | false ↦ passes_granted r z p es
     ]

@@ -2,6 +2,7 @@ pub mod Authority
 pub mod Closest
 pub mod Conditions
 pub mod KeyOrder
+pub mod Laws
 pub mod Paragraphs
 pub mod Passing
 pub mod Registries

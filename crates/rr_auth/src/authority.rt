@@ -107,13 +107,23 @@ pub fn routes_pass<B: Book>(book: &B, secrets: &Secrets, object: &Object, prefix
 
 /// Whether the name of an entry that grants the prefix passes.
 #[tactic(auto, using(crate::proofs::Seen::passes_granted))]
-fn some_grant_passes<B: Book>(book: &B, secrets: &Secrets, entries: &[Grant], prefix: Prefix) -> bool
+fn some_grant_passes<B: Book>(
+    book: &B,
+    secrets: &Secrets,
+    entries: &[Grant],
+    prefix: Prefix,
+) -> bool
     ensures { result ≡ passes (B.contents book.now) secrets.now (map (λ g. g.name) (filter (grants prefix) entries.now)) }
 {
     some_entry_passes(book, secrets, entries, prefix)
 }
 
-fn some_entry_passes<B: Book>(book: &B, secrets: &Secrets, entries: &[Grant], prefix: Prefix) -> bool
+fn some_entry_passes<B: Book>(
+    book: &B,
+    secrets: &Secrets,
+    entries: &[Grant],
+    prefix: Prefix,
+) -> bool
     ensures { result ≡ list_any (λ g. grants prefix g && name_passes (B.contents book.now) secrets.now g.name) entries.now }
 {
     entries

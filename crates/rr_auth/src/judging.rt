@@ -21,7 +21,12 @@ use rr_object::{Code, Key, Object};
 use std::alloc::{AllocError, Global};
 
 /// The verdict on an item over the book's registry (RFC 2725, 9; profile); the error is want of memory.
-pub fn judge<B: Book>(alloc: Global, book: &B, secrets: &Secrets, item: &Item) -> Result<Verdict, AllocError>
+pub fn judge<B: Book>(
+    alloc: Global,
+    book: &B,
+    secrets: &Secrets,
+    item: &Item,
+) -> Result<Verdict, AllocError>
     ensures { IfOk result (λ v. v ≡ verdict (B.contents book.now) secrets.now item.now) }
 {
     match item {
@@ -31,7 +36,12 @@ pub fn judge<B: Book>(alloc: Global, book: &B, secrets: &Secrets, item: &Item) -
 }
 
 /// The verdict on an object: an addition where its key is new, else a change.
-fn judge_object<B: Book>(alloc: Global, book: &B, secrets: &Secrets, object: &Object) -> Result<Verdict, AllocError>
+fn judge_object<B: Book>(
+    alloc: Global,
+    book: &B,
+    secrets: &Secrets,
+    object: &Object,
+) -> Result<Verdict, AllocError>
     ensures { IfOk result (λ v. v ≡ submission (get (B.contents book.now) object.now.key) (B.contents book.now) secrets.now object.now) }
 {
     match book.get(object.key()) {
@@ -40,7 +50,12 @@ fn judge_object<B: Book>(alloc: Global, book: &B, secrets: &Secrets, object: &Ob
     }
 }
 
-fn judge_addition<B: Book>(alloc: Global, book: &B, secrets: &Secrets, object: &Object) -> Result<Verdict, AllocError>
+fn judge_addition<B: Book>(
+    alloc: Global,
+    book: &B,
+    secrets: &Secrets,
+    object: &Object,
+) -> Result<Verdict, AllocError>
     ensures { IfOk result (λ v. v ≡ addition (B.contents book.now) secrets.now object.now) }
 {
     if object_names_nobody(book, Some(object), object) {
@@ -93,7 +108,12 @@ fn is_in_use<B: Book>(book: &B, key: &Key) -> bool
 }
 
 /// What the place of a new object in the hierarchy says of it.
-fn judge_place<B: Book>(alloc: Global, book: &B, secrets: &Secrets, key: &Key) -> Result<Verdict, AllocError>
+fn judge_place<B: Book>(
+    alloc: Global,
+    book: &B,
+    secrets: &Secrets,
+    key: &Key,
+) -> Result<Verdict, AllocError>
     ensures { IfOk result (λ v. v ≡ place (B.contents book.now) secrets.now key.now) }
 {
     if book.crosses(key) {
@@ -102,7 +122,11 @@ fn judge_place<B: Book>(alloc: Global, book: &B, secrets: &Secrets, key: &Key) -
     match key {
         Key::Mntner(_) => Ok(Verdict::Add),
         Key::AsBlock(block) => Ok(judge_below(book, secrets, book.closest_block(block.span()))),
-        Key::AutNum(number) => Ok(judge_below(book, secrets, book.closest_block(span_of_number(*number)))),
+        Key::AutNum(number) => Ok(judge_below(
+            book,
+            secrets,
+            book.closest_block(span_of_number(*number)),
+        )),
         Key::Inetnum(span) => Ok(judge_below(book, secrets, book.closest_inetnum(*span))),
         Key::Route(prefix, origin) => judge_route(alloc, book, secrets, *prefix, *origin),
         Key::AsSet(name) => judge_as_set(alloc, book, secrets, name),
@@ -133,7 +157,12 @@ fn judge_below<B: Book>(book: &B, secrets: &Secrets, cover: Option<&Object>) -> 
     }
 }
 
-fn judge_as_set<B: Book>(alloc: Global, book: &B, secrets: &Secrets, name: &SetName) -> Result<Verdict, AllocError>
+fn judge_as_set<B: Book>(
+    alloc: Global,
+    book: &B,
+    secrets: &Secrets,
+    name: &SetName,
+) -> Result<Verdict, AllocError>
     ensures { IfOk result (λ v. v ≡ below_parent (B.contents book.now) secrets.now Key.AsSet name.now) }
 {
     match name.parent(alloc)? {
@@ -142,7 +171,12 @@ fn judge_as_set<B: Book>(alloc: Global, book: &B, secrets: &Secrets, name: &SetN
     }
 }
 
-fn judge_route_set<B: Book>(alloc: Global, book: &B, secrets: &Secrets, name: &SetName) -> Result<Verdict, AllocError>
+fn judge_route_set<B: Book>(
+    alloc: Global,
+    book: &B,
+    secrets: &Secrets,
+    name: &SetName,
+) -> Result<Verdict, AllocError>
     ensures { IfOk result (λ v. v ≡ below_parent (B.contents book.now) secrets.now Key.RouteSet name.now) }
 {
     match name.parent(alloc)? {
@@ -184,7 +218,13 @@ fn judge_below_parent<B: Book>(book: &B, secrets: &Secrets, parent: Option<Key>)
 }
 
 /// The verdict on a route: its origin's aut-num decides first, then the space that it lies in.
-fn judge_route<B: Book>(alloc: Global, book: &B, secrets: &Secrets, prefix: Prefix, origin: AsNumber) -> Result<Verdict, AllocError>
+fn judge_route<B: Book>(
+    alloc: Global,
+    book: &B,
+    secrets: &Secrets,
+    prefix: Prefix,
+    origin: AsNumber,
+) -> Result<Verdict, AllocError>
     ensures { IfOk result (λ v. v ≡ first_of (
         record { holds = lacks_origin (B.contents book.now) (Key.Route prefix origin); code = Code.E14 } ∷ (
         record { holds = origin_refuses (B.contents book.now) secrets.now (Key.Route prefix origin); code = Code.E15 } ∷ []))
@@ -203,7 +243,12 @@ fn judge_route<B: Book>(alloc: Global, book: &B, secrets: &Secrets, prefix: Pref
 }
 
 /// The verdict of the routes or the inetnum that a route lies below.
-fn judge_space<B: Book>(alloc: Global, book: &B, secrets: &Secrets, prefix: Prefix) -> Result<Verdict, AllocError>
+fn judge_space<B: Book>(
+    alloc: Global,
+    book: &B,
+    secrets: &Secrets,
+    prefix: Prefix,
+) -> Result<Verdict, AllocError>
     ensures { IfOk result (λ v. v ≡ below_space (B.contents book.now) secrets.now prefix) }
 {
     match book.closest_routes(prefix) {
@@ -236,15 +281,25 @@ fn judge_inetnum_space<B: Book>(book: &B, secrets: &Secrets, prefix: Prefix) -> 
 }
 
 /// Whether a route of the closest prefix and one of these origins authorises a route of the prefix.
-fn some_route_passes<B: Book>(book: &B, secrets: &Secrets, prefix: Prefix, closest: Prefix, origins: &[AsNumber]) -> bool
+fn some_route_passes<B: Book>(
+    book: &B,
+    secrets: &Secrets,
+    prefix: Prefix,
+    closest: Prefix,
+    origins: &[AsNumber],
+) -> bool
     ensures { result ≡ list_any (route_passes (B.contents book.now) secrets.now prefix closest) origins.now }
 {
-    origins
-        .iter()
-        .any(|origin| route_passes(book, secrets, prefix, closest, *origin))
+    origins.iter().any(|origin| route_passes(book, secrets, prefix, closest, *origin))
 }
 
-fn route_passes<B: Book>(book: &B, secrets: &Secrets, prefix: Prefix, closest: Prefix, origin: AsNumber) -> bool
+fn route_passes<B: Book>(
+    book: &B,
+    secrets: &Secrets,
+    prefix: Prefix,
+    closest: Prefix,
+    origin: AsNumber,
+) -> bool
     ensures { result ≡ route_passes (B.contents book.now) secrets.now prefix closest origin }
 {
     match book.get(&Key::Route(closest, origin)) {

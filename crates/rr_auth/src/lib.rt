@@ -6,6 +6,7 @@ mod authority;
 mod book;
 mod item;
 mod judging;
+pub mod laws;
 mod paragraphs;
 mod passing;
 mod secrets;

@@ -44,7 +44,11 @@ fn fits_line(line: &Auth, secret: &Secret) -> bool
 
 /// The mntner of the name; the object itself where it is added and is that one.
 #[tactic(auto, using(crate::proofs::Seen::maintainer_seen))]
-pub fn maintainer_seen<'a, B: Book>(book: &'a B, own: Option<&'a Object>, name: &Name) -> Option<&'a Object>
+pub fn maintainer_seen<'a, B: Book>(
+    book: &'a B,
+    own: Option<&'a Object>,
+    name: &Name,
+) -> Option<&'a Object>
     ensures { option_copied result ≡ maintainer (seen_by (option_copied own.entry) (B.contents book.now)) name.now }
 {
     match own {
@@ -79,17 +83,26 @@ pub fn name_passes<B: Book>(book: &B, own: Option<&Object>, secrets: &Secrets, n
 }
 
 /// Whether one of the names passes.
-pub fn names_pass<B: Book>(book: &B, own: Option<&Object>, secrets: &Secrets, names: &[Name]) -> bool
+pub fn names_pass<B: Book>(
+    book: &B,
+    own: Option<&Object>,
+    secrets: &Secrets,
+    names: &[Name],
+) -> bool
     ensures { result ≡ passes (seen_by (option_copied own.entry) (B.contents book.now)) secrets.now names.now }
 {
-    names.iter().any(|name| name_passes(book, own, secrets, name))
+    names
+        .iter()
+        .any(|name| name_passes(book, own, secrets, name))
 }
 
 /// Whether some name is that of no maintainer.
 pub fn names_nobody<B: Book>(book: &B, own: Option<&Object>, names: &[Name]) -> bool
     ensures { result ≡ names_nobody (seen_by (option_copied own.entry) (B.contents book.now)) names.now }
 {
-    names.iter().any(|name| maintainer_seen(book, own, name).is_none())
+    names
+        .iter()
+        .any(|name| maintainer_seen(book, own, name).is_none())
 }
 
 /// Whether the name of some entry is that of no maintainer.

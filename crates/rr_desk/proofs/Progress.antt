@@ -45,7 +45,7 @@ lines_from-more number old new (i ∷ is) (o ∷ os) item outcome r =
     let more = lines_from (number + 1) is os in
     ap (λ (ls : List ℕ). first ++ ls) (lines_from-more (number + 1) r.0 new is os item outcome r.2)
     ∙ (sym (append_assoc first more (item_line ((number + 1) + length is) item.request.key outcome))
-      ∙ ap (λ n. (first ++ more) ++ item_line n item.request.key outcome) same)
+    ∙ ap (λ n. (first ++ more) ++ item_line n item.request.key outcome) same)
 
 -- and counts if it is refused
 pub refusals-more : (outcomes : List Outcome) (outcome : Outcome) → refusals (outcomes ++ outcome ∷ []) ≡ refusals outcomes + cond (is_refusal outcome) 1 0
@@ -88,7 +88,7 @@ pub ComesTo-more : {source text : List ℕ} {old between : Reg} {before middle :
     (new : Reg) (after : Told) (given : List (List ℕ)) (next : ℕ) (then : Done) (request : Request) (outcome : Outcome) →
     ComesTo source text old between before middle secrets at done →
     ((later : List Submitted) → AreItems source given (entries (drop next text)) later →
-      AreItems source secrets (entries (drop at text)) (record { secrets = given; request = request } ∷ later)) →
+    AreItems source secrets (entries (drop at text)) (record { secrets = given; request = request } ∷ later)) →
     at < next → next ≤ length text → Decides between given request.action outcome new →
     then.items ≡ done.items + 1 → then.refused ≡ done.refused + cond (is_refusal outcome) 1 0 →
     Takes middle after (item_line then.items request.key outcome) →
@@ -139,7 +139,7 @@ pub ServesSome-cut : {source text : List ℕ} {old between : Reg} {before middle
     (new : Reg) (after : Told) (given : List (List ℕ)) (next count : ℕ) (request : Request) (outcome : Outcome) →
     ComesTo source text old between before middle secrets at done →
     ((later : List Submitted) → AreItems source given (entries (drop next text)) later →
-      AreItems source secrets (entries (drop at text)) (record { secrets = given; request = request } ∷ later)) →
+    AreItems source secrets (entries (drop at text)) (record { secrets = given; request = request } ∷ later)) →
     Decides between given request.action outcome new → count ≡ done.items + 1 →
     TakesFront middle after (item_line count request.key outcome) →
     ServesSome source text old new before after count

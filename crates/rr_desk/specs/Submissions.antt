@@ -71,7 +71,7 @@ pub record IsWriteFault (source : List ℕ) (sides : Sides) (count : ℕ) : Type
   pub are_items : AreItems source [] (entries_read end text) (items ++ later)
   pub runs : Runs sides.before items outcomes sides.after
   pub writes : TakesFront sides.sink_before sides.sink_after (lines_from 1 items outcomes)
-    ⊎ ((end ≡ Whole) × (later ≡ []) × TakesFront sides.sink_before sides.sink_after (report Complete items outcomes))
+      ⊎ ((end ≡ Whole) × (later ≡ []) × TakesFront sides.sink_before sides.sink_after (report Complete items outcomes))
   pub counted : count ≡ length items
 
 -- memory was refused before the first item: nothing was decided

@@ -16,15 +16,19 @@ use std::alloc::{AllocError, Global};
 
 /// What the first item of the text from a place on asks, with the place after it; `None` where there is no more. The
 /// secrets of the paragraphs that it passes are added to `secrets`. Want of memory is the refusal E90.
-pub fn next_item(alloc: Global, text: &[u8], from: usize, source: &Name, secrets: &mut Secrets) -> Option<(Request, usize)>
+pub fn next_item(
+    alloc: Global,
+    text: &[u8],
+    from: usize,
+    source: &Name,
+    secrets: &mut Secrets,
+) -> Option<(Request, usize)>
     requires { from ≤ length text.now }
     ensures none { IfNone result (AreItems source.now secrets.old (entries (drop from text.now)) []) }
-    ensures found {
-        IfSome result (λ found. (items : List Submitted)
-            → AreItems source.now secrets.new (entries (drop found.1 text.now)) items
-            → AreItems source.now secrets.old (entries (drop from text.now))
-                (record { secrets = secrets.new; request = found.0 } ∷ items))
-    }
+    ensures found { IfSome result (λ found. (items : List Submitted)
+        → AreItems source.now secrets.new (entries (drop found.1 text.now)) items
+        → AreItems source.now secrets.old (entries (drop from text.now))
+        (record { secrets = secrets.new; request = found.0 } ∷ items)) }
     ensures place { IfSome result (λ found. (from < found.1) × (found.1 ≤ length text.now)) }
 {
     let mut at = from;
@@ -47,7 +51,11 @@ pub fn next_item(alloc: Global, text: &[u8], from: usize, source: &Name, secrets
 }
 
 // Adds the secrets of a paragraph, all or none.
-fn add_secrets(alloc: Global, paragraph: &Paragraph, secrets: &mut Secrets) -> Result<(), AllocError>
+fn add_secrets(
+    alloc: Global,
+    paragraph: &Paragraph,
+    secrets: &mut Secrets,
+) -> Result<(), AllocError>
     ensures ok { OnOk result (secrets.new ≡ secrets.old ++ secrets_of paragraph.now) }
     ensures err { OnErr result (secrets.new ≡ secrets.old) }
 {

@@ -13,7 +13,12 @@ use rr_registry::Outcome;
 use std::io;
 
 /// Writes the line of an item. After a fault the writer has taken a front of it.
-pub fn write_item_line<W: Sink>(writer: &mut W, number: u64, key: &Option<Key>, outcome: Outcome) -> io::Result<()>
+pub fn write_item_line<W: Sink>(
+    writer: &mut W,
+    number: u64,
+    key: &Option<Key>,
+    outcome: Outcome,
+) -> io::Result<()>
     ensures writes { Writes (W.told writer.old) (W.told writer.new) (item_line number key.now outcome) result }
     ensures aside { W.aside writer.new ≡ W.aside writer.old }
 {
@@ -62,7 +67,10 @@ fn write_outcome<W: Sink>(writer: &mut W, outcome: Outcome) -> io::Result<()>
     ensures aside { W.aside writer.new ≡ W.aside writer.old }
 {
     let code = refusal_code(outcome);
-    write_pieces(writer, &[b": ", word(outcome).as_bytes(), code.as_bytes(), b"\n"])
+    write_pieces(
+        writer,
+        &[b": ", word(outcome).as_bytes(), code.as_bytes(), b"\n"],
+    )
 }
 
 fn word(outcome: Outcome) -> &'static str

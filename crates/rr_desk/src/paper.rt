@@ -33,7 +33,10 @@ pub fn is_secrets_alone(paragraph: &Paragraph) -> bool
 pub fn gives_secrets(paragraph: &Paragraph) -> bool
     ensures { result ≡ list_any is_password paragraph.now }
 {
-    paragraph.attributes().iter().any(|attribute| is_password(attribute))
+    paragraph
+        .attributes()
+        .iter()
+        .any(|attribute| is_password(attribute))
 }
 
 /// Whether a paragraph asks for a deletion.

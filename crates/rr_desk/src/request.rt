@@ -40,7 +40,10 @@ impl Request {
     {
         Request::unread(match fault {
             TextFault::TooLarge => Code::E07,
-            TextFault::BadByte | TextFault::FirstContinues | TextFault::NoColon | TextFault::BadName => Code::E01,
+            TextFault::BadByte
+            | TextFault::FirstContinues
+            | TextFault::NoColon
+            | TextFault::BadName => Code::E01,
             TextFault::Memory => Code::E90,
         })
     }
@@ -64,7 +67,13 @@ impl Request {
     }
 
     // What is asked about the object of a key.
-    fn action(alloc: Global, own: Paragraph, source: &Name, key: &Key, deletes: bool) -> Result<Item, Code>
+    fn action(
+        alloc: Global,
+        own: Paragraph,
+        source: &Name,
+        key: &Key,
+        deletes: bool,
+    ) -> Result<Item, Code>
         ensures { (result ≡ action_of source.now own key.now deletes) ⊎ (result ≡ Err Code.E90) }
     {
         if deletes {

@@ -23,17 +23,21 @@ use std::alloc::Global;
 
 /// Submits what the reader gives to a registry of this source, and writes the report. The items are judged one by one, in
 /// order, and stand also where the report cannot be written.
-pub fn submit<R: Source, W: Sink>(alloc: Global, registry: &mut Registry, source: &Name, reader: &mut R, writer: &mut W) -> Result<Done, DeskFault>
-    ensures {
-        Submits source.now (record {
-            source_before = R.told reader.old;
-            source_after = R.told reader.new;
-            sink_before = W.told writer.old;
-            sink_after = W.told writer.new;
-            before = registry.old;
-            after = registry.new;
-        }) result
-    }
+pub fn submit<R: Source, W: Sink>(
+    alloc: Global,
+    registry: &mut Registry,
+    source: &Name,
+    reader: &mut R,
+    writer: &mut W,
+) -> Result<Done, DeskFault>
+    ensures { Submits source.now (record {
+      source_before = R.told reader.old;
+      source_after = R.told reader.new;
+      sink_before = W.told writer.old;
+      sink_after = W.told writer.new;
+      before = registry.old;
+      after = registry.new;
+    }) result }
 {
     match read_to_end(alloc, reader) {
         Ok((text, end)) => {
@@ -51,17 +55,21 @@ pub fn submit<R: Source, W: Sink>(alloc: Global, registry: &mut Registry, source
 }
 
 // Submits a text that was read to its end.
-fn report_whole<W: Sink>(alloc: Global, registry: &mut Registry, source: &Name, text: &[u8], writer: &mut W) -> Result<Done, DeskFault>
-    ensures {
-        (before after : Told) → Reads before after text.now ReadEnd.Whole → Submits source.now (record {
-            source_before = before;
-            source_after = after;
-            sink_before = W.told writer.old;
-            sink_after = W.told writer.new;
-            before = registry.old;
-            after = registry.new;
-        }) result
-    }
+fn report_whole<W: Sink>(
+    alloc: Global,
+    registry: &mut Registry,
+    source: &Name,
+    text: &[u8],
+    writer: &mut W,
+) -> Result<Done, DeskFault>
+    ensures { (before after : Told) → Reads before after text.now ReadEnd.Whole → Submits source.now (record {
+      source_before = before;
+      source_after = after;
+      sink_before = W.told writer.old;
+      sink_after = W.told writer.new;
+      before = registry.old;
+      after = registry.new;
+    }) result }
 {
     match serve_all(alloc, registry, source, text, writer) {
         Ok(done) => match write_last_line(writer, Ending::Complete, done.items) {
@@ -73,17 +81,21 @@ fn report_whole<W: Sink>(alloc: Global, registry: &mut Registry, source: &Name, 
 }
 
 // Submits a text that broke off.
-fn report_part<W: Sink>(alloc: Global, registry: &mut Registry, source: &Name, text: &[u8], writer: &mut W) -> Result<Done, DeskFault>
-    ensures {
-        (end : ReadEnd) (before after : Told) → end ≢ ReadEnd.Whole → Reads before after text.now end → Submits source.now (record {
-            source_before = before;
-            source_after = after;
-            sink_before = W.told writer.old;
-            sink_after = W.told writer.new;
-            before = registry.old;
-            after = registry.new;
-        }) result
-    }
+fn report_part<W: Sink>(
+    alloc: Global,
+    registry: &mut Registry,
+    source: &Name,
+    text: &[u8],
+    writer: &mut W,
+) -> Result<Done, DeskFault>
+    ensures { (end : ReadEnd) (before after : Told) → end ≢ ReadEnd.Whole → Reads before after text.now end → Submits source.now (record {
+      source_before = before;
+      source_after = after;
+      sink_before = W.told writer.old;
+      sink_after = W.told writer.new;
+      before = registry.old;
+      after = registry.new;
+    }) result }
 {
     match serve_all(alloc, registry, source, whole_part(text), writer) {
         Ok(done) => {
@@ -95,11 +107,20 @@ fn report_part<W: Sink>(alloc: Global, registry: &mut Registry, source: &Name, t
 }
 
 // Decides the items of a text and writes a line on each; the error is how many were decided before a write failed.
-fn serve_all<W: Sink>(alloc: Global, registry: &mut Registry, source: &Name, text: &[u8], writer: &mut W) -> Result<Done, u64>
+fn serve_all<W: Sink>(
+    alloc: Global,
+    registry: &mut Registry,
+    source: &Name,
+    text: &[u8],
+    writer: &mut W,
+) -> Result<Done, u64>
     ensures { Serves source.now text.now registry.old registry.new (W.told writer.old) (W.told writer.new) result }
 {
     let mut secrets = Secrets::new(alloc);
-    let mut done = Done { items: 0, refused: 0 };
+    let mut done = Done {
+        items: 0,
+        refused: 0,
+    };
     let mut at = 0;
     'items: while let Some((request, next)) = next_item(alloc, text, at, source, &mut secrets) {
         done = serve_one(alloc, registry, &secrets, request, done, writer)?;
@@ -109,7 +130,14 @@ fn serve_all<W: Sink>(alloc: Global, registry: &mut Registry, source: &Name, tex
 }
 
 // Decides an item and writes its line; the error is how many were decided, with this one.
-fn serve_one<W: Sink>(alloc: Global, registry: &mut Registry, secrets: &Secrets, request: Request, done: Done, writer: &mut W) -> Result<Done, u64>
+fn serve_one<W: Sink>(
+    alloc: Global,
+    registry: &mut Registry,
+    secrets: &Secrets,
+    request: Request,
+    done: Done,
+    writer: &mut W,
+) -> Result<Done, u64>
     requires items { done.items + 1 < 2 ^ 64 }
     requires refused { done.refused + 1 < 2 ^ 64 }
     ensures { ServesOne secrets.now request done registry.old registry.new (W.told writer.old) (W.told writer.new) result }
@@ -126,7 +154,12 @@ fn serve_one<W: Sink>(alloc: Global, registry: &mut Registry, secrets: &Secrets,
 }
 
 // The outcome of what an item asks.
-fn decide(alloc: Global, registry: &mut Registry, secrets: &Secrets, action: Result<Item, Code>) -> Outcome
+fn decide(
+    alloc: Global,
+    registry: &mut Registry,
+    secrets: &Secrets,
+    action: Result<Item, Code>,
+) -> Outcome
     ensures { Decides registry.old secrets.now action result registry.new }
 {
     match action {

@@ -10,7 +10,7 @@ returns-in_err-done g c =
     let exit = err_from_is_err_and c.from_residual.result c.from_residual.ensures.1 in
     let one = c.in_err-done.ensures in
     rw (exit.1, exit.2)
-      (ServesSome-cut _ _ _ _ _ _ one.outcome c.items.invariant c.in-Some.ensures.found one.decides one.items one.writes)
+    (ServesSome-cut _ _ _ _ _ _ one.outcome c.items.invariant c.in-Some.ensures.found one.decides one.items one.writes)
 
 pub items-preserved : goal.items-preserved
 items-preserved g c =

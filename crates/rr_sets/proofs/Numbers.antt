@@ -1,8 +1,7 @@
 -- The AS numbers in a set itself, from the lists of a registry.
-use Rattle.std.proofs.Common.{◌≡◌, ℕ, ◌⊎◌, ◌↔◌, Bool, true, false, cond, List, [], ◌∷◌, map, Contains, IsTrue, Option, None, Some, Bor, refl, sym, ap, ◌∙◌, subst, inl, inr}
+use Rattle.std.proofs.Common.{◌≡◌, ℕ, ◌⊎◌, ◌↔◌, Bool, true, false, cond, List, [], ◌∷◌, Contains, IsTrue, None, Some, Bor, refl, sym, ap, ◌∙◌, subst, inl, inr}
 use Rattle.std.specs.FinMap.{get}
 use Rattle.std.specs.List.{filter, filter_map}
-use Rattle.std.proofs.lemmas.Bool.{cases_Bool}
 use Rattle.rr_auth.specs.Registries.{Reg, Sound}
 use Rattle.rr_graph.proofs.Listings.{Contains-cons_cases}
 use Rattle.rr_graph.proofs.Lists.{Contains-filter_map, Contains-head, Contains-later, Contains-map, Contains-nil}
@@ -15,8 +14,8 @@ use Rattle.std.proofs.Common.{◌++◌, ◌+◌, ◌<◌, length, get_or, take}
 use Rattle.rr_graph.proofs.Backwards.{Contains-take, Contains-take_cases}
 use Rattle.std.proofs.lemmas.List.Elements.{Contains-append_cases, Contains-append_left, Contains-append_right}
 use Rattle.rr_sets.specs.AsSets.{BelongsTo, IsAnyNumber, IsDirect, ListsNumber, ListsSet}
-use Rattle.rr_sets.specs.Lists.{IsAutNum, IsReferrer, ListsOnce, lent}
-use Rattle.rr_sets.specs.SetObjects.{as_any, number_listed, number_of_key, set_listed, takes}
+use Rattle.rr_sets.specs.Lists.{IsAutNum, IsReferrer, ListsOnce}
+use Rattle.rr_sets.specs.SetObjects.{number_listed, number_of_key, set_listed, takes}
 
 -- a filtered list has what the list has and the test passes
 pub Contains-filter : {X : Type 0} (p : X → Bool) (xs : List X) (x : X) → Contains (filter p xs) x ↔ (Contains xs x × IsTrue (p x))

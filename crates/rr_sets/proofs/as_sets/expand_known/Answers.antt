@@ -1,4 +1,4 @@
-use Rattle.std.proofs.Common.{◌≡◌, ◌↔◌, ℕ, List, Contains, sym, subst}
+use Rattle.std.proofs.Common.{◌↔◌, ℕ, List, Contains, sym, subst}
 use Rattle.rr_sets.specs.AsSets.{IsReachedSet}
 use Rattle.rr_sets.proofs.as_sets.expand_known.Goals as goal
 

@@ -1,4 +1,4 @@
-use Rattle.std.proofs.Common.{◌≡◌, ◌↔◌, ℕ, List, Contains, Bool, true, false, refl, subst}
+use Rattle.std.proofs.Common.{◌≡◌, ℕ, List, Contains, Bool, true, false, refl, subst}
 use Rattle.std.specs.Prelude.{not}
 use Rattle.std.proofs.lemmas.Map.Lookups.{exact_bytes, exact_unsigned}
 use Rattle.rr_sets.specs.AsSets.{has_as_set}

@@ -1,4 +1,4 @@
-use Rattle.std.proofs.Common.{◌≡◌, ◌↔◌, ◌++◌, ◌∙◌, ℕ, List, Contains, ap, subst}
+use Rattle.std.proofs.Common.{◌↔◌, ◌++◌, ◌∙◌, ℕ, List, Contains, ap, subst}
 use Rattle.std.proofs.lemmas.List.{take_all}
 use Rattle.rr_sets.specs.AsSets.{IsDirect}
 use Rattle.rr_sets.proofs.Numbers.{numbers_in_more}

@@ -1,4 +1,4 @@
-use Rattle.std.proofs.Common.{◌≡◌, ◌∙◌, ◌++◌, [], ◌∷◌, List, ℕ, Option, ap, sym}
+use Rattle.std.proofs.Common.{◌∙◌, ◌++◌, [], ◌∷◌, List, ℕ, ap, sym}
 use Rattle.rr_graph.proofs.Lists.{filter_map_more-None, filter_map_more-Some}
 use Rattle.rr_sets.specs.SetObjects.{set_listed}
 use Rattle.rr_sets.proofs.as_sets.sets_listed.Goals as goal

@@ -1,4 +1,4 @@
-use Rattle.std.proofs.Common.{◌≡◌, ◌↔◌, List, Contains, subst}
+use Rattle.std.proofs.Common.{List, Contains, subst}
 use Rattle.std.proofs.lemmas.Map.Views.{btree_set_contains_from_list, btree_set_contains_iff}
 use Rattle.std.proofs.lemmas.Result.{IfOk-weaker}
 use Rattle.rr_sets.proofs.as_sets.sorted.Goals as goal

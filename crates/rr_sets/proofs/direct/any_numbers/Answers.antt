@@ -1,6 +1,5 @@
-use Rattle.std.proofs.Common.{◌≡◌, ◌∙◌, ℕ, List, Contains, Bor, subst, sym}
+use Rattle.std.proofs.Common.{ℕ, List, Contains, subst, sym}
 use Rattle.std.proofs.lemmas.Result.{IfOk-weaker}
-use Rattle.rr_object.specs.Objects.{Obj}
 use Rattle.rr_sets.specs.Lists.{IsAutNum, ListsOnce}
 use Rattle.rr_sets.proofs.Numbers.{numbers_of_aut_nums}
 use Rattle.rr_sets.proofs.direct.any_numbers.Goals as goal

@@ -1,4 +1,4 @@
-use Rattle.std.proofs.Common.{◌≡◌, ◌++◌, ◌∙◌, ℕ, List, ap}
+use Rattle.std.proofs.Common.{◌++◌, ◌∙◌, ℕ, List, ap}
 use Rattle.rr_sets.proofs.Numbers.{IsDirect-from}
 use Rattle.rr_sets.proofs.direct.direct_numbers.Goals as goal
 

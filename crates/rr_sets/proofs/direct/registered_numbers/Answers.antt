@@ -1,10 +1,9 @@
-use Rattle.std.proofs.Common.{◌≡◌, ◌++◌, ◌∙◌, ℕ, List, Bor, Option, Some, ap, sym, subst}
+use Rattle.std.proofs.Common.{◌≡◌, ◌++◌, ◌∙◌, ℕ, List, Bor, Some, ap, sym, subst}
 use Rattle.std.specs.FinMap.{get}
 use Rattle.std.specs.List.{filter, filter_map}
 use Rattle.std.specs.Option.{option_copied}
 use Rattle.rr_object.specs.Objects.{Obj}
 use Rattle.rr_object.specs.declared.key.Key.TheVariants.{AsSet}
-use Rattle.rr_object.specs.declared.member.Member.{Member}
 use Rattle.rr_sets.specs.Lists.{IsReferrer, ListsOnce}
 use Rattle.rr_sets.specs.SetObjects.{number_listed, number_of_key, takes}
 use Rattle.rr_sets.proofs.Numbers.{numbers_of_set}

@@ -1,0 +1,14 @@
+use Rattle.std.proofs.Common.{◌≡◌, ◌≤◌, ◌-◌, ◌++◌, length, map, drop, Some}
+use Rattle.rr_text.specs.Entries.{entries}
+use Rattle.rr_cli.specs.Opening.{object_at}
+use Rattle.rr_cli.proofs.plain_desk.read_objects.Given as goal
+
+-- the objects so far and those of the entries that are left are all
+abbrev pub invariant-entries : goal.invariant-entries
+invariant-entries l = record {
+  within : l.from ≤ length l.text;
+  told : map Some l.objects.items ++ map (object_at l.source) (entries (drop l.from l.text)) ≡ map (object_at l.source) (entries l.text);
+}
+
+abbrev pub decreases-entries : goal.decreases-entries
+decreases-entries l = length l.text - l.from

@@ -1,0 +1,57 @@
+//! The program `irrdesk`: submits standard input to a desk with the built-in settings, and prints the report.
+#![tactic(auto)]
+
+mod plain_desk;
+mod start_fault;
+
+use plain_desk::PlainDesk;
+use rr_desk::{DeskFault, Done};
+use rr_io::Counted;
+use start_fault::StartFault;
+use std::process::ExitCode;
+use std::{env, io};
+
+/// Statuses of the program.
+const REFUSED: u8 = 1;
+
+const WRONG_WORDS: u8 = 2;
+
+const FAILED: u8 = 5;
+
+fn main(rt: HostRuntime) -> ExitCode {
+    match run(&rt) {
+        Ok(status) => ExitCode::from(status),
+        Err(_) => ExitCode::from(FAILED),
+    }
+}
+
+/// The status of the program, after what it has to say on standard error. An error is a failed write there.
+fn run(rt: &HostRuntime) -> io::Result<u8> {
+    if env::args(rt)?.nth(1).is_some() {
+        eprintln!(rt;
+            "irrdesk: the program takes no words; it reads a submission on standard input"
+        )?;
+        return Ok(WRONG_WORDS);
+    }
+    let mut desk = match PlainDesk::new(rt.alloc()) {
+        Ok(desk) => desk,
+        Err(fault) => {
+            eprintln!(rt; "irrdesk: the opening objects cannot be registered: {fault}")?;
+            return Ok(FAILED);
+        }
+    };
+    let mut reader = Counted::new(rt.stdin());
+    let mut writer = Counted::new(rt.stdout());
+    match desk.submit(rt.alloc(), &mut reader, &mut writer) {
+        Ok(done) => Ok(status_of(done)),
+        Err(fault) => {
+            eprintln!(rt; "irrdesk: {fault}")?;
+            Ok(FAILED)
+        }
+    }
+}
+
+/// 0 where each item was accepted, and else 1.
+fn status_of(done: Done) -> u8 {
+    if done.refused == 0 { 0 } else { REFUSED }
+}

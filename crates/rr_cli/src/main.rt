@@ -3,6 +3,8 @@
 
 mod plain_desk;
 mod start_fault;
+#[cfg(test)]
+mod tests;
 
 use plain_desk::PlainDesk;
 use rr_desk::{DeskFault, Done};

@@ -37,3 +37,6 @@ pub use kind::{Kind, Occurs};
 pub use member::{Member, MemberSet};
 pub use object::{Object, public};
 pub use paragraph_key::key_of;
+
+#[cfg(test)]
+mod tests;

@@ -9,3 +9,8 @@ pub mod Meanings
 pub mod CanonicalText
 pub mod WholePart
 pub mod Laws
+pub use Rattle.rr_io.specs.Told
+pub use Rattle.rr_io.specs.Receiving
+pub use Rattle.rr_io.specs.Sending
+pub use Rattle.rr_io.specs.Counted
+pub use Rattle.rr_io.specs.Cut

@@ -23,6 +23,7 @@ pub use canonical::{print, read_canonical};
 pub use fault::TextFault;
 pub use paragraph::Paragraph;
 pub use reader::{next_paragraph, skip_paragraph};
+pub use rr_io::{Counted, Cut, Sink, Source};
 pub use text::Text;
 pub use value::meaning;
 pub use whole::whole_part;

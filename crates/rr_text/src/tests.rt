@@ -152,6 +152,15 @@ fn size_decides_before_other_faults(rt: HostRuntime) -> Result<(), Fail> {
             Some(TextFault::TooLarge)
         );
     }
+    for line in [b" x\n".as_slice(), b"x\n", b"1: x\n"] {
+        let mut faulty = line.to_vec(alloc)?;
+        faulty.extend_from_slice(sized(alloc, 0, b'a')?.as_slice())?;
+        assert_eq!(rt;
+            fault_of(alloc, faulty.as_slice()),
+            Some(TextFault::TooLarge),
+            "after {line:?}"
+        );
+    }
     Ok(())
 }
 
@@ -166,7 +175,12 @@ fn the_first_faulty_line_decides(rt: HostRuntime) -> Result<(), Fail> {
         (b" a: b\n", TextFault::FirstContinues),
         (b"+\n", TextFault::FirstContinues),
         (b"\ra: b\n", TextFault::FirstContinues),
+        (b"1a: b\x00\n", TextFault::BadByte),
+        (b"a: \x01\nnocolon\n1: c\n", TextFault::BadByte),
+        (b" a\nnocolon\n1: c\x00\n", TextFault::FirstContinues),
         (b"nocolon\na\x00: b\n", TextFault::NoColon),
+        (b"nocolon\n1a: b\n", TextFault::NoColon),
+        (b"a b\n", TextFault::NoColon),
         (b"1a: b\nnocolon\n", TextFault::BadName),
         (b": b\n", TextFault::BadName),
         (b"a b: c\n", TextFault::BadName),

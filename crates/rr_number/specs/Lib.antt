@@ -18,3 +18,5 @@ pub mod SetNames
 pub mod SpanLaws
 pub mod SpanTexts
 pub mod Spans
+pub use Rattle.rr_io.specs.Told
+pub use Rattle.rr_io.specs.Sending

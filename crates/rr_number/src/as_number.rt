@@ -106,6 +106,8 @@ impl AsNumber {
 }
 
 impl fmt::Display for AsNumber {
+    ghost output = { λ a. Some (as_number_text a) };
+
     fn fmt<W: fmt::Write>(&self, f: &mut fmt::Formatter<W>) -> fmt::Result {
         f.pad(self.text().as_str())
     }

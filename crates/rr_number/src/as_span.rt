@@ -120,6 +120,8 @@ fn join(first: &[u8], last: &[u8]) -> Option<AsSpan>
 }
 
 impl fmt::Display for AsSpan {
+    ghost output = { λ s. Some (as_span_text s) };
+
     fn fmt<W: fmt::Write>(&self, f: &mut fmt::Formatter<W>) -> fmt::Result {
         f.pad(self.text().as_str())
     }

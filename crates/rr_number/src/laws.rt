@@ -10,6 +10,7 @@ ghost use Rattle.rr_number.specs.Ranges.{RangeParts, range_cmp};
 ghost use Rattle.rr_number.specs.declared.operator.Operator.{Operator};
 
 use crate::address::Address;
+use crate::as_number::AsNumber;
 use crate::prefix::Prefix;
 use crate::range::Range;
 
@@ -74,6 +75,11 @@ pub fn only_equal_prefixes_cover_each_other()
 /// Addresses are ordered as numbers.
 pub fn addresses_are_ordered()
     ensures { (a b : ℕ) → ⟦<Address as Ord>⟧.cmp a b ≡ nat_cmp a b }
+{}
+
+/// AS numbers are ordered as numbers.
+pub fn as_numbers_are_ordered()
+    ensures { (a b : ℕ) → ⟦<AsNumber as Ord>⟧.cmp a b ≡ nat_cmp a b }
 {}
 
 /// Prefixes are ordered by address, then by length, and only equal ones tie.

@@ -25,6 +25,7 @@ pub use name::Name;
 pub use operator::{LengthBounds, Operator};
 pub use prefix::Prefix;
 pub use range::{Range, read_ranged};
+pub use rr_io::Sink;
 pub use set_kind::SetKind;
 pub use set_name::{Parent, SetName};
 pub use short_text::ShortText;

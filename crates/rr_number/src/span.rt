@@ -1,6 +1,6 @@
 //! Spans of numbers of 32 bits: of addresses, and of AS numbers.
 
-ghost use Rattle.std.specs.Prelude.{◌≡◌, ◌≤◌, IfSome};
+ghost use Rattle.std.specs.Prelude.{◌≡◌, ◌≤◌, IfSome, Some};
 ghost use Rattle.rr_io.specs.Sending.{Writes};
 ghost use Rattle.rr_number.specs.SpanTexts.{IsSpanText, pair_of, span_of, span_text};
 ghost use Rattle.rr_number.specs.Spans.{Ends, IsSpan, covers, crosses, meets, size};
@@ -126,6 +126,8 @@ impl Span {
 }
 
 impl fmt::Display for Span {
+    ghost output = { λ s. Some (span_text s) };
+
     fn fmt<W: fmt::Write>(&self, f: &mut fmt::Formatter<W>) -> fmt::Result {
         f.pad(self.text().as_str())
     }

@@ -1,6 +1,11 @@
 //! Laws of spans, for readers and for the proofs of other crates. Nothing calls these functions.
 
+ghost use Rattle.std.specs.Prelude.{◌≡◌};
+ghost use Rattle.rr_number.specs.Spans.{Ends, span_cmp};
 ghost use Rattle.rr_number.specs.SpanLaws.{CoveringIsInclusion, MeetingIsSharing, CoversItself, CoversFurther, CoversBothWays, CrossesBothWays, ApartOrNested, CoverIsLarger, OneNumber, SizesAdd, SpansAreOrdered};
+
+use crate::as_span::AsSpan;
+use crate::span::Span;
 
 /// Covering is inclusion of sets of numbers, and two spans meet where they share one.
 pub fn spans_are_sets()
@@ -28,7 +33,9 @@ pub fn size_counts_numbers()
     ensures larger { CoverIsLarger }
 {}
 
-/// Any two spans compare, and only equal spans tie.
+/// Spans, and blocks of AS numbers, are ordered by their first number, then by their last, and only equal ones tie.
 pub fn spans_are_ordered()
-    ensures { SpansAreOrdered }
+    ensures derived { (s t : Ends) → ⟦<Span as Ord>⟧.cmp s t ≡ span_cmp s t }
+    ensures blocks { (s t : Ends) → ⟦<AsSpan as Ord>⟧.cmp s t ≡ span_cmp s t }
+    ensures ordered { SpansAreOrdered }
 {}

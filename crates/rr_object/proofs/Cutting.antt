@@ -1,9 +1,8 @@
 -- A text is cut at the first byte that separates its parts.
-use Rattle.std.proofs.Common.{◌≡◌, ◌<◌, ◌+◌, ◌≤◌, ℕ, Bool, true, false, List, [], ◌∷◌, length, take, drop, nat_lt, Option, Some, None, refl, arith, rules, ap, ◌∙◌, sym, cond, not, unwrap_or}
-use Rattle.std.specs.List.{position, slice_split, position_or_len, before_first, after_first, onto_first, prefix_len}
+use Rattle.std.proofs.Common.{◌≡◌, ◌<◌, ◌+◌, ◌≤◌, ℕ, Bool, true, false, List, [], ◌∷◌, length, take, drop, nat_lt, Some, None, refl, arith, ap, ◌∙◌, sym, cond, not, unwrap_or}
+use Rattle.std.specs.List.{position, slice_split, position_or_len}
 use Rattle.std.proofs.lemmas.List.Splits.{slice_split_first}
 use Rattle.std.proofs.lemmas.List.{drop-drop}
-use Rattle.std.proofs.lemmas.Grind.{common_steps}
 
 -- where no byte separates, the text is the one part
 whole_step : (p : ℕ → Bool) (x : ℕ) (xs : List ℕ) (b : Bool) → p x ≡ b

@@ -1,5 +1,5 @@
 -- The object of a paragraph, from what its attributes say.
-use Rattle.std.proofs.Common.{◌≡◌, ℕ, List, Option, Some, Result, Ok, Err, Bool, true, false, refl, rules, ap, sym, ◌∙◌, if◌then◌else◌}
+use Rattle.std.proofs.Common.{◌≡◌, ℕ, List, Some, Result, Ok, Err, Bool, true, false, refl, ap, sym, ◌∙◌, if◌then◌else◌}
 use Rattle.rr_text.specs.Fields.{Field}
 use Rattle.rr_object.specs.declared.fault.ObjectFault.TheVariants.{BadCount, BadValue, OtherSource}
 use Rattle.rr_object.specs.declared.fault.ObjectFault.{ObjectFault}

@@ -3,8 +3,10 @@ pub mod Classes
 pub mod Codes
 pub mod Cuts
 pub mod Faults
+pub mod GrantTexts
 pub mod Grants
 pub mod Items
+pub mod KeyOrders
 pub mod KeySpellings
 pub mod KeyTexts
 pub mod Keys

@@ -1,8 +1,7 @@
 -- Items of `members`, `member-of` and `mbrs-by-ref`, and maintainers' names (RFC 2622, 5).
-use Rattle.std.specs.Prelude.{ℕ, Bool, true, false, ◌==◌, ◌||◌, is_some, List, [], ◌∷◌, Option, Some, None, drop, codes, if◌then◌else◌}
+use Rattle.std.specs.Prelude.{ℕ, Bool, true, false, ◌==◌, is_some, List, Option, Some, None, drop, if◌then◌else◌}
 use Rattle.std.specs.List.{before_first, position_or_len}
 use Rattle.std.specs.Option.{option_map, option_and_then}
-use Rattle.rr_number.specs.declared.operator.Operator.{Operator}
 use Rattle.rr_number.specs.declared.operator.Operator.TheVariants.{Plain}
 use Rattle.rr_number.specs.Names.{maintainer_name_of}
 use Rattle.rr_number.specs.AsNumbers.{as_number_of}
@@ -10,7 +9,6 @@ use Rattle.rr_number.specs.Operators.{operator_of}
 use Rattle.rr_number.specs.SetNames.{set_name_of, kind_of}
 use Rattle.rr_number.specs.declared.set_kind.SetKind.{SetKind}
 use Rattle.rr_number.specs.declared.set_kind.SetKind.TheVariants.{AsSet, RouteSet}
-use Rattle.rr_object.specs.declared.class.Class.{Class}
 use Rattle.rr_object.specs.declared.member.Member.{Member}
 use Rattle.rr_object.specs.declared.member.MemberSet.{MemberSet}
 use Rattle.rr_object.specs.declared.member.Member.TheVariants as member

@@ -1,6 +1,7 @@
 //! Keys of objects.
 
 ghost use Rattle.std.specs.Prelude.{◌≡◌, IfOk};
+ghost use Rattle.rr_object.specs.KeyOrders.{IsKeyValue};
 ghost use Rattle.rr_object.specs.Keys.{class_of};
 
 use crate::class::Class;
@@ -40,6 +41,31 @@ impl Key {
             Key::Route(_, _) => Class::Route,
             Key::AsSet(_) => Class::AsSet,
             Key::RouteSet(_) => Class::RouteSet,
+        }
+    }
+
+    /// Tells a caller's proof that the parts of the key are names, spans, prefixes and AS numbers; it does nothing.
+    pub fn is_within_bounds(&self)
+        ensures { IsKeyValue self.now }
+    {
+        match self {
+            Key::Mntner(name) => {
+                let _bytes = name.as_bytes();
+            }
+            Key::AsBlock(block) => {
+                let _span = block.span();
+            }
+            Key::AutNum(number) => {
+                let _number = number.number();
+            }
+            Key::Inetnum(span) => span.ordered(),
+            Key::Route(prefix, origin) => {
+                let _length = prefix.length();
+                let _number = origin.number();
+            }
+            Key::AsSet(name) | Key::RouteSet(name) => {
+                let _bytes = name.as_bytes();
+            }
         }
     }
 

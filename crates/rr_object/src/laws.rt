@@ -1,10 +1,17 @@
-//! What follows of an object from how it is read.
+//! What follows of an object from how it is read, and of keys from their bytes. Each function states a law and does nothing.
 
 ghost use Rattle.std.specs.Prelude.{◌≡◌, ◌<◌, List, Ok, length, ℕ};
 ghost use Rattle.rr_text.specs.Fields.{Field};
+ghost use Rattle.rr_object.specs.GrantTexts.{ReadGrantsAreSpelled, SpelledGrantsAreRead};
+ghost use Rattle.rr_object.specs.KeyOrders.{BytesTellKeys, IsKeyValue, class_and_bytes_cmp};
 ghost use Rattle.rr_object.specs.KeySpellings.{key_of};
+ghost use Rattle.rr_object.specs.KeyTexts.{key_bytes};
+ghost use Rattle.rr_object.specs.Keys.{class_of};
 ghost use Rattle.rr_object.specs.Objects.{Obj};
 ghost use Rattle.rr_object.specs.Readings.{obj_of, object_of};
+ghost use Rattle.rr_object.specs.declared.key.Key as keys;
+
+use crate::key::Key;
 
 /// The object in a registry of a source is the one of any source.
 pub fn an_object_is_of_its_paragraph()
@@ -20,4 +27,32 @@ pub fn an_object_keeps_its_paragraph()
 /// An object has the key of its paragraph.
 pub fn an_object_has_its_paragraphs_key()
     ensures { (fields : List Field) (object : Obj) → obj_of fields ≡ Ok object → key_of fields ≡ Ok object.key }
+{}
+
+/// An object has a maintainer.
+pub fn an_object_has_a_maintainer()
+    ensures { (fields : List Field) (object : Obj) → obj_of fields ≡ Ok object → 0 < length object.maintainers }
+{}
+
+/// Keys are ordered by the numbers of their classes, then by their bytes, and two keys of a class have equal bytes only
+/// if they are equal.
+pub fn keys_compare_as_their_bytes()
+    ensures order { (a b : keys.Key) → IsKeyValue a → IsKeyValue b → ⟦<Key as Ord>⟧.cmp a b ≡ class_and_bytes_cmp a b }
+    ensures told { BytesTellKeys }
+{}
+
+/// The same of any two keys.
+pub fn any_two_keys_compare_as_their_bytes(key: &Key, other: &Key)
+    ensures order { ⟦<Key as Ord>⟧.cmp key.now other.now ≡ class_and_bytes_cmp key.now other.now }
+    ensures told { class_of key.now ≡ class_of other.now → key_bytes key.now ≡ key_bytes other.now → key.now ≡ other.now }
+{
+    key.is_within_bounds();
+    other.is_within_bounds();
+}
+
+/// The entries of `mnt-routes` that are read of items are those that the items spell, and items that spell none are
+/// refused.
+pub fn grants_are_read_as_spelled()
+    ensures read { ReadGrantsAreSpelled }
+    ensures spelled { SpelledGrantsAreRead }
 {}

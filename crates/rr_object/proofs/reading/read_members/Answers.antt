@@ -1,4 +1,3 @@
-use Rattle.std.proofs.Common.{sym}
 use Rattle.rr_object.proofs.ClassMembers.{as_set_members, other_members}
 use Rattle.rr_object.proofs.reading.read_members.Goals as goal
 

@@ -1,0 +1,58 @@
+-- How lists of items spell entries of `mnt-routes` (RFC 2725, 9; what follows a name: profile).
+use Rattle.std.specs.Prelude.{◌≡◌, ℕ, true, false, ◌⊎◌, List, [], ◌∷◌, ◌++◌, Some, codes}
+use Rattle.rr_number.specs.Names.{maintainer_name_of}
+use Rattle.rr_object.specs.Grants.{for_each_prefix, grants_of, is_any, range_item}
+use Rattle.rr_object.specs.Items.{are_good, meant}
+use Rattle.rr_object.specs.Parts.{GrantParts}
+
+-- a maintainer's name alone is an entry for each prefix (profile)
+pub record IsNameAlone (items : List (List ℕ)) (grant : GrantParts) : Type 0 where
+  pub item : List ℕ
+  pub spelled : items ≡ item ∷ []
+  pub named : maintainer_name_of item ≡ Some grant.name
+  pub value : grant ≡ for_each_prefix grant.name
+
+-- so is a maintainer's name and `ANY` (RFC 2725, 9)
+pub record IsNameWithAny (items : List (List ℕ)) (grant : GrantParts) : Type 0 where
+  pub item : List ℕ
+  pub keyword : List ℕ
+  pub spelled : items ≡ item ∷ (keyword ∷ [])
+  pub named : maintainer_name_of item ≡ Some grant.name
+  pub any : is_any keyword ≡ true
+  pub value : grant ≡ for_each_prefix grant.name
+
+-- a maintainer's name and well spelled ranges in braces are an entry for what these ranges admit (RFC 2725, 9);
+-- a dropped range stands for nothing (profile)
+pub record IsNameWithRanges (items : List (List ℕ)) (grant : GrantParts) : Type 0 where
+  pub item : List ℕ
+  pub listed : List (List ℕ)
+  pub spelled : items ≡ item ∷ (codes "{" ∷ (listed ++ (codes "}" ∷ [])))
+  pub named : maintainer_name_of item ≡ Some grant.name
+  pub good : are_good range_item listed ≡ true
+  pub value : grant ≡ record { name = grant.name; any = false; ranges = meant range_item listed }
+
+-- an entry is spelled in one of these three ways
+abbrev pub IsEntry : List (List ℕ) → GrantParts → Type 0
+IsEntry items grant = IsNameAlone items grant ⊎ (IsNameWithAny items grant ⊎ IsNameWithRanges items grant)
+
+-- items spell entries where they are those of the first and, behind them, those of the others
+pub record IsCut (Front Rest : List (List ℕ) → Type 0) (items : List (List ℕ)) : Type 0 where
+  pub front : List (List ℕ)
+  pub rest : List (List ℕ)
+  pub cut : items ≡ front ++ rest
+  pub first : Front front
+  pub others : Rest rest
+
+abbrev pub AreEntries : List GrantParts → List (List ℕ) → Type 0
+AreEntries [] items = items ≡ []
+AreEntries (grant ∷ grants) items = IsCut (λ front. IsEntry front grant) (AreEntries grants) items
+
+-- what is read of items is what they spell
+abbrev pub ReadGrantsAreSpelled : Type 0
+ReadGrantsAreSpelled =
+    (items : List (List ℕ)) (grants : List GrantParts) → grants_of items ≡ Some grants → AreEntries grants items
+
+-- what items spell is read of them
+abbrev pub SpelledGrantsAreRead : Type 0
+SpelledGrantsAreRead =
+    (items : List (List ℕ)) (grants : List GrantParts) → AreEntries grants items → grants_of items ≡ Some grants

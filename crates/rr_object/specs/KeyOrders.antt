@@ -1,0 +1,41 @@
+-- The bounds of keys, and how their order goes with their bytes.
+use Rattle.std.specs.Prelude.{◌≡◌, ℕ, ◌≤◌}
+use Rattle.std.specs.declared.cmp.Ordering.{Ordering}
+use Rattle.std.specs.Ordering.{ordering_then, nat_cmp}
+use Rattle.std.specs.Cmp.Lexicographic.{slice_cmp}
+use Rattle.rr_number.specs.AsNumbers.{greatest_as_number}
+use Rattle.rr_number.specs.AsSpans.{IsAsSpan}
+use Rattle.rr_number.specs.Names.{IsUpperName}
+use Rattle.rr_number.specs.Prefixes.{PrefixParts, IsMasked}
+use Rattle.rr_number.specs.SetNames.{IsSetText}
+use Rattle.rr_number.specs.Spans.{IsSpan}
+use Rattle.rr_object.specs.declared.key.Key.{Key}
+use Rattle.rr_object.specs.declared.key.Key.TheVariants.{Mntner, AsBlock, AutNum, Inetnum, Route, AsSet, RouteSet}
+use Rattle.rr_object.specs.Classes.{class_number}
+use Rattle.rr_object.specs.Keys.{class_of}
+use Rattle.rr_object.specs.KeyTexts.{key_bytes}
+
+-- the prefix of a route has no bit past its length, and its origin is an AS number (RFC 2622, 4)
+pub record IsRoute (prefix : PrefixParts) (origin : ℕ) : Type 0 where
+  pub masked : IsMasked prefix
+  pub numbered : origin ≤ greatest_as_number
+
+-- the parts of a key are names, spans, prefixes and AS numbers (RFC 2622, 2; profile)
+abbrev pub IsKeyValue : Key → Type 0
+IsKeyValue (Mntner name) = IsUpperName name
+IsKeyValue (AsBlock block) = IsAsSpan block
+IsKeyValue (AutNum number) = number ≤ greatest_as_number
+IsKeyValue (Inetnum span) = IsSpan span
+IsKeyValue (Route prefix origin) = IsRoute prefix origin
+IsKeyValue (AsSet name) = IsSetText name
+IsKeyValue (RouteSet name) = IsSetText name
+
+-- keys in the order of answers and dumps: by the number of the class, then by the bytes as in a dictionary (profile)
+abbrev pub class_and_bytes_cmp : Key → Key → Ordering
+class_and_bytes_cmp a b =
+    ordering_then (nat_cmp (class_number (class_of a)) (class_number (class_of b))) (slice_cmp nat_cmp (key_bytes a) (key_bytes b))
+
+-- two keys of a class have equal bytes only if they are equal
+abbrev pub BytesTellKeys : Type 0
+BytesTellKeys =
+    (a b : Key) → IsKeyValue a → IsKeyValue b → class_of a ≡ class_of b → key_bytes a ≡ key_bytes b → a ≡ b

@@ -1,6 +1,7 @@
 pub mod Cutting
 pub mod Digits
 pub mod KeysByBytes
+pub mod Faulted
 pub mod GrantSpellings
 pub mod Listed
 pub mod ClassMembers

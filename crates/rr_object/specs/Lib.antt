@@ -3,6 +3,7 @@ pub mod Classes
 pub mod Codes
 pub mod Cuts
 pub mod Faults
+pub mod FirstFaults
 pub mod GrantTexts
 pub mod Grants
 pub mod Items

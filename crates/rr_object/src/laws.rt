@@ -2,6 +2,7 @@
 
 ghost use Rattle.std.specs.Prelude.{◌≡◌, ◌<◌, List, Ok, length, ℕ};
 ghost use Rattle.rr_text.specs.Fields.{Field};
+ghost use Rattle.rr_object.specs.FirstFaults.{FirstFaultIsTold, ObjectsSayTheirParagraphs};
 ghost use Rattle.rr_object.specs.GrantTexts.{ReadGrantsAreSpelled, SpelledGrantsAreRead};
 ghost use Rattle.rr_object.specs.KeyOrders.{BytesTellKeys, IsKeyValue, class_and_bytes_cmp};
 ghost use Rattle.rr_object.specs.KeySpellings.{key_of};
@@ -12,6 +13,12 @@ ghost use Rattle.rr_object.specs.Readings.{obj_of, object_of};
 ghost use Rattle.rr_object.specs.declared.key.Key as keys;
 
 use crate::key::Key;
+
+/// A paragraph is refused for its first fault, and for nothing else; an object says what its paragraph says.
+pub fn the_first_fault_is_told()
+    ensures told { FirstFaultIsTold }
+    ensures says { ObjectsSayTheirParagraphs }
+{}
 
 /// The object in a registry of a source is the one of any source.
 pub fn an_object_is_of_its_paragraph()

@@ -71,6 +71,15 @@ impl Secrets {
         Ok(())
     }
 
+    /// Adds these secrets too, all or none; the error is want of memory and leaves the secrets as they were.
+    pub fn add_all(&mut self, more: Secrets) -> Result<(), AllocError>
+        ensures ok { OnOk result (self.new ≡ self.old ++ more) }
+        ensures err { OnErr result (self.new ≡ self.old) }
+    {
+        let Secrets { mut list } = more;
+        self.list.append(&mut list)
+    }
+
     /// The secrets in the order in which they were added.
     pub fn as_slice(&self) -> &[Secret]
         ensures { result.now ≡ self.now }

@@ -10,7 +10,7 @@ use Rattle.rr_object.specs.declared.key.Key.{Key}
 use Rattle.rr_object.specs.Faults.{code_of}
 use Rattle.rr_object.specs.KeySpellings.{key_of}
 use Rattle.rr_auth.specs.declared.item.Item.{Item}
-use Rattle.rr_desk.specs.Papers.{own_fields, asks_deletion}
+use Rattle.rr_desk.specs.SubmissionTexts.{own_fields, asks_deletion}
 use Rattle.rr_desk.specs.Requests.{IsRequest, LacksMemory, unread, action_of, request_of, request_of_key}
 
 -- with a key that was read

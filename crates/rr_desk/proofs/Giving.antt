@@ -2,7 +2,7 @@
 use Rattle.std.proofs.Common.{◌≡◌, ℕ, ◌+◌, ◌<◌, Bool, true, false, List, [], ◌∷◌, ◌++◌, length, refl, cond, get_or, drop, drop-cons, add-one, suc}
 use Rattle.std.specs.Prelude.{map}
 use Rattle.rr_text.specs.Fields.{Field}
-use Rattle.rr_desk.specs.Papers.{is_password, secret_of, secrets_of}
+use Rattle.rr_desk.specs.SubmissionTexts.{is_password, secret_of, secrets_of}
 
 given_or_not : (b : Bool) (x : Field) (xs : List Field) →
     map secret_of (cond b (x ∷ xs) xs) ≡ map secret_of (cond b (x ∷ []) []) ++ map secret_of xs

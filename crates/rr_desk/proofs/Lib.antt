@@ -1,6 +1,5 @@
 pub mod Asking
 pub mod Exits
-pub mod Filters
 pub mod Giving
 pub mod Joins
 pub mod Passing

@@ -3,7 +3,7 @@ use Rattle.std.proofs.Common.{◌≡◌, ◌≢◌, ◌<◌, ℕ, true, List, []
 use Rattle.std.specs.Prelude.{Result}
 use Rattle.rr_text.specs.Fields.{Field}
 use Rattle.rr_text.specs.declared.fault.TextFault.{TextFault}
-use Rattle.rr_desk.specs.Papers.{secrets_of, is_secrets_alone}
+use Rattle.rr_desk.specs.SubmissionTexts.{secrets_of, is_secrets_alone}
 use Rattle.rr_desk.specs.Submitted.{AreItems, Submitted}
 use Rattle.rr_desk.specs.Submitted.AreItems.{secrets_alone, faulty, unread_for_memory}
 use Rattle.rr_desk.specs.Requests.{unread, text_code}

@@ -14,7 +14,7 @@ use Rattle.rr_registry.specs.declared.outcome.Outcome.{Outcome}
 use Rattle.rr_registry.specs.declared.outcome.Outcome.TheVariants.{Added, Changed, Same, Deleted, Refused}
 use Rattle.rr_desk.specs.declared.submission.Done.{Done}
 use Rattle.rr_desk.specs.declared.request.Request.{Request}
-use Rattle.rr_desk.specs.Papers.{is_secrets_alone, secrets_of}
+use Rattle.rr_desk.specs.SubmissionTexts.{is_secrets_alone, secrets_of}
 use Rattle.rr_desk.specs.Requests.{request_of}
 use Rattle.rr_desk.specs.Submitted.{AreItems, Submitted}
 use Rattle.rr_desk.specs.Submitted.AreItems.{at_end, secrets_alone, asked, faulty}

@@ -1,4 +1,3 @@
-pub mod Papers
 pub mod Requests
 pub mod Submitted
 pub mod Runs
@@ -6,3 +5,4 @@ pub mod Endings
 pub mod Reports
 pub mod Served
 pub mod Submissions
+pub mod SubmissionTexts

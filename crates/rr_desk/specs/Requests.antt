@@ -14,7 +14,7 @@ use Rattle.rr_object.specs.Readings.{object_of}
 use Rattle.rr_auth.specs.declared.item.Item.{Item}
 use Rattle.rr_auth.specs.declared.item.Item.TheVariants.{Submit, Delete}
 use Rattle.rr_desk.specs.declared.request.Request.{Request}
-use Rattle.rr_desk.specs.Papers.{own_fields, asks_deletion}
+use Rattle.rr_desk.specs.SubmissionTexts.{own_fields, asks_deletion}
 
 -- the code of a paragraph that could not be read as text
 abbrev pub text_code : TextFault → Code

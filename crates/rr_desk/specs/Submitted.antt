@@ -4,7 +4,7 @@ use Rattle.rr_text.specs.Fields.{Field}
 use Rattle.rr_text.specs.declared.fault.TextFault.{TextFault}
 use Rattle.rr_object.specs.declared.code.Code.TheVariants.{E90}
 use Rattle.rr_desk.specs.declared.request.Request.{Request}
-use Rattle.rr_desk.specs.Papers.{secrets_of, is_secrets_alone}
+use Rattle.rr_desk.specs.SubmissionTexts.{secrets_of, is_secrets_alone}
 use Rattle.rr_desk.specs.Requests.{IsRequest, unread, text_code}
 
 -- an item: the secrets of its own paragraph and of those before it, and what it asks

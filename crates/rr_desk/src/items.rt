@@ -2,12 +2,12 @@
 
 ghost use Rattle.std.specs.Prelude.{◌≡◌, ◌∷◌, ◌++◌, ◌<◌, ◌≤◌, ℕ, [], List, length, drop, IfOk, IfSome, IfNone, OnOk, OnErr};
 ghost use Rattle.rr_text.specs.Entries.{entries};
-ghost use Rattle.rr_desk.specs.Papers.{secrets_of};
+ghost use Rattle.rr_desk.specs.SubmissionTexts.{secrets_of};
 ghost use Rattle.rr_desk.specs.Submitted.{AreItems, Submitted};
 
-use crate::paper::{gives_secrets, is_password, is_secrets_alone};
 use crate::request::Request;
 use crate::secret::secret_of;
+use crate::submission_text::{is_password, is_secrets_alone};
 use rr_auth::Secrets;
 use rr_number::Name;
 use rr_object::Code;
@@ -59,33 +59,19 @@ fn add_secrets(
     ensures ok { OnOk result (secrets.new ≡ secrets.old ++ secrets_of paragraph.now) }
     ensures err { OnErr result (secrets.new ≡ secrets.old) }
 {
-    if !gives_secrets(paragraph) {
-        return Ok(());
-    }
-    let mut grown = copy_secrets(alloc, secrets)?;
-    add_each(alloc, paragraph, &mut grown)?;
-    *secrets = grown;
-    Ok(())
+    let own = own_secrets(alloc, paragraph)?;
+    secrets.add_all(own)
 }
 
-fn copy_secrets(alloc: Global, secrets: &Secrets) -> Result<Secrets, AllocError>
-    ensures { IfOk result (λ copy. copy ≡ secrets.now) }
+// The secrets that a paragraph gives.
+fn own_secrets(alloc: Global, paragraph: &Paragraph) -> Result<Secrets, AllocError>
+    ensures { IfOk result (λ own. own ≡ secrets_of paragraph.now) }
 {
-    let mut copy = Secrets::new(alloc);
-    'secrets: for secret in secrets.as_slice() {
-        copy.add(alloc, secret.as_bytes())?;
-    }
-    Ok(copy)
-}
-
-// Adds the secrets of a paragraph one by one; after want of memory some of them.
-fn add_each(alloc: Global, paragraph: &Paragraph, secrets: &mut Secrets) -> Result<(), AllocError>
-    ensures { OnOk result (secrets.new ≡ secrets.old ++ secrets_of paragraph.now) }
-{
+    let mut own = Secrets::new(alloc);
     'attributes: for attribute in paragraph.attributes() {
-        add_secret(alloc, attribute, secrets)?;
+        add_secret(alloc, attribute, &mut own)?;
     }
-    Ok(())
+    Ok(own)
 }
 
 // Adds the secret of an attribute, if it gives one.

@@ -4,11 +4,11 @@
 mod ending;
 mod items;
 mod line;
-mod paper;
 mod request;
 mod secret;
 mod serving;
 mod submission;
+mod submission_text;
 
 pub use ending::{Ending, write_last_line};
 pub use items::next_item;

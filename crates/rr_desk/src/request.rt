@@ -3,9 +3,9 @@
 ghost use Rattle.std.specs.Prelude.{◌≡◌, ◌⊎◌, Ok, Err, IfOk, IfErr};
 ghost use Rattle.rr_object.specs.KeySpellings.{key_of as spelled_key};
 ghost use Rattle.rr_object.specs.Readings.{object_of};
-ghost use Rattle.rr_desk.specs.Papers.{own_fields};
+ghost use Rattle.rr_desk.specs.SubmissionTexts.{own_fields};
 
-use crate::paper::{asks_deletion, own_paragraph};
+use crate::submission_text::{asks_deletion, own_paragraph};
 use rr_auth::Item;
 use rr_number::Name;
 use rr_object::{Code, Key, Object, key_of};

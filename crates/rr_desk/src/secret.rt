@@ -2,7 +2,7 @@
 
 ghost use Rattle.std.specs.Prelude.{◌≡◌, ◌∷◌, IfOk};
 ghost use Rattle.std.specs.List.{join_with_byte};
-ghost use Rattle.rr_desk.specs.Papers.{secret_of};
+ghost use Rattle.rr_desk.specs.SubmissionTexts.{secret_of};
 
 use rr_text::{Attribute, Text};
 use std::alloc::{AllocError, Global};

@@ -15,13 +15,13 @@ pub struct Done {
 #[derive(Clone, Copy, Debug, PartialEq, Eq, Error)]
 pub enum DeskFault {
     /// A read failed, or there were too many.
-    #[error("the submission could not be read after {items} items")]
+    #[error("the submission could not be read; items decided before that: {items}")]
     ReadFault {
         /// The items that were decided.
         items: u64,
     },
     /// A write of the report failed.
-    #[error("the report could not be written after {items} items")]
+    #[error("the report could not be written; items decided before that: {items}")]
     WriteFault {
         /// The items that were decided.
         items: u64,

@@ -2,7 +2,7 @@
 
 ghost use Rattle.std.specs.Prelude.{◌≡◌};
 ghost use Rattle.std.specs.List.{list_any};
-ghost use Rattle.rr_desk.specs.Papers.{asks_deletion, is_delete, is_password, is_secrets_alone, own_fields};
+ghost use Rattle.rr_desk.specs.SubmissionTexts.{asks_deletion, is_delete, is_password, is_secrets_alone, own_fields};
 
 use rr_text::{Attribute, Paragraph};
 
@@ -27,16 +27,6 @@ pub fn is_secrets_alone(paragraph: &Paragraph) -> bool
         .attributes()
         .iter()
         .all(|attribute| is_password(attribute))
-}
-
-/// Whether a paragraph gives a secret.
-pub fn gives_secrets(paragraph: &Paragraph) -> bool
-    ensures { result ≡ list_any is_password paragraph.now }
-{
-    paragraph
-        .attributes()
-        .iter()
-        .any(|attribute| is_password(attribute))
 }
 
 /// Whether a paragraph asks for a deletion.

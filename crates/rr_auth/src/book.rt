@@ -3,6 +3,8 @@
 ghost use Rattle.std.specs.Prelude.{◌≡◌, IfOk};
 ghost use Rattle.std.specs.Option.{option_copied};
 ghost use Rattle.std.specs.FinMap.{get};
+ghost use Rattle.std.specs.List.Sorted.{IsStrictlySortedBy};
+ghost use Rattle.std.specs.Ordering.{nat_cmp};
 
 use rr_number::{AsNumber, Name, Prefix, Span};
 use rr_object::{Key, Object};
@@ -41,7 +43,8 @@ pub trait Book {
 
     /// The origins of the routes of exactly this prefix, ascending; the error is want of memory.
     fn origins(&self, alloc: Global, prefix: Prefix) -> Result<Vec<AsNumber>, AllocError>
-        ensures { IfOk result (λ v. v.items ≡ origins (contents self.now) prefix) };
+        ensures value { IfOk result (λ v. v.items ≡ origins (contents self.now) prefix) }
+        ensures ascending { IfOk result (λ v. IsStrictlySortedBy nat_cmp v.items) };
 
     /// Whether an inetnum or as-block of the registry crosses the key, being of its class (profile).
     fn crosses(&self, key: &Key) -> bool

@@ -2,5 +2,6 @@ pub mod DerivedOrder
 pub mod Gathering
 pub mod Names
 pub mod Order
+pub mod Origins
 pub mod Places
 pub mod Running

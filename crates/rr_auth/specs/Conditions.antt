@@ -24,7 +24,7 @@ lower_passes r z x = passes r z (lower_of x)
 abbrev pub routes_pass : Reg → List (List ℕ) → PrefixParts → Obj → Bool
 routes_pass r z p x = passes r z (routes_of x p)
 
--- E10: a maintainer that the object names is not registered; a new mntner may name itself (RFC 2622, 3.1).
+-- E10: a maintainer that the object names is not registered; a new mntner may name itself (RFC 2622, 3).
 abbrev pub names_unknown : Reg → Obj → Bool
 names_unknown r o = names_nobody (seen_by (Some o) r) (names_of o)
 

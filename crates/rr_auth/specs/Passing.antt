@@ -20,6 +20,6 @@ fits secrets o = list_any (λ line. list_any (fits_line line) secrets) o.auths
 abbrev pub name_passes : Reg → List (List ℕ) → List ℕ → Bool
 name_passes r secrets name = option_map_or (fits secrets) (maintainer r name) false
 
--- A list of names passes where one of them does: some secret fits one of the maintainers named (RFC 2622, 3.1).
+-- A list of names passes where one of them does: some secret fits one of the maintainers named (RFC 2622, 3).
 abbrev pub passes : Reg → List (List ℕ) → List (List ℕ) → Bool
 passes r secrets names = list_any (name_passes r secrets) names

@@ -14,7 +14,7 @@ use Rattle.rr_auth.specs.KeyOrder.{key_cmp}
 abbrev pub Reg : Type 0
 Reg = FinMap key_cmp Obj
 
--- The maintainer of a name is the mntner whose key it is (RFC 2622, 3.1).
+-- The maintainer of a name is the mntner whose key it is (RFC 2622, 3).
 abbrev pub maintainer : Reg → List ℕ → Option Obj
 maintainer r name = get r (Mntner name)
 

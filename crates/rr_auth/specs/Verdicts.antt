@@ -61,7 +61,7 @@ addition r z o = first_of (
     record { holds = unauthorised r z o; code = E11 } ∷ [])) (place r z o.key)
 
 -- An object whose key is registered is a change, which the stored mnt-by decides; the same text changes nothing
--- (RFC 2622, 3.1; profile).
+-- (RFC 2622, 3; profile).
 abbrev pub change : Reg → List (List ℕ) → Obj → Obj → Verdict
 change r z stored o = first_of (
     record { holds = names_nobody r (names_of o); code = E10 } ∷ (
@@ -72,7 +72,7 @@ abbrev pub submission : Option Obj → Reg → List (List ℕ) → Obj → Verdi
 submission None r z o = addition r z o
 submission (Some stored) r z o = change r z stored o
 
--- A deletion needs the object, its mnt-by, and that no other object names it (RFC 2622, 3.1; profile).
+-- A deletion needs the object, its mnt-by, and that no other object names it (RFC 2622, 3; profile).
 abbrev pub deletion : Option Obj → Reg → List (List ℕ) → Key → Verdict
 deletion None r z k = Refuse E18
 deletion (Some stored) r z k = first_of (

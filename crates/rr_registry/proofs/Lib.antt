@@ -5,3 +5,4 @@ pub mod Order
 pub mod Origins
 pub mod Places
 pub mod Running
+pub mod SetLists

@@ -40,7 +40,7 @@ pub get_of_book : (os : List Obj) (k : Key) → is_in_order os ≡ true → get 
 get_of_book os k e = get-from_sorted key_cmp (map entry os) k (T_of e) ∙ scan k os
 
 -- the key of a name's mntner ties with a key where this is that mntner's
-mntner_key : (n : List ℕ) (k : Key) → eq_by_cmp key_cmp (Mntner n) k ≡ is_mntner_of n k
+pub mntner_key : (n : List ℕ) (k : Key) → eq_by_cmp key_cmp (Mntner n) k ≡ is_mntner_of n k
 mntner_key n (Mntner m) = mntners_tie n m
 mntner_key n (AsBlock s) = refl
 mntner_key n (AutNum m) = refl

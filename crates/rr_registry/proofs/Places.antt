@@ -1,16 +1,22 @@
 -- Where an object is put into a list.
-use Rattle.std.proofs.Common.{◌≡◌, ℕ, zero, suc, ◌+◌, ◌<◌, ◌≤◌, Bool, true, false, cond, not, List, [], ◌∷◌, ◌++◌, length, refl, sym, ap, ◌∙◌, arith, one-add}
-use Rattle.std.specs.Prelude.{Option, None, Some, insert, slice_set, slice_get, position, unwrap_or}
-use Rattle.std.specs.Option.{option_map_or}
+use Rattle.std.proofs.Common.{◌≡◌, ℕ, zero, suc, ◌+◌, ◌<◌, ◌≤◌, Bool, true, false, cond, not, List, [], ◌∷◌, T, ◌&&◌, get_or, map, length, refl, sym, ap, subst, ◌∙◌, arith, one-add}
+use Rattle.std.specs.Prelude.{Option, None, Some, find, insert, slice_set, slice_get}
+use Rattle.std.specs.List.Sorted.{IsPartitionPoint, IsPartitionedBy}
+use Rattle.std.specs.FinMap.{is_sorted}
+use Rattle.std.specs.FinMap.Entries.{below_all}
+use Rattle.std.specs.Option.{option_and_then}
+use Rattle.rr_auth.proofs.KeyLaws.{keys_total}
+use Rattle.rr_auth.specs.Registries.{is_mntner_of}
+use Rattle.rr_object.specs.declared.key.Key.TheVariants.{Mntner}
+use Rattle.rr_registry.proofs.Order.{by_name, mntner_key}
 use Rattle.std.specs.declared.cmp.Ordering.{Ordering}
 use Rattle.std.specs.declared.cmp.Ordering.TheVariants.{Less, Equal, Greater}
-use Rattle.std.specs.Ordering.{eq_by_cmp, is_gt, is_eq}
+use Rattle.std.specs.Ordering.{eq_by_cmp, is_gt, is_eq, is_lt, ordering_reverse}
 use Rattle.std.specs.FinMap.Entries.{by_order}
-use Rattle.std.proofs.lemmas.Grind.{common_steps}
 use Rattle.rr_object.specs.declared.key.Key.{Key}
 use Rattle.rr_object.specs.Objects.{Obj}
 use Rattle.rr_auth.specs.KeyOrder.{key_cmp}
-use Rattle.rr_registry.specs.Books.{put_in, place_of, stands_at}
+use Rattle.rr_registry.specs.Books.{entry, is_in_order, put_in, place_of, stands_at}
 
 -- one place further
 later_stands : (k : Key) (x : Obj) (xs : List Obj) (n : ℕ) → stands_at k (x ∷ xs) (1 + n) ≡ stands_at k xs n
@@ -57,12 +63,109 @@ place_within k (x ∷ xs) =
     let later : place_of k xs ≤ length xs = place_within k xs in
     elim (not (not (is_gt (key_cmp k x.key)))) as (λ b. cond b (1 + place_of k xs) 0 ≤ suc (length xs)) [ true ↦ omega arith | false ↦ omega arith ]
 
--- the first place is where the first object that is not below was found, or the end
-pub place_found : (k : Key) (os : List Obj) → unwrap_or (position (λ o. not (is_gt (key_cmp k o.key))) os) (length os) ≡ place_of k os
-place_found k os = grind (arith, common_steps, place_within k os)
-
 -- a place at which an object stands is within the list
 pub stands_within : (k : Key) (os : List Obj) (i : ℕ) → stands_at k os i ≡ true → i < length os
 stands_within k [] i e = cc
 stands_within k (x ∷ xs) zero e = omega arith
 stands_within k (x ∷ xs) (suc i) e = let later : i < length xs = stands_within k xs i e in omega arith
+
+pub T_parts : (a b : Bool) → T (a && b) → T a × T b
+T_parts true b h = (tt, h)
+T_parts false b h = absurd h
+
+pub is_Less : (r : Ordering) → T (is_lt r) → r ≡ Less
+is_Less Less h = refl
+is_Less Equal h = absurd h
+is_Less Greater h = absurd h
+
+is_Greater : (r : Ordering) → is_gt r ≡ true → r ≡ Greater
+is_Greater Less e = cc
+is_Greater Equal e = cc
+is_Greater Greater e = refl
+
+both : (a b : Bool) → a ≡ true → T b → T (a && b)
+both true b e h = h
+both false b e h = cc
+
+-- a key is below those of objects in order behind it
+below : (k : Key) (os : List Obj) → T (below_all key_cmp k (map entry os)) → (i : ℕ) (d : Obj) → i < length os → key_cmp k (get_or os i d).key ≡ Less
+below k [] h i d inside = absurd (omega arith)
+below k (x ∷ xs) h zero d inside = is_Less _ (T_parts (is_lt (key_cmp k x.key)) (below_all key_cmp k (map entry xs)) h).0
+below k (x ∷ xs) h (suc i) d inside = below k xs (T_parts (is_lt (key_cmp k x.key)) (below_all key_cmp k (map entry xs)) h).1 i d (omega arith)
+
+-- a key that is above another is above those below that
+above : (k l m : Key) → key_cmp l m ≡ Less → key_cmp k m ≡ Greater → key_cmp k l ≡ Greater
+above k l m low high =
+    keys_total.antisymm k l ∙ ap ordering_reverse (keys_total.trans l m k low (keys_total.antisymm m k ∙ ap ordering_reverse high))
+
+-- of objects in order those below a key come first
+parted : (k : Key) (os : List Obj) → T (is_sorted key_cmp (map entry os)) → IsPartitionedBy (λ o. is_gt (key_cmp k o.key)) os
+parted k [] h i j d low inside e = absurd (omega arith)
+parted k (x ∷ xs) h zero zero d low inside e = e
+parted k (x ∷ xs) h zero (suc j) d low inside e =
+    ap is_gt (above k x.key (get_or xs j d).key (below x.key xs (T_parts (below_all key_cmp x.key (map entry xs)) (is_sorted key_cmp (map entry xs)) h).0 j d (omega arith)) (is_Greater _ e))
+parted k (x ∷ xs) h (suc i) zero d low inside e = absurd (omega arith)
+parted k (x ∷ xs) h (suc i) (suc j) d low inside e =
+    parted k xs (T_parts (below_all key_cmp x.key (map entry xs)) (is_sorted key_cmp (map entry xs)) h).1 i j d (omega arith) (omega arith) e
+
+pub in_order_parted : (k : Key) (os : List Obj) → is_in_order os ≡ true → IsPartitionedBy (λ o. is_gt (key_cmp k o.key)) os
+in_order_parted k os e = parted k os (subst T (sym e) tt)
+
+-- where a list is parted by a test is its first place that fails it
+pub place_of_part : (k : Key) (os : List Obj) (i : ℕ) → i ≤ length os → IsPartitionPoint (λ o. is_gt (key_cmp k o.key) ≡ true) (λ o. is_gt (key_cmp k o.key) ≡ false) os i → i ≡ place_of k os
+place_of_part k [] i inside point = omega arith
+place_of_part k (x ∷ xs) zero inside point =
+    sym (ap (λ b. cond (not (not b)) (1 + place_of k xs) 0) (point.1 0 x (omega arith) (omega arith)))
+place_of_part k (x ∷ xs) (suc i) inside point =
+    let later : i ≡ place_of k xs = place_of_part k xs i (omega arith) (λ j d low high. point.0 (suc j) d (omega arith) (omega arith), λ j d low high. point.1 (suc j) d (omega arith) (omega arith)) in
+    let here : cond (not (not (is_gt (key_cmp k x.key)))) (1 + place_of k xs) 0 ≡ 1 + place_of k xs = ap (λ b. cond (not (not b)) (1 + place_of k xs) 0) (point.0 0 x (omega arith) (omega arith)) in
+    omega (arith, later, here)
+
+-- none of the objects behind a key is of it
+none_behind : (k : Key) (os : List Obj) → T (below_all key_cmp k (map entry os)) → find (λ o. eq_by_cmp key_cmp k o.key) os ≡ None
+none_behind k [] h = refl
+none_behind k (x ∷ xs) h =
+    let parts = T_parts (is_lt (key_cmp k x.key)) (below_all key_cmp k (map entry xs)) h in
+    ap (λ r. cond (is_eq r) (Some x) (find (λ o. eq_by_cmp key_cmp k o.key) xs)) (is_Less _ parts.0) ∙ none_behind k xs parts.1
+
+none_from : (k l : Key) (os : List Obj) → key_cmp k l ≡ Less → T (below_all key_cmp l (map entry os)) → T (below_all key_cmp k (map entry os))
+none_from k l [] low h = tt
+none_from k l (x ∷ xs) low h =
+    let parts = T_parts (is_lt (key_cmp l x.key)) (below_all key_cmp l (map entry xs)) h in
+    both (is_lt (key_cmp k x.key)) (below_all key_cmp k (map entry xs)) (ap is_lt (keys_total.trans k l x.key low (is_Less _ parts.0))) (none_from k l xs low parts.1)
+
+-- the object of a key stands at its place, if there is one
+abbrev pub at_place : Key → List Obj → Option Obj
+at_place k os = option_and_then (λ o. cond (eq_by_cmp key_cmp k o.key) (Some o) None) (slice_get os (place_of k os))
+
+later_get : (x : Obj) (xs : List Obj) (n : ℕ) → slice_get (x ∷ xs) (1 + n) ≡ slice_get xs n
+later_get x xs n = rw one-add
+
+search_place : (k : Key) (os : List Obj) → T (is_sorted key_cmp (map entry os)) → find (λ o. eq_by_cmp key_cmp k o.key) os ≡ at_place k os
+search_place k [] h = refl
+search_place k (x ∷ xs) h =
+    let parts = T_parts (below_all key_cmp x.key (map entry xs)) (is_sorted key_cmp (map entry xs)) h in
+    elim (key_cmp k x.key) as (λ r. key_cmp k x.key ≡ r → cond (is_eq r) (Some x) (find (λ o. eq_by_cmp key_cmp k o.key) xs)
+    ≡ option_and_then (λ o. cond (eq_by_cmp key_cmp k o.key) (Some o) None) (slice_get (x ∷ xs) (cond (not (not (is_gt r))) (1 + place_of k xs) 0))) [
+      | Less ↦ λ e. none_behind k xs (none_from k x.key xs e parts.0) ∙ sym (ap (λ r. cond (is_eq r) (Some x) None) e)
+      | Equal ↦ λ e. sym (ap (λ r. cond (is_eq r) (Some x) None) e)
+      | Greater ↦ λ e. search_place k xs parts.1 ∙ ap (option_and_then (λ o. cond (eq_by_cmp key_cmp k o.key) (Some o) None)) (sym (later_get x xs (place_of k xs)))
+    ] refl
+
+pub found_at_place : (k : Key) (os : List Obj) → is_in_order os ≡ true → find (λ o. eq_by_cmp key_cmp k o.key) os ≡ at_place k os
+found_at_place k os e = search_place k os (subst T (sym e) tt)
+
+-- a key does not stand at its place where nothing does, or another key
+pub found_nowhere : (k : Key) (os : List Obj) → is_in_order os ≡ true → slice_get os (place_of k os) ≡ None → find (λ o. eq_by_cmp key_cmp k o.key) os ≡ None
+found_nowhere k os e none = found_at_place k os e ∙ ap (option_and_then (λ o. cond (eq_by_cmp key_cmp k o.key) (Some o) None)) none
+
+pub found_there : (k : Key) (os : List Obj) (o : Obj) (b : Bool) → is_in_order os ≡ true → slice_get os (place_of k os) ≡ Some o → b ≡ eq_by_cmp key_cmp k o.key → find (λ x. eq_by_cmp key_cmp k x.key) os ≡ cond b (Some o) None
+found_there k os o b e there is =
+    found_at_place k os e ∙ ap (option_and_then (λ x. cond (eq_by_cmp key_cmp k x.key) (Some x) None)) there ∙ ap (λ c. cond c (Some o) None) (sym is)
+
+-- the same of mntners, which are known by their names
+pub mntner_nowhere : (n : List ℕ) (os : List Obj) → is_in_order os ≡ true → slice_get os (place_of (Mntner n) os) ≡ None → find (λ o. is_mntner_of n o.key) os ≡ None
+mntner_nowhere n os e none = sym (by_name n os) ∙ found_nowhere (Mntner n) os e none
+
+pub mntner_there : (n : List ℕ) (os : List Obj) (o : Obj) (b : Bool) → is_in_order os ≡ true → slice_get os (place_of (Mntner n) os) ≡ Some o → b ≡ is_mntner_of n o.key → find (λ x. is_mntner_of n x.key) os ≡ cond b (Some o) None
+mntner_there n os o b e there is = sym (by_name n os) ∙ found_there (Mntner n) os o b e there (is ∙ sym (mntner_key n o.key))

@@ -3,3 +3,4 @@ pub mod Classes
 pub mod Loading
 pub mod RunLaws
 pub mod Runs
+pub mod SetLists

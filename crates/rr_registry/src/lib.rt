@@ -10,6 +10,7 @@ mod outcome;
 mod plain_book;
 mod registry;
 mod run;
+mod set_book;
 
 pub use load::LoadFault;
 pub use outcome::Outcome;

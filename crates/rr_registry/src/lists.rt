@@ -1,6 +1,6 @@
 //! Scans of lists of objects.
 
-ghost use Rattle.std.specs.Prelude.{◌≡◌, ◌<◌, ◌≤◌, ◌++◌, map, not, find, filter, position, length, OnOk, OnErr, IfOk, IsTrue};
+ghost use Rattle.std.specs.Prelude.{◌≡◌, ◌<◌, ◌≤◌, ◌++◌, map, not, true, find, filter, length, OnOk, OnErr, IfOk, IsTrue};
 ghost use Rattle.std.specs.List.{list_any};
 ghost use Rattle.std.specs.Option.{option_copied};
 ghost use Rattle.std.specs.Ordering.{eq_by_cmp, is_gt};
@@ -9,18 +9,63 @@ ghost use Rattle.rr_object.specs.Objects.{names_of};
 ghost use Rattle.rr_auth.specs.KeyOrder.{key_cmp};
 ghost use Rattle.rr_auth.specs.Registries.{is_mntner_of, keys_cross, names_another};
 ghost use Rattle.rr_auth.specs.Closest.{origin_at, origins_among, same_prefix};
-ghost use Rattle.rr_registry.specs.Books.{place_of, put_in, stands_at};
+ghost use Rattle.rr_registry.specs.Books.{is_in_order, place_of, put_in, stands_at};
 
 use crate::keys::{compare, is_same};
 use rr_number::{AsNumber, Name, Prefix};
 use rr_object::{Grant, Key, Object};
 use std::alloc::{AllocError, Global};
 
-/// The object of the key.
+/// The object of the key, among objects in the order of their keys.
 pub(crate) fn find_key<'a>(objects: &'a [Object], key: &Key) -> Option<&'a Object>
+    requires { is_in_order objects.now ≡ true }
     ensures { option_copied result ≡ find (λ o. eq_by_cmp key_cmp key.now o.key) objects.now }
 {
-    objects.iter().find(|object| is_same(key, object.key()))
+    match objects.get(place(objects, key)) {
+        Some(object) => {
+            if is_same(key, object.key()) {
+                Some(object)
+            } else {
+                None
+            }
+        }
+        None => None,
+    }
+}
+
+/// The mntner of the name, among objects in the order of their keys.
+pub(crate) fn find_mntner_in_order<'a>(objects: &'a [Object], name: &Name) -> Option<&'a Object>
+    requires { is_in_order objects.now ≡ true }
+    ensures { option_copied result ≡ find (λ o. is_mntner_of name.now o.key) objects.now }
+{
+    match objects.get(place_of_mntner(objects, name)) {
+        Some(object) => {
+            if is_mntner_of(object.key(), name) {
+                Some(object)
+            } else {
+                None
+            }
+        }
+        None => None,
+    }
+}
+
+/// The first place whose key is not below that of the mntner of the name.
+fn place_of_mntner(objects: &[Object], name: &Name) -> usize
+    requires { is_in_order objects.now ≡ true }
+    ensures { result ≡ place_of (Key.Mntner name.now) objects.now }
+{
+    objects.partition_point(|object| is_above(name, object.key()))
+}
+
+/// Whether the key of the mntner of the name is above this one.
+fn is_above(name: &Name, key: &Key) -> bool
+    ensures { result ≡ is_gt (key_cmp (Key.Mntner name.now) key.now) }
+{
+    match key {
+        Key::Mntner(own) => name > own,
+        _ => false,
+    }
 }
 
 /// The mntner of the name.
@@ -149,9 +194,11 @@ fn is_same_prefix(prefix: Prefix, other: Prefix) -> bool
     prefix.address().to_bits() == other.address().to_bits() && prefix.length() == other.length()
 }
 
-/// Puts the object into its place, for one of its key that stood there; the error is want of memory.
+/// Puts the object into its place among objects in the order of their keys, for one of its key that stood there; the
+/// error is want of memory.
 #[tactic(auto, using(crate::proofs::Places::put_in_place))]
 pub(crate) fn put(objects: &mut Vec<Object>, object: Object) -> Result<(), AllocError>
+    requires { is_in_order objects.old.items ≡ true }
     ensures ok { OnOk result (objects.new.items ≡ put_in object objects.old.items) }
     ensures err { OnErr result (objects.new.items ≡ objects.old.items) }
 {
@@ -164,22 +211,13 @@ pub(crate) fn put(objects: &mut Vec<Object>, object: Object) -> Result<(), Alloc
     Ok(())
 }
 
-/// The first place whose key is not below the key.
-#[tactic(auto, using(crate::proofs::Places::place_found, crate::proofs::Places::place_within))]
+/// The first place whose key is not below the key, among objects in the order of their keys.
 fn place(objects: &[Object], key: &Key) -> usize
+    requires { is_in_order objects.now ≡ true }
     ensures value { result ≡ place_of key.now objects.now }
     ensures within { result ≤ length objects.now }
 {
-    first_not_below(objects, key).unwrap_or(objects.len())
-}
-
-/// The first object whose key is not below the key.
-fn first_not_below(objects: &[Object], key: &Key) -> Option<usize>
-    ensures { result ≡ position (λ o. not (is_gt (key_cmp key.now o.key))) objects.now }
-{
-    objects
-        .iter()
-        .position(|object| !compare(key, object.key()).is_gt())
+    objects.partition_point(|object| compare(key, object.key()).is_gt())
 }
 
 /// Whether the object at the place has the key.

@@ -96,7 +96,7 @@ impl Book for PlainBook {
     }
 
     fn maintainer(&self, name: &Name) -> Option<&Object> {
-        lists::find_mntner(&self.objects, name)
+        lists::find_mntner_in_order(&self.objects, name)
     }
 
     fn closest_inetnum(&self, span: Span) -> Option<&Object> {

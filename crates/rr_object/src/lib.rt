@@ -39,4 +39,6 @@ pub use object::{Object, public};
 pub use paragraph_key::key_of;
 
 #[cfg(test)]
+mod table_tests;
+#[cfg(test)]
 mod tests;

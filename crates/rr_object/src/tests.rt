@@ -48,7 +48,7 @@ fn read(alloc: Global, text: &str) -> Result<Result<Object, ObjectFault>, Fail> 
 }
 
 // The code of the text's fault, or `ok`.
-fn code(alloc: Global, text: &str) -> Result<&'static str, Fail> {
+pub(crate) fn code(alloc: Global, text: &str) -> Result<&'static str, Fail> {
     match read(alloc, text)? {
         Ok(_) => Ok("ok"),
         Err(fault) => Ok(fault.code().name()),
@@ -203,6 +203,10 @@ fn reserved_words_are_no_maintainers(rt: HostRuntime) -> Result<(), Fail> {
     ] {
         let line = format!(in rt.alloc(); "mnt-by: {word}")?;
         assert_eq!(rt; code_with(rt.alloc(), line.as_str())?, "E05", "{word}");
+        let text = format!(in rt.alloc();
+            "mntner: {word}\nauth: x\nmnt-by: A-MNT\nsource: TEST\n"
+        )?;
+        assert_eq!(rt; code(rt.alloc(), text.as_str())?, "E03", "{word}");
     }
     Ok(())
 }

@@ -1,1 +1,5 @@
 pub mod Numbers
+pub mod OriginLists
+pub mod RangeLists
+pub mod ReferenceLists
+pub mod SameRanges

@@ -2,3 +2,8 @@ pub mod Faults
 pub mod Lists
 pub mod AsSets
 pub mod SetObjects
+pub mod RouteSets
+pub mod RouteObjects
+pub mod Origins
+pub mod References
+pub mod Orders

@@ -129,7 +129,7 @@ fn reached_sets<B: SetBook>(
 }
 
 /// The names of sets among the members.
-fn sets_listed(alloc: Global, members: &[Member]) -> Result<Vec<SetName>, AllocError>
+pub fn sets_listed(alloc: Global, members: &[Member]) -> Result<Vec<SetName>, AllocError>
     ensures { IfOk result (λ names. names.items ≡ filter_map set_listed members.now) }
 {
     let mut names = Vec::new(alloc);
@@ -192,7 +192,7 @@ fn missing_names<B: SetBook>(
 }
 
 /// The list in ascending order, without repeats.
-fn sorted<T: Ord + Drop>(alloc: Global, list: Vec<T>) -> Result<Vec<T>, AllocError>
+pub fn sorted<T: Ord + Drop>(alloc: Global, list: Vec<T>) -> Result<Vec<T>, AllocError>
     ensures same { CmpEqualImpliesEq T.cmp → IfOk result (λ sorted. (x : T) → Contains sorted.items x ↔ Contains list.items x) }
     ensures sorted { IfOk result (λ sorted. IsStrictlySortedBy T.cmp sorted.items) }
 {

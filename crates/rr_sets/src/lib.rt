@@ -5,7 +5,12 @@ mod as_sets;
 mod book;
 mod direct;
 mod members;
+mod origins;
+mod ranges;
+mod references;
+mod route_sets;
 
 pub use as_sets::expand_as_set;
 pub use book::SetBook;
 pub use members::{ExpandFault, Members};
+pub use route_sets::expand_route_set;

@@ -1,0 +1,138 @@
+-- The ranges in a set itself, from the lists of a registry.
+use Rattle.std.proofs.Common.{◌≡◌, ℕ, ◌⊎◌, ◌↔◌, true, false, List, [], ◌++◌, map, Contains, IsTrue, None, Some, Bor, refl, sym, ap, ◌∙◌, subst, inl, inr}
+use Rattle.std.specs.FinMap.{get}
+use Rattle.std.specs.List.{filter, filter_map}
+use Rattle.rr_auth.specs.Registries.{Reg, Sound}
+use Rattle.rr_graph.proofs.Lists.{Contains-filter_map, Contains-map, Contains-nil}
+use Rattle.rr_number.specs.Prefixes.{PrefixParts}
+use Rattle.rr_number.specs.Ranges.{RangeParts, bare}
+use Rattle.rr_object.specs.Objects.{Obj}
+use Rattle.rr_object.specs.Parts.{ByRefParts}
+use Rattle.rr_object.specs.declared.key.Key.{Key}
+use Rattle.rr_object.specs.declared.key.Key.TheVariants as key
+use Rattle.rr_object.specs.declared.member.Member.{Member}
+use Rattle.rr_object.specs.declared.member.Member.TheVariants as member
+use Rattle.rr_object.specs.declared.member.MemberSet.{MemberSet}
+use Rattle.rr_object.specs.declared.member.MemberSet.TheVariants.{AutNum, Set}
+use Rattle.rr_sets.specs.Lists.{IsReferrer, IsRoute, ListsOnce}
+use Rattle.rr_sets.specs.Origins.{HasRangeBy}
+use Rattle.rr_sets.specs.RouteObjects.{range_listed, range_of_key}
+use Rattle.rr_sets.specs.RouteSets.{HasRange, IsAnyRange, IsByReference, IsOriginated, IsTaken, ListsRange, set_of}
+use Rattle.rr_sets.specs.SetObjects.{takes}
+use Rattle.rr_sets.proofs.Numbers.{Contains-both, Contains-filter}
+
+-- a key with a range is a route's, whose prefix alone it is
+key_of_range : (k : Key) (range : RangeParts) → range_of_key k ≡ Some range → (p : PrefixParts) × (n : ℕ) × (k ≡ key.Route p n) × (range ≡ bare p)
+key_of_range (key.Mntner name) range is = cc
+key_of_range (key.AsBlock span) range is = cc
+key_of_range (key.AutNum m) range is = cc
+key_of_range (key.Inetnum span) range is = cc
+key_of_range (key.Route prefix origin) range is = (prefix, origin, refl, cc)
+key_of_range (key.AsSet name) range is = cc
+key_of_range (key.RouteSet name) range is = cc
+
+-- a member with a range is it
+member_of_range : (m : Member) (range : RangeParts) → range_listed m ≡ Some range → m ≡ member.Range range
+member_of_range (member.Range x) range is = let same : x ≡ range = cc in ap member.Range same
+member_of_range (member.Set set operator) range is = cc
+
+-- the ranges among members
+pub ranges_among : (members : List Member) (range : RangeParts) → Contains (filter_map range_listed members) range ↔ Contains members (member.Range range)
+ranges_among members range = (
+  λ has. let f = (Contains-filter_map range_listed members range).0 has in subst (Contains members) (member_of_range f.0 range f.2) f.1,
+  λ has. (Contains-filter_map range_listed members range).1 (member.Range range, has, refl),
+)
+
+module _ (r : Reg) (sound : Sound r) where
+  -- the range of a registered route
+  range_of_route : (o : Obj) (p : PrefixParts) (n : ℕ) → get r (key.Route p n) ≡ Some o → range_of_key o.key ≡ Some (bare p)
+  range_of_route o p n is = ap range_of_key (sound.keyed (key.Route p n) o is)
+
+  -- a registered object with a range is a route of it
+  route_of_range : (k : Key) (o : Obj) (range : RangeParts) → get r k ≡ Some o → range_of_key o.key ≡ Some range → (p : PrefixParts) × (n : ℕ) × (get r (key.Route p n) ≡ Some o) × (range ≡ bare p)
+  route_of_range k o range is has =
+      let f = key_of_range o.key range has in
+      (f.0, f.1, subst (λ (x : Key). get r x ≡ Some o) (sym (sound.keyed k o is) ∙ f.2) is, f.3)
+
+  -- the ranges of all routes
+  pub ranges_of_all : (objects : List (Bor Obj)) → ListsOnce (IsRoute r) objects → (range : RangeParts) → Contains (filter_map (λ o. range_of_key o.now.key) objects) range ↔ ((n : ℕ) × IsOriginated r n range)
+  ranges_of_all objects lists range = (
+    λ has.
+        let f = (Contains-filter_map (λ (o : Bor Obj). range_of_key o.now.key) objects range).0 has in
+        let found : IsRoute r f.0.now = (lists.same f.0.now).0 ((Contains-map (λ (o : Bor Obj). o.now) objects f.0.now).1 (f.0, f.1, refl)) in
+        let g = route_of_range (key.Route found.0 found.1) f.0.now range found.2 f.2 in
+        (g.1, (g.0, f.0.now, g.2, g.3)),
+    λ (n, (p, o, is, same)).
+        let b = (Contains-map (λ (x : Bor Obj). x.now) objects o).0 ((lists.same o).1 (p, n, is)) in
+        (Contains-filter_map (λ (x : Bor Obj). range_of_key x.now.key) objects range).1 (b.0, b.1, ap (λ (x : Obj). range_of_key x.key) b.2 ∙ range_of_route o p n is ∙ ap Some (sym same)),
+  )
+
+  -- the ranges of the routes whose word is taken
+  pub ranges_that_are_taken : (by_ref : ByRefParts) (name : List ℕ) (objects : List (Bor Obj)) → ListsOnce (IsReferrer r name) objects → (range : RangeParts) → Contains (filter_map (λ o. range_of_key o.now.key) (filter (λ o. takes by_ref o.now) objects)) range ↔ IsTaken r by_ref name range
+  ranges_that_are_taken by_ref name objects lists range = (on, from) where
+    on : Contains (filter_map (λ o. range_of_key o.now.key) (filter (λ o. takes by_ref o.now) objects)) range → IsTaken r by_ref name range
+    on has =
+        let f = (Contains-filter_map (λ (o : Bor Obj). range_of_key o.now.key) (filter (λ o. takes by_ref o.now) objects) range).0 has in
+        let g = (Contains-filter (λ (o : Bor Obj). takes by_ref o.now) objects f.0).0 f.1 in
+        let found : IsReferrer r name f.0.now = (lists.same f.0.now).0 ((Contains-map (λ (o : Bor Obj). o.now) objects f.0.now).1 (f.0, g.0, refl)) in
+        let route = route_of_range found.0 f.0.now range found.1 f.2 in
+        (route.0, route.1, f.0.now, route.2, found.2, g.1, route.3)
+
+    from : IsTaken r by_ref name range → Contains (filter_map (λ o. range_of_key o.now.key) (filter (λ o. takes by_ref o.now) objects)) range
+    from (p, n, o, is, member_, taken, same) =
+        let b = (Contains-map (λ (x : Bor Obj). x.now) objects o).0 ((lists.same o).1 (key.Route p n, is, member_)) in
+        (Contains-filter_map (λ (x : Bor Obj). range_of_key x.now.key) (filter (λ x. takes by_ref x.now) objects) range).1
+        (b.0, (Contains-filter (λ (x : Bor Obj). takes by_ref x.now) objects b.0).1 (b.1, subst (λ (x : Obj). IsTrue (takes by_ref x)) (sym b.2) taken), ap (λ (x : Obj). range_of_key x.key) b.2 ∙ range_of_route o p n is ∙ ap Some (sym same))
+
+-- `mbrs-by-ref` that is not there takes nothing
+pub none_is_taken : (r : Reg) (by_ref : ByRefParts) (name : List ℕ) (range : RangeParts) → by_ref.any ≡ false → by_ref.names ≡ [] → IsTaken r by_ref name range → ⊥
+none_is_taken r by_ref name range any names (p, n, o, is, member_, taken, same) =
+    let none : takes by_ref o ≡ false = rw (any, names) refl in
+    let wrong : true ≡ false = sym taken ∙ none in
+    cc
+
+-- the ranges of a registered set
+pub ranges_of_set : (r : Reg) (name : List ℕ) (set : Obj) (members : List Member) (by_ref : ByRefParts) (ranges taken : List RangeParts) → set_of r name ≡ Some set → members ≡ set.members → by_ref ≡ set.by_ref → ((range : RangeParts) → Contains taken range ↔ IsTaken r by_ref name range) → ranges ≡ filter_map range_listed members ++ taken → (range : RangeParts) → Contains ranges range ↔ (ListsRange r name range ⊎ IsByReference r name range)
+ranges_of_set r name set members by_ref ranges taken registered is_members is_by_ref are is =
+    Contains-both (filter_map range_listed members) taken ranges (ListsRange r name) (IsByReference r name) is listed belong where
+      listed : (range : RangeParts) → Contains (filter_map range_listed members) range ↔ ListsRange r name range
+      listed range = (
+        λ has. (set, registered, subst (λ (l : List Member). Contains l (member.Range range)) is_members ((ranges_among members range).0 has)),
+        λ (o, found, has). let same : o ≡ set = cc in (ranges_among members range).1 (rw is_members (subst (λ (x : Obj). Contains x.members (member.Range range)) same has)),
+      )
+
+      belong : (range : RangeParts) → Contains taken range ↔ IsByReference r name range
+      belong range = (
+        λ has. (set, registered, subst (λ (b : ByRefParts). IsTaken r b name range) is_by_ref ((are range).0 has)),
+        λ (o, found, is_taken). let same : o ≡ set = cc in (are range).1 (subst (λ (b : ByRefParts). IsTaken r b name range) (sym is_by_ref) (subst (λ (x : Obj). IsTaken r x.by_ref name range) same is_taken)),
+      )
+
+-- no set of the name is registered, so it lists nothing and nothing belongs to it
+pub ranges_of_none : (r : Reg) (name : List ℕ) (ranges : List RangeParts) → set_of r name ≡ None → ranges ≡ [] → (range : RangeParts) → Contains ranges range ↔ (ListsRange r name range ⊎ IsByReference r name range)
+ranges_of_none r name ranges none empty range = (
+  λ has. absurd (Contains-nil range (subst (λ (l : List RangeParts). Contains l range) empty has)),
+  λ holds. elim holds [ inl listed ↦ let wrong : Some listed.0 ≡ None = sym listed.1 ∙ none in cc | inr belongs ↦ let wrong : Some belongs.0 ≡ None = sym belongs.1 ∙ none in cc ],
+)
+
+-- the ranges in a set itself, of a registered set and of `RS-ANY`
+pub HasRange-from : (r : Reg) (name : List ℕ) (ranges registered any : List RangeParts) → ranges ≡ registered ++ any → ((range : RangeParts) → Contains registered range ↔ (ListsRange r name range ⊎ IsByReference r name range)) → ((range : RangeParts) → Contains any range ↔ IsAnyRange r name range) → (range : RangeParts) → Contains ranges range ↔ HasRange r (Set name) range
+HasRange-from r name ranges registered any is first second range = (
+  λ has. elim ((Contains-both registered any ranges (λ x. ListsRange r name x ⊎ IsByReference r name x) (IsAnyRange r name) is first second range).0 has) [
+    | inl early ↦ elim early [ inl listed ↦ inl listed | inr belongs ↦ inr (inl belongs) ]
+    | inr late ↦ inr (inr late)
+  ],
+  λ holds. (Contains-both registered any ranges (λ x. ListsRange r name x ⊎ IsByReference r name x) (IsAnyRange r name) is first second range).1 (elim holds [
+    | inl listed ↦ inl (inl listed)
+    | inr other ↦ elim other [ inl belongs ↦ inl (inr belongs) | inr late ↦ inr late ]
+  ]),
+)
+
+-- the ranges of prefixes alone
+pub ranges_by_number : (prefixes : ℕ → List PrefixParts) (r : Reg) (set : MemberSet) (n : ℕ) (listed : List PrefixParts) (ranges : List RangeParts) → set ≡ AutNum n → listed ≡ prefixes n → ranges ≡ map bare listed → (range : RangeParts) → Contains ranges range ↔ HasRangeBy prefixes r set range
+ranges_by_number prefixes r set n listed ranges is_set is_listed is range =
+    subst (λ (x : MemberSet). Contains ranges range ↔ HasRangeBy prefixes r x range) (sym is_set) (
+      λ has.
+          let f = (Contains-map bare listed range).0 (subst (λ (l : List RangeParts). Contains l range) is has) in
+          (f.0, subst (λ (l : List PrefixParts). Contains l f.0) is_listed f.1, sym f.2),
+      λ (p, has, same). rw is ((Contains-map bare listed range).1 (p, rw is_listed has, sym same)),
+    )

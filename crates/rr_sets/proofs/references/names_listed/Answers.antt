@@ -1,0 +1,15 @@
+use Rattle.std.proofs.Common.{◌≡◌, ◌∙◌, Some, ap, sym}
+use Rattle.std.specs.FinMap.{get}
+use Rattle.std.specs.Option.{option_copied}
+use Rattle.std.proofs.lemmas.Result.{IfOk-weaker}
+use Rattle.rr_object.specs.declared.key.Key.TheVariants.{AsSet}
+use Rattle.rr_sets.proofs.Numbers.{names_that_are_listed}
+use Rattle.rr_sets.proofs.references.names_listed.Goals as goal
+
+pub returns-in-Some : goal.returns-in-Some
+returns-in-Some g c =
+    let registered : get (g.B.Book.contents c.args.book.now) (AsSet c.args.name.now) ≡ Some c.in-Some.object.now =
+    sym c.in_ok-object.ensures ∙ ap option_copied c.in-Some.is in
+    IfOk-weaker c.sets_listed.result _ _
+    (λ names is. names_that_are_listed (g.B.Book.contents c.args.book.now) c.args.name.now c.in-Some.object.now c.members.result.now names.items registered c.members.ensures is)
+    c.sets_listed.ensures

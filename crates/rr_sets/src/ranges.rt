@@ -1,0 +1,199 @@
+//! The ranges that are in a set itself.
+
+ghost use Rattle.std.specs.Prelude.{◌≡◌, ◌↔◌, ◌⊎◌, Contains, IfOk, filter, map};
+ghost use Rattle.std.specs.List.{filter_map, list_any};
+ghost use Rattle.std.specs.Option.{option_copied};
+ghost use Rattle.std.specs.Str.{bytes_eq};
+ghost use Rattle.rr_number.specs.Ranges.{RangeParts, bare};
+ghost use Rattle.rr_object.specs.Parts.{ByRefParts};
+ghost use Rattle.rr_sets.specs.RouteObjects.{range_listed, range_of_key};
+ghost use Rattle.rr_sets.specs.RouteSets.{HasRange, IsAnyRange, IsByReference, IsTaken, ListsRange, has_set, key_of_kind, rs_any, set_of};
+ghost use Rattle.rr_sets.specs.SetObjects.{takes};
+ghost use Rattle.rr_object.specs.declared.member.MemberSet.{MemberSet};
+
+use crate::book::SetBook;
+use crate::direct::is_as_any;
+use crate::origins::route_of;
+use rr_number::{Name, Prefix, Range, SetKind, SetName};
+use rr_object::{ByRef, Key, Member, Object};
+use std::alloc::{AllocError, Global};
+
+/// The ranges that are in the set of the name itself, where one may come twice.
+pub fn ranges_in<B: SetBook>(
+    alloc: Global,
+    book: &B,
+    name: &SetName,
+) -> Result<Vec<Range>, AllocError>
+    ensures { IfOk result (λ ranges. (range : RangeParts) → Contains ranges.items range ↔ HasRange (B.contents book.now) (MemberSet.Set name.now) range) }
+{
+    let mut ranges = registered_ranges(alloc, book, name)?;
+    ranges.extend_from_slice(&any_ranges(alloc, book, name)?)?;
+    Ok(ranges)
+}
+
+/// The ranges that a registered set lists, and those of routes that belong to it by their own word.
+fn registered_ranges<B: SetBook>(
+    alloc: Global,
+    book: &B,
+    name: &SetName,
+) -> Result<Vec<Range>, AllocError>
+    ensures { IfOk result (λ ranges. (range : RangeParts) → Contains ranges.items range ↔ (ListsRange (B.contents book.now) name.now range ⊎ IsByReference (B.contents book.now) name.now range)) }
+{
+    match set_of(alloc, book, name)? {
+        Some(object) => {
+            let mut ranges = ranges_listed(alloc, object.members())?;
+            ranges.extend_from_slice(&ranges_by_reference(alloc, book, name, object.by_ref())?)?;
+            Ok(ranges)
+        }
+        None => Ok(Vec::new(alloc)),
+    }
+}
+
+/// The ranges of the routes that belong by their own word to a set of the name with these `mbrs-by-ref`.
+fn ranges_by_reference<B: SetBook>(
+    alloc: Global,
+    book: &B,
+    name: &SetName,
+    by_ref: &ByRef,
+) -> Result<Vec<Range>, AllocError>
+    ensures { IfOk result (λ ranges. (range : RangeParts) → Contains ranges.items range ↔ IsTaken (B.contents book.now) by_ref.now name.now range) }
+{
+    book.sound();
+    if !by_ref.any() && by_ref.names().is_empty() {
+        return Ok(Vec::new(alloc));
+    }
+    let referrers = book.referrers(alloc, name)?;
+    ranges_taken(alloc, by_ref, &referrers)
+}
+
+/// The ranges of `RS-ANY`; none for another set.
+fn any_ranges<B: SetBook>(alloc: Global, book: &B, name: &SetName) -> Result<Vec<Range>, AllocError>
+    ensures { IfOk result (λ ranges. (range : RangeParts) → Contains ranges.items range ↔ IsAnyRange (B.contents book.now) name.now range) }
+{
+    book.sound();
+    if is_rs_any(name) {
+        ranges_of(alloc, &book.routes(alloc)?)
+    } else {
+        Ok(Vec::new(alloc))
+    }
+}
+
+/// The registered set of the name; the error is want of memory.
+pub fn set_of<'a, B: SetBook>(
+    alloc: Global,
+    book: &'a B,
+    name: &SetName,
+) -> Result<Option<&'a Object>, AllocError>
+    ensures { IfOk result (λ object. option_copied object ≡ set_of (B.contents book.now) name.now) }
+{
+    let key = key_of_kind(name.kind(), name.copy(alloc)?);
+    Ok(book.get(&key))
+}
+
+/// The key of the set of this name and kind.
+fn key_of_kind(kind: SetKind, name: SetName) -> Key
+    ensures { result ≡ key_of_kind kind name }
+{
+    match kind {
+        SetKind::AsSet => Key::AsSet(name),
+        SetKind::RouteSet => Key::RouteSet(name),
+    }
+}
+
+/// Whether there is a set of the name.
+pub fn has_set<B: SetBook>(alloc: Global, book: &B, name: &SetName) -> Result<bool, AllocError>
+    ensures { IfOk result (λ known. known ≡ has_set (B.contents book.now) name.now) }
+{
+    let registered = set_of(alloc, book, name)?.is_some();
+    Ok(registered || is_as_any(name) || is_rs_any(name))
+}
+
+/// Whether the name is `RS-ANY`.
+fn is_rs_any(name: &SetName) -> bool
+    ensures { result ≡ bytes_eq name.now rs_any }
+{
+    name.as_bytes() == b"RS-ANY".as_slice()
+}
+
+/// The ranges among the members.
+fn ranges_listed(alloc: Global, members: &[Member]) -> Result<Vec<Range>, AllocError>
+    ensures { IfOk result (λ ranges. ranges.items ≡ filter_map range_listed members.now) }
+{
+    members
+        .iter()
+        .filter_map(|member| range_listed(member))
+        .collect(alloc)
+}
+
+/// The range that the member is.
+fn range_listed(member: &Member) -> Option<Range>
+    ensures { result ≡ range_listed member.now }
+{
+    match member {
+        Member::Range(range) => Some(*range),
+        Member::Set(_, _) => None,
+    }
+}
+
+/// The ranges of those routes whose word `by_ref` takes.
+fn ranges_taken(
+    alloc: Global,
+    by_ref: &ByRef,
+    objects: &[&Object],
+) -> Result<Vec<Range>, AllocError>
+    ensures { IfOk result (λ ranges. ranges.items ≡ filter_map (λ o. range_of_key o.now.key) (filter (λ o. takes by_ref.now o.now) objects.now)) }
+{
+    objects
+        .iter()
+        .filter(|object| takes(by_ref, object))
+        .filter_map(|object| route_range(object))
+        .collect(alloc)
+}
+
+/// Whether `by_ref` takes the object's word that it belongs to the set.
+fn takes(by_ref: &ByRef, object: &Object) -> bool
+    ensures { result ≡ takes by_ref.now object.now }
+{
+    by_ref.any() || is_maintained_by_some(object, by_ref.names())
+}
+
+/// Whether the object's `mnt-by` has one of the maintainers.
+fn is_maintained_by_some(object: &Object, names: &[Name]) -> bool
+    ensures { result ≡ list_any (λ name. list_any (λ maintainer. bytes_eq maintainer name) object.now.maintainers) names.now }
+{
+    names.iter().any(|name| is_maintained_by(object, name))
+}
+
+/// Whether the object's `mnt-by` has the maintainer.
+fn is_maintained_by(object: &Object, name: &Name) -> bool
+    ensures { result ≡ list_any (λ maintainer. bytes_eq maintainer name.now) object.now.maintainers }
+{
+    object.maintainers().contains(name)
+}
+
+/// The ranges of those objects that are routes.
+fn ranges_of(alloc: Global, objects: &[&Object]) -> Result<Vec<Range>, AllocError>
+    ensures { IfOk result (λ ranges. ranges.items ≡ filter_map (λ o. range_of_key o.now.key) objects.now) }
+{
+    objects
+        .iter()
+        .filter_map(|object| route_range(object))
+        .collect(alloc)
+}
+
+/// The range of a route's prefix alone.
+fn route_range(object: &Object) -> Option<Range>
+    ensures { result ≡ range_of_key object.now.key }
+{
+    route_of(object).map(|route| Range::of(route.1))
+}
+
+/// The ranges of these prefixes alone.
+pub fn bare_ranges(alloc: Global, prefixes: &[Prefix]) -> Result<Vec<Range>, AllocError>
+    ensures { IfOk result (λ ranges. ranges.items ≡ map bare prefixes.now) }
+{
+    prefixes
+        .iter()
+        .map(|prefix| Range::of(*prefix))
+        .collect(alloc)
+}

@@ -1,0 +1,138 @@
+//! The sets to which a set refers.
+
+ghost use Rattle.std.specs.Prelude.{◌≡◌, ◌↔◌, ◌++◌, ℕ, List, Contains, IfOk, map};
+ghost use Rattle.std.specs.List.{filter_map};
+ghost use Rattle.rr_number.specs.declared.operator.Operator.{Operator};
+ghost use Rattle.rr_object.specs.declared.member.MemberSet.{MemberSet};
+ghost use Rattle.rr_sets.specs.AsSets.{ListsSet};
+ghost use Rattle.rr_sets.specs.References.{reference_of, number_reference, set_reference};
+ghost use Rattle.rr_sets.specs.RouteSets.{AsSetRefers, Refers, RouteSetRefers};
+
+use crate::as_sets::sets_listed;
+use crate::book::SetBook;
+use crate::direct::{as_set, direct_numbers};
+use rr_graph::Edge;
+use rr_number::{AsNumber, Operator, SetKind, SetName};
+use rr_object::{Key, Member, MemberSet};
+use std::alloc::{AllocError, Global};
+
+/// A set to which another refers, with the operator of the reference.
+pub type Reference = Edge<MemberSet, Operator>;
+
+/// The sets to which the set refers, where one may come twice.
+pub fn references_of<B: SetBook>(
+    alloc: Global,
+    book: &B,
+    set: &MemberSet,
+) -> Result<Vec<Reference>, AllocError>
+    ensures { IfOk result (λ references. (other : MemberSet) (operator : Operator) → Contains references.items (record { to = other; label = operator }) ↔ Refers (B.contents book.now) set.now other operator) }
+{
+    match set {
+        MemberSet::AutNum(_) => Ok(Vec::new(alloc)),
+        MemberSet::Set(name) => match name.kind() {
+            SetKind::AsSet => as_set_references(alloc, book, name),
+            SetKind::RouteSet => route_set_references(alloc, book, name),
+        },
+    }
+}
+
+/// The ASes and sets to which an as-set refers.
+fn as_set_references<B: SetBook>(
+    alloc: Global,
+    book: &B,
+    name: &SetName,
+) -> Result<Vec<Reference>, AllocError>
+    ensures { IfOk result (λ references. (other : MemberSet) (operator : Operator) → Contains references.items (record { to = other; label = operator }) ↔ AsSetRefers (B.contents book.now) name.now other operator) }
+{
+    let numbers = direct_numbers(alloc, book, name)?;
+    let names = names_listed(alloc, book, name)?;
+    plain_references(alloc, numbers, names)
+}
+
+/// The names of sets that a registered as-set lists.
+fn names_listed<B: SetBook>(
+    alloc: Global,
+    book: &B,
+    name: &SetName,
+) -> Result<Vec<SetName>, AllocError>
+    ensures { IfOk result (λ names. (listed : List ℕ) → Contains names.items listed ↔ ListsSet (B.contents book.now) name.now listed) }
+{
+    match as_set(alloc, book, name)? {
+        Some(object) => sets_listed(alloc, object.members()),
+        None => Ok(Vec::new(alloc)),
+    }
+}
+
+/// References to these ASes and to these sets, without operators.
+fn plain_references(
+    alloc: Global,
+    numbers: Vec<AsNumber>,
+    names: Vec<SetName>,
+) -> Result<Vec<Reference>, AllocError>
+    ensures { IfOk result (λ references. references.items ≡ map number_reference numbers.items ++ map set_reference names.items) }
+{
+    numbers
+        .into_iter()
+        .map(|number| number_reference(number))
+        .chain(names.into_iter().map(|name| set_reference(name)))
+        .collect(alloc)
+}
+
+fn number_reference(number: AsNumber) -> Reference
+    ensures { result ≡ number_reference number }
+{
+    Edge {
+        to: MemberSet::AutNum(number),
+        label: Operator::Plain,
+    }
+}
+
+fn set_reference(name: SetName) -> Reference
+    ensures { result ≡ set_reference name }
+{
+    Edge {
+        to: MemberSet::Set(name),
+        label: Operator::Plain,
+    }
+}
+
+/// The ASes and sets to which a registered route-set refers.
+fn route_set_references<B: SetBook>(
+    alloc: Global,
+    book: &B,
+    name: &SetName,
+) -> Result<Vec<Reference>, AllocError>
+    ensures { IfOk result (λ references. (other : MemberSet) (operator : Operator) → Contains references.items (record { to = other; label = operator }) ↔ RouteSetRefers (B.contents book.now) name.now other operator) }
+{
+    let key = Key::RouteSet(name.copy(alloc)?);
+    match book.get(&key) {
+        Some(object) => references_listed(alloc, object.members()),
+        None => Ok(Vec::new(alloc)),
+    }
+}
+
+/// The references among the members.
+fn references_listed(alloc: Global, members: &[Member]) -> Result<Vec<Reference>, AllocError>
+    ensures { IfOk result (λ references. references.items ≡ filter_map reference_of members.now) }
+{
+    let mut references = Vec::new(alloc);
+    for member in members {
+        if let Member::Set(set, operator) = member {
+            references.push(Edge {
+                to: copy_of(alloc, set)?,
+                label: *operator,
+            })?;
+        }
+    }
+    Ok(references)
+}
+
+/// An equal set; the error is want of memory.
+pub fn copy_of(alloc: Global, set: &MemberSet) -> Result<MemberSet, AllocError>
+    ensures { IfOk result (λ same. same ≡ set.now) }
+{
+    match set {
+        MemberSet::AutNum(number) => Ok(MemberSet::AutNum(*number)),
+        MemberSet::Set(name) => Ok(MemberSet::Set(name.copy(alloc)?)),
+    }
+}

@@ -1,0 +1,184 @@
+//! The expansion of sets into ranges of prefixes.
+
+ghost use Rattle.std.specs.Prelude.{◌≡◌, ◌↔◌, ℕ, List, true, false, Contains, IfOk, OnOk};
+ghost use Rattle.std.specs.Cmp.Lexicographic.{slice_cmp};
+ghost use Rattle.std.specs.List.{filter_map};
+ghost use Rattle.std.specs.List.Sorted.{IsStrictlySortedBy};
+ghost use Rattle.std.specs.Option.{option_copied};
+ghost use Rattle.std.specs.Ordering.{nat_cmp};
+ghost use Rattle.rr_number.specs.Ranges.{RangeParts, range_cmp};
+ghost use Rattle.rr_object.specs.declared.member.MemberSet.{MemberSet};
+ghost use Rattle.rr_sets.specs.References.{missing_name};
+ghost use Rattle.rr_sets.specs.RouteSets.{HasTooMany, InRouteSet, IsMissingName, IsReachedFrom, has_set};
+
+use crate::as_sets::sorted;
+use crate::book::SetBook;
+use crate::members::{ExpandFault, Members};
+use crate::origins::{Origins, origins_of};
+use crate::ranges::{bare_ranges, has_set, ranges_in};
+use crate::references::{Reference, copy_of, references_of};
+use rr_graph::{Gathered, Labelled, ReachFault, gather};
+use rr_number::{Operator, Range, SetName};
+use rr_object::MemberSet;
+use std::alloc::{AllocError, Global};
+
+/// Lists the ranges of prefixes that a set stands for, of either kind, `AS-ANY` and `RS-ANY` among them: those that it
+/// lists, those of the routes of its ASes and of the routes that it has by `mbrs-by-ref`, and those of the sets to which
+/// it refers, each put through the operator of the reference unless this drops it (RFC 2622, 5). The names of sets
+/// reached that are neither registered nor `AS-ANY` or `RS-ANY` are missing.
+///
+/// The fault is `NoSuchSet` where the name itself is such a one, else `TooMany` exactly where more than `limit` sets are
+/// reached, ASes among them, or more than `limit` pairs of one of these and a range that it stands for; want of memory
+/// aside. It takes O(n log n) steps for the n routes, members and pairs.
+pub fn expand_route_set<B: SetBook>(
+    alloc: Global,
+    book: &B,
+    name: &SetName,
+    limit: usize,
+) -> Result<Members<Range>, ExpandFault>
+    ensures found { IfOk result (λ members. (range : RangeParts) → Contains members.found.items range ↔ InRouteSet (B.contents book.now) name.now range) }
+    ensures missing { IfOk result (λ members. (s : List ℕ) → Contains members.missing.items s ↔ IsMissingName (B.contents book.now) name.now s) }
+    ensures found_sorted { IfOk result (λ members. IsStrictlySortedBy range_cmp members.found.items) }
+    ensures missing_sorted { IfOk result (λ members. IsStrictlySortedBy (slice_cmp nat_cmp) members.missing.items) }
+    ensures known { OnOk result (has_set (B.contents book.now) name.now ≡ true) }
+    ensures few { OnOk result (¬ HasTooMany (B.contents book.now) limit name.now) }
+    ensures unknown { result ≡ Err ExpandFault.NoSuchSet → has_set (B.contents book.now) name.now ≡ false }
+    ensures many_known { result ≡ Err ExpandFault.TooMany → has_set (B.contents book.now) name.now ≡ true }
+    ensures many { result ≡ Err ExpandFault.TooMany → HasTooMany (B.contents book.now) limit name.now }
+{
+    if !has_set(alloc, book, name)? {
+        return Err(ExpandFault::NoSuchSet);
+    }
+    expand_known(alloc, book, name, limit)
+}
+
+/// Lists what a set that there is stands for.
+fn expand_known<B: SetBook>(
+    alloc: Global,
+    book: &B,
+    name: &SetName,
+    limit: usize,
+) -> Result<Members<Range>, ExpandFault>
+    ensures found { IfOk result (λ members. (range : RangeParts) → Contains members.found.items range ↔ InRouteSet (B.contents book.now) name.now range) }
+    ensures missing { IfOk result (λ members. (s : List ℕ) → Contains members.missing.items s ↔ IsMissingName (B.contents book.now) name.now s) }
+    ensures found_sorted { IfOk result (λ members. IsStrictlySortedBy range_cmp members.found.items) }
+    ensures missing_sorted { IfOk result (λ members. IsStrictlySortedBy (slice_cmp nat_cmp) members.missing.items) }
+    ensures few { OnOk result (¬ HasTooMany (B.contents book.now) limit name.now) }
+    ensures known { result ≡ Err ExpandFault.NoSuchSet → ⊥ }
+    ensures many { result ≡ Err ExpandFault.TooMany → HasTooMany (B.contents book.now) limit name.now }
+{
+    let gathered = gathered(alloc, book, name, limit)?;
+    let missing = sorted(alloc, missing_names(alloc, book, &gathered.nodes)?)?;
+    Ok(Members {
+        found: gathered.values,
+        missing,
+    })
+}
+
+/// Sets and the references between them. The ranges of a set are its own values, and operators pass them on.
+#[derive(Drop)]
+struct RouteSets<'a, B: SetBook> {
+    book: &'a B,
+    origins: &'a Origins,
+}
+
+impl<B: SetBook> Labelled for RouteSets<'_, B> {
+    ghost use Rattle.rr_number.specs.Applied.{applied};
+    ghost use Rattle.rr_sets.specs.Origins.{HasRangeBy, prefixes_at};
+    ghost use Rattle.rr_sets.specs.RouteSets.{Refers};
+    ghost use Rattle.rr_sets.specs.Orders.{exact_member_sets, exact_ranges};
+
+    type Node = MemberSet;
+
+    type Label = Operator;
+
+    type Value = Range;
+
+    ghost edge = { λ s. Refers (B.contents s.book.now) };
+
+    ghost own = { λ s. HasRangeBy (prefixes_at s.origins.now.map) (B.contents s.book.now) };
+
+    ghost passed = { applied };
+
+    ghost exact_nodes = { exact_member_sets };
+
+    ghost exact_values = { exact_ranges };
+
+    fn edges(&self, alloc: Global, set: &MemberSet) -> Result<Vec<Reference>, AllocError> {
+        references_of(alloc, self.book, set)
+    }
+
+    fn values(&self, alloc: Global, set: &MemberSet) -> Result<Vec<Range>, AllocError> {
+        match set {
+            MemberSet::AutNum(number) => bare_ranges(alloc, self.origins.prefixes(*number)),
+            MemberSet::Set(name) => ranges_in(alloc, self.book, name),
+        }
+    }
+
+    fn pass(&self, operator: Operator, range: Range) -> Option<Range> {
+        operator.apply(range)
+    }
+
+    fn copy(&self, alloc: Global, set: &MemberSet) -> Result<MemberSet, AllocError> {
+        copy_of(alloc, set)
+    }
+}
+
+/// The sets that references lead to, and the ranges of the set.
+fn gathered<B: SetBook>(
+    alloc: Global,
+    book: &B,
+    name: &SetName,
+    limit: usize,
+) -> Result<Gathered<MemberSet, Range>, ReachFault>
+    ensures nodes { IfOk result (λ gathered. (set : MemberSet) → Contains gathered.nodes.items set ↔ IsReachedFrom (B.contents book.now) name.now set) }
+    ensures values { IfOk result (λ gathered. (range : RangeParts) → Contains gathered.values.items range ↔ InRouteSet (B.contents book.now) name.now range) }
+    ensures sorted { IfOk result (λ gathered. IsStrictlySortedBy range_cmp gathered.values.items) }
+    ensures few { OnOk result (¬ HasTooMany (B.contents book.now) limit name.now) }
+    ensures many { result ≡ Err ReachFault.TooMany → HasTooMany (B.contents book.now) limit name.now }
+{
+    let origins = origins_of(alloc, book)?;
+    let start = MemberSet::Set(name.copy(alloc)?);
+    let sets = RouteSets {
+        book,
+        origins: &origins,
+    };
+    gather(alloc, &sets, &start, limit)
+}
+
+/// The names of those of the sets that there are not.
+fn missing_names<B: SetBook>(
+    alloc: Global,
+    book: &B,
+    sets: &[MemberSet],
+) -> Result<Vec<SetName>, AllocError>
+    ensures { IfOk result (λ missing. missing.items ≡ filter_map (missing_name (B.contents book.now)) sets.now) }
+{
+    let mut missing = Vec::new(alloc);
+    for set in sets {
+        if let Some(name) = missing_name(alloc, book, set)? {
+            missing.push(name.copy(alloc)?)?;
+        }
+    }
+    Ok(missing)
+}
+
+/// The name of a set that there is not.
+fn missing_name<'a, B: SetBook>(
+    alloc: Global,
+    book: &B,
+    set: &'a MemberSet,
+) -> Result<Option<&'a SetName>, AllocError>
+    ensures { IfOk result (λ name. option_copied name ≡ missing_name (B.contents book.now) set.now) }
+{
+    match set {
+        MemberSet::AutNum(_) => Ok(None),
+        MemberSet::Set(name) => {
+            if has_set(alloc, book, name)? {
+                Ok(None)
+            } else {
+                Ok(Some(name))
+            }
+        }
+    }
+}

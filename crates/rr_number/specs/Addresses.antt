@@ -14,7 +14,7 @@ dot = 46
 abbrev pub IsOctet : List ℕ → ℕ → Type 0
 IsOctet text n = IsNumber 3 256 text n
 
--- The address of four octets has the first of them as its highest (RFC 791, 3.2).
+-- The address of four octets has the first of them as its highest (RFC 791, 3).
 abbrev pub join_octets : ℕ → ℕ → ℕ → ℕ → ℕ
 join_octets w x y z = ((w * 256 + x) * 256 + y) * 256 + z
 

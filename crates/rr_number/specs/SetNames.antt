@@ -44,6 +44,7 @@ is_set_name text = nat_le (length text) 255 && (is_any_set text || (is_name_of_k
 abbrev pub component_text : List ℕ → List ℕ
 component_text component = option_map_or as_number_text (as_number_of component) (upper component)
 
+-- A set's name is printed as its components, each as it is printed, with colons between them (profile).
 unfoldable pub set_text : List ℕ → List ℕ
 set_text text = join_with_byte 58 (map component_text (components text))
 

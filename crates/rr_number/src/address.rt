@@ -9,7 +9,7 @@ use rr_io::{Sink, write_all};
 use std::marker::Model;
 use std::{fmt, io};
 
-/// An IPv4 address, a number below 2^32. Addresses are ordered as numbers (RFC 791, 3.2).
+/// An IPv4 address, a number below 2^32. Addresses are ordered as numbers (RFC 791, 3).
 #[derive(Clone, Copy, Debug, PartialEq, Eq, PartialOrd, Ord)]
 pub struct Address {
     bits: u32,

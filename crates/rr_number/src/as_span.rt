@@ -13,7 +13,7 @@ use std::marker::Model;
 use std::{fmt, io};
 
 /// The AS numbers from a first to a last one, both included, as the key of an as-block has them;
-/// ordered by the first number, then by the last (RFC 2725, 8; profile).
+/// ordered by the first number, then by the last (RFC 2725, 9; profile).
 #[derive(Clone, Copy, Debug, PartialEq, Eq, PartialOrd, Ord)]
 pub struct AsSpan {
     span: Span,

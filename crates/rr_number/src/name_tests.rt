@@ -175,6 +175,9 @@ fn names_of_sets_are_printed_without_leading_zeros(rt: HostRuntime) -> Result<()
         ("rs-c", "RS-C"),
         ("AS007:rs-x:AS000", "AS7:RS-X:AS0"),
         ("as-x:as-y:as1:as-z", "AS-X:AS-Y:AS1:AS-Z"),
+        ("AS1:AS-CUSTOMERS", "AS1:AS-CUSTOMERS"),
+        ("AS1:RS-EXPORT:AS2", "AS1:RS-EXPORT:AS2"),
+        ("RS-EXCEPTIONS:RS-BOGUS", "RS-EXCEPTIONS:RS-BOGUS"),
         ("as-any", "AS-ANY"),
         ("Rs-Any", "RS-ANY"),
         ("as-anyone", "AS-ANYONE"),
@@ -256,6 +259,7 @@ fn all_components_but_the_last_name_the_parent(rt: HostRuntime) -> Result<(), Fa
     for (text, want) in [
         ("as-x:as-y", "AS-X"),
         ("as-x:as1", "AS-X"),
+        ("AS1:AS-FOO:AS-BAR", "AS1:AS-FOO"),
         ("as01:as-x:as-y", "AS1:AS-X"),
         ("rs-x:as1:as2:rs-y", "RS-X:AS1:AS2"),
     ] {

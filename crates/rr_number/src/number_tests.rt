@@ -103,13 +103,18 @@ fn operators_on_a_prefix_print_as_tabled(rt: HostRuntime) {
         ("0.0.0.0/0^+", "0.0.0.0/0^+"),
         ("0.0.0.0/0^-", "0.0.0.0/0^-"),
         ("0.0.0.0/0^0", "0.0.0.0/0"),
+        ("0.0.0.0/0^32", "0.0.0.0/0^32"),
         ("0.0.0.0/0^0-32", "0.0.0.0/0^+"),
         ("192.0.2.0/31", "192.0.2.0/31"),
         ("192.0.2.0/31^+", "192.0.2.0/31^+"),
         ("192.0.2.0/31^-", "192.0.2.0/31^-"),
+        ("192.0.2.0/31^31", "192.0.2.0/31"),
         ("192.0.2.0/31^32", "192.0.2.0/31^-"),
+        ("192.0.2.0/31^0-32", "192.0.2.0/31^+"),
+        ("192.0.2.1/32", "192.0.2.1/32"),
         ("192.0.2.1/32^+", "192.0.2.1/32"),
         ("192.0.2.1/32^32", "192.0.2.1/32"),
+        ("192.0.2.1/32^0-32", "192.0.2.1/32"),
     ] {
         let range = made(text.as_bytes());
         assert!(rt;
@@ -126,6 +131,7 @@ fn dropped_ranges_are_well_spelled(rt: HostRuntime) {
         "10.0.0.0/16^8",
         "192.0.2.0/31^0-30",
         "192.0.2.1/32^31",
+        "192.0.2.1/32^0-31",
     ] {
         assert!(rt;
             made(text.as_bytes()).is_some_and(|range| range.is_none()),
@@ -152,6 +158,52 @@ fn ill_spelled_operators_are_refused(rt: HostRuntime) {
         assert!(rt; read_ranged(text.as_bytes()).is_none(), "{text}");
     }
     assert_eq!(rt; Operator::read(b""), Some(Operator::Plain));
+}
+
+// What an operator makes of a range, as RFC 2622, 2 lists it.
+#[test]
+fn an_outer_operator_distributes_over_an_inner_one(rt: HostRuntime) {
+    for (inner, outer, want) in [
+        ("^+", "^-", Some("128.9.0.0/16^-")),
+        ("^-", "^+", Some("128.9.0.0/16^-")),
+        ("^17", "^24", Some("128.9.0.0/16^24")),
+        ("^20-24", "^26-28", Some("128.9.0.0/16^26-28")),
+        ("^20-24", "^22-28", Some("128.9.0.0/16^22-28")),
+        ("^20-24", "^18-28", Some("128.9.0.0/16^20-28")),
+        ("^20-24", "^18-22", Some("128.9.0.0/16^20-22")),
+        ("^20-24", "^18-19", None),
+    ] {
+        let range = Prefix::read(b"128.9.0.0/16").map(Range::of);
+        let range = range.and_then(|range| Operator::read(inner.as_bytes())?.apply(range));
+        let range = range.and_then(|range| Operator::read(outer.as_bytes())?.apply(range));
+        let text = range.map(|range| range.text());
+        assert_eq!(rt;
+            text.as_ref().map(|text| text.as_str()),
+            want,
+            "{inner} and then {outer}"
+        );
+    }
+}
+
+// Examples of RFC 2622, 2.
+#[test]
+fn operators_hold_the_specifics_that_they_name(rt: HostRuntime) {
+    for (range, prefix, want) in [
+        ("128.9.0.0/16^-", "128.9.0.0/16", false),
+        ("128.9.0.0/16^-", "128.9.128.5/32", true),
+        ("5.0.0.0/8^+", "5.0.0.0/8", true),
+        ("5.0.0.0/8^+", "5.255.0.0/17", true),
+        ("30.0.0.0/8^16", "30.9.0.0/16", true),
+        ("30.0.0.0/8^16", "30.9.0.0/17", false),
+        ("30.0.0.0/8^24-32", "30.9.9.96/28", true),
+        ("30.0.0.0/8^24-32", "30.9.0.0/23", false),
+    ] {
+        assert_eq!(rt;
+            admitted(range.as_bytes(), prefix.as_bytes()),
+            Some(want),
+            "{prefix} of {range}"
+        );
+    }
 }
 
 #[test]

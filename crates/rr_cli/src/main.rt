@@ -1,6 +1,10 @@
 //! The program `irrdesk`: submits standard input to a desk with the built-in settings, and prints the report.
 #![tactic(auto)]
 
+#[cfg(test)]
+mod hostile_tests;
+#[cfg(test)]
+mod loading_tests;
 mod plain_desk;
 mod start_fault;
 #[cfg(test)]

@@ -20,7 +20,7 @@ const SOURCE: &str = "TEST";
 
 /// The opening objects: the root maintainer, whose secret is `bc`, and the blocks of all AS numbers and of all addresses
 /// (profile).
-const OPENING: &str = "\
+pub(crate) const OPENING: &str = "\
 mntner:         ROOT-MNT
 auth:           SHA256-PW a:ba7816bf8f01cfea414140de5dae2223b00361a396177a9cb410ff61f20015ad
 mnt-by:         ROOT-MNT
@@ -100,7 +100,7 @@ impl PlainDesk {
 
 /// The name of the built-in source; the error is want of memory.
 #[tactic(auto, unfolding(rr_number::specs::Names::is_name))]
-fn read_source(alloc: Global) -> Result<Name, AllocError>
+pub(crate) fn read_source(alloc: Global) -> Result<Name, AllocError>
     ensures { IfOk result (λ source. source ≡ SOURCE.now) }
 {
     match Name::read(alloc, SOURCE.as_bytes())? {
@@ -110,7 +110,11 @@ fn read_source(alloc: Global) -> Result<Name, AllocError>
 }
 
 /// The objects that the paragraphs of a text are.
-fn read_objects(alloc: Global, text: &[u8], source: &Name) -> Result<Vec<Object>, StartFault>
+pub(crate) fn read_objects(
+    alloc: Global,
+    text: &[u8],
+    source: &Name,
+) -> Result<Vec<Object>, StartFault>
     ensures { IfOk result (λ objects. AreObjects source.now (entries text.now) objects.items) }
 {
     let mut objects = Vec::new(alloc);

@@ -175,6 +175,95 @@ fn the_closest_inetnum_decides(rt: HostRuntime) -> Result<(), Fail> {
 }
 
 #[test]
+fn each_level_is_asked_by_the_next_alone(rt: HostRuntime) -> Result<(), Fail> {
+    let text = "\
+password: abc
+
+inetnum: 10.1.2.0/24
+mnt-by: B-MNT
+source: TEST
+
+password: c
+
+inetnum: 10.1.2.0/24
+mnt-by: B-MNT
+source: TEST
+";
+    let report = "\
+1 inetnum 10.1.2.0 - 10.1.2.255: refused E13
+2 inetnum 10.1.2.0 - 10.1.2.255: added
+% items 2
+";
+    expect_report(&rt, &[HOLDERS, NESTED, text], report)?;
+    let below = "password: c\n\ninetnum: 10.1.2.0/28\nmnt-by: A-MNT\nsource: TEST\n";
+    let refused = "1 inetnum 10.1.2.0 - 10.1.2.15: refused E13\n% items 1\n";
+    expect_report(&rt, &[HOLDERS, NESTED, text, below], refused)
+}
+
+#[test]
+fn an_inetnum_of_a_held_span_is_a_change(rt: HostRuntime) -> Result<(), Fail> {
+    let text = "\
+password: bc
+
+inetnum: 10.1.0.0 - 10.1.255.255
+mnt-by: A-MNT
+source: TEST
+
+password: c
+
+inetnum: 10.1.0.0 - 10.1.255.255
+mnt-by: A-MNT
+source: TEST
+";
+    let report = "\
+1 inetnum 10.1.0.0 - 10.1.255.255: refused E11
+2 inetnum 10.1.0.0 - 10.1.255.255: changed
+% items 2
+";
+    expect_report(&rt, &[HOLDERS, NESTED, text], report)
+}
+
+#[test]
+fn mnt_lower_decides_where_it_has_a_name(rt: HostRuntime) -> Result<(), Fail> {
+    let text = "\
+password: bc
+
+inetnum: 10.0.0.0/8
+mnt-by: ROOT-MNT
+mnt-lower: A-MNT
+source: TEST
+
+inetnum: 11.0.0.0/8
+mnt-by: ROOT-MNT
+mnt-lower:
+source: TEST
+
+inetnum: 10.1.0.0/16
+mnt-by: ROOT-MNT
+source: TEST
+
+inetnum: 11.1.0.0/16
+mnt-by: ROOT-MNT
+source: TEST
+
+password: c
+
+inetnum: 10.1.0.0/16
+mnt-by: ROOT-MNT
+source: TEST
+";
+    let report = "\
+1 inetnum 10.0.0.0 - 10.255.255.255: added
+2 inetnum 11.0.0.0 - 11.255.255.255: added
+3 inetnum 10.1.0.0 - 10.1.255.255: refused E13
+4 inetnum 11.1.0.0 - 11.1.255.255: added
+5 inetnum 10.1.0.0 - 10.1.255.255: added
+% items 5
+";
+    expect_report(&rt, &[HOLDERS, text], report)
+}
+
+#[test]
 fn the_closest_route_decides(rt: HostRuntime) -> Result<(), Fail> {
     let other = "password: abc\n\nroute: 10.1.2.0/24\norigin: AS2\nmnt-by: B-MNT\nsource: TEST\n";
     expect_report(
@@ -422,6 +511,8 @@ delete: x
 #[test]
 fn a_secret_counts_for_its_paragraph_and_the_later_ones(rt: HostRuntime) -> Result<(), Fail> {
     let text = "\
+password: no secret of anybody
+
 inetnum: 10.0.0.0/8
 mnt-by: ROOT-MNT
 source: TEST
@@ -431,17 +522,26 @@ mnt-by: ROOT-MNT
 source: TEST
 password: bc
 
+password: c
+
 inetnum: 12.0.0.0/8
-mnt-by: ROOT-MNT
+mnt-by: A-MNT
 source: TEST
+
+inetnum: 13.0.0.0/8
+mnt-by: B-MNT
+source: TEST
+
+password: abc
 ";
     let report = "\
 1 inetnum 10.0.0.0 - 10.255.255.255: refused E11
 2 inetnum 11.0.0.0 - 11.255.255.255: added
 3 inetnum 12.0.0.0 - 12.255.255.255: added
-% items 3
+4 inetnum 13.0.0.0 - 13.255.255.255: refused E11
+% items 4
 ";
-    expect_report(&rt, &[text], report)
+    expect_report(&rt, &[HOLDERS, text], report)
 }
 
 /// Three inetnums of the root.

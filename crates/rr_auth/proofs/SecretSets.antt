@@ -1,0 +1,124 @@
+-- A verdict is the same for lists of the same secrets.
+use Rattle.std.proofs.Common.{◌≡◌, ℕ, Bool, true, false, cond, not, ◌||◌, List, [], ◌∷◌, refl, sym, ap, ◌∙◌}
+use Rattle.std.specs.Prelude.{Option, None, Some, is_none, ◌&&◌}
+use Rattle.std.specs.List.{list_any}
+use Rattle.std.specs.Option.{option_map_or, option_and_then}
+use Rattle.std.specs.Str.{bytes_eq}
+use Rattle.std.specs.FinMap.{get}
+use Rattle.rr_number.specs.Prefixes.{PrefixParts, span_of}
+use Rattle.rr_number.specs.Parents.{parent_of}
+use Rattle.rr_object.specs.declared.code.Code.TheVariants.{E10, E11, E12, E13, E14, E15, E16, E17, E18}
+use Rattle.rr_object.specs.declared.key.Key.{Key}
+use Rattle.rr_object.specs.declared.key.Key.TheVariants.{Mntner, AsBlock, AutNum, Inetnum, Route, AsSet, RouteSet}
+use Rattle.rr_object.specs.Objects.{Obj, names_of}
+use Rattle.rr_auth.specs.declared.item.Item.{Item}
+use Rattle.rr_auth.specs.declared.item.Item.TheVariants.{Submit, Delete as DeleteItem}
+use Rattle.rr_auth.specs.declared.verdict.Verdict.TheVariants.{Add, Change, Same, Delete, Refuse}
+use Rattle.rr_auth.specs.Authority.{lower_of, routes_of}
+use Rattle.rr_auth.specs.Closest.{closest_inetnum, closest_block, closest_routes, origins}
+use Rattle.rr_auth.specs.Conditions.{names_unknown, lacks_origin, origin_refuses, is_uncovered, cover_refuses, space_passes, parent_object, parent_refuses, is_in_use}
+use Rattle.rr_auth.specs.Laws.{SameSecrets}
+use Rattle.rr_auth.specs.Paragraphs.{same_paragraph}
+use Rattle.rr_auth.specs.Passing.{fits, fits_line, passes}
+use Rattle.rr_auth.specs.Registries.{Reg, maintainer, names_nobody, seen_by, crosses_some}
+use Rattle.rr_auth.specs.Verdicts.{first_of, place, submission, deletion, verdict}
+use Rattle.std.proofs.lemmas.Slice.Eq.{bytes_eq-Decides}
+
+-- secrets with equal bytes are equal, and each is equal to itself
+texts_equal : (s t : List ℕ) → bytes_eq s t ≡ true → s ≡ t
+texts_equal s t e = (bytes_eq-Decides s t).0 e
+
+equal_texts : (s t : List ℕ) → s ≡ t → bytes_eq s t ≡ true
+equal_texts s t e = (bytes_eq-Decides s t).1 e
+
+or_later : (a b : Bool) → b ≡ true → (a || b) ≡ true
+or_later true b e = refl
+or_later false b e = e
+
+-- a secret of a list that passes a test
+pub passing_secret : (p : List ℕ → Bool) (z : List (List ℕ)) (s : List ℕ) → list_any (bytes_eq s) z ≡ true → p s ≡ true → list_any p z ≡ true
+passing_secret p [] s m h = m
+passing_secret p (x ∷ xs) s m h =
+    elim (bytes_eq s x) as (λ b. bytes_eq s x ≡ b → (b || list_any (bytes_eq s) xs) ≡ true → (p x || list_any p xs) ≡ true) [
+      | true ↦ λ e g. ap (λ b. b || list_any p xs) (sym (ap p (texts_equal s x e)) ∙ h)
+      | false ↦ λ e g. or_later (p x) _ (passing_secret p xs s g h)
+    ] refl m
+
+-- some secret of the list passes the test
+some_secret : (p : List ℕ → Bool) (z : List (List ℕ)) → list_any p z ≡ true → (s : List ℕ) × (p s ≡ true) × (list_any (bytes_eq s) z ≡ true)
+some_secret p [] e = cc
+some_secret p (x ∷ xs) e =
+    elim (p x) as (λ b. p x ≡ b → (b || list_any p xs) ≡ true → (s : List ℕ) × (p s ≡ true) × ((bytes_eq s x || list_any (bytes_eq s) xs) ≡ true)) [
+      | true ↦ λ h g. (x, h, ap (λ b. b || list_any (bytes_eq x) xs) (equal_texts x x refl))
+      | false ↦ λ h g. let rest = some_secret p xs g in (rest.0, rest.1, or_later (bytes_eq rest.0 x) _ rest.2)
+    ] refl e
+
+both_or_none : (a b : Bool) → (a ≡ true → b ≡ true) → (b ≡ true → a ≡ true) → a ≡ b
+both_or_none true b f g = sym (f refl)
+both_or_none false true f g = g refl
+both_or_none false false f g = refl
+
+carried : (p : List ℕ → Bool) (z y : List (List ℕ)) → SameSecrets z y → list_any p z ≡ true → list_any p y ≡ true
+carried p z y s e = let found = some_secret p z e in passing_secret p y found.0 (sym (s found.0) ∙ found.2) found.1
+
+module _ (z y : List (List ℕ)) (s : SameSecrets z y) where
+  any_secret : (p : List ℕ → Bool) → list_any p z ≡ list_any p y
+  any_secret p = both_or_none _ _ (carried p z y s) (carried p y z (λ x. sym (s x)))
+
+  names_pass : (r : Reg) (names : List (List ℕ)) → passes r z names ≡ passes r y names
+  names_pass r names = λ i. list_any (λ n. option_map_or (λ o. list_any (λ line. any_secret (fits_line line) i) o.auths) (maintainer r n) false) names
+
+  origin_says : (r : Reg) (k : Key) → origin_refuses r z k ≡ origin_refuses r y k
+  origin_says r (Route p n) = λ i. not (option_map_or (λ x. names_pass r (routes_of x p) i) (get r (AutNum n)) false)
+  origin_says r (Mntner n) = refl
+  origin_says r (AsBlock n) = refl
+  origin_says r (AutNum n) = refl
+  origin_says r (Inetnum n) = refl
+  origin_says r (AsSet n) = refl
+  origin_says r (RouteSet n) = refl
+
+  space_says : (r : Reg) (p : PrefixParts) (closest : Option PrefixParts) → space_passes r z p closest ≡ space_passes r y p closest
+  space_says r p None = λ i. option_map_or (λ x. names_pass r (routes_of x p) i) (closest_inetnum r (span_of p)) false
+  space_says r p (Some q) = λ i. list_any (λ n. option_map_or (λ x. names_pass r (routes_of x p) i) (get r (Route q n)) false) (origins r q)
+
+  below_says : (r : Reg) (cover : Option Obj) → option_map_or (λ x. passes r z (lower_of x)) cover false ≡ option_map_or (λ x. passes r y (lower_of x)) cover false
+  below_says r cover = λ i. option_map_or (λ x. names_pass r (lower_of x) i) cover false
+
+  parent_says : (r : Reg) (set : List ℕ → Key) (name : List ℕ) → parent_refuses r z set name ≡ parent_refuses r y set name
+  parent_says r set name = λ i. option_map_or (λ parent. not (below_says r (parent_object r set parent) i)) (parent_of name) false
+
+  cover_says : (r : Reg) (k : Key) → cover_refuses r z k ≡ cover_refuses r y k
+  cover_says r (Mntner n) = refl
+  cover_says r (AsBlock t) = ap not (below_says r (closest_block r t))
+  cover_says r (AutNum n) = ap not (below_says r (closest_block r (record { first = n; last = n })))
+  cover_says r (Inetnum t) = ap not (below_says r (closest_inetnum r t))
+  cover_says r (Route p n) = ap not (space_says r p (closest_routes r p))
+  cover_says r (AsSet name) = parent_says r AsSet name
+  cover_says r (RouteSet name) = parent_says r RouteSet name
+
+  place_says : (r : Reg) (k : Key) → place r z k ≡ place r y k
+  place_says r k = λ i. first_of (
+      record { holds = crosses_some r k; code = E16 } ∷ (
+      record { holds = lacks_origin r k; code = E14 } ∷ (
+      record { holds = origin_says r k i; code = E15 } ∷ (
+      record { holds = is_uncovered r k; code = E12 } ∷ (
+      record { holds = cover_says r k i; code = E13 } ∷ []))))) Add
+
+  submission_says : (r : Reg) (o : Obj) (stored : Option Obj) → submission stored r z o ≡ submission stored r y o
+  submission_says r o None = λ i. first_of (
+      record { holds = names_unknown r o; code = E10 } ∷ (
+      record { holds = not (names_pass (seen_by (Some o) r) o.maintainers i); code = E11 } ∷ [])) (place_says r o.key i)
+  submission_says r o (Some stored) = λ i. first_of (
+      record { holds = names_nobody r (names_of o); code = E10 } ∷ (
+      record { holds = not (names_pass r stored.maintainers i); code = E11 } ∷ []))
+      (cond (same_paragraph stored.paragraph o.paragraph) Same Change)
+
+  deletion_says : (r : Reg) (k : Key) (stored : Option Obj) → deletion stored r z k ≡ deletion stored r y k
+  deletion_says r k None = refl
+  deletion_says r k (Some stored) = λ i. first_of (
+      record { holds = not (names_pass r stored.maintainers i); code = E11 } ∷ (
+      record { holds = is_in_use r k; code = E17 } ∷ [])) Delete
+
+pub secrets_are_a_set : (r : Reg) (z y : List (List ℕ)) (i : Item) → SameSecrets z y → verdict r z i ≡ verdict r y i
+secrets_are_a_set r z y (Submit o) s = submission_says z y s r o (get r o.key)
+secrets_are_a_set r z y (DeleteItem k) s = deletion_says z y s r k (get r k)

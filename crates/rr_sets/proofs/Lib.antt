@@ -1,3 +1,4 @@
+pub mod ByReference
 pub mod Numbers
 pub mod OriginLists
 pub mod RangeLists

@@ -14,7 +14,7 @@ use Rattle.std.proofs.Common.{◌++◌, ◌+◌, ◌<◌, length, get_or, take}
 use Rattle.rr_graph.proofs.Backwards.{Contains-take, Contains-take_cases}
 use Rattle.std.proofs.lemmas.List.Elements.{Contains-append_cases, Contains-append_left, Contains-append_right}
 use Rattle.rr_sets.specs.AsSets.{BelongsTo, IsAnyNumber, IsDirect, ListsNumber, ListsSet}
-use Rattle.rr_sets.specs.Lists.{IsAutNum, IsReferrer, ListsOnce}
+use Rattle.rr_sets.specs.Lists.{IsAutNum, IsReferrer, ListsOnce, lent}
 use Rattle.rr_sets.specs.SetObjects.{number_listed, number_of_key, set_listed, takes}
 
 -- a filtered list has what the list has and the test passes
@@ -95,23 +95,23 @@ module _ (r : Reg) (sound : Sound r) where
         (Contains-filter_map (λ (o : Bor Obj). number_of_key o.now.key) objects n).1 (b.0, b.1, ap (λ (o : Obj). number_of_key o.key) b.2 ∙ number_of_aut_num a n is),
   )
 
-  -- the numbers of the aut-nums whose word a registered set takes
-  pub numbers_that_belong : (name : List ℕ) (set : Obj) (objects : List (Bor Obj)) → get r (AsSet name) ≡ Some set → ListsOnce (IsReferrer r name) objects → (n : ℕ) → Contains (filter_map (λ o. number_of_key o.now.key) (filter (λ o. takes set.by_ref o.now) objects)) n ↔ BelongsTo r name n
-  numbers_that_belong name set objects registered lists n = (on, from) where
-    on : Contains (filter_map (λ o. number_of_key o.now.key) (filter (λ o. takes set.by_ref o.now) objects)) n → BelongsTo r name n
+  -- the numbers of the aut-nums that belong to a registered set by their own word
+  pub numbers_that_belong : (name : List ℕ) (set : Obj) (objects : List (Bor Obj)) → get r (AsSet name) ≡ Some set → ((o : Obj) → Contains (lent objects) o ↔ (IsReferrer r name o × IsTrue (takes set.by_ref o)))
+      → (n : ℕ) → Contains (filter_map (λ o. number_of_key o.now.key) objects) n ↔ BelongsTo r name n
+  numbers_that_belong name set objects registered belong n = (on, from) where
+    on : Contains (filter_map (λ o. number_of_key o.now.key) objects) n → BelongsTo r name n
     on has =
-        let f = (Contains-filter_map (λ (o : Bor Obj). number_of_key o.now.key) (filter (λ o. takes set.by_ref o.now) objects) n).0 has in
-        let g = (Contains-filter (λ (o : Bor Obj). takes set.by_ref o.now) objects f.0).0 f.1 in
-        let found : IsReferrer r name f.0.now = (lists.same f.0.now).0 ((Contains-map (λ (o : Bor Obj). o.now) objects f.0.now).1 (f.0, g.0, refl)) in
-        (set, registered, (f.0.now, aut_num_of_number found.0 f.0.now n found.1 f.2, found.2, g.1))
+        let f = (Contains-filter_map (λ (o : Bor Obj). number_of_key o.now.key) objects n).0 has in
+        let found = (belong f.0.now).0 ((Contains-map (λ (o : Bor Obj). o.now) objects f.0.now).1 (f.0, f.1, refl)) in
+        (set, registered, (f.0.now, aut_num_of_number found.0.0 f.0.now n found.0.1 f.2, found.0.2, found.1))
 
-    from : BelongsTo r name n → Contains (filter_map (λ o. number_of_key o.now.key) (filter (λ o. takes set.by_ref o.now) objects)) n
+    from : BelongsTo r name n → Contains (filter_map (λ o. number_of_key o.now.key) objects) n
     from (o, is, (a, aut, member, taken)) =
         let same : o ≡ set = cc in
         let taken' : IsTrue (takes set.by_ref a) = subst (λ (x : Obj). IsTrue (takes x.by_ref a)) same taken in
-        let b = (Contains-map (λ (x : Bor Obj). x.now) objects a).0 ((lists.same a).1 (AutNum n, aut, member)) in
-        (Contains-filter_map (λ (x : Bor Obj). number_of_key x.now.key) (filter (λ x. takes set.by_ref x.now) objects) n).1
-        (b.0, (Contains-filter (λ (x : Bor Obj). takes set.by_ref x.now) objects b.0).1 (b.1, subst (λ (x : Obj). IsTrue (takes set.by_ref x)) (sym b.2) taken'), ap (λ (x : Obj). number_of_key x.key) b.2 ∙ number_of_aut_num a n aut)
+        let b = (Contains-map (λ (x : Bor Obj). x.now) objects a).0 ((belong a).1 ((AutNum n, aut, member), taken')) in
+        (Contains-filter_map (λ (x : Bor Obj). number_of_key x.now.key) objects n).1
+        (b.0, b.1, ap (λ (x : Obj). number_of_key x.key) b.2 ∙ number_of_aut_num a n aut)
 
   -- the numbers that a registered set lists
   pub numbers_that_are_listed : (name : List ℕ) (set : Obj) → get r (AsSet name) ≡ Some set → (n : ℕ) → Contains (filter_map number_listed set.members) n ↔ ListsNumber r name n
@@ -121,11 +121,13 @@ module _ (r : Reg) (sound : Sound r) where
   )
 
   -- the numbers that a registered set lists and those that belong to it
-  pub numbers_of_set : (name : List ℕ) (set : Obj) (objects : List (Bor Obj)) (members : List Member) (by_ref : ByRefParts) (numbers : List ℕ) → get r (AsSet name) ≡ Some set → ListsOnce (IsReferrer r name) objects → members ≡ set.members → by_ref ≡ set.by_ref → numbers ≡ filter_map number_listed members ++ filter_map (λ o. number_of_key o.now.key) (filter (λ o. takes by_ref o.now) objects) → (n : ℕ) → Contains numbers n ↔ (ListsNumber r name n ⊎ BelongsTo r name n)
-  numbers_of_set name set objects members by_ref numbers registered lists is_members is_by_ref is =
-      Contains-both (filter_map number_listed set.members) (filter_map (λ o. number_of_key o.now.key) (filter (λ o. takes set.by_ref o.now) objects)) numbers (ListsNumber r name) (BelongsTo r name)
-      (is ∙ ap (λ (l : List Member). filter_map number_listed l ++ filter_map (λ (o : Bor Obj). number_of_key o.now.key) (filter (λ o. takes by_ref o.now) objects)) is_members ∙ ap (λ (b : ByRefParts). filter_map number_listed set.members ++ filter_map (λ (o : Bor Obj). number_of_key o.now.key) (filter (λ o. takes b o.now) objects)) is_by_ref)
-      (numbers_that_are_listed name set registered) (numbers_that_belong name set objects registered lists)
+  pub numbers_of_set : (name : List ℕ) (set : Obj) (objects : List (Bor Obj)) (members : List Member) (by_ref : ByRefParts) (numbers : List ℕ) → get r (AsSet name) ≡ Some set → members ≡ set.members → by_ref ≡ set.by_ref
+      → ((o : Obj) → Contains (lent objects) o ↔ (IsReferrer r name o × IsTrue (takes by_ref o))) → numbers ≡ filter_map number_listed members ++ filter_map (λ o. number_of_key o.now.key) objects → (n : ℕ) → Contains numbers n ↔ (ListsNumber r name n ⊎ BelongsTo r name n)
+  numbers_of_set name set objects members by_ref numbers registered is_members is_by_ref belong is =
+      Contains-both (filter_map number_listed set.members) (filter_map (λ o. number_of_key o.now.key) objects) numbers (ListsNumber r name) (BelongsTo r name)
+      (is ∙ ap (λ (l : List Member). filter_map number_listed l ++ filter_map (λ (o : Bor Obj). number_of_key o.now.key) objects) is_members)
+      (numbers_that_are_listed name set registered)
+      (numbers_that_belong name set objects registered (subst (λ (b : ByRefParts). (o : Obj) → Contains (lent objects) o ↔ (IsReferrer r name o × IsTrue (takes b o))) is_by_ref belong))
 
   -- no set of the name is registered, so nothing is listed and nothing belongs
   pub numbers_of_none : (name : List ℕ) (numbers : List ℕ) → get r (AsSet name) ≡ None → numbers ≡ [] → (n : ℕ) → Contains numbers n ↔ (ListsNumber r name n ⊎ BelongsTo r name n)

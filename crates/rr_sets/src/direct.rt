@@ -1,16 +1,17 @@
 //! The AS numbers that are in an as-set itself.
 
-ghost use Rattle.std.specs.Prelude.{◌≡◌, ◌↔◌, ◌⊎◌, ℕ, Contains, IfOk, filter};
+ghost use Rattle.std.specs.Prelude.{◌≡◌, ◌↔◌, ◌⊎◌, ℕ, Contains, IfOk};
 ghost use Rattle.std.specs.FinMap.{get};
-ghost use Rattle.std.specs.List.{filter_map, list_any};
+ghost use Rattle.std.specs.List.{filter_map};
 ghost use Rattle.std.specs.Option.{option_copied};
 ghost use Rattle.std.specs.Str.{bytes_eq};
 ghost use Rattle.rr_sets.specs.AsSets.{BelongsTo, IsAnyNumber, IsDirect, ListsNumber};
-ghost use Rattle.rr_sets.specs.SetObjects.{as_any, number_listed, number_of_key, takes};
+ghost use Rattle.rr_sets.specs.SetObjects.{as_any, number_listed, number_of_key};
 
 use crate::book::SetBook;
-use rr_number::{AsNumber, Name, SetName};
-use rr_object::{ByRef, Key, Member, MemberSet, Object};
+use crate::by_reference::belonging;
+use rr_number::{AsNumber, SetName};
+use rr_object::{Key, Member, MemberSet, Object};
 use std::alloc::{AllocError, Global};
 
 /// The AS numbers that are in the set itself, where one may come twice.
@@ -38,8 +39,8 @@ fn registered_numbers<B: SetBook>(
     match as_set(alloc, book, name)? {
         Some(object) => {
             let mut numbers = numbers_listed(alloc, object.members())?;
-            let referrers = book.referrers(alloc, name)?;
-            numbers.extend_from_slice(&numbers_taken(alloc, object.by_ref(), &referrers)?)?;
+            let objects = belonging(alloc, book, name, object.by_ref())?;
+            numbers.extend_from_slice(&numbers_of(alloc, &objects)?)?;
             Ok(numbers)
         }
         None => Ok(Vec::new(alloc)),
@@ -101,21 +102,6 @@ fn number_listed(member: &Member) -> Option<AsNumber>
     }
 }
 
-/// The AS numbers of those objects whose word `by_ref` takes.
-fn numbers_taken(
-    alloc: Global,
-    by_ref: &ByRef,
-    objects: &[&Object],
-) -> Result<Vec<AsNumber>, AllocError>
-    ensures { IfOk result (λ numbers. numbers.items ≡ filter_map (λ o. number_of_key o.now.key) (filter (λ o. takes by_ref.now o.now) objects.now)) }
-{
-    objects
-        .iter()
-        .filter(|object| takes(by_ref, object))
-        .filter_map(|object| number_of(object))
-        .collect(alloc)
-}
-
 /// The AS numbers of those objects that are aut-nums.
 fn numbers_of(alloc: Global, objects: &[&Object]) -> Result<Vec<AsNumber>, AllocError>
     ensures { IfOk result (λ numbers. numbers.items ≡ filter_map (λ o. number_of_key o.now.key) objects.now) }
@@ -134,25 +120,4 @@ fn number_of(object: &Object) -> Option<AsNumber>
         Key::AutNum(number) => Some(*number),
         _ => None,
     }
-}
-
-/// Whether `by_ref` takes the object's word that it belongs to the set.
-fn takes(by_ref: &ByRef, object: &Object) -> bool
-    ensures { result ≡ takes by_ref.now object.now }
-{
-    by_ref.any() || is_maintained_by_some(object, by_ref.names())
-}
-
-/// Whether the object's `mnt-by` has one of the maintainers.
-fn is_maintained_by_some(object: &Object, names: &[Name]) -> bool
-    ensures { result ≡ list_any (λ name. list_any (λ maintainer. bytes_eq maintainer name) object.now.maintainers) names.now }
-{
-    names.iter().any(|name| is_maintained_by(object, name))
-}
-
-/// Whether the object's `mnt-by` has the maintainer.
-fn is_maintained_by(object: &Object, name: &Name) -> bool
-    ensures { result ≡ list_any (λ maintainer. bytes_eq maintainer name.now) object.now.maintainers }
-{
-    object.maintainers().contains(name)
 }

@@ -3,6 +3,7 @@
 
 mod as_sets;
 mod book;
+mod by_reference;
 mod direct;
 mod members;
 mod origins;

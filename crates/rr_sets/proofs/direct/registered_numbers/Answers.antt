@@ -1,23 +1,24 @@
-use Rattle.std.proofs.Common.{◌≡◌, ◌++◌, ◌∙◌, ℕ, List, Bor, Some, ap, sym, subst}
+use Rattle.std.proofs.Common.{◌≡◌, ◌↔◌, ◌++◌, ◌∙◌, ℕ, List, Bor, Contains, IsTrue, Some, ap, sym, subst}
 use Rattle.std.specs.FinMap.{get}
-use Rattle.std.specs.List.{filter, filter_map}
+use Rattle.std.specs.List.{filter_map}
 use Rattle.std.specs.Option.{option_copied}
 use Rattle.rr_object.specs.Objects.{Obj}
 use Rattle.rr_object.specs.declared.key.Key.TheVariants.{AsSet}
-use Rattle.rr_sets.specs.Lists.{IsReferrer, ListsOnce}
+use Rattle.rr_sets.specs.Lists.{IsReferrer, lent}
 use Rattle.rr_sets.specs.SetObjects.{number_listed, number_of_key, takes}
 use Rattle.rr_sets.proofs.Numbers.{numbers_of_set}
 use Rattle.rr_sets.proofs.direct.registered_numbers.Goals as goal
 
 pub returns-in_ok-extend_from_slice-in-Some : goal.returns-in_ok-extend_from_slice-in-Some
 returns-in_ok-extend_from_slice-in-Some g c =
-    let registered : get (g.B.Book.contents c.args.book.now) (AsSet c.args.name.now) ≡ Some c.in-Some.object.now =
+    let r = g.B.Book.contents c.args.book.now in
+    let registered : get r (AsSet c.args.name.now) ≡ Some c.in-Some.object.now =
     sym c.in_ok-object.ensures ∙ ap option_copied c.in-Some.is in
-    let lists : ListsOnce (IsReferrer (g.B.Book.contents c.args.book.now) c.args.name.now) c.deref.result.now =
-    subst (ListsOnce (IsReferrer (g.B.Book.contents c.args.book.now) c.args.name.now)) (sym c.deref.ensures.value) c.in_ok-referrers-in-Some.ensures in
-    let numbers : c.extend_from_slice.new.self.items ≡ filter_map number_listed c.members.result.now ++ filter_map (λ (o : Bor Obj). number_of_key o.now.key) (filter (λ (o : Bor Obj). takes c.by_ref.result.now o.now) c.deref.result.now) =
+    let belong : (o : Obj) → Contains (lent c.deref.result.now) o ↔ (IsReferrer r c.args.name.now o × IsTrue (takes c.by_ref.result.now o)) =
+    subst (λ (l : List (Bor Obj)). (o : Obj) → Contains (lent l) o ↔ (IsReferrer r c.args.name.now o × IsTrue (takes c.by_ref.result.now o))) (sym c.deref.ensures.value) c.in_ok-objects-in-Some.ensures in
+    let numbers : c.extend_from_slice.new.self.items ≡ filter_map number_listed c.members.result.now ++ filter_map (λ (o : Bor Obj). number_of_key o.now.key) c.deref.result.now =
     c.in_ok-extend_from_slice-in-Some.ensures.items
     ∙ ap (λ (l : List ℕ). l ++ c.deref-in-Some.result.now) c.in_ok-numbers-in-Some.ensures
-    ∙ ap (λ (l : List ℕ). filter_map number_listed c.members.result.now ++ l) (c.deref-in-Some.ensures.value ∙ c.in_ok-numbers_taken-in-Some.ensures) in
-    numbers_of_set (g.B.Book.contents c.args.book.now) c.sound.ensures c.args.name.now c.in-Some.object.now c.deref.result.now c.members.result.now c.by_ref.result.now c.extend_from_slice.new.self.items
-    registered lists c.members.ensures c.by_ref.ensures numbers
+    ∙ ap (λ (l : List ℕ). filter_map number_listed c.members.result.now ++ l) (c.deref-in-Some.ensures.value ∙ c.in_ok-numbers_of-in-Some.ensures) in
+    numbers_of_set r c.sound.ensures c.args.name.now c.in-Some.object.now c.deref.result.now c.members.result.now c.by_ref.result.now c.extend_from_slice.new.self.items
+    registered c.members.ensures c.by_ref.ensures belong numbers

@@ -17,3 +17,6 @@ pub use outcome::Outcome;
 pub use plain_book::PlainBook;
 pub use registry::Registry;
 pub use run::Submitted;
+
+#[cfg(test)]
+mod route_set_tests;

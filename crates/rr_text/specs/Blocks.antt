@@ -3,17 +3,18 @@ use Rattle.std.specs.Prelude.{ℕ, Bool, true, false, List, [], ◌∷◌, filte
 use Rattle.std.specs.List.{slice_split}
 use Rattle.rr_text.specs.Lines.{is_blank_line, is_skipped_line, is_paragraph_line}
 
--- a run of lines less the skipped ones before its first other line
+-- a run of lines less the skipped ones before its first other line (profile)
 unfoldable pub from_unskipped : List (List ℕ) → List (List ℕ)
 from_unskipped [] = []
 from_unskipped (line ∷ others) = if is_skipped_line line then from_unskipped others else line ∷ others
 
+-- a run of lines that is not empty
 abbrev pub has_line : List (List ℕ) → Bool
 has_line [] = false
 has_line (line ∷ others) = true
 
 -- a block is a run of lines with no blank one, from its first line that is not skipped on; a run of
--- skipped lines alone is none
+-- skipped lines alone is none (RFC 2622, 2; skipped lines: profile)
 unfoldable pub blocks : List (List ℕ) → List (List (List ℕ))
 blocks lines = filter has_line (map from_unskipped (slice_split is_blank_line lines))
 
@@ -27,7 +28,7 @@ unfoldable pub from_blank : List (List ℕ) → List (List ℕ)
 from_blank [] = []
 from_blank (line ∷ others) = if is_blank_line line then line ∷ others else from_blank others
 
--- the first line is one of a paragraph
+-- the first line is neither blank nor skipped
 abbrev pub starts_block : List (List ℕ) → Bool
 starts_block [] = false
 starts_block (line ∷ others) = is_paragraph_line line

@@ -3,7 +3,7 @@ use Rattle.std.specs.Prelude.{ℕ, Bool, false, ◌==◌, ◌||◌, ◌&&◌, no
 use Rattle.std.specs.List.{list_all}
 use Rattle.std.specs.Char.{is_ascii_alphabetic, is_ascii_alphanumeric, is_ascii_control}
 
--- the LF that ends a line
+-- the LF that ends a line (RFC 2622, 2)
 abbrev pub is_line_feed : ℕ → Bool
 is_line_feed b = b == 10
 
@@ -51,6 +51,6 @@ unfoldable pub trim_end : List ℕ → List ℕ
 trim_end [] = []
 trim_end (b ∷ bs) = before_trimmed b (trim_end bs)
 
--- a text less the blanks round it
+-- a text less the blanks round it (RFC 2622, 2)
 abbrev pub trim : List ℕ → List ℕ
 trim bs = trim_end (trim_start bs)

@@ -12,21 +12,22 @@ use Rattle.rr_text.specs.Blocks.{blocks}
 use Rattle.rr_text.specs.Faults.{written_name, block_fault}
 use Rattle.rr_text.specs.Fields.{Field}
 
--- the line of a value that a line opens with: what stands behind its first colon
+-- the line of a value that a line opens with: what stands behind its first colon (RFC 2622, 2)
 abbrev pub opened_value : List ℕ → List ℕ
 opened_value line = trim (after_first is_colon line)
 
--- the line that a continuation adds to a value: all but its first byte
+-- the line that a continuation adds to a value: all but its first byte (RFC 2622, 2)
 abbrev pub added_value : List ℕ → List ℕ
 added_value line = trim (drop 1 line)
 
+-- the lines that continue a value, by the kind of the first line after it
 abbrev pub continued_by : List ℕ → LineKind → List (List ℕ) → List (List ℕ)
 continued_by line Blank more = more
 continued_by line Skipped more = more
 continued_by line Continuation more = added_value line ∷ more
 continued_by line Opening more = []
 
--- the lines that continue a value: of the continuations up to the next line that opens an attribute
+-- the lines that continue a value: of the continuations up to the next line that opens an attribute (RFC 2622, 2)
 unfoldable pub continued : List (List ℕ) → List (List ℕ)
 continued [] = []
 continued (line ∷ others) = continued_by line (line_kind line) (continued others)
@@ -38,17 +39,18 @@ added_lines line Skipped = []
 added_lines line Continuation = added_value line ∷ []
 added_lines line Opening = []
 
--- the attribute that a line opens, with the lines that continue its value
+-- the attribute that a line opens, its name in lower case, with the lines that continue its value (RFC 2622, 2)
 abbrev pub opened_field : List ℕ → List (List ℕ) → Field
 opened_field line more = record { name = map to_ascii_lowercase (written_name line); lines = opened_value line ∷ more }
 
+-- the attributes from a line on, by its kind
 abbrev pub opened_by : List ℕ → LineKind → List (List ℕ) → List Field → List Field
 opened_by line Blank more fields = fields
 opened_by line Skipped more fields = fields
 opened_by line Continuation more fields = fields
 opened_by line Opening more fields = opened_field line more ∷ fields
 
--- each line that opens an attribute gives one, with the lines that continue its value
+-- each line that opens an attribute gives one, with the lines that continue its value (RFC 2622, 2)
 unfoldable pub block_fields : List (List ℕ) → List Field
 block_fields [] = []
 block_fields (line ∷ others) = opened_by line (line_kind line) (continued others) (block_fields others)
@@ -62,7 +64,7 @@ abbrev pub unless_fault : Option TextFault → List Field → Result (List Field
 unless_fault None fields = Ok fields
 unless_fault (Some fault) fields = Err fault
 
--- the entry of a block: its size decides first, then its first faulty line
+-- the entry of a block: its size decides first, then its first faulty line (profile)
 unfoldable pub block_entry : List (List ℕ) → Result (List Field) TextFault
 block_entry lines =
     if nat_lt size_limit (length (concat lines)) then Err TooLarge

@@ -9,20 +9,21 @@ use Rattle.rr_text.specs.declared.line.LineKind.TheVariants.{Blank, Skipped, Con
 use Rattle.rr_text.specs.Bytes.{is_refused, is_colon, is_name, trim_end}
 use Rattle.rr_text.specs.Lines.{line_kind}
 
--- the name that a line opens with: what stands before its first colon, less the blanks behind it
+-- the name that a line opens with: what stands before its first colon, less the blanks behind it (RFC 2622, 2)
 abbrev pub written_name : List ℕ → List ℕ
 written_name line = trim_end (before_first is_colon line)
 
--- a line that opens an attribute has a colon and a good name before it
+-- a line that opens an attribute has a colon and a good name before it (RFC 2622, 2)
 unfoldable pub opening_fault : List ℕ → Option TextFault
 opening_fault line =
     if not (list_any is_colon line) then Some NoColon
     else (if not (is_name (written_name line)) then Some BadName else None)
 
--- a block does not begin with a continuation
+-- a block does not begin with a continuation (RFC 2622, 2)
 abbrev pub continuation_fault : Bool → Option TextFault
 continuation_fault is_first = if is_first then Some FirstContinues else None
 
+-- the first fault of a line of a kind: a refused byte comes before the others (profile)
 abbrev pub fault_by_kind : Bool → List ℕ → LineKind → Option TextFault
 fault_by_kind is_first line Blank = None
 fault_by_kind is_first line Skipped = None
@@ -38,7 +39,7 @@ unfoldable pub later_fault : List (List ℕ) → Option TextFault
 later_fault [] = None
 later_fault (line ∷ others) = option_or (line_fault false line) (later_fault others)
 
--- the fault of the first faulty line of a block
+-- the fault of the first faulty line of a block (profile)
 unfoldable pub block_fault : List (List ℕ) → Option TextFault
 block_fault [] = None
 block_fault (line ∷ others) = option_or (line_fault true line) (later_fault others)

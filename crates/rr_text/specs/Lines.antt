@@ -14,6 +14,7 @@ text_lines (b ∷ bs) = if is_line_feed b then (b ∷ []) ∷ text_lines bs else
 abbrev pub is_blank_line : List ℕ → Bool
 is_blank_line line = list_all is_blank line
 
+-- the bytes that begin a remark, `#` and `%` (profile)
 abbrev pub is_remark_sign : ℕ → Bool
 is_remark_sign b = (b == 35) || (b == 37)
 
@@ -25,13 +26,14 @@ is_skipped_line line = begins is_remark_sign line
 abbrev pub is_continuation_sign : ℕ → Bool
 is_continuation_sign b = is_blank b || (b == 43)
 
--- the first kind that fits: blank, skipped, continuation, and else a line that opens an attribute
+-- the first kind that fits: blank, skipped, continuation, and else a line that opens an attribute (RFC 2622, 2)
 unfoldable pub line_kind : List ℕ → LineKind
 line_kind line =
     if is_blank_line line then Blank
     else (if is_skipped_line line then Skipped
     else (if begins is_continuation_sign line then Continuation else Opening))
 
+-- a line of the last kind alone opens an attribute
 abbrev pub opens_attribute : LineKind → Bool
 opens_attribute Blank = false
 opens_attribute Skipped = false

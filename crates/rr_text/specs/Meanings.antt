@@ -3,7 +3,7 @@ use Rattle.std.specs.Prelude.{ℕ, List, map}
 use Rattle.std.specs.List.{before_first, join_with_byte}
 use Rattle.rr_text.specs.Bytes.{is_hash, trim}
 
--- a line less the comment that its first `#` begins
+-- a line less the comment that its first `#` begins (RFC 2622, 2)
 abbrev pub uncommented : List ℕ → List ℕ
 uncommented line = trim (before_first is_hash line)
 

@@ -7,10 +7,11 @@ use Rattle.rr_text.specs.Lines.{text_lines, is_blank_line}
 use Rattle.rr_text.specs.Fields.{Field}
 use Rattle.rr_text.specs.Entries.{entries}
 
--- a blank line whose LF was read ends the paragraph before it for good
+-- a blank line whose LF was read ends the paragraph before it for good (profile)
 abbrev pub closes : List ℕ → Bool
 closes line = is_blank_line line && list_any is_line_feed line
 
+-- a line is kept where it closes, or where a later one does
 abbrev pub kept_before : Bool → List ℕ → List (List ℕ) → List (List ℕ)
 kept_before true line kept = line ∷ kept
 kept_before false line [] = []
@@ -21,10 +22,10 @@ unfoldable pub closed_lines : List (List ℕ) → List (List ℕ)
 closed_lines [] = []
 closed_lines (line ∷ others) = kept_before (closes line) line (closed_lines others)
 
--- the front of a text that ends with the last blank line whose LF was read
+-- the front of a text that ends with the last blank line whose LF was read (profile)
 unfoldable pub whole_part : List ℕ → List ℕ
 whole_part text = concat (closed_lines (text_lines text))
 
--- the entries that count after a read fault: those of the blocks that such a blank line follows
+-- the entries that count after a read fault: those of the blocks that such a blank line follows (profile)
 abbrev pub whole_entries : List ℕ → List (Result (List Field) TextFault)
 whole_entries text = entries (whole_part text)

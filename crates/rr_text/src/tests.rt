@@ -5,7 +5,6 @@ use crate::{
     whole_part,
 };
 use std::alloc::Global;
-use std::process::Abort;
 use std::test::Fail;
 
 const DIGEST: &str = "ba7816bf8f01cfea414140de5dae2223b00361a396177a9cb410ff61f20015ad";
@@ -28,12 +27,9 @@ fn canonical(alloc: Global) -> Result<String, Fail> {
 }
 
 /// The first paragraph of a text and the place after it.
-fn first(rt: &impl Abort, alloc: Global, text: &[u8]) -> (Paragraph, usize) {
-    match next_paragraph(alloc, text, 0) {
-        Ok(Some(found)) => found,
-        Ok(None) => panic!(rt; "no paragraph"),
-        Err(fault) => panic!(rt; "{fault}"),
-    }
+fn first(alloc: Global, text: &[u8]) -> Result<(Paragraph, usize), Fail> {
+    let found = next_paragraph(alloc, text, 0)?;
+    Ok(found.ok_or("no paragraph")?)
 }
 
 fn fault_of(alloc: Global, text: &[u8]) -> Option<TextFault> {
@@ -44,7 +40,7 @@ fn fault_of(alloc: Global, text: &[u8]) -> Option<TextFault> {
 fn folded_text_is_read_and_printed(rt: HostRuntime) -> Result<(), Fail> {
     let alloc = rt.alloc();
     let text = folded(alloc)?;
-    let (paragraph, after) = first(&rt, alloc, text.as_bytes());
+    let (paragraph, after) = first(alloc, text.as_bytes())?;
     assert_eq!(rt; after, text.len());
     let printed = print(alloc, &paragraph)?;
     let expected = canonical(alloc)?;
@@ -67,7 +63,7 @@ fn folded_text_is_read_and_printed(rt: HostRuntime) -> Result<(), Fail> {
 fn meaning_leaves_comments_out(rt: HostRuntime) -> Result<(), Fail> {
     let alloc = rt.alloc();
     let text = folded(alloc)?;
-    let (paragraph, _) = first(&rt, alloc, text.as_bytes());
+    let (paragraph, _) = first(alloc, text.as_bytes())?;
     let descr = paragraph.attributes().get(1).ok_or("descr")?;
     assert_eq!(rt; descr.lines().len(), 4);
     let said = meaning(alloc, descr)?;
@@ -80,7 +76,7 @@ fn canonical_text_is_read_again(rt: HostRuntime) -> Result<(), Fail> {
     let alloc = rt.alloc();
     let text = canonical(alloc)?;
     let read = read_canonical(alloc, text.as_bytes())?.ok_or("canonical")?;
-    let (paragraph, _) = first(&rt, alloc, text.as_bytes());
+    let (paragraph, _) = first(alloc, text.as_bytes())?;
     assert!(rt; read == paragraph);
     for other in [
         b"".as_slice(),
@@ -99,7 +95,7 @@ fn canonical_text_is_read_again(rt: HostRuntime) -> Result<(), Fail> {
 fn paragraphs_are_copied_and_changed(rt: HostRuntime) -> Result<(), Fail> {
     let alloc = rt.alloc();
     let text = b"mntner: A-MNT\npassword: one\nauth: x\nPassword: two\nauth: y\n z\n";
-    let (paragraph, _) = first(&rt, alloc, text);
+    let (paragraph, _) = first(alloc, text)?;
     let copy = paragraph.copy(alloc)?;
     assert!(rt; copy == paragraph);
     let hidden = paragraph
@@ -138,7 +134,8 @@ fn size_decides_before_other_faults(rt: HostRuntime) -> Result<(), Fail> {
     let alloc = rt.alloc();
     let whole = sized(alloc, 0, b'a')?;
     assert_eq!(rt; whole.len(), 65_536);
-    assert_eq!(rt; fault_of(alloc, whole.as_slice()), None);
+    let (_, after) = first(alloc, whole.as_slice())?;
+    assert_eq!(rt; after, whole.len());
     let faulty = sized(alloc, 0, 0)?;
     assert_eq!(rt;
         fault_of(alloc, faulty.as_slice()),
@@ -213,7 +210,7 @@ fn names_have_64_bytes_at_most(rt: HostRuntime) -> Result<(), Fail> {
 #[test]
 fn high_bytes_are_kept(rt: HostRuntime) -> Result<(), Fail> {
     let alloc = rt.alloc();
-    let (paragraph, _) = first(&rt, alloc, b"descr: \xff\x80 caf\xe9\n% \x00\x07\n");
+    let (paragraph, _) = first(alloc, b"descr: \xff\x80 caf\xe9\n% \x00\x07\n")?;
     let printed = print(alloc, &paragraph)?;
     assert_eq!(rt;
         printed.as_slice(),
@@ -231,7 +228,7 @@ fn skipped_lines_alone_are_no_paragraph(rt: HostRuntime) -> Result<(), Fail> {
         b"% one\n# two",
         b" \t\r\n%\n\n#\n \n",
     ] {
-        let next = next_paragraph(alloc, text, 0).map_err(|_| "fault")?;
+        let next = next_paragraph(alloc, text, 0)?;
         assert!(rt; next.is_none(), "of {text:?}");
         assert_eq!(rt; skip_paragraph(text, 0), text.len());
     }
@@ -242,12 +239,12 @@ fn skipped_lines_alone_are_no_paragraph(rt: HostRuntime) -> Result<(), Fail> {
 fn paragraphs_after_a_fault_are_read(rt: HostRuntime) -> Result<(), Fail> {
     let alloc = rt.alloc();
     let text = b"% mirror\n\na: 1\n\n\nfaulty\n% x\n \t\nb: 2";
-    let (_, place) = first(&rt, alloc, text);
+    let (_, place) = first(alloc, text)?;
     assert!(rt; place <= text.len());
     let fault = next_paragraph(alloc, text, place).err();
     assert_eq!(rt; fault, Some(TextFault::NoColon));
     let place = skip_paragraph(text, place);
-    let found = next_paragraph(alloc, text, place).map_err(|_| "fault")?;
+    let found = next_paragraph(alloc, text, place)?;
     let (paragraph, place) = found.ok_or("no paragraph")?;
     let printed = print(alloc, &paragraph)?;
     assert_eq!(rt; printed.as_slice(), b"b:              2\n".as_slice());

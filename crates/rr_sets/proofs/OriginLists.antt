@@ -1,6 +1,9 @@
 -- The prefixes of routes, gathered under their origins.
-use Rattle.std.proofs.Common.{◌≡◌, ℕ, ◌↔◌, true, false, cond, List, [], ◌∷◌, ◌++◌, Contains, Some, Bor, refl, sym, ap, ◌∙◌, subst, inl, inr}
-use Rattle.std.specs.BTreeMap.{is_at}
+use Rattle.std.proofs.Common.{◌≡◌, ℕ, ◌↔◌, Bool, true, false, cond, List, [], ◌∷◌, ◌++◌, Contains, Option, None, Some, Bor, refl, sym, ap, ◌∙◌, subst, inl, inr}
+use Rattle.std.specs.BTreeMap.{BTreeMap, is_at}
+use Rattle.std.specs.BTreeMap as tree
+use Rattle.std.specs.Global.{Vec}
+use Rattle.std.specs.Option.{option_map_or}
 use Rattle.std.specs.Cmp.{nat_cmp_total}
 use Rattle.std.specs.FinMap.{get}
 use Rattle.std.specs.List.{filter_map}
@@ -17,6 +20,7 @@ use Rattle.rr_object.specs.Objects.{Obj}
 use Rattle.rr_object.specs.declared.key.Key.{Key}
 use Rattle.rr_object.specs.declared.key.Key.TheVariants.{Mntner, AsBlock, AutNum, Inetnum, Route, AsSet, RouteSet}
 use Rattle.rr_sets.specs.Lists.{IsRoute, ListsOnce}
+use Rattle.rr_sets.specs.Origins.{prefixes_at}
 use Rattle.rr_sets.specs.RouteObjects.{route_of_key}
 
 -- one more prefix, under its origin
@@ -79,3 +83,13 @@ module _ (r : Reg) (sound : Sound r) where
         let b = (Contains-map (λ (x : Bor Obj). x.now) objects o).0 ((lists.same o).1 (p, n, is)) in
         (Contains-filter_map (λ (x : Bor Obj). route_of_key x.now.key) objects (n, p)).1 (b.0, b.1, ap (λ (x : Obj). route_of_key x.key) b.2 ∙ ap route_of_key (sound.keyed (Route p n) o is)),
   )
+
+-- the first prefix of an origin
+pub prefixes_first : (old mid new : BTreeMap ℕ (Vec PrefixParts)) (origin : ℕ) (one : Vec PrefixParts) (prefix : PrefixParts) → mid ≡ old → None ≡ tree.get nat_cmp old origin → ((q : ℕ) → tree.get nat_cmp new q ≡ cond (is_at (nat_cmp origin) q) (Some one) (tree.get nat_cmp mid q)) → one.items ≡ prefix ∷ [] → (n : ℕ) → prefixes_at new n ≡ cond (is_at (nat_cmp origin) n) (prefixes_at old origin ++ prefix ∷ []) (prefixes_at old n)
+prefixes_first old mid new origin one prefix same none update is n =
+    let listed : Option (Vec PrefixParts) → List PrefixParts = λ o. option_map_or (λ prefixes. prefixes.items) o [] in
+    let told : Bool → List PrefixParts = λ b. cond b (prefixes_at old origin ++ prefix ∷ []) (prefixes_at old n) in
+    elim (cases_Bool (is_at (nat_cmp origin) n)) [
+      | inl here ↦ ap listed (update n ∙ ap (λ b. cond b (Some one) (tree.get nat_cmp mid n)) here) ∙ is ∙ ap (λ (l : List PrefixParts). l ++ prefix ∷ []) (ap listed none) ∙ sym (ap told here)
+      | inr other ↦ ap listed (update n ∙ ap (λ b. cond b (Some one) (tree.get nat_cmp mid n)) other ∙ ap (λ (m : BTreeMap ℕ (Vec PrefixParts)). tree.get nat_cmp m n) same) ∙ sym (ap told other)
+    ]

@@ -1,7 +1,7 @@
 -- The ranges in a set itself, from the lists of a registry.
-use Rattle.std.proofs.Common.{◌≡◌, ℕ, ◌⊎◌, ◌↔◌, true, false, List, [], ◌++◌, map, Contains, IsTrue, None, Some, Bor, refl, sym, ap, ◌∙◌, subst, inl, inr}
+use Rattle.std.proofs.Common.{◌≡◌, ℕ, ◌⊎◌, ◌↔◌, List, [], ◌++◌, map, Contains, IsTrue, None, Some, Bor, refl, sym, ap, ◌∙◌, subst, inl, inr}
 use Rattle.std.specs.FinMap.{get}
-use Rattle.std.specs.List.{filter, filter_map}
+use Rattle.std.specs.List.{filter_map}
 use Rattle.rr_auth.specs.Registries.{Reg, Sound}
 use Rattle.rr_graph.proofs.Lists.{Contains-filter_map, Contains-map, Contains-nil}
 use Rattle.rr_number.specs.Prefixes.{PrefixParts}
@@ -14,12 +14,12 @@ use Rattle.rr_object.specs.declared.member.Member.{Member}
 use Rattle.rr_object.specs.declared.member.Member.TheVariants as member
 use Rattle.rr_object.specs.declared.member.MemberSet.{MemberSet}
 use Rattle.rr_object.specs.declared.member.MemberSet.TheVariants.{AutNum, Set}
-use Rattle.rr_sets.specs.Lists.{IsReferrer, IsRoute, ListsOnce}
+use Rattle.rr_sets.specs.Lists.{IsReferrer, IsRoute, ListsOnce, lent}
 use Rattle.rr_sets.specs.Origins.{HasRangeBy}
 use Rattle.rr_sets.specs.RouteObjects.{range_listed, range_of_key}
 use Rattle.rr_sets.specs.RouteSets.{HasRange, IsAnyRange, IsByReference, IsOriginated, IsTaken, ListsRange, set_of}
 use Rattle.rr_sets.specs.SetObjects.{takes}
-use Rattle.rr_sets.proofs.Numbers.{Contains-both, Contains-filter}
+use Rattle.rr_sets.proofs.Numbers.{Contains-both}
 
 -- a key with a range is a route's, whose prefix alone it is
 key_of_range : (k : Key) (range : RangeParts) → range_of_key k ≡ Some range → (p : PrefixParts) × (n : ℕ) × (k ≡ key.Route p n) × (range ≡ bare p)
@@ -68,28 +68,20 @@ module _ (r : Reg) (sound : Sound r) where
   )
 
   -- the ranges of the routes whose word is taken
-  pub ranges_that_are_taken : (by_ref : ByRefParts) (name : List ℕ) (objects : List (Bor Obj)) → ListsOnce (IsReferrer r name) objects → (range : RangeParts) → Contains (filter_map (λ o. range_of_key o.now.key) (filter (λ o. takes by_ref o.now) objects)) range ↔ IsTaken r by_ref name range
-  ranges_that_are_taken by_ref name objects lists range = (on, from) where
-    on : Contains (filter_map (λ o. range_of_key o.now.key) (filter (λ o. takes by_ref o.now) objects)) range → IsTaken r by_ref name range
+  pub ranges_that_are_taken : (by_ref : ByRefParts) (name : List ℕ) (objects : List (Bor Obj)) → ((o : Obj) → Contains (lent objects) o ↔ (IsReferrer r name o × IsTrue (takes by_ref o))) → (range : RangeParts) → Contains (filter_map (λ o. range_of_key o.now.key) objects) range ↔ IsTaken r by_ref name range
+  ranges_that_are_taken by_ref name objects belong range = (on, from) where
+    on : Contains (filter_map (λ o. range_of_key o.now.key) objects) range → IsTaken r by_ref name range
     on has =
-        let f = (Contains-filter_map (λ (o : Bor Obj). range_of_key o.now.key) (filter (λ o. takes by_ref o.now) objects) range).0 has in
-        let g = (Contains-filter (λ (o : Bor Obj). takes by_ref o.now) objects f.0).0 f.1 in
-        let found : IsReferrer r name f.0.now = (lists.same f.0.now).0 ((Contains-map (λ (o : Bor Obj). o.now) objects f.0.now).1 (f.0, g.0, refl)) in
-        let route = route_of_range found.0 f.0.now range found.1 f.2 in
-        (route.0, route.1, f.0.now, route.2, found.2, g.1, route.3)
+        let f = (Contains-filter_map (λ (o : Bor Obj). range_of_key o.now.key) objects range).0 has in
+        let found = (belong f.0.now).0 ((Contains-map (λ (o : Bor Obj). o.now) objects f.0.now).1 (f.0, f.1, refl)) in
+        let route = route_of_range found.0.0 f.0.now range found.0.1 f.2 in
+        (route.0, route.1, f.0.now, route.2, found.0.2, found.1, route.3)
 
-    from : IsTaken r by_ref name range → Contains (filter_map (λ o. range_of_key o.now.key) (filter (λ o. takes by_ref o.now) objects)) range
+    from : IsTaken r by_ref name range → Contains (filter_map (λ o. range_of_key o.now.key) objects) range
     from (p, n, o, is, member_, taken, same) =
-        let b = (Contains-map (λ (x : Bor Obj). x.now) objects o).0 ((lists.same o).1 (key.Route p n, is, member_)) in
-        (Contains-filter_map (λ (x : Bor Obj). range_of_key x.now.key) (filter (λ x. takes by_ref x.now) objects) range).1
-        (b.0, (Contains-filter (λ (x : Bor Obj). takes by_ref x.now) objects b.0).1 (b.1, subst (λ (x : Obj). IsTrue (takes by_ref x)) (sym b.2) taken), ap (λ (x : Obj). range_of_key x.key) b.2 ∙ range_of_route o p n is ∙ ap Some (sym same))
-
--- `mbrs-by-ref` that is not there takes nothing
-pub none_is_taken : (r : Reg) (by_ref : ByRefParts) (name : List ℕ) (range : RangeParts) → by_ref.any ≡ false → by_ref.names ≡ [] → IsTaken r by_ref name range → ⊥
-none_is_taken r by_ref name range any names (p, n, o, is, member_, taken, same) =
-    let none : takes by_ref o ≡ false = rw (any, names) refl in
-    let wrong : true ≡ false = sym taken ∙ none in
-    cc
+        let b = (Contains-map (λ (x : Bor Obj). x.now) objects o).0 ((belong o).1 ((key.Route p n, is, member_), taken)) in
+        (Contains-filter_map (λ (x : Bor Obj). range_of_key x.now.key) objects range).1
+        (b.0, b.1, ap (λ (x : Obj). range_of_key x.key) b.2 ∙ range_of_route o p n is ∙ ap Some (sym same))
 
 -- the ranges of a registered set
 pub ranges_of_set : (r : Reg) (name : List ℕ) (set : Obj) (members : List Member) (by_ref : ByRefParts) (ranges taken : List RangeParts) → set_of r name ≡ Some set → members ≡ set.members → by_ref ≡ set.by_ref → ((range : RangeParts) → Contains taken range ↔ IsTaken r by_ref name range) → ranges ≡ filter_map range_listed members ++ taken → (range : RangeParts) → Contains ranges range ↔ (ListsRange r name range ⊎ IsByReference r name range)

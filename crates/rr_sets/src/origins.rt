@@ -42,9 +42,14 @@ impl Origins {
     fn add(&mut self, alloc: Global, origin: AsNumber, prefix: Prefix) -> Result<(), AllocError>
         ensures { OnOk result ((n : ℕ) → prefixes_at self.new.map n ≡ (if is_at (nat_cmp origin) n then prefixes_at self.old.map origin ++ prefix ∷ [] else prefixes_at self.old.map n)) }
     {
-        let mut prefixes = self.map.remove(&origin).unwrap_or(Vec::new(alloc));
-        prefixes.push(prefix)?;
-        self.map.insert(origin, prefixes)?;
+        match self.map.get_mut(&origin) {
+            Some(prefixes) => prefixes.push(prefix)?,
+            None => {
+                let mut prefixes = Vec::new(alloc);
+                prefixes.push(prefix)?;
+                self.map.insert(origin, prefixes)?;
+            }
+        }
         Ok(())
     }
 }

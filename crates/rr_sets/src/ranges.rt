@@ -1,20 +1,20 @@
 //! The ranges that are in a set itself.
 
-ghost use Rattle.std.specs.Prelude.{◌≡◌, ◌↔◌, ◌⊎◌, Contains, IfOk, filter, map};
-ghost use Rattle.std.specs.List.{filter_map, list_any};
+ghost use Rattle.std.specs.Prelude.{◌≡◌, ◌↔◌, ◌⊎◌, Contains, IfOk, map};
+ghost use Rattle.std.specs.List.{filter_map};
 ghost use Rattle.std.specs.Option.{option_copied};
 ghost use Rattle.std.specs.Str.{bytes_eq};
 ghost use Rattle.rr_number.specs.Ranges.{RangeParts, bare};
 ghost use Rattle.rr_object.specs.Parts.{ByRefParts};
 ghost use Rattle.rr_sets.specs.RouteObjects.{range_listed, range_of_key};
 ghost use Rattle.rr_sets.specs.RouteSets.{HasRange, IsAnyRange, IsByReference, IsTaken, ListsRange, has_set, key_of_kind, rs_any, set_of};
-ghost use Rattle.rr_sets.specs.SetObjects.{takes};
 ghost use Rattle.rr_object.specs.declared.member.MemberSet.{MemberSet};
 
 use crate::book::SetBook;
+use crate::by_reference::belonging;
 use crate::direct::is_as_any;
 use crate::origins::route_of;
-use rr_number::{Name, Prefix, Range, SetKind, SetName};
+use rr_number::{Prefix, Range, SetKind, SetName};
 use rr_object::{ByRef, Key, Member, Object};
 use std::alloc::{AllocError, Global};
 
@@ -59,11 +59,8 @@ fn ranges_by_reference<B: SetBook>(
     ensures { IfOk result (λ ranges. (range : RangeParts) → Contains ranges.items range ↔ IsTaken (B.contents book.now) by_ref.now name.now range) }
 {
     book.sound();
-    if !by_ref.any() && by_ref.names().is_empty() {
-        return Ok(Vec::new(alloc));
-    }
-    let referrers = book.referrers(alloc, name)?;
-    ranges_taken(alloc, by_ref, &referrers)
+    let objects = belonging(alloc, book, name, by_ref)?;
+    ranges_of(alloc, &objects)
 }
 
 /// The ranges of `RS-ANY`; none for another set.
@@ -133,42 +130,6 @@ fn range_listed(member: &Member) -> Option<Range>
         Member::Range(range) => Some(*range),
         Member::Set(_, _) => None,
     }
-}
-
-/// The ranges of those routes whose word `by_ref` takes.
-fn ranges_taken(
-    alloc: Global,
-    by_ref: &ByRef,
-    objects: &[&Object],
-) -> Result<Vec<Range>, AllocError>
-    ensures { IfOk result (λ ranges. ranges.items ≡ filter_map (λ o. range_of_key o.now.key) (filter (λ o. takes by_ref.now o.now) objects.now)) }
-{
-    objects
-        .iter()
-        .filter(|object| takes(by_ref, object))
-        .filter_map(|object| route_range(object))
-        .collect(alloc)
-}
-
-/// Whether `by_ref` takes the object's word that it belongs to the set.
-fn takes(by_ref: &ByRef, object: &Object) -> bool
-    ensures { result ≡ takes by_ref.now object.now }
-{
-    by_ref.any() || is_maintained_by_some(object, by_ref.names())
-}
-
-/// Whether the object's `mnt-by` has one of the maintainers.
-fn is_maintained_by_some(object: &Object, names: &[Name]) -> bool
-    ensures { result ≡ list_any (λ name. list_any (λ maintainer. bytes_eq maintainer name) object.now.maintainers) names.now }
-{
-    names.iter().any(|name| is_maintained_by(object, name))
-}
-
-/// Whether the object's `mnt-by` has the maintainer.
-fn is_maintained_by(object: &Object, name: &Name) -> bool
-    ensures { result ≡ list_any (λ maintainer. bytes_eq maintainer name.now) object.now.maintainers }
-{
-    object.maintainers().contains(name)
 }
 
 /// The ranges of those objects that are routes.

@@ -169,7 +169,8 @@ pub fn read_entry(alloc: Global, block: &[u8]) -> Result<Paragraph, TextFault>
         × (entries.block_entry (text_lines block.now) ≡ Ok paragraph)) }
     ensures fault { IfErr result (λ fault. fault ≢ TextFault.Memory → entries.block_entry (text_lines block.now) ≡ Err fault) }
 {
-    if block.len() > SIZE_LIMIT {
+    let size = block.len();
+    if size > SIZE_LIMIT {
         return Err(TextFault::TooLarge);
     }
     match block_fault(block) {

@@ -5,8 +5,8 @@ use Rattle.rr_text.proofs.EntryLemmas.{entry_large, entry_small}
 use Rattle.rr_text.proofs.SoundLemmas.{some_fields}
 use Rattle.rr_text.proofs.entry.read_entry.Goals as goal
 
-pub returns-then-block-gt-SIZE_LIMIT-clause-fault : goal.returns-then-block-gt-SIZE_LIMIT-clause-fault
-returns-then-block-gt-SIZE_LIMIT-clause-fault c = λ _. entry_large _ (omega arith)
+pub returns-then-size-gt-SIZE_LIMIT-clause-fault : goal.returns-then-size-gt-SIZE_LIMIT-clause-fault
+returns-then-size-gt-SIZE_LIMIT-clause-fault c = λ _. entry_large _ (omega arith)
 
 pub returns-in-Some-clause-fault : goal.returns-in-Some-clause-fault
 returns-in-Some-clause-fault c = λ _. entry_small _ _ (omega arith) c.in-Some.ensures

@@ -1,4 +1,4 @@
--- Values of `auth` (RFC 2622, 3.1; the scheme `SHA256-PW`: profile).
+-- Values of `auth` (RFC 2622, 3; the scheme `SHA256-PW`: profile).
 use Rattle.std.specs.Prelude.{ℕ, Bool, ◌==◌, ◌&&◌, nat_le, length, List, [], ◌∷◌, Option, Some, None, codes, if◌then◌else◌}
 use Rattle.std.specs.Char.{is_ascii_alphanumeric}
 use Rattle.std.specs.List.{list_all, before_first, after_first}
@@ -8,6 +8,7 @@ use Rattle.hex.specs.Hex.{decode_sized}
 use Rattle.rr_object.specs.Items.{is_keyword, only, words}
 use Rattle.rr_object.specs.Parts.{AuthParts}
 
+-- a colon stands between a salt and a digest (profile)
 abbrev pub is_colon : ℕ → Bool
 is_colon b = b == 58
 
@@ -28,12 +29,12 @@ abbrev pub is_sha256_pw : List ℕ → Bool
 is_sha256_pw word = is_keyword (codes "sha256-pw") word
 
 -- a scheme and what stands behind it: one word for `SHA256-PW`; another scheme is well spelled and stands
--- for nothing; no word at all is badly spelled
+-- for nothing; no word at all is badly spelled (RFC 2622, 3; profile)
 unfoldable pub auth_of_words : List (List ℕ) → Option (Option AuthParts)
 auth_of_words [] = None
 auth_of_words (scheme ∷ further) =
     if is_sha256_pw scheme then option_map Some (option_and_then salted_digest_of (only further)) else Some None
 
--- a value of `auth`
+-- a value of `auth`: the words of it (RFC 2622, 3)
 abbrev pub auth_item : List ℕ → Option (Option AuthParts)
 auth_item value = auth_of_words (words value)

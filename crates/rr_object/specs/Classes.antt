@@ -28,6 +28,6 @@ class_name Route = codes "route"
 class_name AsSet = codes "as-set"
 class_name RouteSet = codes "route-set"
 
--- the class of this name, in lower case
+-- the class of this name, in lower case (RFC 2622, 2)
 abbrev pub class_named : List ℕ → Option Class
 class_named name = find (λ class. bytes_eq (class_name class) name) all_classes

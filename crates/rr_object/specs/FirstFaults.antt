@@ -17,7 +17,7 @@ abbrev pub class_in : List Field → Option Class
 class_in [] = None
 class_in (first ∷ others) = class_named first.name
 
--- a fact of the class and the paragraph, where the class is known
+-- a fact of the class and the paragraph, where the class is known (profile)
 abbrev pub in_its_class : (Class → List Field → Bool) → List Field → Bool
 in_its_class fact fields = option_map_or (λ class. fact class fields) (class_in fields) false
 
@@ -35,15 +35,15 @@ has_fault source fields Memory = false
 abbrev pub fault_order : List ObjectFault
 fault_order = UnknownClass ∷ (BadKey ∷ (BadCount ∷ (BadValue ∷ (OtherSource ∷ []))))
 
--- the first fault that a paragraph has in a registry of a source
+-- the first fault that a paragraph has in a registry of a source (profile)
 abbrev pub first_fault : List ℕ → List Field → Option ObjectFault
 first_fault source fields = find (has_fault source fields) fault_order
 
--- a paragraph is refused for its first fault, and only for a fault
+-- a paragraph is refused for its first fault, and only for a fault (profile)
 abbrev pub FirstFaultIsTold : Type 0
 FirstFaultIsTold = (fields : List Field) (source : List ℕ) → result_err (object_of fields source) ≡ first_fault source fields
 
--- an object says what its paragraph says
+-- an object says what its paragraph says (RFC 2622, 2)
 abbrev pub ObjectsSayTheirParagraphs : Type 0
 ObjectsSayTheirParagraphs =
     (fields : List Field) (source : List ℕ) (object : Obj) → object_of fields source ≡ Ok object

@@ -11,7 +11,7 @@ use Rattle.rr_text.specs.Meanings.{value_meaning}
 abbrev pub values_of : List ℕ → List Field → List (List ℕ)
 values_of name fields = map (λ field. value_meaning field.lines) (filter (is_named name) fields)
 
--- the one value, where there is one alone
+-- the one value, where there is one alone (RFC 2622, 2)
 abbrev pub only : {X : Type 0} → List X → Option X
 only [] = None
 only (value ∷ []) = Some value
@@ -21,10 +21,11 @@ only (value ∷ (other ∷ others)) = None
 abbrev pub is_separator : ℕ → Bool
 is_separator b = (b == 44) || is_blank b
 
+-- a list that has something in it (profile)
 abbrev pub is_filled : {X : Type 0} → List X → Bool
 is_filled xs = not (length xs == 0)
 
--- the parts of a text between bytes that pass a test; empty parts are ignored
+-- the parts of a text between bytes that pass a test; empty parts are ignored (profile)
 abbrev pub parts_at : (ℕ → Bool) → List ℕ → List (List ℕ)
 parts_at test text = filter is_filled (slice_split test text)
 
@@ -32,7 +33,7 @@ parts_at test text = filter is_filled (slice_split test text)
 unfoldable pub items : List ℕ → List (List ℕ)
 items text = parts_at is_separator text
 
--- the words of a text
+-- the words of a text, which blanks separate (profile)
 unfoldable pub words : List ℕ → List (List ℕ)
 words text = parts_at is_blank text
 
@@ -40,6 +41,7 @@ words text = parts_at is_blank text
 abbrev pub joined : List (List ℕ) → List ℕ
 joined values = flat_map (λ value. value ++ 44 ∷ []) values
 
+-- the braces round ranges (RFC 2725, 9)
 abbrev pub is_brace : ℕ → Bool
 is_brace b = (b == 123) || (b == 125)
 
@@ -47,20 +49,20 @@ is_brace b = (b == 123) || (b == 125)
 abbrev pub spaced : List ℕ → List ℕ
 spaced text = flat_map (λ b. if is_brace b then 32 ∷ (b ∷ (32 ∷ [])) else b ∷ []) text
 
--- each item is well spelled; `read` gives nothing for a bad one
+-- each item is well spelled; `read` gives nothing for a bad one (profile)
 abbrev pub are_good : {X : Type 0} → (List ℕ → Option (Option X)) → List (List ℕ) → Bool
 are_good read listed = list_all (λ item. is_some (read item)) listed
 
--- what an item stands for: nothing where it is badly spelled, and where it is well spelled and dropped
+-- what an item stands for: nothing where it is badly spelled, and where it is well spelled and dropped (profile)
 abbrev pub meant_by : {X : Type 0} → Option (Option X) → Option X
 meant_by None = None
 meant_by (Some meant) = meant
 
--- what the items stand for
+-- what the items stand for (profile)
 abbrev pub meant : {X : Type 0} → (List ℕ → Option (Option X)) → List (List ℕ) → List X
 meant read listed = filter_map (λ item. meant_by (read item)) listed
 
--- a text with its letters in lower case
+-- a text with its letters in lower case (RFC 2622, 2)
 abbrev pub lowered : List ℕ → List ℕ
 lowered text = map to_ascii_lowercase text
 

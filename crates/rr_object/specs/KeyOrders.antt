@@ -35,7 +35,7 @@ abbrev pub class_and_bytes_cmp : Key → Key → Ordering
 class_and_bytes_cmp a b =
     ordering_then (nat_cmp (class_number (class_of a)) (class_number (class_of b))) (slice_cmp nat_cmp (key_bytes a) (key_bytes b))
 
--- two keys of a class have equal bytes only if they are equal
+-- two keys of a class have equal bytes only if they are equal (profile)
 abbrev pub BytesTellKeys : Type 0
 BytesTellKeys =
     (a b : Key) → IsKeyValue a → IsKeyValue b → class_of a ≡ class_of b → key_bytes a ≡ key_bytes b → a ≡ b

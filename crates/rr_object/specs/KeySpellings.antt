@@ -31,12 +31,12 @@ is_prefix_span span = is_power_of_two (size span) && (span.first % size span == 
 unfoldable pub inetnum_span_of : List ℕ → Option Ends
 inetnum_span_of text = option_and_then (λ span. if is_prefix_span span then Some span else None) (span_of text)
 
--- the name of an as-set, but not `AS-ANY` (RFC 2622, 5.1; profile)
+-- the name of an as-set, but not `AS-ANY` (RFC 2622, 5; profile)
 abbrev pub as_set_key_of : List ℕ → Option (List ℕ)
 as_set_key_of text =
     option_and_then (λ name. if is_as_set (kind_of name) && not (is_any_set name) then Some name else None) (set_name_of text)
 
--- the name of a route-set, but not `RS-ANY` (RFC 2622, 5.2; profile)
+-- the name of a route-set, but not `RS-ANY` (RFC 2622, 5; profile)
 abbrev pub route_set_key_of : List ℕ → Option (List ℕ)
 route_set_key_of text =
     option_and_then (λ name. if not (is_as_set (kind_of name)) && not (is_any_set name) then Some name else None) (set_name_of text)
@@ -46,7 +46,7 @@ abbrev pub route_key_of : List ℕ → List ℕ → Option Key
 route_key_of prefix origin =
     option_and_then (λ p. option_map (Route p) (as_number_of origin)) (prefix_of prefix)
 
--- the key that two words spell
+-- the key that two words spell (profile)
 abbrev pub route_key_of_words : List (List ℕ) → Option Key
 route_key_of_words [] = None
 route_key_of_words (prefix ∷ []) = None
@@ -73,12 +73,12 @@ key_at class.Route text fields = option_and_then (route_key_of text) (only (valu
 key_at class.AsSet text fields = key_of_text class.AsSet text
 key_at class.RouteSet text fields = key_of_text class.RouteSet text
 
--- a key, or the fault that there is none
+-- a key, or the fault that there is none (profile)
 abbrev pub or_bad_key : Option Key → Result Key ObjectFault
 or_bad_key None = Err BadKey
 or_bad_key (Some key) = Ok key
 
--- the key of a paragraph of a class
+-- the key of a paragraph of a class, if the class is known (RFC 2622, 2)
 abbrev pub key_in : Option Class → List ℕ → List Field → Result Key ObjectFault
 key_in None text fields = Err UnknownClass
 key_in (Some found) text fields = or_bad_key (key_at found text fields)

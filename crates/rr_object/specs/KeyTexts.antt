@@ -19,10 +19,11 @@ key_text (Route prefix origin) = prefix_text prefix ++ (32 ∷ as_number_text or
 key_text (AsSet name) = name
 key_text (RouteSet name) = name
 
--- an AS number as four hexadecimal digits, an address as eight, in lower case (profile)
+-- an AS number as four hexadecimal digits in lower case (profile)
 abbrev pub as_number_bytes : ℕ → List ℕ
 as_number_bytes number = encode_lower (to_be_bytes w16 number)
 
+-- and an address as eight such digits (profile)
 abbrev pub address_bytes : ℕ → List ℕ
 address_bytes address = encode_lower (to_be_bytes w32 address)
 

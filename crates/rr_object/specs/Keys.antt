@@ -4,7 +4,7 @@ use Rattle.rr_object.specs.declared.key.Key.{Key}
 use Rattle.rr_object.specs.declared.class.Class.TheVariants as class
 use Rattle.rr_object.specs.declared.key.Key.TheVariants.{Mntner, AsBlock, AutNum, Inetnum, Route, AsSet, RouteSet}
 
--- the class of the object that a key names
+-- the class of the object that a key names (RFC 2622, 2)
 abbrev pub class_of : Key → Class
 class_of (Mntner name) = class.Mntner
 class_of (AsBlock span) = class.AsBlock

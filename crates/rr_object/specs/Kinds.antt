@@ -74,12 +74,13 @@ occurs MbrsByRef Route = AsText
 occurs MbrsByRef AsSet = Freely
 occurs MbrsByRef RouteSet = Freely
 
+-- an attribute that is not kept as text alone is read (profile)
 abbrev pub is_read_as : Occurs → Bool
 is_read_as Once = true
 is_read_as WithItems = true
 is_read_as Freely = true
 is_read_as AsText = false
 
--- an attribute is interpreted in objects of a class
+-- an attribute is interpreted in objects of a class (RFC 2622, 3 to 6; RFC 2725, 9)
 abbrev pub is_read : Kind → Class → Bool
 is_read kind class = is_read_as (occurs kind class)

@@ -19,15 +19,15 @@ use Rattle.rr_object.specs.Grants.{is_any, range_item}
 abbrev pub maintainer_item : List ℕ → Option (Option (List ℕ))
 maintainer_item item = option_map Some (maintainer_name_of item)
 
--- a set's name, also `AS-ANY` and `RS-ANY` (RFC 2622, 5.1)
+-- a set's name, also `AS-ANY` and `RS-ANY` (RFC 2622, 5)
 abbrev pub set_item : List ℕ → Option (Option (List ℕ))
 set_item item = option_map Some (set_name_of item)
 
--- a maintainer's name, or `ANY`, which is none (RFC 2622, 5.1)
+-- a maintainer's name, or `ANY`, which is none (RFC 2622, 5)
 abbrev pub referrer_item : List ℕ → Option (Option (List ℕ))
 referrer_item item = if is_any item then Some None else maintainer_item item
 
--- the kind of as-sets
+-- the kind of as-sets (RFC 2622, 5)
 abbrev pub is_as_set : SetKind → Bool
 is_as_set AsSet = true
 is_as_set RouteSet = false
@@ -37,12 +37,12 @@ unfoldable pub set_of : List ℕ → Option MemberSet
 set_of item =
     if is_some (as_number_of item) then option_map AutNum (as_number_of item) else option_map Set (set_name_of item)
 
--- as-sets list AS numbers and as-sets (RFC 2622, 5.1)
+-- as-sets list AS numbers and as-sets (RFC 2622, 5)
 abbrev pub is_in_as_sets : MemberSet → Bool
 is_in_as_sets (AutNum number) = true
 is_in_as_sets (Set name) = is_as_set (kind_of name)
 
--- an item of an as-set: an AS number, or an as-set's name, `AS-ANY` among them; no operator (RFC 2622, 5.1)
+-- an item of an as-set: an AS number, or an as-set's name, `AS-ANY` among them; no operator (RFC 2622, 5)
 unfoldable pub as_set_item : List ℕ → Option (Option Member)
 as_set_item item =
     option_and_then (λ set. if is_in_as_sets set then Some (Some (member.Set set Plain)) else None) (set_of item)
@@ -51,14 +51,14 @@ as_set_item item =
 abbrev pub is_caret : ℕ → Bool
 is_caret b = b == 94
 
--- an AS number or a set's name, with an operator or none (RFC 2622, 5.2)
+-- an AS number or a set's name, with an operator or none (RFC 2622, 5)
 unfoldable pub operated_set : List ℕ → Option Member
 operated_set item =
     option_and_then
     (λ set. option_map (member.Set set) (operator_of (drop (position_or_len is_caret item) item)))
     (set_of (before_first is_caret item))
 
--- an item of a route-set: a range, which may be dropped, or a set (RFC 2622, 5.2)
+-- an item of a route-set: a range, which may be dropped, or a set (RFC 2622, 5)
 unfoldable pub route_set_item : List ℕ → Option (Option Member)
 route_set_item item =
     if is_some (range_item item) then option_map (option_map member.Range) (range_item item)

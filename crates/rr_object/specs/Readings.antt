@@ -50,25 +50,26 @@ items_among MemberOf values = items (list_text MemberOf values)
 items_among Members values = items (list_text Members values)
 items_among MbrsByRef values = items (list_text MbrsByRef values)
 
--- the items of an attribute over all its occurrences
+-- the items of an attribute over all its occurrences (RFC 2622, 2)
 unfoldable pub items_of : Kind → List Field → List (List ℕ)
 items_of kind fields = items_among kind (values_of (kind_name kind) fields)
 
--- the items of an attribute that are read in an object of a class
+-- the items of an attribute that are read in an object of a class (RFC 2622, 3 to 6; RFC 2725, 9)
 unfoldable pub items_read : Kind → Class → List Field → List (List ℕ)
 items_read kind class fields = if is_read kind class then items_of kind fields else []
 
--- how many attributes have this name
+-- how many attributes have this name (RFC 2622, 2)
 abbrev pub count_of : List ℕ → List Field → ℕ
 count_of name fields = count_by (is_named name) fields
 
--- an attribute stands more or less often than it may
+-- an attribute stands more or less often than it may, or has no item where it needs one (RFC 2622, 2; profile)
 abbrev pub breaks : Occurs → Kind → List Field → Bool
 breaks Once kind fields = not (count_of (kind_name kind) fields == 1) || not (is_filled (items_of kind fields))
 breaks WithItems kind fields = not (is_filled (items_of kind fields))
 breaks Freely kind fields = false
 breaks AsText kind fields = false
 
+-- the same of an attribute in an object of a class (RFC 2622, 3 to 6; RFC 2725, 9)
 abbrev pub is_miscounted_in : Class → Kind → List Field → Bool
 is_miscounted_in class kind fields = breaks (occurs kind class) kind fields
 
@@ -97,9 +98,11 @@ source_of fields = option_and_then name_of (only (values_of (kind_name Source) f
 abbrev pub is_kept_out : Field → Bool
 is_kept_out field = is_named (codes "password") field || is_named (codes "delete") field
 
+-- the maintainers that an attribute of an object names (RFC 2622, 3)
 abbrev pub maintainers_of : Kind → Class → List Field → List (List ℕ)
 maintainers_of kind class fields = meant maintainer_item (items_read kind class fields)
 
+-- and that these are well spelled (RFC 2622, 3)
 abbrev pub are_maintainers : Kind → Class → List Field → Bool
 are_maintainers kind class fields = are_good maintainer_item (items_read kind class fields)
 
@@ -107,7 +110,7 @@ are_maintainers kind class fields = are_good maintainer_item (items_read kind cl
 unfoldable pub has_bad_text : List Field → Bool
 has_bad_text fields = list_any is_kept_out fields || is_none (source_of fields)
 
--- a bad value of `mnt-by`, `mnt-lower`, `mnt-routes` or `auth` (RFC 2622, 3.1; RFC 2725, 9)
+-- a bad value of `mnt-by`, `mnt-lower`, `mnt-routes` or `auth` (RFC 2622, 3; RFC 2725, 9)
 unfoldable pub has_bad_authority : Class → List Field → Bool
 has_bad_authority class fields =
     not (are_maintainers MntBy class fields)
@@ -127,11 +130,11 @@ unfoldable pub has_bad_value : Class → List Field → Bool
 has_bad_value class fields =
     has_bad_text fields || (has_bad_authority class fields || has_bad_membership class fields)
 
--- whose objects may say that they belong to a set
+-- whose objects may say that they belong to a set (RFC 2622, 5)
 abbrev pub by_ref_of : List (List ℕ) → ByRefParts
 by_ref_of listed = record { any = list_any is_any listed; names = meant referrer_item listed }
 
--- an object of this key, with what its paragraph says
+-- an object of this key, with what its paragraph says (RFC 2622, 2 to 6; RFC 2725, 9)
 unfoldable pub obj_at : Key → List Field → Obj
 obj_at key fields =
     let class = class_of key in
@@ -147,26 +150,27 @@ obj_at key fields =
       member_of = meant set_item (items_read MemberOf class fields);
     }
 
--- the faults behind that of the key: a bad count, then a bad value
+-- the faults behind that of the key: a bad count, then a bad value (profile)
 abbrev pub obj_of_key : List Field → Key → Result Obj ObjectFault
 obj_of_key fields key =
     if is_miscounted (class_of key) fields then Err BadCount
     else if has_bad_value (class_of key) fields then Err BadValue
     else Ok (obj_at key fields)
 
+-- a fault goes before what comes after it (profile)
 abbrev pub result_and_then : {X Y : Type 0} → (X → Result Y ObjectFault) → Result X ObjectFault → Result Y ObjectFault
 result_and_then next (Ok x) = next x
 result_and_then next (Err fault) = Err fault
 
--- the object that a paragraph is in a registry of any source
+-- the object that a paragraph is in a registry of any source (RFC 2622, 2 to 6; RFC 2725, 9)
 unfoldable pub obj_of : List Field → Result Obj ObjectFault
 obj_of fields = result_and_then (obj_of_key fields) (key_of fields)
 
--- the source that a paragraph names is this one, which stands in upper case
+-- the source that a paragraph names is this one, which stands in upper case (RFC 2622, 2)
 abbrev pub is_from : List ℕ → List Field → Bool
 is_from source fields = option_map_or (λ name. bytes_eq name source) (source_of fields) false
 
--- the object that a paragraph is in a registry of this source, or the first of its faults
+-- the object that a paragraph is in a registry of this source, or the first of its faults (profile)
 unfoldable pub object_of : List Field → List ℕ → Result Obj ObjectFault
 object_of fields source =
     result_and_then (λ object. if is_from source fields then Ok object else Err OtherSource) (obj_of fields)

@@ -5,7 +5,7 @@ ghost use Rattle.std.specs.Prelude.{◌≡◌};
 use rr_number::Name;
 use std::marker::Model;
 
-/// Whose objects may say by `member-of` that they belong to a set (RFC 2622, 5.1).
+/// Whose objects may say by `member-of` that they belong to a set (RFC 2622, 5).
 #[derive(Debug, Drop)]
 pub struct ByRef {
     any: bool,

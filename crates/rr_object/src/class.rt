@@ -7,7 +7,7 @@ ghost use Rattle.rr_object.specs.Classes.{all_classes, class_name, class_named, 
 /// A class of objects. Classes are ordered by their numbers, as answers and dumps list them (profile).
 #[derive(Clone, Copy, Debug, PartialEq, Eq, PartialOrd, Ord)]
 pub enum Class {
-    /// A maintainer (RFC 2622, 3.1).
+    /// A maintainer (RFC 2622, 3).
     Mntner,
     /// A block of AS numbers (RFC 2725, 10; the form of its key is that of this profile).
     AsBlock,
@@ -17,9 +17,9 @@ pub enum Class {
     Inetnum,
     /// A route: a prefix and its origin (RFC 2622, 4).
     Route,
-    /// A set of autonomous systems (RFC 2622, 5.1).
+    /// A set of autonomous systems (RFC 2622, 5).
     AsSet,
-    /// A set of routes (RFC 2622, 5.2).
+    /// A set of routes (RFC 2622, 5).
     RouteSet,
 }
 

@@ -6,7 +6,7 @@ use rr_number::{Name, Range};
 use std::alloc::AllocError;
 use std::marker::Model;
 
-/// An entry of `mnt-routes`: a maintainer, and for which prefixes it may authorise routes (RFC 2725, 9.6).
+/// An entry of `mnt-routes`: a maintainer, and for which prefixes it may authorise routes (RFC 2725, 9).
 #[derive(Debug, Drop)]
 pub struct Grant {
     name: Name,

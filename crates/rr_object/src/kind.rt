@@ -8,23 +8,23 @@ use crate::class::Class;
 /// An attribute that is read, and not only kept as text.
 #[derive(Clone, Copy, Debug, PartialEq, Eq)]
 pub enum Kind {
-    /// The maintainers whose secrets a change needs (RFC 2622, 3.1).
+    /// The maintainers whose secrets a change needs (RFC 2622, 3).
     MntBy,
     /// The registry of the object (RFC 2622, 2).
     Source,
-    /// How a maintainer is recognised (RFC 2622, 3.1).
+    /// How a maintainer is recognised (RFC 2622, 3).
     Auth,
-    /// Whose secrets an object below needs (RFC 2725, 9.1).
+    /// Whose secrets an object below needs (RFC 2725, 9).
     MntLower,
-    /// Whose secrets a route needs (RFC 2725, 9.6).
+    /// Whose secrets a route needs (RFC 2725, 9).
     MntRoutes,
     /// The autonomous system that a route comes from (RFC 2622, 4).
     Origin,
-    /// The sets that an object asks to belong to (RFC 2622, 5.1).
+    /// The sets that an object asks to belong to (RFC 2622, 5).
     MemberOf,
-    /// The members of a set (RFC 2622, 5.1 and 5.2).
+    /// The members of a set (RFC 2622, 5).
     Members,
-    /// Whose objects may ask to belong to a set (RFC 2622, 5.1).
+    /// Whose objects may ask to belong to a set (RFC 2622, 5).
     MbrsByRef,
 }
 

@@ -33,11 +33,19 @@ fn main(rt: HostRuntime) -> ExitCode {
 
 /// The status of the program, after what it has to say on standard error. An error is a failed write there.
 fn run(rt: &HostRuntime) -> io::Result<u8> {
-    if env::args(rt)?.nth(1).is_some() {
-        eprintln!(rt;
-            "irrdesk: the program takes no words; it reads a submission on standard input"
-        )?;
-        return Ok(WRONG_WORDS);
+    match env::args(rt) {
+        Ok(mut words) => {
+            if words.nth(1).is_some() {
+                eprintln!(rt;
+                    "irrdesk: the program takes no words; it reads a submission on standard input"
+                )?;
+                return Ok(WRONG_WORDS);
+            }
+        }
+        Err(fault) => {
+            eprintln!(rt; "irrdesk: the words cannot be read: {fault}")?;
+            return Ok(FAILED);
+        }
     }
     let mut desk = match PlainDesk::new(rt.alloc()) {
         Ok(desk) => desk,

@@ -49,6 +49,9 @@ impl From<ObjectFault> for StartFault {
 
 impl From<LoadFault> for StartFault {
     fn from(fault: LoadFault) -> StartFault {
-        StartFault::Load(fault)
+        match fault {
+            LoadFault::Memory => StartFault::Memory,
+            fault => StartFault::Load(fault),
+        }
     }
 }

@@ -1,7 +1,7 @@
 -- Crossing has no direction, and nothing crosses itself.
-use Rattle.std.proofs.Common.{◌≡◌, ℕ, Bool, true, false, not, ◌&&◌, refl, arith}
+use Rattle.std.proofs.Common.{◌≡◌, false, refl, arith}
 use Rattle.std.proofs.lemmas.Grind.{common_steps}
-use Rattle.rr_number.specs.Spans.{Ends, covers, crosses}
+use Rattle.rr_number.specs.Spans.{Ends, crosses}
 use Rattle.rr_object.specs.declared.key.Key.{Key}
 use Rattle.rr_object.specs.declared.key.Key.TheVariants.{Mntner, AsBlock, AutNum, Inetnum, Route, AsSet, RouteSet}
 use Rattle.rr_auth.specs.Registries.{keys_cross}

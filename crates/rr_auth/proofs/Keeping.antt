@@ -1,6 +1,6 @@
 -- What is sound stays sound: additions, changes and deletions that are not refused.
-use Rattle.std.proofs.Common.{◌≡◌, ℕ, Bool, true, false, cond, not, ◌&&◌, ◌||◌, inl, inr, List, [], ◌∷◌, refl, sym, ap, subst, ◌∙◌}
-use Rattle.std.specs.Prelude.{Option, None, Some, is_none, is_some, if◌then◌else◌}
+use Rattle.std.proofs.Common.{◌≡◌, ℕ, Bool, true, false, cond, not, ◌&&◌, inl, inr, List, [], ◌∷◌, refl, sym, ap, subst, ◌∙◌}
+use Rattle.std.specs.Prelude.{None, Some, is_none, if◌then◌else◌}
 use Rattle.std.specs.List.{list_any}
 use Rattle.std.specs.Str.{bytes_eq}
 use Rattle.std.specs.Ordering.{eq_by_cmp}
@@ -11,7 +11,7 @@ use Rattle.rr_object.specs.declared.key.Key.{Key}
 use Rattle.rr_object.specs.declared.key.Key.TheVariants.{Mntner, AsBlock, AutNum, Inetnum, Route, AsSet, RouteSet}
 use Rattle.rr_object.specs.Objects.{Obj, names_of}
 use Rattle.rr_auth.specs.KeyOrder.{key_cmp}
-use Rattle.rr_auth.specs.Registries.{Reg, Sound, IsKey, is_mntner_of, maintainer, names_another, names_nobody, keys_cross, crosses_some, with_mntner, seen_by}
+use Rattle.rr_auth.specs.Registries.{Reg, Sound, IsKey, is_mntner_of, maintainer, names_another, names_nobody, keys_cross, crosses_some, with_mntner}
 use Rattle.rr_object.specs.declared.code.Code.{Code}
 use Rattle.rr_object.specs.declared.code.Code.TheVariants.{E10, E11, E12, E13, E14, E15, E16, E17, E18}
 use Rattle.rr_auth.specs.declared.item.Item.TheVariants.{Submit, Delete as DeleteItem}
@@ -22,7 +22,7 @@ use Rattle.rr_auth.specs.Paragraphs.{same_paragraph}
 use Rattle.rr_auth.specs.Conditions.{names_unknown, unauthorised, lacks_origin, origin_refuses, is_uncovered, cover_refuses, is_in_use}
 use Rattle.rr_auth.specs.Verdicts.{verdict, submission, addition, change, deletion, place}
 use Rattle.rr_auth.proofs.Crossing.{keys_cross_back, crosses_itself}
-use Rattle.rr_auth.proofs.KeyLaws.{keys_total, same_key, tied_key}
+use Rattle.rr_auth.proofs.KeyLaws.{keys_total, same_key}
 use Rattle.rr_auth.proofs.Members.{IsIn, found_in, none_passes}
 
 -- what stands in a registry after an addition: the new object under its key, and what stood elsewhere

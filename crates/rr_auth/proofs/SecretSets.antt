@@ -1,25 +1,25 @@
 -- A verdict is the same for lists of the same secrets.
 use Rattle.std.proofs.Common.{◌≡◌, ℕ, Bool, true, false, cond, not, ◌||◌, List, [], ◌∷◌, refl, sym, ap, ◌∙◌}
-use Rattle.std.specs.Prelude.{Option, None, Some, is_none, ◌&&◌}
+use Rattle.std.specs.Prelude.{Option, None, Some}
 use Rattle.std.specs.List.{list_any}
-use Rattle.std.specs.Option.{option_map_or, option_and_then}
+use Rattle.std.specs.Option.{option_map_or}
 use Rattle.std.specs.Str.{bytes_eq}
 use Rattle.std.specs.FinMap.{get}
 use Rattle.rr_number.specs.Prefixes.{PrefixParts, span_of}
 use Rattle.rr_number.specs.Parents.{parent_of}
-use Rattle.rr_object.specs.declared.code.Code.TheVariants.{E10, E11, E12, E13, E14, E15, E16, E17, E18}
+use Rattle.rr_object.specs.declared.code.Code.TheVariants.{E10, E11, E12, E13, E14, E15, E16, E17}
 use Rattle.rr_object.specs.declared.key.Key.{Key}
 use Rattle.rr_object.specs.declared.key.Key.TheVariants.{Mntner, AsBlock, AutNum, Inetnum, Route, AsSet, RouteSet}
 use Rattle.rr_object.specs.Objects.{Obj, names_of}
 use Rattle.rr_auth.specs.declared.item.Item.{Item}
 use Rattle.rr_auth.specs.declared.item.Item.TheVariants.{Submit, Delete as DeleteItem}
-use Rattle.rr_auth.specs.declared.verdict.Verdict.TheVariants.{Add, Change, Same, Delete, Refuse}
+use Rattle.rr_auth.specs.declared.verdict.Verdict.TheVariants.{Add, Change, Same, Delete}
 use Rattle.rr_auth.specs.Authority.{lower_of, routes_of}
 use Rattle.rr_auth.specs.Closest.{closest_inetnum, closest_block, closest_routes, origins}
 use Rattle.rr_auth.specs.Conditions.{names_unknown, lacks_origin, origin_refuses, is_uncovered, cover_refuses, space_passes, parent_object, parent_refuses, is_in_use}
 use Rattle.rr_auth.specs.Laws.{SameSecrets}
 use Rattle.rr_auth.specs.Paragraphs.{same_paragraph}
-use Rattle.rr_auth.specs.Passing.{fits, fits_line, passes}
+use Rattle.rr_auth.specs.Passing.{fits_line, passes}
 use Rattle.rr_auth.specs.Registries.{Reg, maintainer, names_nobody, seen_by, crosses_some}
 use Rattle.rr_auth.specs.Verdicts.{first_of, place, submission, deletion, verdict}
 use Rattle.std.proofs.lemmas.Slice.Eq.{bytes_eq-Decides}

@@ -1,6 +1,5 @@
 -- What a step keeps.
 use Rattle.std.proofs.Common.{◌≡◌, ℕ, List, refl, ap}
-use Rattle.std.specs.FinMap.{insert, remove}
 use Rattle.rr_object.specs.declared.code.Code.{Code}
 use Rattle.rr_auth.specs.declared.item.Item.{Item}
 use Rattle.rr_auth.specs.declared.item.Item.TheVariants.{Submit, Delete as DeleteItem}

@@ -4,7 +4,7 @@ use Rattle.std.specs.List.{list_any}
 use Rattle.rr_number.specs.Prefixes.{PrefixParts}
 use Rattle.rr_number.specs.Ranges.{admits}
 use Rattle.rr_object.specs.declared.key.Key.{Key}
-use Rattle.rr_object.specs.declared.key.Key.TheVariants.{Mntner, AsBlock, AutNum, Inetnum, Route, AsSet, RouteSet}
+use Rattle.rr_object.specs.declared.key.Key.TheVariants.{AutNum}
 use Rattle.rr_object.specs.Parts.{GrantParts}
 use Rattle.rr_object.specs.Objects.{Obj}
 

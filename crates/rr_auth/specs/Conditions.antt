@@ -1,9 +1,8 @@
 -- The conditions under which an item is refused, each over the registry, the secrets and the key or object.
-use Rattle.std.specs.Prelude.{ℕ, Bool, true, false, not, ◌&&◌, List, Option, None, Some, is_none}
+use Rattle.std.specs.Prelude.{ℕ, Bool, false, not, ◌&&◌, List, Option, None, Some, is_none}
 use Rattle.std.specs.List.{list_any}
 use Rattle.std.specs.Option.{option_map_or, option_and_then}
 use Rattle.std.specs.FinMap.{get}
-use Rattle.rr_number.specs.Spans.{Ends}
 use Rattle.rr_number.specs.Prefixes.{PrefixParts, span_of}
 use Rattle.rr_number.specs.Parents.{parent_of}
 use Rattle.rr_number.specs.declared.set_name.parent.Parent.{Parent}
@@ -11,7 +10,7 @@ use Rattle.rr_number.specs.declared.set_name.parent.Parent.TheVariants.{Number, 
 use Rattle.rr_object.specs.declared.key.Key.{Key}
 use Rattle.rr_object.specs.declared.key.Key.TheVariants.{Mntner, AsBlock, AutNum, Inetnum, Route, AsSet, RouteSet}
 use Rattle.rr_object.specs.Objects.{Obj, names_of}
-use Rattle.rr_auth.specs.Registries.{Reg, names_nobody, seen_by, crosses_some, is_named}
+use Rattle.rr_auth.specs.Registries.{Reg, names_nobody, seen_by, is_named}
 use Rattle.rr_auth.specs.Closest.{closest_inetnum, closest_block, closest_routes, origins}
 use Rattle.rr_auth.specs.Passing.{passes}
 use Rattle.rr_auth.specs.Authority.{lower_of, routes_of}

@@ -3,8 +3,6 @@ use Rattle.std.specs.Prelude.{◌≡◌, ℕ, List}
 use Rattle.std.specs.List.{list_any}
 use Rattle.std.specs.Str.{bytes_eq}
 use Rattle.rr_object.specs.declared.code.Code.{Code}
-use Rattle.rr_object.specs.declared.key.Key.{Key}
-use Rattle.rr_object.specs.Objects.{Obj}
 use Rattle.rr_auth.specs.declared.item.Item.{Item}
 use Rattle.rr_auth.specs.declared.item.Item.TheVariants.{Submit, Delete}
 use Rattle.rr_auth.specs.declared.verdict.Verdict.TheVariants.{Refuse}

@@ -1,5 +1,5 @@
 -- When two objects have the same canonical text.
-use Rattle.std.specs.Prelude.{ℕ, Bool, ◌==◌, ◌&&◌, List, length}
+use Rattle.std.specs.Prelude.{Bool, ◌==◌, ◌&&◌, List, length}
 use Rattle.std.specs.List.{list_all, zip}
 use Rattle.std.specs.Str.{bytes_eq}
 use Rattle.rr_text.specs.Fields.{Field}

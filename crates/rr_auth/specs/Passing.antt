@@ -1,5 +1,5 @@
 -- Which maintainers' names pass with a set of secrets.
-use Rattle.std.specs.Prelude.{ℕ, Bool, false, ◌++◌, List, Option}
+use Rattle.std.specs.Prelude.{ℕ, Bool, false, ◌++◌, List}
 use Rattle.std.specs.List.{list_any}
 use Rattle.std.specs.Option.{option_map_or}
 use Rattle.std.specs.Str.{bytes_eq}

@@ -1,5 +1,5 @@
 -- What is read of a paragraph is what it asks.
-use Rattle.std.proofs.Common.{◌≡◌, ◌≢◌, ℕ, Bool, true, false, List, refl, ap, sym, ◌∙◌, inl, inr, Some, None, Ok, Err}
+use Rattle.std.proofs.Common.{◌≡◌, ◌≢◌, ℕ, List, refl, inl, inr, Some, Ok, Err}
 use Rattle.std.specs.Prelude.{◌⊎◌, Result}
 use Rattle.rr_text.specs.Fields.{Field}
 use Rattle.rr_object.specs.declared.code.Code.{Code}
@@ -11,7 +11,7 @@ use Rattle.rr_object.specs.Faults.{code_of}
 use Rattle.rr_object.specs.KeySpellings.{key_of}
 use Rattle.rr_auth.specs.declared.item.Item.{Item}
 use Rattle.rr_desk.specs.SubmissionTexts.{own_fields, asks_deletion}
-use Rattle.rr_desk.specs.Requests.{IsRequest, LacksMemory, unread, action_of, request_of, request_of_key}
+use Rattle.rr_desk.specs.Requests.{IsRequest, unread, action_of, request_of}
 
 -- with a key that was read
 pub IsRequest-at_key : (source : List ℕ) (fields own : List Field) (key : Key) (action : Result Item Code) → own ≡ own_fields fields → key_of own ≡ Ok key →

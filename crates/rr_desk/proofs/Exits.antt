@@ -1,6 +1,6 @@
 -- How a submission ends.
-use Rattle.std.proofs.Common.{◌≡◌, ◌≢◌, ℕ, List, [], ◌++◌, length, refl, ap, sym, ◌∙◌, inl, inr, Ok, Err}
-use Rattle.std.specs.Prelude.{Result, ◌⊎◌}
+use Rattle.std.proofs.Common.{◌≢◌, ℕ, List, [], ◌++◌, refl, inl, inr, Ok, Err}
+use Rattle.std.specs.Prelude.{Result}
 use Rattle.std.proofs.lemmas.List.{append-nil}
 use Rattle.rr_io.specs.Told.{Told}
 use Rattle.rr_io.specs.Receiving.{Reads}
@@ -8,9 +8,7 @@ use Rattle.rr_io.specs.Sending.{Takes, TakesFront, TakesSome, Writes}
 use Rattle.rr_io.specs.declared.receiving.ReadEnd.{ReadEnd}
 use Rattle.rr_io.specs.declared.receiving.ReadEnd.TheVariants.{Whole, Broken, Endless}
 use Rattle.rr_io.proofs.Transfers.{Takes-then, TakesFront-then}
-use Rattle.rr_text.specs.Entries.{entries}
 use Rattle.rr_text.specs.WholePart.{whole_part}
-use Rattle.rr_auth.specs.Registries.{Reg}
 use Rattle.rr_desk.specs.declared.ending.Ending.TheVariants.{Complete, ReadFault}
 use Rattle.rr_desk.specs.declared.submission.Done.{Done}
 use Rattle.rr_desk.specs.Endings.{last_line}

@@ -1,6 +1,6 @@
 -- How far a submission has come.
-use Rattle.std.proofs.Common.{◌≡◌, ◌≢◌, ℕ, ◌+◌, ◌<◌, ◌≤◌, Bool, true, false, List, [], ◌∷◌, ◌++◌, length, cond, refl, ap, sym, ◌∙◌, inl, inr, append_assoc, length-append, Ok, Err, arith, drop, suc, zero-add}
-use Rattle.std.specs.Prelude.{Result, count_by}
+use Rattle.std.proofs.Common.{◌≡◌, ℕ, ◌+◌, ◌<◌, ◌≤◌, Bool, true, false, List, [], ◌∷◌, ◌++◌, length, cond, refl, ap, sym, ◌∙◌, inl, append_assoc, length-append, Ok, Err, arith, drop, suc, zero-add}
+use Rattle.std.specs.Prelude.{Result}
 use Rattle.std.proofs.lemmas.List.Sums.{sum_by-append}
 use Rattle.std.proofs.lemmas.List.{append-nil}
 use Rattle.rr_io.specs.Told.{Told}
@@ -11,7 +11,6 @@ use Rattle.rr_text.specs.Fields.{Field}
 use Rattle.rr_text.specs.declared.fault.TextFault.{TextFault}
 use Rattle.rr_auth.specs.Registries.{Reg}
 use Rattle.rr_registry.specs.declared.outcome.Outcome.{Outcome}
-use Rattle.rr_registry.specs.declared.outcome.Outcome.TheVariants.{Added, Changed, Same, Deleted, Refused}
 use Rattle.rr_desk.specs.declared.submission.Done.{Done}
 use Rattle.rr_desk.specs.declared.request.Request.{Request}
 use Rattle.rr_desk.specs.SubmissionTexts.{is_secrets_alone, secrets_of}

@@ -1,8 +1,8 @@
 -- Texts written one after the other.
-use Rattle.std.proofs.Common.{◌≡◌, ℕ, List, ◌++◌, Ok, Err}
+use Rattle.std.proofs.Common.{ℕ, List, ◌++◌, Ok, Err}
 use Rattle.std.specs.Prelude.{Result}
 use Rattle.rr_io.specs.Told.{Told}
-use Rattle.rr_io.specs.Sending.{Takes, TakesFront, Writes}
+use Rattle.rr_io.specs.Sending.{Takes, Writes}
 use Rattle.rr_io.proofs.Transfers.{Takes-then, TakesFront-then}
 
 -- a writing after one that went well

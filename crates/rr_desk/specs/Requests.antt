@@ -1,5 +1,5 @@
 -- What a paragraph of a submission asks (profile).
-use Rattle.std.specs.Prelude.{◌≡◌, ℕ, Bool, true, false, List, Option, Some, None, Result, Ok, Err, IfSome, ◌⊎◌}
+use Rattle.std.specs.Prelude.{◌≡◌, ℕ, Bool, true, false, List, Some, None, Result, Ok, Err, IfSome, ◌⊎◌}
 use Rattle.rr_text.specs.Fields.{Field}
 use Rattle.rr_text.specs.declared.fault.TextFault.{TextFault}
 use Rattle.rr_text.specs.declared.fault.TextFault.TheVariants.{TooLarge, BadByte, FirstContinues, NoColon, BadName, Memory}

@@ -3,7 +3,6 @@ use Rattle.std.proofs.Common.{◌≡◌, ℕ, suc, ◌+◌, ◌≤◌, length, B
 use Rattle.std.specs.Prelude.{Option, None, Some, is_some, is_none, find, position, nat_lt, if◌then◌else◌}
 use Rattle.std.specs.List.{list_any, position_or_len}
 use Rattle.std.proofs.lemmas.Bool.{true≢false, lt-ltb, le-ltb, ltb-false}
-use Rattle.std.proofs.lemmas.Grind.{common_steps}
 use Rattle.std.specs.Option.{option_copied, option_map, option_or}
 use Rattle.std.specs.Borrow.{Bor}
 use Rattle.std.specs.Ordering.{eq_by_cmp}
@@ -12,7 +11,7 @@ use Rattle.rr_object.specs.declared.key.Key.{Key}
 use Rattle.rr_object.specs.declared.key.Key.TheVariants.{Mntner}
 use Rattle.rr_object.specs.Objects.{Obj, names_of}
 use Rattle.rr_auth.specs.KeyOrder.{key_cmp}
-use Rattle.rr_auth.specs.Registries.{Reg, Sound, IsKey, maintainer, names_nobody, keys_cross, crosses_some, is_mntner_of}
+use Rattle.rr_auth.specs.Registries.{Reg, IsKey, maintainer, names_nobody, keys_cross, crosses_some, is_mntner_of}
 use Rattle.rr_auth.proofs.KeyLaws.{keys_total}
 use Rattle.rr_auth.proofs.Crossing.{keys_cross_back, crosses_itself}
 use Rattle.rr_auth.proofs.Members.{IsIn, found_in, none_passes}
@@ -20,7 +19,7 @@ use Rattle.rr_auth.proofs.Keeping.{after_insert}
 use Rattle.rr_registry.specs.Books.{book_of, is_in_order, put_in, IsBook}
 use Rattle.rr_registry.specs.Loading.{gathered, clash, clash_of, load_fault, unnamed, IsApart, IsTakenIn, IsGathered}
 use Rattle.rr_registry.specs.declared.load.LoadFault.{LoadFault}
-use Rattle.rr_registry.specs.declared.load.LoadFault.TheVariants.{Duplicate, Overlap, Unnamed, Memory}
+use Rattle.rr_registry.specs.declared.load.LoadFault.TheVariants.{Duplicate, Overlap, Unnamed}
 use Rattle.rr_registry.proofs.Order.{book_put, by_name, empty_book, get_of_book, in_order_put, values_of_book}
 
 -- no objects are apart

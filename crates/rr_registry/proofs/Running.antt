@@ -1,5 +1,5 @@
 -- Runs one after the other.
-use Rattle.std.proofs.Common.{◌≡◌, ℕ, List, [], ◌∷◌, ◌++◌, refl, sym, subst, arith}
+use Rattle.std.proofs.Common.{List, [], ◌∷◌, ◌++◌, refl, subst}
 use Rattle.rr_auth.specs.Registries.{Reg}
 use Rattle.rr_registry.specs.Runs.{Run, IsStep}
 use Rattle.rr_registry.specs.declared.outcome.Outcome.{Outcome}

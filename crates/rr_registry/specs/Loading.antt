@@ -1,5 +1,5 @@
 -- When a list of objects is a sound registry, and what else is the matter with it.
-use Rattle.std.specs.Prelude.{◌≡◌, ℕ, ◌+◌, Bool, true, false, ◌⊎◌, List, [], ◌∷◌, Option, None, Some, position, if◌then◌else◌}
+use Rattle.std.specs.Prelude.{◌≡◌, ℕ, ◌+◌, true, false, ◌⊎◌, List, [], ◌∷◌, Option, None, Some, position, if◌then◌else◌}
 use Rattle.std.specs.Option.{option_map, option_or}
 use Rattle.std.specs.FinMap.{contains_key, empty, get, insert}
 use Rattle.rr_object.specs.declared.key.Key.{Key}

@@ -1,4 +1,4 @@
-use Rattle.std.proofs.Common.{◌≡◌, ◌≤◌, ◌∙◌, sym, arith, rules}
+use Rattle.std.proofs.Common.{◌≤◌, ◌∙◌, sym, arith}
 use Rattle.rr_desk.specs.Submitted.AreItems.{at_end, asked, unread_for_memory}
 use Rattle.rr_desk.proofs.Passing.{Passes-alone, AreItems-faulty}
 use Rattle.rr_desk.proofs.items.next_item.Goals as goal

@@ -1,4 +1,4 @@
-use Rattle.std.proofs.Common.{◌≡◌, ◌+◌, ◌∙◌, ap, sym, append_assoc, ◌++◌, ◌∷◌, [], List, ℕ, drop}
+use Rattle.std.proofs.Common.{◌+◌, ◌∙◌, ap, sym, append_assoc, ◌++◌, ◌∷◌, [], List, ℕ, drop}
 use Rattle.rr_desk.specs.SubmissionTexts.{secrets_of}
 use Rattle.rr_desk.proofs.Giving.{secrets_of-next}
 use Rattle.rr_desk.proofs.items.own_secrets.Goals as goal

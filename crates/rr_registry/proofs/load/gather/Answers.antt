@@ -1,7 +1,6 @@
-use Rattle.std.proofs.Common.{◌≡◌, ◌+◌, ◌<◌, ◌^◌, length, ap, arith, rules}
-use Rattle.std.specs.Vec.{vec_len}
+use Rattle.std.proofs.Common.{◌≡◌, length, arith, rules}
 use Rattle.std.specs.Vec.Iter.{into_iter_items, into_iter_len}
-use Rattle.rr_registry.proofs.Gathering.{IsStart, start}
+use Rattle.rr_registry.proofs.Gathering.{start}
 use Rattle.rr_registry.proofs.load.gather.Goals as goal
 
 pub loop-object-init : goal.loop-object-init

@@ -1,4 +1,4 @@
-use Rattle.std.proofs.Common.{◌≡◌, ◌++◌, ◌||◌, ℕ, Bool, List, false, sym, ap, ◌∙◌}
+use Rattle.std.proofs.Common.{◌≡◌, ◌++◌, ◌||◌, ℕ, List, false, sym, ap, ◌∙◌}
 use Rattle.std.specs.Prelude.{find, is_none}
 use Rattle.std.specs.List.{list_any}
 use Rattle.rr_auth.specs.Registries.{is_mntner_of}

@@ -1,5 +1,5 @@
-use Rattle.std.proofs.Common.{◌≡◌, sym, ap, ◌∙◌, inr}
-use Rattle.rr_registry.proofs.Gathering.{gathered_is_book, found_fault, fault_after, first_place}
+use Rattle.std.proofs.Common.{sym, ◌∙◌, inr}
+use Rattle.rr_registry.proofs.Gathering.{gathered_is_book, found_fault, fault_after}
 use Rattle.rr_registry.proofs.registry.Registry.from_objects.Goals as goal
 
 pub of-requires : goal.of-requires

@@ -1,16 +1,16 @@
 -- The kind of a set's name, and letter case.
-use Rattle.std.proofs.Common.{◌≡◌, ◌⊎◌, ⊎_elim, inl, inr, ℕ, Bool, true, false, ◌&&◌, ◌||◌, cond, List, [], ◌∷◌, Some, None, Option, length, map, drop, take, refl, ap, sym, ◌∙◌, subst, arith}
+use Rattle.std.proofs.Common.{◌≡◌, ◌⊎◌, ⊎_elim, inl, inr, ℕ, Bool, true, false, ◌&&◌, ◌||◌, cond, List, [], ◌∷◌, Some, None, Option, length, map, refl, ap, sym, ◌∙◌, subst, arith}
 use Rattle.std.proofs.lemmas.Bool.{and_parts, both_ways, or_cases}
 use Rattle.std.proofs.lemmas.Bool.Decides.{nat_tests}
 use Rattle.std.proofs.lemmas.List.{length-map}
 use Rattle.std.specs.Char.{to_ascii_uppercase}
 use Rattle.std.specs.Fmt.{decimal}
 use Rattle.std.specs.List.{list_all, list_any, starts_with}
-use Rattle.std.specs.Prelude.{codes, is_some, nat_eq, nat_le, not}
+use Rattle.std.specs.Prelude.{is_some, nat_eq, nat_le}
 use Rattle.std.specs.Str.{all_ascii_digits}
-use Rattle.rr_number.specs.AsNumbers.{as_number_of, as_number_text, IsAsNumber}
-use Rattle.rr_number.specs.Names.{upper, is_name, is_reserved}
-use Rattle.rr_number.specs.SetNames.{component_text, components, has_prefix, is_any_set, is_as_number, is_component, is_name_of_kind, is_set_name, is_set_word, kind_of, prefix_of, set_name_of, set_text, IsSetText}
+use Rattle.rr_number.specs.AsNumbers.{as_number_of, IsAsNumber}
+use Rattle.rr_number.specs.Names.{upper, is_name}
+use Rattle.rr_number.specs.SetNames.{component_text, components, is_any_set, is_as_number, is_component, is_name_of_kind, is_set_name, is_set_word, kind_of, prefix_of, set_name_of, set_text, IsSetText}
 use Rattle.rr_number.specs.declared.set_kind.SetKind.{SetKind}
 use Rattle.rr_number.specs.declared.set_kind.SetKind.TheVariants.{AsSet, RouteSet}
 use Rattle.rr_number.proofs.AsNumberLemmas.{as_number_of-bound, as_number_of-spelled, IsAsNumber-printed}

@@ -1,4 +1,4 @@
-use Rattle.std.proofs.Common.{◌↔◌, List, Contains, IsTrue, subst, sym}
+use Rattle.std.proofs.Common.{◌↔◌, List, Contains, IsTrue, subst}
 use Rattle.std.proofs.lemmas.Result.{IfOk-weaker}
 use Rattle.rr_number.specs.Ranges.{RangeParts}
 use Rattle.rr_object.specs.Objects.{Obj}

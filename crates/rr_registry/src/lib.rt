@@ -19,4 +19,4 @@ pub use registry::Registry;
 pub use run::Submitted;
 
 #[cfg(test)]
-mod route_set_tests;
+mod expansion_tests;

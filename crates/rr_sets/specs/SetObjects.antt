@@ -33,10 +33,10 @@ number_of_key (AsSet name) = None
 number_of_key (RouteSet name) = None
 
 -- The set takes the object's word that it belongs to it: `mbrs-by-ref` lists `ANY` or a maintainer in its `mnt-by`
--- (RFC 2622, 5.1).
+-- (RFC 2622, 5).
 abbrev pub takes : ByRefParts → Obj → Bool
 takes by_ref object = by_ref.any || list_any (λ name. list_any (λ maintainer. bytes_eq maintainer name) object.maintainers) by_ref.names
 
--- The name of the set of every registered AS (RFC 2622, 5.1).
+-- The name of the set of every registered AS (RFC 2622, 5).
 abbrev pub as_any : List ℕ
 as_any = codes "AS-ANY"

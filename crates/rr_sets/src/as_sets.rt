@@ -22,7 +22,7 @@ use std::alloc::{AllocError, Global};
 use std::collections::BTreeSet;
 
 /// Lists the AS numbers that an as-set stands for: those that it and the sets that it reaches by their `members` list
-/// or have by `mbrs-by-ref`; those of `AS-ANY` are all that are registered (RFC 2622, 5.1). The names of sets reached
+/// or have by `mbrs-by-ref`; those of `AS-ANY` are all that are registered (RFC 2622, 5). The names of sets reached
 /// that are neither registered nor `AS-ANY` are missing.
 ///
 /// The fault is `NoSuchSet` where the name itself is such a one, else `TooMany` exactly where more than `limit` names

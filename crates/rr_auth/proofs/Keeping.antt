@@ -10,7 +10,7 @@ use Rattle.std.proofs.lemmas.Bool.{or_parts, false_from_ne_true, true≢false}
 use Rattle.rr_object.specs.declared.key.Key.{Key}
 use Rattle.rr_object.specs.declared.key.Key.TheVariants.{Mntner, AsBlock, AutNum, Inetnum, Route, AsSet, RouteSet}
 use Rattle.rr_object.specs.Objects.{Obj, names_of}
-use Rattle.rr_auth.specs.KeyOrder.{key_cmp}
+use Rattle.rr_object.specs.KeyOrders.{key_cmp}
 use Rattle.rr_auth.specs.Registries.{Reg, Sound, IsKey, is_mntner_of, maintainer, names_another, names_nobody, keys_cross, crosses_some, with_mntner}
 use Rattle.rr_object.specs.declared.code.Code.{Code}
 use Rattle.rr_object.specs.declared.code.Code.TheVariants.{E10, E11, E12, E13, E14, E15, E16, E17, E18}

@@ -11,7 +11,7 @@ use Rattle.rr_object.specs.Classes.{class_number}
 use Rattle.rr_object.specs.Keys.{class_of}
 use Rattle.rr_object.specs.declared.key.Key.{Key}
 use Rattle.rr_object.specs.declared.key.Key.TheVariants.{Mntner, AsBlock, AutNum, Inetnum, Route, AsSet, RouteSet}
-use Rattle.rr_auth.specs.KeyOrder.{key_cmp, words_of}
+use Rattle.rr_object.specs.KeyOrders.{key_cmp, words_of}
 
 pub keys_total : IsTotalOrder key_cmp
 keys_total = then_total (on_total (λ k. class_number (class_of k)) nat_cmp_total) (on_total words_of nat_list_cmp_total)

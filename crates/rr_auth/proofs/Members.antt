@@ -7,7 +7,7 @@ use Rattle.std.specs.FinMap.{get, entries, values, get-entries, find as find_ent
 use Rattle.std.proofs.lemmas.Bool.{or_parts}
 use Rattle.rr_object.specs.declared.key.Key.{Key}
 use Rattle.rr_object.specs.Objects.{Obj}
-use Rattle.rr_auth.specs.KeyOrder.{key_cmp}
+use Rattle.rr_object.specs.KeyOrders.{key_cmp}
 use Rattle.rr_auth.specs.Registries.{Reg}
 
 -- x is an element of the list

@@ -1,7 +1,6 @@
 pub mod Authority
 pub mod Closest
 pub mod Conditions
-pub mod KeyOrder
 pub mod Laws
 pub mod Paragraphs
 pub mod Passing

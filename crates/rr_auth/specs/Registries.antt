@@ -8,7 +8,7 @@ use Rattle.rr_number.specs.Prefixes.{IsMasked}
 use Rattle.rr_object.specs.declared.key.Key.{Key}
 use Rattle.rr_object.specs.declared.key.Key.TheVariants.{Mntner, AsBlock, AutNum, Inetnum, Route, AsSet, RouteSet}
 use Rattle.rr_object.specs.Objects.{Obj, names_of}
-use Rattle.rr_auth.specs.KeyOrder.{key_cmp}
+use Rattle.rr_object.specs.KeyOrders.{key_cmp}
 
 -- A registry has at most one object of a class and key.
 abbrev pub Reg : Type 0

@@ -8,6 +8,8 @@ mod loading_tests;
 mod plain_desk;
 mod start_fault;
 #[cfg(test)]
+mod stream_tests;
+#[cfg(test)]
 mod tests;
 
 use plain_desk::PlainDesk;

@@ -1,9 +1,10 @@
+pub mod ClassMembers
 pub mod Cutting
+pub mod DerivedOrder
 pub mod Digits
-pub mod KeysByBytes
 pub mod Faulted
 pub mod GrantSpellings
+pub mod KeysByBytes
 pub mod Listed
-pub mod ClassMembers
 pub mod Maintained
 pub mod Parsed

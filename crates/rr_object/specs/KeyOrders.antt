@@ -1,5 +1,5 @@
 -- The bounds of keys, and how their order goes with their bytes.
-use Rattle.std.specs.Prelude.{◌≡◌, ℕ, ◌≤◌}
+use Rattle.std.specs.Prelude.{◌≡◌, ℕ, ◌≤◌, List, [], ◌∷◌}
 use Rattle.std.specs.declared.cmp.Ordering.{Ordering}
 use Rattle.std.specs.Ordering.{ordering_then, nat_cmp}
 use Rattle.std.specs.Cmp.Lexicographic.{slice_cmp}
@@ -29,6 +29,21 @@ IsKeyValue (Inetnum span) = IsSpan span
 IsKeyValue (Route prefix origin) = IsRoute prefix origin
 IsKeyValue (AsSet name) = IsSetText name
 IsKeyValue (RouteSet name) = IsSetText name
+
+-- a key as numbers: the ends of a span, the parts of a route, the bytes of a name
+abbrev pub words_of : Key → List ℕ
+words_of (Mntner n) = n
+words_of (AsBlock s) = s.first ∷ (s.last ∷ [])
+words_of (AutNum n) = n ∷ []
+words_of (Inetnum s) = s.first ∷ (s.last ∷ [])
+words_of (Route p n) = p.address ∷ (p.length ∷ (n ∷ []))
+words_of (AsSet n) = n
+words_of (RouteSet n) = n
+
+-- keys in the order of a registry: by the class's number, then by these numbers as in a dictionary (profile)
+abbrev pub key_cmp : Key → Key → Ordering
+key_cmp a b =
+    ordering_then (nat_cmp (class_number (class_of a)) (class_number (class_of b))) (slice_cmp nat_cmp (words_of a) (words_of b))
 
 -- keys in the order of answers and dumps: by the number of the class, then by the bytes as in a dictionary (profile)
 abbrev pub class_and_bytes_cmp : Key → Key → Ordering

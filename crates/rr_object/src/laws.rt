@@ -4,7 +4,7 @@ ghost use Rattle.std.specs.Prelude.{◌≡◌, ◌<◌, List, Ok, length, ℕ};
 ghost use Rattle.rr_text.specs.Fields.{Field};
 ghost use Rattle.rr_object.specs.FirstFaults.{FirstFaultIsTold, ObjectsSayTheirParagraphs};
 ghost use Rattle.rr_object.specs.GrantTexts.{ReadGrantsAreSpelled, SpelledGrantsAreRead};
-ghost use Rattle.rr_object.specs.KeyOrders.{BytesTellKeys, IsKeyValue, class_and_bytes_cmp};
+ghost use Rattle.rr_object.specs.KeyOrders.{BytesTellKeys, IsKeyValue, class_and_bytes_cmp, key_cmp};
 ghost use Rattle.rr_object.specs.KeySpellings.{key_of};
 ghost use Rattle.rr_object.specs.KeyTexts.{key_bytes};
 ghost use Rattle.rr_object.specs.Keys.{class_of};
@@ -39,6 +39,12 @@ pub fn an_object_has_its_paragraphs_key()
 /// An object has a maintainer.
 pub fn an_object_has_a_maintainer()
     ensures { (fields : List Field) (object : Obj) → obj_of fields ≡ Ok object → 0 < length object.maintainers }
+{}
+
+/// Keys are ordered by the numbers of their classes, then by their parts.
+#[tactic(auto, using(crate::proofs::DerivedOrder::derived_order))]
+pub fn keys_compare_by_their_parts()
+    ensures { (a b : keys.Key) → ⟦<Key as Ord>⟧.cmp a b ≡ key_cmp a b }
 {}
 
 /// Keys are ordered by the numbers of their classes, then by their bytes, and two keys of a class have equal bytes only

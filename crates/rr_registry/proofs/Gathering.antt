@@ -10,7 +10,7 @@ use Rattle.std.specs.FinMap.{contains_key, empty, get, insert, values, get-inser
 use Rattle.rr_object.specs.declared.key.Key.{Key}
 use Rattle.rr_object.specs.declared.key.Key.TheVariants.{Mntner}
 use Rattle.rr_object.specs.Objects.{Obj, names_of}
-use Rattle.rr_auth.specs.KeyOrder.{key_cmp}
+use Rattle.rr_object.specs.KeyOrders.{key_cmp}
 use Rattle.rr_auth.specs.Registries.{Reg, IsKey, maintainer, names_nobody, keys_cross, crosses_some, is_mntner_of}
 use Rattle.rr_auth.proofs.KeyLaws.{keys_total}
 use Rattle.rr_auth.proofs.Crossing.{keys_cross_back, crosses_itself}

@@ -1,4 +1,4 @@
-pub mod DerivedOrder
+pub mod Crossing
 pub mod Gathering
 pub mod Names
 pub mod Order

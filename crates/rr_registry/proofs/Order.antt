@@ -10,7 +10,7 @@ use Rattle.std.specs.Cmp.{eq_by_cmp_equiv}
 use Rattle.rr_object.specs.declared.key.Key.{Key}
 use Rattle.rr_object.specs.declared.key.Key.TheVariants.{Mntner, AsBlock, AutNum, Inetnum, Route, AsSet, RouteSet}
 use Rattle.rr_object.specs.Objects.{Obj}
-use Rattle.rr_auth.specs.KeyOrder.{key_cmp}
+use Rattle.rr_object.specs.KeyOrders.{key_cmp}
 use Rattle.rr_auth.specs.Registries.{Reg, Sound, maintainer, is_mntner_of}
 use Rattle.rr_auth.proofs.KeyLaws.{keys_total, keys_exact, same_key}
 use Rattle.rr_auth.proofs.Seen.{mntners_tie}

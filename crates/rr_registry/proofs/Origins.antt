@@ -13,7 +13,7 @@ use Rattle.rr_number.specs.Prefixes.{PrefixParts}
 use Rattle.rr_object.specs.declared.key.Key.{Key}
 use Rattle.rr_object.specs.declared.key.Key.TheVariants.{Mntner, AsBlock, AutNum, Inetnum, Route, AsSet, RouteSet}
 use Rattle.rr_object.specs.Objects.{Obj}
-use Rattle.rr_auth.specs.KeyOrder.{key_cmp}
+use Rattle.rr_object.specs.KeyOrders.{key_cmp}
 use Rattle.rr_auth.specs.Closest.{origin_at, origins_among, same_prefix}
 use Rattle.rr_registry.specs.Books.{entry, is_in_order}
 

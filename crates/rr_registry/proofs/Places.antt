@@ -15,7 +15,7 @@ use Rattle.std.specs.Ordering.{eq_by_cmp, is_gt, is_eq, is_lt, ordering_reverse}
 use Rattle.std.specs.FinMap.Entries.{by_order}
 use Rattle.rr_object.specs.declared.key.Key.{Key}
 use Rattle.rr_object.specs.Objects.{Obj}
-use Rattle.rr_auth.specs.KeyOrder.{key_cmp}
+use Rattle.rr_object.specs.KeyOrders.{key_cmp}
 use Rattle.rr_registry.specs.Books.{entry, is_in_order, put_in, place_of, stands_at}
 
 -- one place further

@@ -13,7 +13,7 @@ use Rattle.std.proofs.lemmas.List.Elements.{Contains-get_or}
 use Rattle.std.proofs.lemmas.List.Kept.{AllPairs-cons, AllPairs-filter}
 use Rattle.std.proofs.lemmas.Slice.Eq.{bytes_eq-Decides}
 use Rattle.rr_auth.proofs.KeyLaws.{keys_total}
-use Rattle.rr_auth.specs.KeyOrder.{key_cmp}
+use Rattle.rr_object.specs.KeyOrders.{key_cmp}
 use Rattle.rr_auth.specs.Registries.{Reg, Sound}
 use Rattle.rr_graph.proofs.Listings.{Contains-cons_cases}
 use Rattle.rr_graph.proofs.Lists.{Contains-head, Contains-later, Contains-map, Contains-nil}

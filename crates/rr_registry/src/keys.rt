@@ -2,14 +2,14 @@
 
 ghost use Rattle.std.specs.Prelude.{◌≡◌};
 ghost use Rattle.std.specs.Ordering.{eq_by_cmp};
-ghost use Rattle.rr_auth.specs.KeyOrder.{key_cmp};
+ghost use Rattle.rr_object.specs.KeyOrders.{key_cmp};
 ghost use Rattle.rr_auth.specs.Registries.{IsKey};
 
 use rr_object::Key;
 use std::cmp::Ordering;
 
 /// The order of keys: by class, then by key.
-#[tactic(auto, using(crate::proofs::DerivedOrder::derived_order))]
+#[tactic(auto, using(rr_object::proofs::DerivedOrder::derived_order))]
 pub(crate) fn compare(key: &Key, other: &Key) -> Ordering
     ensures { result ≡ key_cmp key.now other.now }
 {

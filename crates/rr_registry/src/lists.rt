@@ -6,9 +6,10 @@ ghost use Rattle.std.specs.Option.{option_copied};
 ghost use Rattle.std.specs.Ordering.{eq_by_cmp, is_gt};
 ghost use Rattle.std.specs.Str.{bytes_eq};
 ghost use Rattle.rr_object.specs.Objects.{names_of};
-ghost use Rattle.rr_auth.specs.KeyOrder.{key_cmp};
+ghost use Rattle.rr_object.specs.KeyOrders.{key_cmp};
 ghost use Rattle.rr_auth.specs.Registries.{is_mntner_of, keys_cross, names_another};
 ghost use Rattle.rr_auth.specs.Closest.{origin_at, origins_among, same_prefix};
+ghost use Rattle.rr_registry.specs.Classes.{is_span};
 ghost use Rattle.rr_registry.specs.Books.{is_in_order, place_of, put_in, stands_at};
 
 use crate::keys::{compare, is_same};
@@ -90,7 +91,14 @@ fn is_mntner_of(key: &Key, name: &Name) -> bool
 pub(crate) fn some_crosses(objects: &[Object], key: &Key) -> bool
     ensures { result ≡ list_any (λ o. keys_cross o.key key.now) objects.now }
 {
-    objects.iter().any(|object| keys_cross(object.key(), key))
+    is_span(key) && objects.iter().any(|object| keys_cross(object.key(), key))
+}
+
+/// Whether the key is a span: no other crosses any.
+fn is_span(key: &Key) -> bool
+    ensures { result ≡ is_span key.now }
+{
+    matches!(key, Key::AsBlock(_) | Key::Inetnum(_))
 }
 
 fn keys_cross(key: &Key, other: &Key) -> bool

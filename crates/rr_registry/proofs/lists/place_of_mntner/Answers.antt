@@ -1,7 +1,7 @@
 use Rattle.std.proofs.Common.{rules}
 use Rattle.std.specs.Ordering.{is_gt}
 use Rattle.std.proofs.lemmas.List.Sorted.{IsPartitionPoint-from_clause}
-use Rattle.rr_auth.specs.KeyOrder.{key_cmp}
+use Rattle.rr_object.specs.KeyOrders.{key_cmp}
 use Rattle.rr_object.specs.declared.key.Key.TheVariants.{Mntner}
 use Rattle.rr_registry.proofs.Places.{in_order_parted, place_of_part}
 use Rattle.rr_registry.proofs.lists.place_of_mntner.Goals as goal

@@ -1,22 +1,11 @@
 -- The order that is derived for keys is the order of keys.
-use Rattle.std.proofs.Common.{◌≡◌, refl, sym, ap}
-use Rattle.std.specs.declared.cmp.Ordering.{Ordering}
-use Rattle.std.specs.declared.cmp.Ordering.TheVariants.{Less, Equal, Greater}
+use Rattle.std.proofs.Common.{◌≡◌, refl, sym, ap, ◌∙◌}
 use Rattle.std.specs.Ordering.{nat_cmp, ordering_then}
 use Rattle.rr_object.specs.declared.key.Key.{Key}
 use Rattle.rr_object.specs.declared.key.Key.TheVariants.{Mntner, AsBlock, AutNum, Inetnum, Route, AsSet, RouteSet}
 use Rattle.rr_object.specs.contracts.key.KeyOrd.TheImpl as derived
-use Rattle.rr_auth.specs.KeyOrder.{key_cmp}
-
-then_equal : (o : Ordering) → ordering_then o Equal ≡ o
-then_equal Less = refl
-then_equal Equal = refl
-then_equal Greater = refl
-
-then_assoc : (a b c : Ordering) → ordering_then (ordering_then a b) c ≡ ordering_then a (ordering_then b (ordering_then c Equal))
-then_assoc Less b c = refl
-then_assoc Equal b c = ap (ordering_then b) (sym (then_equal c))
-then_assoc Greater b c = refl
+use Rattle.rr_object.specs.KeyOrders.{key_cmp}
+use Rattle.rr_object.proofs.Digits.{then_assoc, then_equal}
 
 pub derived_order : (a b : Key) → (derived.ghosts).cmp a b ≡ key_cmp a b
 derived_order (Mntner n) (Mntner m) = refl
@@ -51,7 +40,9 @@ derived_order (Route p n) (Mntner m) = refl
 derived_order (Route p n) (AsBlock t) = refl
 derived_order (Route p n) (AutNum m) = refl
 derived_order (Route p n) (Inetnum t) = refl
-derived_order (Route p n) (Route q m) = then_assoc (nat_cmp p.address q.address) (nat_cmp p.length q.length) (nat_cmp n m)
+derived_order (Route p n) (Route q m) =
+    then_assoc (nat_cmp p.address q.address) (nat_cmp p.length q.length) (nat_cmp n m)
+    ∙ ap (λ o. ordering_then (nat_cmp p.address q.address) (ordering_then (nat_cmp p.length q.length) o)) (sym (then_equal (nat_cmp n m)))
 derived_order (Route p n) (AsSet m) = refl
 derived_order (Route p n) (RouteSet m) = refl
 derived_order (AsSet n) (Mntner m) = refl

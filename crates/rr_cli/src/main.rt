@@ -1,6 +1,8 @@
 //! The program `irrdesk`: submits standard input to a desk with the built-in settings, and prints the report.
 #![tactic(auto)]
 
+ghost use Rattle.std.specs.Prelude.{◌≡◌, ◌<◌};
+
 #[cfg(test)]
 mod hostile_tests;
 #[cfg(test)]
@@ -68,6 +70,9 @@ fn run(rt: &HostRuntime) -> io::Result<u8> {
 }
 
 /// 0 where each item was accepted, and else 1.
-fn status_of(done: Done) -> u8 {
+fn status_of(done: Done) -> u8
+    ensures accepted { done.refused ≡ 0 → result ≡ 0 }
+    ensures refused { 0 < done.refused → result ≡ 1 }
+{
     if done.refused == 0 { 0 } else { REFUSED }
 }

@@ -10,6 +10,8 @@ pub mod laws;
 mod paragraphs;
 mod passing;
 mod secrets;
+#[cfg(test)]
+mod tests;
 mod verdict;
 
 pub use authority::{lower_names, route_names};

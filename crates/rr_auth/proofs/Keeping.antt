@@ -7,6 +7,7 @@ use Rattle.std.specs.Ordering.{eq_by_cmp}
 use Rattle.std.specs.Cmp.Lexicographic.{texts_ties}
 use Rattle.std.specs.FinMap.{get, insert, remove, values, get-insert, get-remove}
 use Rattle.std.proofs.lemmas.Bool.{or_parts, false_from_ne_true, true≢false}
+use Rattle.rr_text.specs.Fields.{fields_eq}
 use Rattle.rr_object.specs.declared.key.Key.{Key}
 use Rattle.rr_object.specs.declared.key.Key.TheVariants.{Mntner, AsBlock, AutNum, Inetnum, Route, AsSet, RouteSet}
 use Rattle.rr_object.specs.Objects.{Obj, names_of}
@@ -18,7 +19,6 @@ use Rattle.rr_auth.specs.declared.item.Item.TheVariants.{Submit, Delete as Delet
 use Rattle.rr_auth.specs.declared.verdict.Verdict.{Verdict}
 use Rattle.rr_auth.specs.declared.verdict.Verdict.TheVariants.{Add, Change, Same, Delete, Refuse}
 use Rattle.rr_auth.specs.Passing.{passes}
-use Rattle.rr_auth.specs.Paragraphs.{same_paragraph}
 use Rattle.rr_auth.specs.Conditions.{names_unknown, unauthorised, lacks_origin, origin_refuses, is_uncovered, cover_refuses, is_in_use}
 use Rattle.rr_auth.specs.Verdicts.{verdict, submission, addition, change, deletion, place}
 use Rattle.rr_auth.proofs.Crossing.{keys_cross_back, crosses_itself}
@@ -108,7 +108,7 @@ change_is_no_add : (r : Reg) (z : List (List ℕ)) (stored o : Obj) → change r
 change_is_no_add r z stored o e =
     let ten = not_first (names_nobody r (names_of o)) E10 _ _ e (add_differs E10) in
     let eleven = not_first (not (passes r z stored.maintainers)) E11 _ _ ten.1 (add_differs E11) in
-    kept_or_changed (same_paragraph stored.paragraph o.paragraph) eleven.1
+    kept_or_changed (fields_eq stored.paragraph o.paragraph) eleven.1
 
 add_is_no_change : Add ≡ Change → ⊥
 add_is_no_change e = cc

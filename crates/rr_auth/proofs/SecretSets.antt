@@ -7,6 +7,7 @@ use Rattle.std.specs.Str.{bytes_eq}
 use Rattle.std.specs.FinMap.{get}
 use Rattle.rr_number.specs.Prefixes.{PrefixParts, span_of}
 use Rattle.rr_number.specs.Parents.{parent_of}
+use Rattle.rr_text.specs.Fields.{fields_eq}
 use Rattle.rr_object.specs.declared.code.Code.TheVariants.{E10, E11, E12, E13, E14, E15, E16, E17}
 use Rattle.rr_object.specs.declared.key.Key.{Key}
 use Rattle.rr_object.specs.declared.key.Key.TheVariants.{Mntner, AsBlock, AutNum, Inetnum, Route, AsSet, RouteSet}
@@ -18,7 +19,6 @@ use Rattle.rr_auth.specs.Authority.{lower_of, routes_of}
 use Rattle.rr_auth.specs.Closest.{closest_inetnum, closest_block, closest_routes, origins}
 use Rattle.rr_auth.specs.Conditions.{names_unknown, lacks_origin, origin_refuses, is_uncovered, cover_refuses, space_passes, parent_object, parent_refuses, is_in_use}
 use Rattle.rr_auth.specs.Laws.{SameSecrets}
-use Rattle.rr_auth.specs.Paragraphs.{same_paragraph}
 use Rattle.rr_auth.specs.Passing.{fits_line, passes}
 use Rattle.rr_auth.specs.Registries.{Reg, maintainer, names_nobody, seen_by, crosses_some}
 use Rattle.rr_auth.specs.Verdicts.{first_of, place, submission, deletion, verdict}
@@ -111,7 +111,7 @@ module _ (z y : List (List ℕ)) (s : SameSecrets z y) where
   submission_says r o (Some stored) = λ i. first_of (
       record { holds = names_nobody r (names_of o); code = E10 } ∷ (
       record { holds = not (names_pass r stored.maintainers i); code = E11 } ∷ []))
-      (cond (same_paragraph stored.paragraph o.paragraph) Same Change)
+      (cond (fields_eq stored.paragraph o.paragraph) Same Change)
 
   deletion_says : (r : Reg) (k : Key) (stored : Option Obj) → deletion stored r z k ≡ deletion stored r y k
   deletion_says r k None = refl

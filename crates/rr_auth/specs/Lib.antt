@@ -2,7 +2,6 @@ pub mod Authority
 pub mod Closest
 pub mod Conditions
 pub mod Laws
-pub mod Paragraphs
 pub mod Passing
 pub mod Registries
 pub mod Verdicts

@@ -2,6 +2,7 @@
 use Rattle.std.specs.Prelude.{ℕ, Bool, false, not, ◌&&◌, is_none, List, [], ◌∷◌, Option, None, Some, if◌then◌else◌}
 use Rattle.std.specs.Option.{option_map_or}
 use Rattle.std.specs.FinMap.{get, insert, remove}
+use Rattle.rr_text.specs.Fields.{fields_eq}
 use Rattle.rr_object.specs.declared.code.Code.{Code}
 use Rattle.rr_object.specs.declared.code.Code.TheVariants.{E10, E11, E12, E13, E14, E15, E16, E17, E18}
 use Rattle.rr_object.specs.declared.key.Key.{Key}
@@ -15,7 +16,6 @@ use Rattle.rr_auth.specs.Passing.{passes}
 use Rattle.rr_number.specs.Prefixes.{PrefixParts, span_of}
 use Rattle.rr_auth.specs.Closest.{closest_inetnum, closest_routes}
 use Rattle.rr_auth.specs.Conditions.{lacks_parent, parent_refuses, space_passes, names_unknown, unauthorised, lacks_origin, origin_refuses, is_uncovered, cover_refuses, is_in_use}
-use Rattle.rr_auth.specs.Paragraphs.{same_paragraph}
 
 -- A condition of refusal with its code.
 pub record Refusal : Type 0 where
@@ -66,7 +66,7 @@ abbrev pub change : Reg → List (List ℕ) → Obj → Obj → Verdict
 change r z stored o = first_of (
     record { holds = names_nobody r (names_of o); code = E10 } ∷ (
     record { holds = not (passes r z stored.maintainers); code = E11 } ∷ []))
-    (if same_paragraph stored.paragraph o.paragraph then Same else Change)
+    (if fields_eq stored.paragraph o.paragraph then Same else Change)
 
 abbrev pub submission : Option Obj → Reg → List (List ℕ) → Obj → Verdict
 submission None r z o = addition r z o

@@ -12,7 +12,6 @@ ghost use Rattle.rr_auth.specs.Verdicts.{addition, below, below_parent, below_sp
 use crate::authority::{lower_passes, routes_pass};
 use crate::book::Book;
 use crate::item::Item;
-use crate::paragraphs::same_paragraph;
 use crate::passing::{names_pass, object_names_nobody};
 use crate::secrets::Secrets;
 use crate::verdict::Verdict;
@@ -74,7 +73,7 @@ fn judge_change<B: Book>(book: &B, secrets: &Secrets, stored: &Object, object: &
         Verdict::Refuse(Code::E10)
     } else if !names_pass(book, None, secrets, stored.maintainers()) {
         Verdict::Refuse(Code::E11)
-    } else if same_paragraph(stored.paragraph(), object.paragraph()) {
+    } else if stored.paragraph() == object.paragraph() {
         Verdict::Same
     } else {
         Verdict::Change

@@ -7,7 +7,6 @@ mod book;
 mod item;
 mod judging;
 pub mod laws;
-mod paragraphs;
 mod passing;
 mod secrets;
 #[cfg(test)]

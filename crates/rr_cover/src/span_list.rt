@@ -141,7 +141,7 @@ impl<T> SpanList<T> {
     }
 }
 
-// Where the entry of the span stands, or where it would come.
+/// Where the entry of the span stands, or where it would come.
 fn place<T>(entries: &[(Span, T)], span: Span) -> Result<usize, usize>
     requires { IsTrue (is_sorted span_cmp entries.now) }
     ensures found { IfOk result (λ at. StandsAt entries.now span at) }
@@ -150,14 +150,14 @@ fn place<T>(entries: &[(Span, T)], span: Span) -> Result<usize, usize>
     entries.binary_search_by_key(&span, |entry| entry.0)
 }
 
-// Whether the span crosses the span of an entry.
+/// Whether the span crosses the span of an entry.
 fn crosses_any<T>(entries: &[(Span, T)], span: Span) -> bool
     ensures { result ≡ list_any (λ e. crosses e.0 span) entries.now }
 {
     entries.iter().any(|entry| entry.0.crosses(span))
 }
 
-// The smallest entry that covers the span.
+/// The smallest entry that covers the span.
 fn smallest_cover<T>(entries: &[(Span, T)], span: Span) -> Option<&(Span, T)>
     ensures { option_copied result ≡ fold (nearer span) None entries.now }
 {
@@ -168,7 +168,7 @@ fn smallest_cover<T>(entries: &[(Span, T)], span: Span) -> Option<&(Span, T)>
     smallest
 }
 
-// The entry, where it covers the span and is smaller than the one found so far.
+/// The entry, where it covers the span and is smaller than the one found so far.
 fn nearer<'a, T>(
     span: Span,
     found: Option<&'a (Span, T)>,

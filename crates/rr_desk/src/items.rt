@@ -50,7 +50,7 @@ pub fn next_item(
     }
 }
 
-// Adds the secrets of a paragraph, all or none.
+/// Adds the secrets of a paragraph, all or none.
 fn add_secrets(
     alloc: Global,
     paragraph: &Paragraph,
@@ -63,7 +63,7 @@ fn add_secrets(
     secrets.add_all(own)
 }
 
-// The secrets that a paragraph gives.
+/// The secrets that a paragraph gives.
 fn own_secrets(alloc: Global, paragraph: &Paragraph) -> Result<Secrets, AllocError>
     ensures { IfOk result (λ own. own ≡ secrets_of paragraph.now) }
 {
@@ -74,7 +74,7 @@ fn own_secrets(alloc: Global, paragraph: &Paragraph) -> Result<Secrets, AllocErr
     Ok(own)
 }
 
-// Adds the secret of an attribute, if it gives one.
+/// Adds the secret of an attribute, if it gives one.
 fn add_secret(alloc: Global, attribute: &Attribute, secrets: &mut Secrets) -> Result<(), AllocError>
     ensures ok { OnOk result (secrets.new ≡ secrets.old ++ secrets_of (attribute.now ∷ [])) }
     ensures err { OnErr result (secrets.new ≡ secrets.old) }

@@ -35,7 +35,7 @@ fn write_number<W: Sink>(writer: &mut W, number: u64) -> io::Result<()>
     write_pieces(writer, &[buffer.format(number).as_bytes(), b" "])
 }
 
-// The class and the key, or `-`.
+/// The class and the key, or `-`.
 fn write_subject<W: Sink>(writer: &mut W, key: &Option<Key>) -> io::Result<()>
     ensures writes { Writes (W.told writer.old) (W.told writer.new) (subject key.now) result }
     ensures aside { W.aside writer.new ≡ W.aside writer.old }
@@ -61,7 +61,7 @@ fn write_class<W: Sink>(writer: &mut W, class: Class) -> io::Result<()>
     write_pieces(writer, &[class.name().as_bytes(), b" "])
 }
 
-// What stands behind the subject.
+/// What stands behind the subject.
 fn write_outcome<W: Sink>(writer: &mut W, outcome: Outcome) -> io::Result<()>
     ensures writes { Writes (W.told writer.old) (W.told writer.new) (outcome_part outcome) result }
     ensures aside { W.aside writer.new ≡ W.aside writer.old }
@@ -85,7 +85,7 @@ fn word(outcome: Outcome) -> &'static str
     }
 }
 
-// The code of a refusal, and of another outcome nothing.
+/// The code of a refusal, and of another outcome nothing.
 fn refusal_code(outcome: Outcome) -> &'static str
     ensures { result.now ≡ refusal_code outcome }
 {

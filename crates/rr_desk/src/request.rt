@@ -66,7 +66,7 @@ impl Request {
         }
     }
 
-    // What is asked about the object of a key.
+    /// What is asked about the object of a key.
     fn action(
         alloc: Global,
         own: Paragraph,

@@ -18,7 +18,7 @@ pub fn secret_of(alloc: Global, attribute: &Attribute) -> Result<Vec<u8>, AllocE
     }
 }
 
-// The first line and the further ones, with a space before each of these.
+/// The first line and the further ones, with a space before each of these.
 fn joined(alloc: Global, first: &[u8], further: &[Text]) -> Result<Vec<u8>, AllocError>
     ensures { IfOk result (λ secret. secret.items ≡ join_with_byte 32 (first.now ∷ further.now)) }
 {

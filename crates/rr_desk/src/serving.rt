@@ -54,7 +54,7 @@ pub fn submit<R: Source, W: Sink>(
     }
 }
 
-// Submits a text that was read to its end.
+/// Submits a text that was read to its end.
 fn report_whole<W: Sink>(
     alloc: Global,
     registry: &mut Registry,
@@ -80,7 +80,7 @@ fn report_whole<W: Sink>(
     }
 }
 
-// Submits a text that broke off.
+/// Submits a text that broke off.
 fn report_part<W: Sink>(
     alloc: Global,
     registry: &mut Registry,
@@ -106,7 +106,7 @@ fn report_part<W: Sink>(
     }
 }
 
-// Decides the items of a text and writes a line on each; the error is how many were decided before a write failed.
+/// Decides the items of a text and writes a line on each; the error is how many were decided before a write failed.
 fn serve_all<W: Sink>(
     alloc: Global,
     registry: &mut Registry,
@@ -129,7 +129,7 @@ fn serve_all<W: Sink>(
     Ok(done)
 }
 
-// Decides an item and writes its line; the error is how many were decided, with this one.
+/// Decides an item and writes its line; the error is how many were decided, with this one.
 fn serve_one<W: Sink>(
     alloc: Global,
     registry: &mut Registry,
@@ -153,7 +153,7 @@ fn serve_one<W: Sink>(
     }
 }
 
-// The outcome of what an item asks.
+/// The outcome of what an item asks.
 fn decide(
     alloc: Global,
     registry: &mut Registry,
@@ -168,7 +168,7 @@ fn decide(
     }
 }
 
-// The counts with one more item.
+/// The counts with one more item.
 fn counted(done: Done, outcome: Outcome) -> Done
     requires items { done.items + 1 < 2 ^ 64 }
     requires refused { done.refused + 1 < 2 ^ 64 }

@@ -16,8 +16,7 @@ pub use gathering::{Gathered, gather};
 pub use labels::{Edge, Labelled};
 pub use order::ascending;
 use std::alloc::{AllocError, AllocFailed, Global};
-use std::error::Error;
-use std::fmt;
+use thiserror::Error;
 use walk::Found;
 
 /// A directed graph whose successors can be listed.
@@ -41,24 +40,15 @@ pub trait Graph {
 }
 
 /// Why the reached nodes are not listed.
-#[derive(Clone, Copy, Debug, PartialEq, Eq)]
+#[derive(Clone, Copy, Debug, PartialEq, Eq, Error)]
 pub enum ReachFault {
     /// More nodes are reached than the limit.
+    #[error("too many nodes are reached")]
     TooMany,
     /// Memory was refused.
+    #[error("out of memory")]
     Memory,
 }
-
-impl fmt::Display for ReachFault {
-    fn fmt<W: fmt::Write>(&self, f: &mut fmt::Formatter<W>) -> fmt::Result {
-        match self {
-            ReachFault::TooMany => write!(f, "too many nodes are reached"),
-            ReachFault::Memory => write!(f, "memory was refused"),
-        }
-    }
-}
-
-impl Error for ReachFault {}
 
 impl From<AllocError> for ReachFault {
     ghost use Rattle.std.specs.Prelude.{◌≡◌};

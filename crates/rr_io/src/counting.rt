@@ -1,4 +1,4 @@
-// std's readers and writers, with their failed calls counted.
+//! std's readers and writers, with their failed calls counted.
 use super::{Sink, Source};
 use std::io;
 use std::io::{ErrorKind, Read, Write};

@@ -1,4 +1,4 @@
-// A reader or a writer that is cut short, for tests.
+//! A reader or a writer that is cut short, for tests.
 ghost use Rattle.std.specs.Prelude.{◌≡◌, ◌<◌, ◌≤◌, ◌+◌, ◌-◌, ◌^◌, length, take, min, IfOk, OnErr, IsErr};
 ghost use Rattle.rr_io.specs.Told.{Fails};
 ghost use Rattle.rr_io.specs.Sending.{Takes};
@@ -46,7 +46,7 @@ impl<T> Cut<T> {
         inner
     }
 
-    // The failure of a call past the cut.
+    /// The failure of a call past the cut.
     fn fail(&mut self) -> io::Error
         ensures inner { self.new.inner ≡ self.old.inner }
         ensures cut { (self.new.step ≡ self.old.step) × (self.new.left ≡ self.old.left) }
@@ -57,7 +57,7 @@ impl<T> Cut<T> {
         io::Error::from(ErrorKind::BrokenPipe)
     }
 
-    // How many bytes a call over `room` bytes may pass.
+    /// How many bytes a call over `room` bytes may pass.
     fn passing(&self, room: usize) -> usize
         ensures value { result ≡ min (min room self.now.step) self.now.left }
         ensures some { 0 < self.now.left → 0 < room → 0 < result }

@@ -1,4 +1,4 @@
-// A reader and a writer as one connection.
+//! A reader and a writer as one connection.
 ghost use Rattle.std.specs.Prelude.{refl};
 
 use super::{Connection, Sink, Source};

@@ -1,4 +1,4 @@
-// Reading to the end.
+//! Reading to the end.
 ghost use Rattle.std.specs.Prelude.{◌≡◌, ◌≤◌, ◌^◌, ℕ, List, length, IfOk, OnErr, IsTrue, ◌↔◌};
 ghost use Rattle.rr_io.specs.Receiving.{Reads, Gives};
 

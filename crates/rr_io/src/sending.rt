@@ -1,4 +1,4 @@
-// Writing whole texts.
+//! Writing whole texts.
 ghost use Rattle.std.specs.Prelude.{◌≡◌, flat_map};
 ghost use Rattle.rr_io.specs.Sending.{Writes};
 

@@ -1,4 +1,4 @@
-// Readers and writers as contracts see them.
+//! Readers and writers as contracts see them.
 ghost use Rattle.std.specs.Prelude.{◌≡◌, ◌<◌, ◌≤◌, take, length, IfOk, OnErr};
 ghost use Rattle.rr_io.specs.Told.{Told, Fails, untold};
 ghost use Rattle.rr_io.specs.Sending.{Takes};

@@ -1,10 +1,10 @@
-// Readers and writers that fail, which no clause can make.
+//! Readers and writers that fail, which no clause can make.
 use super::*;
 use std::alloc::AllocError;
 use std::io;
 use std::io::{ErrorKind, Read, Write};
 
-// Gives `ab`, is interrupted, and would give `ab` again.
+/// Gives `ab`, is interrupted, and would give `ab` again.
 #[derive(Drop)]
 struct Interrupted {
     calls: u8,
@@ -22,7 +22,7 @@ impl Read for Interrupted {
     }
 }
 
-// Takes nothing.
+/// Takes nothing.
 #[derive(Drop)]
 struct Full;
 

@@ -1,15 +1,20 @@
--- The orders of prefixes and ranges are total, and only equal ones tie.
-use Rattle.std.proofs.Common.{◌≡◌}
+-- The orders of prefixes, ranges and operators are total, and only equal ones tie.
+use Rattle.std.proofs.Common.{◌≡◌, ℕ, refl, sym, ◌∙◌}
+use Rattle.std.specs.Prelude.{◌==◌, if◌then◌else◌}
 use Rattle.std.specs.declared.cmp.Ordering.{Ordering}
 use Rattle.std.specs.declared.cmp.Ordering.TheVariants.{Less, Equal, Greater}
 use Rattle.std.specs.Cmp.{IsTotalOrder, nat_cmp_total}
 use Rattle.std.specs.FinMap.{IsAntisymmetric, nat_cmp-IsAntisymmetric}
 use Rattle.std.specs.Ordering.{ordering_then, nat_cmp}
 use Rattle.std.proofs.lemmas.Cmp.{then_total, on_total}
+use Rattle.rr_number.specs.Bounds.{Bounds, bounds_cmp}
+use Rattle.rr_number.specs.Operators.{operator_bounds, operator_cmp, operator_place}
 use Rattle.rr_number.specs.PrefixLaws.{PrefixesAreOrdered}
 use Rattle.rr_number.specs.Prefixes.{PrefixParts, prefix_cmp}
-use Rattle.rr_number.specs.RangeLaws.{RangesAreOrdered}
+use Rattle.rr_number.specs.RangeLaws.{OperatorsAreOrdered, RangesAreOrdered}
 use Rattle.rr_number.specs.Ranges.{RangeParts, range_cmp}
+use Rattle.rr_number.specs.declared.operator.Operator.{Operator}
+use Rattle.rr_number.specs.declared.operator.Operator.TheVariants.{Plain, Plus, Minus, Lengths}
 
 -- two orders in turn find equal what both find equal
 ties : (a b : Ordering) → ordering_then a b ≡ Equal → (a ≡ Equal) × (b ≡ Equal)
@@ -48,3 +53,35 @@ range_exact r s tie =
 
 pub ranges_ordered : RangesAreOrdered
 ranges_ordered = record { total = range_total; exact = range_exact }
+
+-- operators
+bounds_total : IsTotalOrder bounds_cmp
+bounds_total = then_total (on_total (λ (b : Bounds). b.low) nat_cmp_total) (on_total (λ (b : Bounds). b.high) nat_cmp_total)
+
+bounds_exact : IsAntisymmetric bounds_cmp
+bounds_exact b c tie =
+    let both = ties (nat_cmp b.low c.low) (nat_cmp b.high c.high) tie in
+    let low : b.low ≡ c.low = nat_cmp-IsAntisymmetric b.low c.low both.0 in
+    let high : b.high ≡ c.high = nat_cmp-IsAntisymmetric b.high c.high both.1 in
+    λ i. record { low = low i; high = high i }
+
+-- an operator is given back by its place and its bounds
+operator_at : ℕ → Bounds → Operator
+operator_at n b = if n == 0 then Plain else (if n == 1 then Plus else (if n == 2 then Minus else Lengths b))
+
+operator_back : (o : Operator) → operator_at (operator_place o) (operator_bounds o) ≡ o
+unfolding operator_at
+operator_back Plain = refl
+operator_back Plus = refl
+operator_back Minus = refl
+operator_back (Lengths b) = refl
+
+operator_exact : IsAntisymmetric operator_cmp
+operator_exact o p tie =
+    let both = ties (nat_cmp (operator_place o) (operator_place p)) (bounds_cmp (operator_bounds o) (operator_bounds p)) tie in
+    let place = nat_cmp-IsAntisymmetric (operator_place o) (operator_place p) both.0 in
+    let bounds = bounds_exact (operator_bounds o) (operator_bounds p) both.1 in
+    sym (operator_back o) ∙ (λ i. operator_at (place i) (bounds i)) ∙ operator_back p
+
+pub operators_ordered : OperatorsAreOrdered
+operators_ordered = record { total = then_total (on_total operator_place nat_cmp_total) (on_total operator_bounds bounds_total); exact = operator_exact }

@@ -1,9 +1,11 @@
 -- Range operators (RFC 2622, 2).
 use Rattle.std.specs.Prelude.{◌≡◌, ℕ, ◌+◌, ◌≤◌, ◌⊎◌, ◌==◌, ◌&&◌, List, [], ◌∷◌, ◌++◌, Option, Some, None, if◌then◌else◌, max, nat_le}
 use Rattle.std.specs.Fmt.{decimal}
+use Rattle.std.specs.declared.cmp.Ordering.{Ordering}
+use Rattle.std.specs.Ordering.{ordering_then, nat_cmp}
 use Rattle.std.specs.Option.{option_and_then, option_map}
 use Rattle.std.specs.Str.{bytes_eq}
-use Rattle.rr_number.specs.Bounds.{Bounds, IsBounds}
+use Rattle.rr_number.specs.Bounds.{Bounds, IsBounds, bounds_cmp}
 use Rattle.rr_number.specs.Cuts.{cut_at}
 use Rattle.rr_number.specs.Prefixes.{IsLength, length_of}
 use Rattle.rr_number.specs.declared.operator.Operator.{Operator}
@@ -106,3 +108,18 @@ kept b = if nat_le b.low b.high && nat_le b.low 32 then Some b else None
 -- What an operator makes of a least and a greatest length, if it does not drop them (RFC 2622, 2).
 unfoldable pub lengths_under : Operator → Bounds → Option Bounds
 lengths_under operator b = kept (tabled operator b)
+
+-- The place of an operator's form among the forms, and its bounds where it has some (profile).
+abbrev pub operator_place : Operator → ℕ
+operator_place Plain = 0
+operator_place Plus = 1
+operator_place Minus = 2
+operator_place (Lengths b) = 3
+
+abbrev pub operator_bounds : Operator → Bounds
+operator_bounds (Lengths b) = b
+operator_bounds _ = record { low = 0; high = 0 }
+
+-- Operators are ordered by their forms: none, `^+`, `^-`, lengths, and these by their bounds (profile).
+abbrev pub operator_cmp : Operator → Operator → Ordering
+operator_cmp o p = ordering_then (nat_cmp (operator_place o) (operator_place p)) (bounds_cmp (operator_bounds o) (operator_bounds p))

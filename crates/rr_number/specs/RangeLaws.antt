@@ -4,7 +4,7 @@ use Rattle.std.specs.Cmp.{IsTotalOrder}
 use Rattle.std.specs.FinMap.{IsAntisymmetric}
 use Rattle.rr_number.specs.Applied.{IsRanged, applied, operator_for, range_text}
 use Rattle.rr_number.specs.Bounds.{Bounds}
-use Rattle.rr_number.specs.Operators.{IsOperatorValue, tabled}
+use Rattle.rr_number.specs.Operators.{IsOperatorValue, operator_cmp, tabled}
 use Rattle.rr_number.specs.Prefixes.{PrefixParts, IsMasked, span_of}
 use Rattle.rr_number.specs.Ranges.{RangeParts, IsRange, admits, bare, bounds_of, range_cmp}
 use Rattle.rr_number.specs.Spans.{covers}
@@ -39,3 +39,8 @@ PrintedOperatorsMakeRanges = (r : RangeParts) → IsRange r → applied (operato
 pub record RangesAreOrdered : Type 0 where
   pub total : IsTotalOrder range_cmp
   pub exact : IsAntisymmetric range_cmp
+
+-- The order of operators is total, and only equal operators tie (profile).
+pub record OperatorsAreOrdered : Type 0 where
+  pub total : IsTotalOrder operator_cmp
+  pub exact : IsAntisymmetric operator_cmp

@@ -2,15 +2,16 @@
 ghost use Rattle.std.specs.Prelude.{◌≡◌, ℕ, ◌<◌, ◌^◌};
 ghost use Rattle.std.specs.Ordering.{nat_cmp};
 ghost use Rattle.rr_number.specs.Addresses.{IsAddress, address_text};
-ghost use Rattle.rr_number.specs.Operators.{IsOperator, IsOperatorValue, operator_text};
+ghost use Rattle.rr_number.specs.Operators.{IsOperator, IsOperatorValue, operator_cmp, operator_text};
 ghost use Rattle.rr_number.specs.PrefixLaws.{CoverEachOtherAlone, CoversLonger, PrefixesAreOrdered, PrefixesHaveSpans, PrefixesNeverCross, SpansTellPrefixes};
 ghost use Rattle.rr_number.specs.Prefixes.{PrefixParts, IsMasked, IsPrefix, prefix_cmp, prefix_text};
-ghost use Rattle.rr_number.specs.RangeLaws.{OperatorsAdmit, OperatorsKeepRanges, PrintedOperatorsMakeRanges, PrintedRangesAreRead, RangesAreOrdered};
+ghost use Rattle.rr_number.specs.RangeLaws.{OperatorsAdmit, OperatorsAreOrdered, OperatorsKeepRanges, PrintedOperatorsMakeRanges, PrintedRangesAreRead, RangesAreOrdered};
 ghost use Rattle.rr_number.specs.Ranges.{RangeParts, range_cmp};
 ghost use Rattle.rr_number.specs.declared.operator.Operator.{Operator};
 
 use crate::address::Address;
 use crate::as_number::AsNumber;
+use crate::operator::Operator;
 use crate::prefix::Prefix;
 use crate::range::Range;
 
@@ -92,4 +93,10 @@ pub fn prefixes_are_ordered()
 pub fn ranges_are_ordered()
     ensures derived { (r s : RangeParts) → ⟦<Range as Ord>⟧.cmp r s ≡ range_cmp r s }
     ensures ordered { RangesAreOrdered }
+{}
+
+/// Operators are ordered by their forms, none, `^+`, `^-` and lengths, then by their lengths, and only equal ones tie.
+pub fn operators_are_ordered()
+    ensures derived { (o p : Operator) → ⟦<Operator as Ord>⟧.cmp o p ≡ operator_cmp o p }
+    ensures ordered { OperatorsAreOrdered }
 {}

@@ -129,11 +129,11 @@ impl Name {
 
 /// Writes the name as it is kept, in upper case.
 impl fmt::Display for Name {
+    ghost output = { λ name. Some name };
+
     fn fmt<W: fmt::Write>(&self, f: &mut fmt::Formatter<W>) -> fmt::Result {
-        for byte in &self.bytes {
-            f.write_char(char::from(*byte))?;
-        }
-        Ok(())
+        let text = str::from_utf8(&self.bytes).map_err(|_| fmt::Error)?;
+        f.pad(text)
     }
 }
 

@@ -1,4 +1,4 @@
-// Outside examples of names, AS numbers, blocks and names of sets.
+//! Outside examples of names, AS numbers, blocks and names of sets.
 use super::*;
 use std::alloc::{AllocError, Global};
 use std::test::Fail;
@@ -8,19 +8,19 @@ const RESERVED: [&str; 20] = [
     "action", "accept", "announce", "except", "refine", "networks", "into", "inbound", "outbound",
 ];
 
-// Whether the text is read as the name, kept as the second text.
+/// Whether the text is read as the name, kept as the second text.
 fn is_name(alloc: Global, text: &str, want: &str) -> Result<bool, AllocError> {
     let name = Name::read(alloc, text.as_bytes())?;
     Ok(name.is_some_and(|name| name.as_bytes() == want.as_bytes()))
 }
 
-// Whether the text is read as the name of a set, printed as the second text.
+/// Whether the text is read as the name of a set, printed as the second text.
 fn is_set_name(alloc: Global, text: &str, want: &str) -> Result<bool, AllocError> {
     let name = SetName::read(alloc, text.as_bytes())?;
     Ok(name.is_some_and(|name| name.as_bytes() == want.as_bytes()))
 }
 
-// What all components but the last name, in words.
+/// What all components but the last name, in words.
 fn parent_of(alloc: Global, text: &str) -> Result<Option<Parent>, Fail> {
     let name = SetName::read(alloc, text.as_bytes())?.ok_or("no name of a set")?;
     Ok(name.parent(alloc)?)

@@ -1,15 +1,15 @@
-// Outside examples of addresses, prefixes, operators and ranges.
+//! Outside examples of addresses, prefixes, operators and ranges.
 use super::*;
 use rr_io::{Counted, Cut};
 use std::alloc::AllocError;
 
-// The text of the range that the prefix and operator of the text make; none where the operator drops it.
+/// The text of the range that the prefix and operator of the text make; none where the operator drops it.
 fn made(text: &[u8]) -> Option<Option<ShortText>> {
     let (prefix, operator) = read_ranged(text)?;
     Some(operator.apply(Range::of(prefix)).map(|range| range.text()))
 }
 
-// Whether the range that the first text makes admits the prefix of the second.
+/// Whether the range that the first text makes admits the prefix of the second.
 fn admitted(range: &[u8], prefix: &[u8]) -> Option<bool> {
     let (base, operator) = read_ranged(range)?;
     let range = operator.apply(Range::of(base))?;
@@ -160,7 +160,7 @@ fn ill_spelled_operators_are_refused(rt: HostRuntime) {
     assert_eq!(rt; Operator::read(b""), Some(Operator::Plain));
 }
 
-// What an operator makes of a range, as RFC 2622, 2 lists it.
+/// What an operator makes of a range, as RFC 2622, 2 lists it.
 #[test]
 fn an_outer_operator_distributes_over_an_inner_one(rt: HostRuntime) {
     for (inner, outer, want) in [
@@ -185,7 +185,7 @@ fn an_outer_operator_distributes_over_an_inner_one(rt: HostRuntime) {
     }
 }
 
-// Examples of RFC 2622, 2.
+/// Examples of RFC 2622, 2.
 #[test]
 fn operators_hold_the_specifics_that_they_name(rt: HostRuntime) {
     for (range, prefix, want) in [

@@ -1,6 +1,6 @@
 //! The names of as-sets and route-sets.
 
-ghost use Rattle.std.specs.Prelude.{◌≡◌, ◌++◌, nat_eq, IfOk};
+ghost use Rattle.std.specs.Prelude.{◌≡◌, ◌++◌, nat_eq, IfOk, Some};
 ghost use Rattle.std.proofs.Common.{rules};
 ghost use Rattle.std.specs.Cmp.{partial_order_from_own_ties};
 ghost use Rattle.std.specs.Cmp.Lexicographic.{pointwise, slice_cmp};
@@ -38,7 +38,7 @@ pub struct SetName {
 
 impl Model for SetName {
     ghost use Rattle.std.specs.Prelude.{List, ℕ};
-    ghost use Rattle.rr_number.specs.SetNames.{has_prefix, kind_of, IsSetText, IsSetText};
+    ghost use Rattle.rr_number.specs.SetNames.{has_prefix, kind_of, IsSetText};
 
     ghost Value = { List ℕ };
 
@@ -104,11 +104,11 @@ impl SetName {
 }
 
 impl fmt::Display for SetName {
+    ghost output = { λ name. Some name };
+
     fn fmt<W: fmt::Write>(&self, f: &mut fmt::Formatter<W>) -> fmt::Result {
-        for byte in &self.bytes {
-            f.write_char(char::from(*byte))?;
-        }
-        Ok(())
+        let text = str::from_utf8(&self.bytes).map_err(|_| fmt::Error)?;
+        f.pad(text)
     }
 }
 

@@ -1,4 +1,4 @@
-// The table of interpreted attributes, row by row (RFC 2622, 3 to 6; RFC 2725, 9; profile).
+//! The table of interpreted attributes, row by row (RFC 2622, 3 to 6; RFC 2725, 9; profile).
 use crate::tests::code;
 use std::alloc::Global;
 use std::test::Fail;
@@ -13,7 +13,7 @@ const FIRST: [&str; 7] = [
     "route-set: RS-A\n",
 ];
 
-// What some class needs behind its first line.
+/// What some class needs behind its first line.
 const NEEDED: [(&str, &str); 4] = [
     ("mnt-by", "mnt-by: A-MNT\n"),
     ("source", "source: TEST\n"),
@@ -21,8 +21,8 @@ const NEEDED: [(&str, &str); 4] = [
     ("origin", "origin: AS1\n"),
 ];
 
-// Each attribute with a good and a bad value, and how often it stands in the classes in their order: once, with items,
-// each one an item, freely, in the key, or as text.
+/// Each attribute with a good and a bad value, and how often it stands in the classes in their order: once, with items,
+/// each one an item, freely, in the key, or as text.
 const TABLE: [(&str, &str, &str, &[u8; 7]); 9] = [
     ("mnt-by", "A-MNT", "ANY", b"+++++++"),
     ("source", "TEST", "?", b"1111111"),
@@ -35,7 +35,7 @@ const TABLE: [(&str, &str, &str, &[u8; 7]); 9] = [
     ("mbrs-by-ref", "A-MNT", "AS-X", b"     00"),
 ];
 
-// The codes of an object in which the attribute is missing, stands once, twice, without an item, and with a bad value.
+/// The codes of an object in which the attribute is missing, stands once, twice, without an item, and with a bad value.
 fn wanted(occurs: u8) -> &'static str {
     match occurs {
         b'1' => "E04 ok E04 E04 E05\n",
@@ -47,7 +47,7 @@ fn wanted(occurs: u8) -> &'static str {
     }
 }
 
-// The wanted codes of the seven classes, a line each.
+/// The wanted codes of the seven classes, a line each.
 fn wanted_row(alloc: Global, columns: &[u8; 7]) -> Result<String, Fail> {
     let mut row = String::new(alloc);
     for occurs in columns {
@@ -56,7 +56,7 @@ fn wanted_row(alloc: Global, columns: &[u8; 7]) -> Result<String, Fail> {
     Ok(row)
 }
 
-// The codes found in the seven classes, a line each.
+/// The codes found in the seven classes, a line each.
 fn found_row(alloc: Global, name: &str, good: &str, bad: &str) -> Result<String, Fail> {
     let mut row = String::new(alloc);
     for first in &FIRST {
@@ -65,7 +65,7 @@ fn found_row(alloc: Global, name: &str, good: &str, bad: &str) -> Result<String,
     Ok(row)
 }
 
-// The codes found in the class of this first line.
+/// The codes found in the class of this first line.
 fn found(alloc: Global, first: &str, name: &str, good: &str, bad: &str) -> Result<String, Fail> {
     let missing = format!(in alloc; "{first}{}", needed_beside(alloc, name)?)?;
     let once = format!(in alloc; "{missing}{name}: {good}\n")?;
@@ -75,7 +75,7 @@ fn found(alloc: Global, first: &str, name: &str, good: &str, bad: &str) -> Resul
     codes(alloc, [&missing, &once, &twice, &empty, &bad])
 }
 
-// The codes of these texts in a line.
+/// The codes of these texts in a line.
 fn codes(alloc: Global, texts: [&String; 5]) -> Result<String, Fail> {
     let [first, second, third, fourth, fifth] = texts;
     let first = code(alloc, first.as_str())?;
@@ -86,7 +86,7 @@ fn codes(alloc: Global, texts: [&String; 5]) -> Result<String, Fail> {
     Ok(format!(in alloc; "{first} {second} {third} {fourth} {fifth}\n")?)
 }
 
-// The lines that some class needs beside the attribute of this name: in other classes they are needed too, or text.
+/// The lines that some class needs beside the attribute of this name: in other classes they are needed too, or text.
 fn needed_beside(alloc: Global, name: &str) -> Result<String, Fail> {
     let mut lines = String::new(alloc);
     for (needed, line) in &NEEDED {

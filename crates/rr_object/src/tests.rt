@@ -1,11 +1,11 @@
-// Outside examples of objects, keys and their faults.
+//! Outside examples of objects, keys and their faults.
 use crate::{Class, Key, Member, Object, ObjectFault, key_of, public, read_auth};
 use rr_number::Name;
 use rr_text::{Paragraph, next_paragraph, print};
 use std::alloc::Global;
 use std::test::Fail;
 
-// SHA-256 of "abc" (FIPS 180-4).
+/// SHA-256 of "abc" (FIPS 180-4).
 const DIGEST: &str = "ba7816bf8f01cfea414140de5dae2223b00361a396177a9cb410ff61f20015ad";
 
 const MAINTAINER: &str = "\
@@ -40,14 +40,14 @@ fn paragraph(alloc: Global, text: &str) -> Result<Paragraph, Fail> {
     Ok(paragraph)
 }
 
-// What the text is read as in the registry TEST.
+/// What the text is read as in the registry TEST.
 fn read(alloc: Global, text: &str) -> Result<Result<Object, ObjectFault>, Fail> {
     let source = Name::read(alloc, b"TEST")?.ok_or("no name")?;
     let paragraph = paragraph(alloc, text)?;
     Ok(Object::read(alloc, paragraph, &source))
 }
 
-// The code of the text's fault, or `ok`.
+/// The code of the text's fault, or `ok`.
 pub(crate) fn code(alloc: Global, text: &str) -> Result<&'static str, Fail> {
     match read(alloc, text)? {
         Ok(_) => Ok("ok"),
@@ -55,7 +55,7 @@ pub(crate) fn code(alloc: Global, text: &str) -> Result<&'static str, Fail> {
     }
 }
 
-// The code of an aut-num with this line beside the needed ones.
+/// The code of an aut-num with this line beside the needed ones.
 fn code_with(alloc: Global, line: &str) -> Result<&'static str, Fail> {
     let text = format!(in alloc; "aut-num: AS3\nmnt-by: A-MNT\nsource: TEST\n{line}\n")?;
     code(alloc, text.as_str())

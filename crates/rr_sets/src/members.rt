@@ -3,8 +3,7 @@
 use rr_graph::ReachFault;
 use rr_number::SetName;
 use std::alloc::{AllocError, AllocFailed};
-use std::error::Error;
-use std::fmt;
+use thiserror::Error;
 
 /// What a set stands for, and the names that its members name in vain.
 #[derive(Drop)]
@@ -16,27 +15,18 @@ pub struct Members<T> {
 }
 
 /// Why a set is not expanded.
-#[derive(Clone, Copy, Debug, PartialEq, Eq)]
+#[derive(Clone, Copy, Debug, PartialEq, Eq, Error)]
 pub enum ExpandFault {
     /// There is no such set.
+    #[error("no such set")]
     NoSuchSet,
     /// The expansion would go over the limit.
+    #[error("too many members")]
     TooMany,
     /// Memory was refused.
+    #[error("out of memory")]
     Memory,
 }
-
-impl fmt::Display for ExpandFault {
-    fn fmt<W: fmt::Write>(&self, f: &mut fmt::Formatter<W>) -> fmt::Result {
-        match self {
-            ExpandFault::NoSuchSet => write!(f, "no such set"),
-            ExpandFault::TooMany => write!(f, "too many members"),
-            ExpandFault::Memory => write!(f, "memory was refused"),
-        }
-    }
-}
-
-impl Error for ExpandFault {}
 
 impl From<ReachFault> for ExpandFault {
     ghost use Rattle.std.specs.Prelude.{◌≡◌};

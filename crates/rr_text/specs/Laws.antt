@@ -1,13 +1,17 @@
 -- What is true of texts and their entries.
-use Rattle.std.specs.Prelude.{ℕ, true, ◌≡◌, ◌<◌, ◌≤◌, length, List, [], ◌∷◌, ◌++◌, Ok}
+use Rattle.std.specs.Prelude.{ℕ, true, ◌≡◌, ◌↔◌, ◌<◌, ◌≤◌, length, List, [], ◌∷◌, ◌++◌, Ok}
 use Rattle.rr_text.specs.Lines.{are_whole_lines, IsWholeLine, is_blank_line, is_skipped_line}
-use Rattle.rr_text.specs.Fields.{Field, AreFields}
+use Rattle.rr_text.specs.Fields.{Field, AreFields, fields_eq}
 use Rattle.rr_text.specs.Entries.{entries, size_limit}
 use Rattle.rr_text.specs.CanonicalText.{canonical}
 
 -- two paragraphs with the same canonical text are the same
 abbrev pub CanonicalDetermines : Type 0
 CanonicalDetermines = (a b : List Field) → AreFields a → AreFields b → canonical a ≡ canonical b → a ≡ b
+
+-- two paragraphs compare as equal exactly where they have the same canonical text
+abbrev pub EqualAsPrinted : Type 0
+EqualAsPrinted = (a b : List Field) → AreFields a → AreFields b → (fields_eq a b ≡ true) ↔ (canonical a ≡ canonical b)
 
 -- canonical text that is not too large spells its paragraph and nothing else
 abbrev pub CanonicalSpells : Type 0

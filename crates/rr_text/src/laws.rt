@@ -8,6 +8,11 @@ pub fn canonical_text_determines()
     ensures { laws.CanonicalDetermines }
 {}
 
+/// Two paragraphs are equal exactly where they are printed as the same text.
+pub fn paragraphs_are_equal_as_printed()
+    ensures { laws.EqualAsPrinted }
+{}
+
 /// Canonical text of at most 65,536 bytes spells its paragraph alone.
 pub fn canonical_text_spells()
     ensures { laws.CanonicalSpells }

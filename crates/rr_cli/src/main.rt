@@ -1,7 +1,8 @@
 //! The program `irrdesk`: submits standard input to a desk with the built-in settings, and prints the report.
 #![tactic(auto)]
 
-ghost use Rattle.std.specs.Prelude.{◌≡◌, ◌<◌};
+ghost use Rattle.std.specs.Prelude.{◌≡◌, ◌<◌, ◌⊎◌};
+ghost use Rattle.std.specs.IoError.{error_kind};
 
 #[cfg(test)]
 mod hostile_tests;
@@ -18,6 +19,7 @@ use plain_desk::PlainDesk;
 use rr_desk::{DeskFault, Done};
 use rr_io::Counted;
 use start_fault::StartFault;
+use std::io::ErrorKind;
 use std::process::ExitCode;
 use std::{env, io};
 
@@ -48,7 +50,7 @@ fn run(rt: &HostRuntime) -> io::Result<u8> {
         }
         Err(fault) => {
             eprintln!(rt; "irrdesk: the words cannot be read: {fault}")?;
-            return Ok(FAILED);
+            return Ok(status_of_words(&fault));
         }
     }
     let mut desk = match PlainDesk::new(rt.alloc()) {
@@ -66,6 +68,17 @@ fn run(rt: &HostRuntime) -> io::Result<u8> {
             eprintln!(rt; "irrdesk: {fault}")?;
             Ok(FAILED)
         }
+    }
+}
+
+/// The status where the words cannot be read: a word that is no text is one that the program does not take.
+fn status_of_words(fault: &io::Error) -> u8
+    ensures memory { error_kind fault.now ≡ ErrorKind.OutOfMemory → result ≡ 5 }
+    ensures words { (error_kind fault.now ≡ ErrorKind.OutOfMemory) ⊎ (result ≡ 2) }
+{
+    match fault.kind() {
+        ErrorKind::OutOfMemory => FAILED,
+        _ => WRONG_WORDS,
     }
 }
 

@@ -1,5 +1,6 @@
 //! Lists of objects taken as registries.
-use crate::plain_desk::{OPENING, read_objects, read_source};
+use crate::plain_desk::{OPENING, PlainDesk, read_objects, read_source};
+use rr_io::{Counted, write_all};
 use rr_registry::{LoadFault, Registry};
 use std::alloc::Global;
 use std::test::Fail;
@@ -30,5 +31,18 @@ fn an_object_alone_names_a_missing_maintainer(rt: HostRuntime) -> Result<(), Fai
         load_fault(rt.alloc(), &[block])?,
         Some(LoadFault::Unnamed(1))
     );
+    Ok(())
+}
+
+#[test]
+fn the_desk_opens_with_all_numbers_and_addresses(rt: HostRuntime) -> Result<(), Fail> {
+    let desk = PlainDesk::new(rt.alloc())?;
+    let mut keys = Counted::new(Vec::new(rt.alloc()));
+    for object in desk.registry().objects() {
+        object.key().print_to(&mut keys)?;
+        write_all(&mut keys, b"\n")?;
+    }
+    let wanted = "ROOT-MNT\nAS0 - AS65535\n0.0.0.0 - 255.255.255.255\n";
+    assert_eq!(rt; keys.into_inner().as_slice(), wanted.as_bytes());
     Ok(())
 }

@@ -1,9 +1,9 @@
 -- Carrying values back edge by edge finds exactly what chains of edges bring.
 use Rattle.std.proofs.Common.{◌≡◌, ◌↔◌, List, [], ◌∷◌, ◌++◌, Contains, Option, None, Some, refl, sym, ap, ◌∙◌, subst}
 use Rattle.std.proofs.Common.{option_and_then}
-use Rattle.rr_graph.specs.Carried.{CarriesBack, IsCarriedPair, IsFoundPair, IsLabelledChain, IsNamed, IsOwnPair, Leads, put_through}
+use Rattle.rr_graph.specs.Carried.{IsFoundPair, IsLabelledChain, IsNamed, Leads, put_through}
 use Rattle.rr_graph.specs.Chain.{IsChain, IsReached}
-use Rattle.rr_graph.specs.Reversed.{IsBackward, LeadsBack}
+use Rattle.rr_graph.specs.Reversed.{CarriesBack, IsBackward, IsCarriedPair, IsOwnPair, LeadsBack}
 use Rattle.rr_graph.specs.declared.labels.Edge.{Edge}
 use Rattle.rr_graph.proofs.Reached.{IsChain-push, IsChain-within, IsReached-edge}
 

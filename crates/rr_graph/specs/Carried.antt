@@ -1,7 +1,7 @@
 -- Values that labelled edges carry back. What is found at the node to which an edge leads is found at the node that
 -- it leaves too, once the edge's label has passed it.
-use Rattle.std.specs.Prelude.{◌≡◌, ℕ, ◌⊎◌, List, [], ◌∷◌, Option, Some, Contains, option_and_then}
-use Rattle.rr_graph.specs.Chain.{IsChain, IsReached, MoreThan}
+use Rattle.std.specs.Prelude.{◌≡◌, ℕ, ◌⊎◌, List, [], ◌∷◌, Option, Some, option_and_then}
+use Rattle.rr_graph.specs.Chain.{IsReached, MoreThan}
 use Rattle.rr_graph.specs.declared.labels.Edge.{Edge}
 
 module _ {N L : Type 0} (edge : N → N → L → Type 0) where
@@ -35,16 +35,3 @@ module _ {N L V : Type 0} (edge : N → N → L → Type 0) (own : N → V → T
   -- More than `limit` nodes are reached, or more than `limit` pairs of a reached node and a value found at it. (profile)
   abbrev pub IsTooMany : ℕ → N → Type 0
   IsTooMany limit start = MoreThan limit (IsNamed edge start) ⊎ MoreThan limit (IsFoundPair start)
-
--- The pair of one of the nodes and a value of its own.
-abbrev pub IsOwnPair : {N V : Type 0} → (N → V → Type 0) → List N → N × V → Type 0
-IsOwnPair own nodes p = Contains nodes p.0 × own p.0 p.1
-
-module _ {N L V : Type 0} (edge : N → N → L → Type 0) (own : N → V → Type 0) (passed : L → V → Option V) where
-  -- The value of a pair is carried back to another pair over an edge that leaves one of the nodes.
-  abbrev pub CarriesBack : List N → N × V → N × V → Type 0
-  CarriesBack nodes p q = (label : L) × Contains nodes q.0 × edge q.0 p.0 label × (passed label p.1 ≡ Some q.1)
-
-  -- A node and a value that comes back to it from a value of its own of one of the nodes, over edges that leave these.
-  abbrev pub IsCarriedPair : List N → N × V → Type 0
-  IsCarriedPair nodes p = (q : N × V) × (chain : List (N × V)) × IsOwnPair own nodes q × IsChain (CarriesBack nodes) q chain p

@@ -1,9 +1,10 @@
 //! Which values are found at a node of a labelled graph.
 
-ghost use Rattle.std.specs.Prelude.{◌≡◌, ◌↔◌, Contains, IfOk, OnOk, [], ◌∷◌, map};
-ghost use Rattle.rr_graph.specs.Chain.{HasNoRepeats, IsReached, MoreThan};
+ghost use Rattle.std.specs.Prelude.{◌≡◌, ◌↔◌, Contains, IfOk, OnOk, map};
+ghost use Rattle.rr_graph.specs.Chain.{HasNoRepeats, MoreThan};
 ghost use Rattle.std.specs.List.Sorted.{IsStrictlySortedBy};
-ghost use Rattle.rr_graph.specs.Carried.{IsCarriedPair, IsFound, IsNamed, IsTooMany, Leads};
+ghost use Rattle.rr_graph.specs.Carried.{IsFound, IsNamed, IsTooMany, Leads};
+ghost use Rattle.rr_graph.specs.Reversed.{IsCarriedPair};
 
 use crate::backward::reversed;
 use crate::labels::{Edge, Labelled};

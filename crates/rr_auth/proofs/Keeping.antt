@@ -11,8 +11,8 @@ use Rattle.rr_text.specs.Fields.{fields_eq}
 use Rattle.rr_object.specs.declared.key.Key.{Key}
 use Rattle.rr_object.specs.declared.key.Key.TheVariants.{Mntner, AsBlock, AutNum, Inetnum, Route, AsSet, RouteSet}
 use Rattle.rr_object.specs.Objects.{Obj, names_of}
-use Rattle.rr_object.specs.KeyOrders.{key_cmp}
-use Rattle.rr_auth.specs.Registries.{Reg, Sound, IsKey, is_mntner_of, maintainer, names_another, names_nobody, keys_cross, crosses_some, with_mntner}
+use Rattle.rr_object.specs.KeyOrders.{IsKeyValue, key_cmp}
+use Rattle.rr_auth.specs.Registries.{Reg, Sound, is_mntner_of, maintainer, names_another, names_nobody, keys_cross, crosses_some, with_mntner}
 use Rattle.rr_object.specs.declared.code.Code.{Code}
 use Rattle.rr_object.specs.declared.code.Code.TheVariants.{E10, E11, E12, E13, E14, E15, E16, E17, E18}
 use Rattle.rr_auth.specs.declared.item.Item.TheVariants.{Submit, Delete as DeleteItem}
@@ -62,13 +62,13 @@ seen_names r (AsSet n) o ns e = kept_names r _ o ns e
 seen_names r (RouteSet n) o ns e = kept_names r _ o ns e
 
 -- an object whose key crosses none, put under it, leaves a sound registry sound
-pub sound_insert : (r : Reg) (o : Obj) → Sound r → IsKey o.key
+pub sound_insert : (r : Reg) (o : Obj) → Sound r → IsKeyValue o.key
     → names_nobody (insert r o.key o) (names_of o) ≡ false
     → ((l : Key) (x : Obj) → get r l ≡ Some x → keys_cross l o.key ≡ false)
     → Sound (insert r o.key o)
 sound_insert r o s formed named apart = record {
   keyed = after_insert (λ l x. x.key ≡ l) r o.key o refl s.keyed;
-  formed = after_insert (λ l x. IsKey l) r o.key o formed s.formed;
+  formed = after_insert (λ l x. IsKeyValue l) r o.key o formed s.formed;
   named = after_insert (λ l x. names_nobody (insert r o.key o) (names_of x) ≡ false) r o.key o named
       (λ l x f. kept_names r o.key o (names_of x) (s.named l x f));
   apart = λ k l x y f g.
@@ -129,7 +129,7 @@ addition_is_no_change r z o e =
     first_five r z o.key eleven.1
 
 -- an addition that is not refused leaves a sound registry sound
-pub sound_added : (r : Reg) (z : List (List ℕ)) (o : Obj) → Sound r → IsKey o.key → verdict r z (Submit o) ≡ Add → Sound (insert r o.key o)
+pub sound_added : (r : Reg) (z : List (List ℕ)) (o : Obj) → Sound r → IsKeyValue o.key → verdict r z (Submit o) ≡ Add → Sound (insert r o.key o)
 sound_added r z o s formed e =
     elim (get r o.key) as (λ stored. submission stored r z o ≡ Add → Sound (insert r o.key o)) [
       | None ↦ λ f.
@@ -141,7 +141,7 @@ sound_added r z o s formed e =
     ] e
 
 -- a change that is not refused leaves a sound registry sound
-pub sound_changed : (r : Reg) (z : List (List ℕ)) (o : Obj) → Sound r → IsKey o.key → verdict r z (Submit o) ≡ Change → Sound (insert r o.key o)
+pub sound_changed : (r : Reg) (z : List (List ℕ)) (o : Obj) → Sound r → IsKeyValue o.key → verdict r z (Submit o) ≡ Change → Sound (insert r o.key o)
 sound_changed r z o s formed e =
     elim (get r o.key) as (λ stored. get r o.key ≡ stored → submission stored r z o ≡ Change → Sound (insert r o.key o)) [
       | None ↦ λ g f. absurd (addition_is_no_change r z o f)

@@ -16,6 +16,7 @@ lower_of o = if length o.lower == 0 then o.maintainers else o.lower
 abbrev pub grants : PrefixParts → GrantParts → Bool
 grants p g = g.any || list_any (λ range. admits range p) g.ranges
 
+-- The key is that of an aut-num.
 abbrev pub is_aut_num : Key → Bool
 is_aut_num (AutNum n) = true
 is_aut_num _ = false

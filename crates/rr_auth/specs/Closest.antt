@@ -10,20 +10,22 @@ use Rattle.rr_object.specs.declared.key.Key.TheVariants.{AsBlock, Inetnum, Route
 use Rattle.rr_object.specs.Objects.{Obj}
 use Rattle.rr_auth.specs.Registries.{Reg}
 
--- The span of a key of one class: of an inetnum, of an as-block, of a route.
+-- The span of an inetnum's key; other keys have none here.
 abbrev pub inetnum_span : Key → Option Ends
 inetnum_span (Inetnum s) = Some s
 inetnum_span _ = None
 
+-- The span of an as-block's key; other keys have none here.
 abbrev pub block_span : Key → Option Ends
 block_span (AsBlock s) = Some s
 block_span _ = None
 
+-- The span of the prefix of a route's key; other keys have none here.
 abbrev pub route_span : Key → Option Ends
 route_span (Route p n) = Some (span_of p)
 route_span _ = None
 
--- The object is not of the class, does not cover the span, or is no smaller than the spanned ends.
+-- The object is not of the class, does not cover s, or is no smaller than t.
 abbrev pub is_no_closer : (Key → Option Ends) → Ends → Ends → Obj → Bool
 is_no_closer class s t x = option_map_or (λ u. not (covers u s) || nat_le (size t) (size u)) (class x.key) true
 
@@ -37,10 +39,12 @@ is_closest class all s o =
 abbrev pub closest_of : (Key → Option Ends) → List Obj → Ends → Option Obj
 closest_of class all s = find (is_closest class all s) all
 
--- The closest inetnum, and the closest as-block, of a registry: there is one at most, since spans do not cross.
+-- The closest inetnum of a registry (RFC 2725, 9). In a sound registry there is one at most, since its inetnums do not
+-- cross; in another this is the first by key.
 abbrev pub closest_inetnum : Reg → Ends → Option Obj
 closest_inetnum r s = closest_of inetnum_span (values r) s
 
+-- The closest as-block of a registry (RFC 2725, 9), likewise one at most in a sound registry.
 abbrev pub closest_block : Reg → Ends → Option Obj
 closest_block r s = closest_of block_span (values r) s
 
@@ -54,6 +58,7 @@ route_prefix _ = None
 abbrev pub prefix_of_closest : List Obj → PrefixParts → Option PrefixParts
 prefix_of_closest all p = option_and_then (λ o. route_prefix o.key) (closest_of route_span all (span_of p))
 
+-- The prefix of the closest routes of a registry to a prefix (RFC 2725, 9).
 abbrev pub closest_routes : Reg → PrefixParts → Option PrefixParts
 closest_routes r p = prefix_of_closest (values r) p
 
@@ -70,5 +75,6 @@ origin_at q _ = None
 abbrev pub origins_among : List Obj → PrefixParts → List ℕ
 origins_among all p = filter_map (λ o. origin_at p o.key) all
 
+-- The origins of a registry's routes of a prefix, in order.
 abbrev pub origins : Reg → PrefixParts → List ℕ
 origins r p = origins_among (values r) p

@@ -23,11 +23,11 @@ lower_passes r z x = passes r z (lower_of x)
 abbrev pub routes_pass : Reg → List (List ℕ) → PrefixParts → Obj → Bool
 routes_pass r z p x = passes r z (routes_of x p)
 
--- E10: a maintainer that the object names is not registered; a new mntner may name itself (RFC 2622, 3).
+-- E10: a maintainer that the object names is not registered (RFC 2622, 3; that a new mntner may name itself: profile).
 abbrev pub names_unknown : Reg → Obj → Bool
 names_unknown r o = names_nobody (seen_by (Some o) r) (names_of o)
 
--- E11: the mnt-by of a new object does not pass; a new mntner's own secret counts (RFC 2725, 9).
+-- E11: the mnt-by of a new object does not pass (RFC 2725, 9; that a new mntner's own secret counts: profile).
 abbrev pub unauthorised : Reg → List (List ℕ) → Obj → Bool
 unauthorised r z o = not (passes (seen_by (Some o) r) z o.maintainers)
 
@@ -41,8 +41,8 @@ abbrev pub origin_refuses : Reg → List (List ℕ) → Key → Bool
 origin_refuses r z (Route p n) = not (option_map_or (routes_pass r z p) (get r (AutNum n)) false)
 origin_refuses r z _ = false
 
--- The key that a set's name without its last component is: of an aut-num, or of a set of the same kind; several AS
--- numbers alone are none (RFC 2622, 5).
+-- The key that a set's name without its last component is: of an aut-num, or of a set of the same kind (RFC 2622, 5;
+-- that several AS numbers alone are none: profile).
 abbrev pub parent_key : (List ℕ → Key) → Parent → Option Key
 parent_key set (Number n) = Some (AutNum n)
 parent_key set (Set name) = Some (set name)

@@ -2,17 +2,18 @@
 use Rattle.std.specs.Prelude.{◌≡◌, ℕ, List}
 use Rattle.std.specs.List.{list_any}
 use Rattle.std.specs.Str.{bytes_eq}
+use Rattle.rr_object.specs.KeyOrders.{IsKeyValue}
 use Rattle.rr_object.specs.declared.code.Code.{Code}
 use Rattle.rr_auth.specs.declared.item.Item.{Item}
 use Rattle.rr_auth.specs.declared.item.Item.TheVariants.{Submit, Delete}
 use Rattle.rr_auth.specs.declared.verdict.Verdict.TheVariants.{Refuse}
-use Rattle.rr_auth.specs.Registries.{Reg, Sound, IsKey}
+use Rattle.rr_auth.specs.Registries.{Reg, Sound}
 use Rattle.rr_auth.specs.Verdicts.{verdict, step}
 
 -- The key that an item is about is well formed.
 abbrev pub IsItem : Item → Type 0
-IsItem (Submit o) = IsKey o.key
-IsItem (Delete k) = IsKey k
+IsItem (Submit o) = IsKeyValue o.key
+IsItem (Delete k) = IsKeyValue k
 
 -- An item that is refused leaves the registry as it was.
 abbrev pub RefusalLeaves : Type 0

@@ -3,12 +3,11 @@ use Rattle.std.specs.Prelude.{◌≡◌, ℕ, Bool, false, not, ◌&&◌, List, 
 use Rattle.std.specs.List.{list_any}
 use Rattle.std.specs.Str.{bytes_eq}
 use Rattle.std.specs.FinMap.{FinMap, get, insert, values}
-use Rattle.rr_number.specs.Spans.{crosses, IsSpan}
-use Rattle.rr_number.specs.Prefixes.{IsMasked}
+use Rattle.rr_number.specs.Spans.{crosses}
 use Rattle.rr_object.specs.declared.key.Key.{Key}
-use Rattle.rr_object.specs.declared.key.Key.TheVariants.{Mntner, AsBlock, AutNum, Inetnum, Route, AsSet, RouteSet}
+use Rattle.rr_object.specs.declared.key.Key.TheVariants.{Mntner, AsBlock, Inetnum}
 use Rattle.rr_object.specs.Objects.{Obj, names_of}
-use Rattle.rr_object.specs.KeyOrders.{key_cmp}
+use Rattle.rr_object.specs.KeyOrders.{IsKeyValue, key_cmp}
 
 -- A registry has at most one object of a class and key.
 abbrev pub Reg : Type 0
@@ -26,12 +25,7 @@ names_nobody r names = list_any (λ n. is_none (maintainer r n)) names
 -- (profile).
 abbrev pub with_mntner : Reg → Key → Obj → Reg
 with_mntner r (Mntner name) o = insert r (Mntner name) o
-with_mntner r (AsBlock s) o = r
-with_mntner r (AutNum n) o = r
-with_mntner r (Inetnum s) o = r
-with_mntner r (Route p n) o = r
-with_mntner r (AsSet name) o = r
-with_mntner r (RouteSet name) o = r
+with_mntner r _ o = r
 
 -- The registry that an object is judged in: with itself, where it is a mntner that is added.
 abbrev pub seen_by : Option Obj → Reg → Reg
@@ -61,20 +55,10 @@ names_another name o = not (is_mntner_of name o.key) && list_any (λ n. bytes_eq
 abbrev pub is_named : Reg → List ℕ → Bool
 is_named r name = list_any (names_another name) (values r)
 
--- A key's span has its ends in order, and its prefix no bit past its length (profile).
-abbrev pub IsKey : Key → Type 0
-IsKey (Mntner name) = Unit {0}
-IsKey (AsBlock s) = IsSpan s
-IsKey (AutNum n) = Unit {0}
-IsKey (Inetnum s) = IsSpan s
-IsKey (Route p n) = IsMasked p
-IsKey (AsSet name) = Unit {0}
-IsKey (RouteSet name) = Unit {0}
-
--- A registry is sound where each object stands under its own key, every maintainer that an object names is in it,
--- and no two inetnums and no two as-blocks cross (profile).
+-- A registry is sound where each object stands under its own key, each key is well formed, every maintainer that an
+-- object names is in it, and no two inetnums and no two as-blocks cross (profile).
 pub record Sound (r : Reg) : Type 0 where
   pub keyed : (k : Key) (o : Obj) → get r k ≡ Some o → o.key ≡ k
-  pub formed : (k : Key) (o : Obj) → get r k ≡ Some o → IsKey k
+  pub formed : (k : Key) (o : Obj) → get r k ≡ Some o → IsKeyValue k
   pub named : (k : Key) (o : Obj) → get r k ≡ Some o → names_nobody r (names_of o) ≡ false
   pub apart : (k l : Key) (o x : Obj) → get r k ≡ Some o → get r l ≡ Some x → keys_cross k l ≡ false

@@ -1,6 +1,5 @@
 -- The verdict on an item, and the registry after it.
-use Rattle.std.specs.Prelude.{ℕ, Bool, false, not, ◌&&◌, is_none, List, [], ◌∷◌, Option, None, Some, if◌then◌else◌}
-use Rattle.std.specs.Option.{option_map_or}
+use Rattle.std.specs.Prelude.{ℕ, Bool, not, List, [], ◌∷◌, Option, None, Some, if◌then◌else◌}
 use Rattle.std.specs.FinMap.{get, insert, remove}
 use Rattle.rr_text.specs.Fields.{fields_eq}
 use Rattle.rr_object.specs.declared.code.Code.{Code}
@@ -13,9 +12,7 @@ use Rattle.rr_auth.specs.declared.verdict.Verdict.{Verdict}
 use Rattle.rr_auth.specs.declared.verdict.Verdict.TheVariants.{Add, Change, Same, Delete, Refuse}
 use Rattle.rr_auth.specs.Registries.{Reg, names_nobody, crosses_some}
 use Rattle.rr_auth.specs.Passing.{passes}
-use Rattle.rr_number.specs.Prefixes.{PrefixParts, span_of}
-use Rattle.rr_auth.specs.Closest.{closest_inetnum, closest_routes}
-use Rattle.rr_auth.specs.Conditions.{lacks_parent, parent_refuses, space_passes, names_unknown, unauthorised, lacks_origin, origin_refuses, is_uncovered, cover_refuses, is_in_use}
+use Rattle.rr_auth.specs.Conditions.{names_unknown, unauthorised, lacks_origin, origin_refuses, is_uncovered, cover_refuses, is_in_use}
 
 -- A condition of refusal with its code.
 pub record Refusal : Type 0 where
@@ -26,24 +23,6 @@ pub record Refusal : Type 0 where
 abbrev pub first_of : List Refusal → Verdict → Verdict
 first_of [] v = v
 first_of (c ∷ cs) v = if c.holds then Refuse c.code else first_of cs v
-
--- What a cover, or a parent, says of an object below it: it has to be there, and its names to pass.
-abbrev pub below : (Obj → Bool) → Option Obj → Verdict
-below names_pass cover = first_of (
-    record { holds = is_none cover; code = E12 } ∷ (
-    record { holds = not (option_map_or names_pass cover false); code = E13 } ∷ [])) Add
-
--- What a set's parent says of it, where it has one.
-abbrev pub below_parent : Reg → List (List ℕ) → (List ℕ → Key) → List ℕ → Verdict
-below_parent r z set name = first_of (
-    record { holds = lacks_parent r set name; code = E12 } ∷ (
-    record { holds = parent_refuses r z set name; code = E13 } ∷ [])) Add
-
--- What the routes and inetnums above a route say of it.
-abbrev pub below_space : Reg → List (List ℕ) → PrefixParts → Verdict
-below_space r z p = first_of (
-    record { holds = is_none (closest_routes r p) && is_none (closest_inetnum r (span_of p)); code = E12 } ∷ (
-    record { holds = not (space_passes r z p (closest_routes r p)); code = E13 } ∷ [])) Add
 
 -- What the place of a new object in the hierarchy says of it (RFC 2725, 9; profile).
 abbrev pub place : Reg → List (List ℕ) → Key → Verdict
@@ -61,18 +40,19 @@ addition r z o = first_of (
     record { holds = unauthorised r z o; code = E11 } ∷ [])) (place r z o.key)
 
 -- An object whose key is registered is a change, which the stored mnt-by decides; the same text changes nothing
--- (RFC 2622, 3; profile).
+-- (RFC 2725, 9; profile).
 abbrev pub change : Reg → List (List ℕ) → Obj → Obj → Verdict
 change r z stored o = first_of (
     record { holds = names_nobody r (names_of o); code = E10 } ∷ (
     record { holds = not (passes r z stored.maintainers); code = E11 } ∷ []))
     (if fields_eq stored.paragraph o.paragraph then Same else Change)
 
+-- An object is an addition where no object is stored under its key, else a change of that one (RFC 2725, 9).
 abbrev pub submission : Option Obj → Reg → List (List ℕ) → Obj → Verdict
 submission None r z o = addition r z o
 submission (Some stored) r z o = change r z stored o
 
--- A deletion needs the object, its mnt-by, and that no other object names it (RFC 2622, 3; profile).
+-- A deletion needs the object, its mnt-by, and that no other object names it (RFC 2725, 9; profile).
 abbrev pub deletion : Option Obj → Reg → List (List ℕ) → Key → Verdict
 deletion None r z k = Refuse E18
 deletion (Some stored) r z k = first_of (
@@ -84,15 +64,17 @@ abbrev pub verdict : Reg → List (List ℕ) → Item → Verdict
 verdict r z (Submit o) = submission (get r o.key) r z o
 verdict r z (DeleteItem k) = deletion (get r k) r z k
 
--- The registry after a verdict: a refusal and an equal text leave it as it was (profile).
+-- The registry with an item's object under its key, in place of one that stood there.
 abbrev pub added : Reg → Item → Reg
 added r (Submit o) = insert r o.key o
 added r (DeleteItem k) = r
 
+-- The registry without the object of the key that an item deletes.
 abbrev pub removed : Reg → Item → Reg
 removed r (Submit o) = r
 removed r (DeleteItem k) = remove r k
 
+-- The registry after a verdict: a refusal and an equal text leave it as it was (profile).
 abbrev pub after : Verdict → Reg → Item → Reg
 after Add r i = added r i
 after Change r i = added r i
@@ -100,5 +82,6 @@ after Same r i = r
 after Delete r i = removed r i
 after (Refuse code) r i = r
 
+-- The registry after an item: what its verdict leaves.
 abbrev pub step : Reg → List (List ℕ) → Item → Reg
 step r z i = after (verdict r z i) r i

@@ -7,7 +7,8 @@ ghost use Rattle.std.specs.FinMap.{get};
 ghost use Rattle.rr_number.specs.Prefixes.{span_of};
 ghost use Rattle.rr_auth.specs.Closest.{closest_inetnum};
 ghost use Rattle.rr_auth.specs.Conditions.{is_in_use, lacks_origin, lower_passes, origin_refuses, parent_key, route_passes, routes_pass};
-ghost use Rattle.rr_auth.specs.Verdicts.{addition, below, below_parent, below_space, change, deletion, first_of, place, submission, verdict};
+ghost use Rattle.rr_auth.specs.Places.{below, below_parent, below_space};
+ghost use Rattle.rr_auth.specs.Verdicts.{addition, change, deletion, first_of, place, submission, verdict};
 
 use crate::authority::{lower_passes, routes_pass};
 use crate::book::Book;

@@ -15,7 +15,7 @@ use sha2::{Digest, Sha256};
 
 /// Whether some secret fits one of the maintainer's lines: SHA-256 of the salt and then the secret is the line's
 /// digest (profile; FIPS 180-4).
-pub fn passes(maintainer: &Object, secrets: &Secrets) -> bool
+pub fn fits(maintainer: &Object, secrets: &Secrets) -> bool
     ensures { result ≡ fits secrets.now maintainer.now }
 {
     some_line_fits(maintainer.auths(), secrets.as_slice())
@@ -77,7 +77,7 @@ pub fn name_passes<B: Book>(book: &B, own: Option<&Object>, secrets: &Secrets, n
     ensures { result ≡ name_passes (seen_by (option_copied own.entry) (B.contents book.now)) secrets.now name.now }
 {
     match maintainer_seen(book, own, name) {
-        Some(maintainer) => passes(maintainer, secrets),
+        Some(maintainer) => fits(maintainer, secrets),
         None => false,
     }
 }

@@ -1,5 +1,5 @@
 //! Published digests as lines of a maintainer.
-use crate::{Secrets, passes};
+use crate::{Secrets, fits};
 use rr_number::Name;
 use rr_object::Object;
 use rr_text::next_paragraph;
@@ -17,11 +17,11 @@ fn maintainer(alloc: Global, line: &str) -> Result<Object, Fail> {
 }
 
 /// Whether the secret alone fits the line.
-fn fits(alloc: Global, line: &str, secret: &str) -> Result<bool, Fail> {
+fn fits_alone(alloc: Global, line: &str, secret: &str) -> Result<bool, Fail> {
     let maintainer = maintainer(alloc, line)?;
     let mut secrets = Secrets::new(alloc);
     secrets.add(alloc, secret.as_bytes())?;
-    Ok(passes(&maintainer, &secrets))
+    Ok(fits(&maintainer, &secrets))
 }
 
 /// The messages of the examples of FIPS 180-4 with their digests, and the second one cut into salt and secret.
@@ -51,8 +51,8 @@ const PUBLISHED: [(&str, &str); 5] = [
 #[test]
 fn published_digests_fit_their_messages_alone(rt: HostRuntime) -> Result<(), Fail> {
     for (line, message) in &PUBLISHED {
-        assert!(rt; fits(rt.alloc(), line, message)?, "{line}");
-        assert!(rt; !fits(rt.alloc(), line, "bc")?, "{line}");
+        assert!(rt; fits_alone(rt.alloc(), line, message)?, "{line}");
+        assert!(rt; !fits_alone(rt.alloc(), line, "bc")?, "{line}");
     }
     Ok(())
 }

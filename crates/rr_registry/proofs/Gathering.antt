@@ -10,8 +10,8 @@ use Rattle.std.specs.FinMap.{contains_key, empty, get, insert, values, get-inser
 use Rattle.rr_object.specs.declared.key.Key.{Key}
 use Rattle.rr_object.specs.declared.key.Key.TheVariants.{Mntner}
 use Rattle.rr_object.specs.Objects.{Obj, names_of}
-use Rattle.rr_object.specs.KeyOrders.{key_cmp}
-use Rattle.rr_auth.specs.Registries.{Reg, IsKey, maintainer, names_nobody, keys_cross, crosses_some, is_mntner_of}
+use Rattle.rr_object.specs.KeyOrders.{IsKeyValue, key_cmp}
+use Rattle.rr_auth.specs.Registries.{Reg, maintainer, names_nobody, keys_cross, crosses_some, is_mntner_of}
 use Rattle.rr_auth.proofs.KeyLaws.{keys_total}
 use Rattle.rr_auth.proofs.Crossing.{keys_cross_back, crosses_itself}
 use Rattle.rr_auth.proofs.Members.{IsIn, found_in, none_passes}
@@ -27,7 +27,7 @@ nothing : {A : Type 0} (x : A) → None ≡ Some x → ⊥
 nothing x e = cc
 
 -- one more object, whose key crosses none, leaves objects apart
-pub put_apart : (o : Obj) (os : List Obj) → IsApart os → IsKey o.key → crosses_some (book_of os) o.key ≡ false → IsApart (put_in o os)
+pub put_apart : (o : Obj) (os : List Obj) → IsApart os → IsKeyValue o.key → crosses_some (book_of os) o.key ≡ false → IsApart (put_in o os)
 put_apart o os a formed free =
     let r = book_of os in
     let same = book_put o os a.ordered in
@@ -36,7 +36,7 @@ put_apart o os a formed free =
     record {
       ordered = in_order_put o os a.ordered;
       keyed = λ k x f. after_insert (λ l y. y.key ≡ l) r o.key o refl a.keyed k x (sym (ap (λ m. get m k) same) ∙ f);
-      formed = λ k x f. after_insert (λ l y. IsKey l) r o.key o formed a.formed k x (sym (ap (λ m. get m k) same) ∙ f);
+      formed = λ k x f. after_insert (λ l y. IsKeyValue l) r o.key o formed a.formed k x (sym (ap (λ m. get m k) same) ∙ f);
       apart = λ k l x y f g.
           after_insert (λ m u. keys_cross m l ≡ false) r o.key o
           (after_insert (λ b v. keys_cross o.key b ≡ false) r o.key o (crosses_itself o.key)
@@ -167,7 +167,7 @@ is_overlap os n o a e f =
     ap (λ b. if b then Some (Duplicate n) else (if crosses_some (book_of os) o.key then Some (Overlap n) else None)) (stands os o.key a.ordered ∙ e)
     ∙ ap (λ b. if b then Some (Overlap n) else None) (crossed os o.key a.ordered ∙ f)
 
-pub taken_in : (os : List Obj) (n : ℕ) (o : Obj) (grown : List Obj) → IsApart os → IsKey o.key
+pub taken_in : (os : List Obj) (n : ℕ) (o : Obj) (grown : List Obj) → IsApart os → IsKeyValue o.key
     → is_some (find (λ x. eq_by_cmp key_cmp o.key x.key) os) ≡ false → list_any (λ x. keys_cross x.key o.key) os ≡ false
     → grown ≡ put_in o os → IsTakenIn os n o grown
 taken_in os n o grown a formed e f same = record {

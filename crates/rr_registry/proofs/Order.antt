@@ -1,10 +1,9 @@
 -- A list of objects in order and the registry that it is.
 use Rattle.std.proofs.Common.{◌≡◌, ℕ, Bool, true, false, cond, not, T, List, [], ◌∷◌, refl, sym, ap, subst, ◌∙◌}
-use Rattle.std.specs.Prelude.{Option, None, Some, map, find, filter}
-use Rattle.std.specs.declared.cmp.Ordering.{Ordering}
+use Rattle.std.specs.Prelude.{None, Some, map, find, filter}
 use Rattle.std.specs.declared.cmp.Ordering.TheVariants.{Less, Equal, Greater}
 use Rattle.std.specs.Ordering.{eq_by_cmp}
-use Rattle.std.specs.FinMap.{FinMap, empty, get, insert, remove, values, from_sorted, is_sorted, entries-from_sorted, get-from_sorted, get-insert, get-remove, get-empty, same_map, find as find_entry}
+use Rattle.std.specs.FinMap.{empty, get, insert, remove, values, is_sorted, entries-from_sorted, get-from_sorted, get-insert, get-remove, get-empty, same_map, find as find_entry}
 use Rattle.std.specs.FinMap.Entries.{by_order, put, where_key, is_sorted-put, is_sorted-where_key, find-put, find-where_key}
 use Rattle.std.specs.Cmp.{eq_by_cmp_equiv}
 use Rattle.rr_object.specs.declared.key.Key.{Key}
@@ -12,7 +11,7 @@ use Rattle.rr_object.specs.declared.key.Key.TheVariants.{Mntner, AsBlock, AutNum
 use Rattle.rr_object.specs.Objects.{Obj}
 use Rattle.rr_object.specs.KeyOrders.{key_cmp}
 use Rattle.rr_auth.specs.Registries.{Reg, Sound, maintainer, is_mntner_of}
-use Rattle.rr_auth.proofs.KeyLaws.{keys_total, keys_exact, same_key}
+use Rattle.rr_auth.proofs.KeyLaws.{keys_total, keys_exact}
 use Rattle.rr_auth.proofs.Seen.{mntners_tie}
 use Rattle.rr_registry.specs.Books.{entry, is_in_order, book_of, put_in, IsBook}
 

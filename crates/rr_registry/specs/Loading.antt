@@ -3,8 +3,9 @@ use Rattle.std.specs.Prelude.{◌≡◌, ℕ, ◌+◌, true, false, ◌⊎◌, L
 use Rattle.std.specs.Option.{option_map, option_or}
 use Rattle.std.specs.FinMap.{contains_key, empty, get, insert}
 use Rattle.rr_object.specs.declared.key.Key.{Key}
+use Rattle.rr_object.specs.KeyOrders.{IsKeyValue}
 use Rattle.rr_object.specs.Objects.{Obj, names_of}
-use Rattle.rr_auth.specs.Registries.{Reg, IsKey, crosses_some, keys_cross, names_nobody}
+use Rattle.rr_auth.specs.Registries.{Reg, crosses_some, keys_cross, names_nobody}
 use Rattle.rr_registry.specs.Books.{book_of, is_in_order}
 use Rattle.rr_registry.specs.declared.load.LoadFault.{LoadFault}
 use Rattle.rr_registry.specs.declared.load.LoadFault.TheVariants.{Duplicate, Overlap, Unnamed, Memory}
@@ -46,7 +47,7 @@ IsFaultOf os fault = (fault ≡ Memory) ⊎ (load_fault os ≡ Some fault)
 pub record IsApart (os : List Obj) : Type 0 where
   pub ordered : is_in_order os ≡ true
   pub keyed : (k : Key) (o : Obj) → get (book_of os) k ≡ Some o → o.key ≡ k
-  pub formed : (k : Key) (o : Obj) → get (book_of os) k ≡ Some o → IsKey k
+  pub formed : (k : Key) (o : Obj) → get (book_of os) k ≡ Some o → IsKeyValue k
   pub apart : (k l : Key) (o x : Obj) → get (book_of os) k ≡ Some o → get (book_of os) l ≡ Some x → keys_cross k l ≡ false
 
 -- The n-th object was put among those before it.

@@ -3,7 +3,6 @@
 ghost use Rattle.std.specs.Prelude.{◌≡◌};
 ghost use Rattle.std.specs.Ordering.{eq_by_cmp};
 ghost use Rattle.rr_object.specs.KeyOrders.{key_cmp};
-ghost use Rattle.rr_auth.specs.Registries.{IsKey};
 
 use rr_object::Key;
 use std::cmp::Ordering;
@@ -21,18 +20,4 @@ pub(crate) fn is_same(key: &Key, other: &Key) -> bool
     ensures { result ≡ eq_by_cmp key_cmp key.now other.now }
 {
     compare(key, other).is_eq()
-}
-
-/// Tells a caller's proof that the key is well formed; it does nothing.
-pub(crate) fn well_formed(key: &Key)
-    ensures { IsKey key.now }
-{
-    match key {
-        Key::AsBlock(span) => span.span().ordered(),
-        Key::Inetnum(span) => span.ordered(),
-        Key::Route(prefix, _) => {
-            let _length = prefix.length();
-        }
-        _ => {}
-    }
 }

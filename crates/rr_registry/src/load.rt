@@ -1,14 +1,13 @@
 //! Lists of objects taken as registries.
 
-ghost use Rattle.std.specs.Prelude.{◌≡◌, ◌⊎◌, ◌++◌, ◌<◌, ◌^◌, None, Some, IfErr, IfSome, MatchResult, OnOk, find, is_none, length, map, position};
+ghost use Rattle.std.specs.Prelude.{◌≡◌, ◌⊎◌, ◌++◌, ◌<◌, Some, IfErr, IfSome, MatchResult, OnOk, find, is_none, length, map, position};
 ghost use Rattle.std.specs.List.{list_any};
 ghost use Rattle.std.specs.FinMap.{empty};
 ghost use Rattle.rr_object.specs.Objects.{names_of};
 ghost use Rattle.rr_auth.specs.Registries.{is_mntner_of};
-ghost use Rattle.rr_registry.specs.Books.{IsBook, book_of};
+ghost use Rattle.rr_registry.specs.Books.{book_of};
 ghost use Rattle.rr_registry.specs.Loading.{clash, clash_of, IsApart, IsGathered, IsTakenIn};
 
-use crate::keys::well_formed;
 use crate::lists;
 use crate::plain_book::PlainBook;
 use crate::registry::Registry;
@@ -118,7 +117,7 @@ fn take_in(gathered: &mut Vec<Object>, n: u64, object: Object) -> Result<(), Loa
     ensures ok { OnOk result (IsTakenIn gathered.old.items n object gathered.new.items) }
     ensures err { IfErr result (λ fault. (fault ≡ LoadFault.Memory) ⊎ (clash_of (book_of gathered.old.items) n object ≡ Some fault)) }
 {
-    well_formed(object.key());
+    object.key().is_within_bounds();
     if lists::find_key(gathered, object.key()).is_some() {
         return Err(LoadFault::Duplicate(n));
     }

@@ -5,7 +5,6 @@ ghost use Rattle.std.specs.FinMap.{empty, insert, remove, values};
 ghost use Rattle.rr_auth.specs.declared.verdict.Verdict.TheVariants.{Add, Change, Delete};
 ghost use Rattle.rr_registry.specs.Runs.{IsCarriedOut, IsStep, IsWant};
 
-use crate::keys::well_formed;
 use crate::outcome::Outcome;
 use crate::plain_book::PlainBook;
 use rr_auth::{Book, Item, Secrets, Verdict, judge};
@@ -82,7 +81,7 @@ impl Registry {
         match judge(alloc, &self.book, secrets, &item) {
             Ok(verdict) => match item {
                 Item::Submit(object) => {
-                    well_formed(object.key());
+                    object.key().is_within_bounds();
                     self.submit(verdict, object)
                 }
                 Item::Delete(key) => self.delete(verdict, &key),

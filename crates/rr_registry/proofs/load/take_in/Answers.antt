@@ -17,4 +17,4 @@ pub returns-in-Ok-clause-ok : goal.returns-in-Ok-clause-ok
 returns-in-Ok-clause-ok c =
     let missing = sym (found_by _ _ (rw c.deref.ensures.value at (rw c.key-2.ensures at c.find_key.ensures))) ∙ sym c.is_some.ensures ∙ c.if-is_some.false in
     let apart = sym (rw c.deref-2.ensures.value at (rw c.key-3.ensures at c.some_crosses.ensures)) ∙ c.if-some_crosses.false in
-    taken_in c.args.gathered.now.items c.args.n c.args.object _ c.requires (rw c.key.ensures at c.well_formed-2.ensures) missing apart c.in-Ok.ensures.ok
+    taken_in c.args.gathered.now.items c.args.n c.args.object _ c.requires (rw c.key.ensures at c.is_within_bounds.ensures) missing apart c.in-Ok.ensures.ok

@@ -10,13 +10,8 @@ use Rattle.rr_object.specs.declared.member.Member.TheVariants as member
 
 -- The origin and the prefix of a route's key.
 abbrev pub route_of_key : Key → Option (ℕ × PrefixParts)
-route_of_key (key.Mntner name) = None
-route_of_key (key.AsBlock span) = None
-route_of_key (key.AutNum n) = None
-route_of_key (key.Inetnum span) = None
 route_of_key (key.Route prefix origin) = Some (origin, prefix)
-route_of_key (key.AsSet name) = None
-route_of_key (key.RouteSet name) = None
+route_of_key _ = None
 
 -- The range of a route's prefix alone.
 abbrev pub range_of_key : Key → Option RangeParts

@@ -5,7 +5,7 @@ use Rattle.std.specs.Str.{bytes_eq}
 use Rattle.rr_object.specs.Objects.{Obj}
 use Rattle.rr_object.specs.Parts.{ByRefParts}
 use Rattle.rr_object.specs.declared.key.Key.{Key}
-use Rattle.rr_object.specs.declared.key.Key.TheVariants.{Mntner, AsBlock, AutNum, Inetnum, Route, AsSet, RouteSet}
+use Rattle.rr_object.specs.declared.key.Key.TheVariants.{AutNum}
 use Rattle.rr_object.specs.declared.member.Member.{Member}
 use Rattle.rr_object.specs.declared.member.Member.TheVariants as member
 use Rattle.rr_object.specs.declared.member.MemberSet.TheVariants as set
@@ -24,13 +24,8 @@ number_listed (member.Set (set.Set name) operator) = None
 
 -- The number of an aut-num's key.
 abbrev pub number_of_key : Key → Option ℕ
-number_of_key (Mntner name) = None
-number_of_key (AsBlock span) = None
 number_of_key (AutNum n) = Some n
-number_of_key (Inetnum span) = None
-number_of_key (Route prefix origin) = None
-number_of_key (AsSet name) = None
-number_of_key (RouteSet name) = None
+number_of_key _ = None
 
 -- The set takes the object's word that it belongs to it: `mbrs-by-ref` lists `ANY` or a maintainer in its `mnt-by`
 -- (RFC 2622, 5).

@@ -22,11 +22,15 @@ use std::alloc::{AllocError, Global};
 use std::collections::BTreeSet;
 
 /// Lists the AS numbers that an as-set stands for: those that it and the sets that it reaches by their `members` list
-/// or have by `mbrs-by-ref`; those of `AS-ANY` are all that are registered (RFC 2622, 5). The names of sets reached
-/// that are neither registered nor `AS-ANY` are missing.
+/// or have by `mbrs-by-ref`; those of `AS-ANY` are all that are registered (RFC 2622, 5). The names reached that are
+/// those of no registered as-set, nor `AS-ANY`, are missing.
 ///
 /// The fault is `NoSuchSet` where the name itself is such a one, else `TooMany` exactly where more than `limit` names
 /// are reached, want of memory aside.
+///
+/// The steps outside the book are O(n log n), where n counts the names reached, the members of each, listed or by
+/// reference, and the names in its `mbrs-by-ref` and in `mnt-by` of its referrers. The book is asked once for the
+/// `referrers` of each set reached that has `mbrs-by-ref`: a pass over all its objects, where it has no index of them.
 pub fn expand_as_set<B: SetBook>(
     alloc: Global,
     book: &B,

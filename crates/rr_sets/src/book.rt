@@ -1,6 +1,6 @@
 //! Registries, as the expansion of sets asks about them.
 
-ghost use Rattle.std.specs.Prelude.{◌≡◌, ◌↔◌, ℕ, IfOk};
+ghost use Rattle.std.specs.Prelude.{IfOk};
 
 use rr_auth::Book;
 use rr_number::SetName;

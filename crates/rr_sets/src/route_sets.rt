@@ -29,7 +29,13 @@ use std::alloc::{AllocError, Global};
 ///
 /// The fault is `NoSuchSet` where the name itself is such a one, else `TooMany` exactly where more than `limit` sets are
 /// reached, ASes among them, or more than `limit` pairs of one of these and a range that it stands for; want of memory
-/// aside. It takes O(n log n) steps for the n routes, members and pairs.
+/// aside.
+///
+/// The steps outside the book are O((P + E) log P). P counts the routes of the registry, the sets reached, the members of
+/// each, listed or by reference, the names in its `mbrs-by-ref` and in `mnt-by` of its referrers, and those pairs; E
+/// counts for each pair the references to its set: m route-sets that each list all the others and the same V ranges have
+/// mV pairs and about m²V references to them. The book is asked at most three times for the `referrers` of each set
+/// reached that has `mbrs-by-ref`: a pass over all its objects, where it has no index of them.
 pub fn expand_route_set<B: SetBook>(
     alloc: Global,
     book: &B,

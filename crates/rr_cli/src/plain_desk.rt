@@ -77,15 +77,15 @@ impl PlainDesk {
         &self.registry
     }
 
-    /// Submits what the reader gives, and writes the report. The items are judged one by one, in order, and stand also where
-    /// the report cannot be written.
+    /// Submits what the reader gives, and writes the report. The items are judged one by one, in order. Where the line of an
+    /// item cannot be written, that item and those before it stand, and those behind it are never judged.
     pub fn submit<R: Source, W: Sink>(
         &mut self,
         alloc: Global,
         reader: &mut R,
         writer: &mut W,
     ) -> Result<Done, DeskFault>
-        ensures { Submits SOURCE.now (record {
+        ensures submits { Submits SOURCE.now (record {
           source_before = R.told reader.old;
           source_after = R.told reader.new;
           sink_before = W.told writer.old;
@@ -93,6 +93,8 @@ impl PlainDesk {
           before = self.old;
           after = self.new;
         }) result }
+        ensures reader_aside { R.aside reader.new ≡ R.aside reader.old }
+        ensures writer_aside { W.aside writer.new ≡ W.aside writer.old }
     {
         rr_desk::submit(alloc, &mut self.registry, &self.source, reader, writer)
     }

@@ -5,7 +5,7 @@ use Rattle.std.proofs.lemmas.List.Sums.{sum_by-append}
 use Rattle.std.proofs.lemmas.List.{append-nil}
 use Rattle.rr_io.specs.Told.{Told}
 use Rattle.rr_io.specs.Sending.{Takes, TakesFront}
-use Rattle.rr_io.proofs.Transfers.{Takes-none, Takes-then, TakesFront-then}
+use Rattle.rr_io.proofs.Transfers.{Takes-none, Takes-then}
 use Rattle.rr_text.specs.Entries.{entries}
 use Rattle.rr_text.specs.Fields.{Field}
 use Rattle.rr_text.specs.declared.fault.TextFault.{TextFault}
@@ -111,7 +111,7 @@ ComesTo-more {source} {text} new after given next then request outcome p found l
 
 -- an item is decided, and a text ends behind it
 pub ServesAll-end : {source text : List ℕ} {old new : Reg} {before after : Told} {secrets : List (List ℕ)} {at : ℕ} {done : Done} →
-    ComesTo source text old new before after secrets at done → AreItems source secrets (entries (drop at text)) [] → ServesAll source text old new before after done
+    ComesTo source text old new before after secrets at done → AreItems source secrets (entries (drop at text)) [] → ServesAll source (entries text) old new before after done
 ServesAll-end p none = record {
   items = p.items;
   outcomes = p.outcomes;
@@ -141,18 +141,20 @@ pub ServesSome-cut : {source text : List ℕ} {old between : Reg} {before middle
     AreItems source secrets (entries (drop at text)) (record { secrets = given; request = request } ∷ later)) →
     Decides between given request.action outcome new → count ≡ done.items + 1 →
     TakesFront middle after (item_line count request.key outcome) →
-    ServesSome source text old new before after count
-ServesSome-cut {source} {text} new after given next count request outcome p found decides items line =
+    ServesSome source (entries text) old new before after count
+ServesSome-cut {source} {text} {middle} new after given next count request outcome p found decides items line =
     let item : Submitted = record { secrets = given; request = request } in
-    let number : count ≡ 1 + length p.items = items ∙ (ap (λ n. n + 1) p.counted ∙ omega arith) in
-    let shown = rw number at line in
     let rest = some_items source given (entries (drop next text)) in
     record {
-      items = p.items ++ item ∷ [];
+      told = p.items;
+      last = item;
       later = rest.0;
-      outcomes = p.outcomes ++ outcome ∷ [];
-      are_items = rw append_assoc (p.are_items (item ∷ rest.0) (found rest.0 rest.1));
+      outcomes = p.outcomes;
+      outcome = outcome;
+      between = middle;
+      are_items = p.are_items (item ∷ rest.0) (found rest.0 rest.1);
       runs = Runs-more _ _ _ p.items p.outcomes item outcome p.runs decides;
-      writes = rw (lines_from-more 1 _ _ p.items p.outcomes item outcome p.runs) (TakesFront-then _ _ p.writes shown);
-      counted = omega (arith, items, p.counted, length-append p.items (item ∷ []));
+      writes = p.writes;
+      cut = line;
+      counted = items ∙ ap (λ n. n + 1) p.counted;
     }

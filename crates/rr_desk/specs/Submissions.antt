@@ -1,5 +1,5 @@
 -- What a submission does: to the registry, and to its reader and its writer (profile).
-use Rattle.std.specs.Prelude.{◌≡◌, ◌≢◌, ℕ, List, [], ◌++◌, length, Result, Ok, Err, ◌⊎◌}
+use Rattle.std.specs.Prelude.{◌≡◌, ◌≢◌, ℕ, List, [], length, Result, Ok, Err, ◌⊎◌}
 use Rattle.rr_io.specs.Told.{Told}
 use Rattle.rr_io.specs.Receiving.{Gives, Reads}
 use Rattle.rr_io.specs.Sending.{Takes, TakesFront, TakesSome}
@@ -19,6 +19,7 @@ use Rattle.rr_desk.specs.Submitted.{AreItems, Submitted}
 use Rattle.rr_desk.specs.Runs.{Runs, refusals}
 use Rattle.rr_desk.specs.Endings.{last_line}
 use Rattle.rr_desk.specs.Reports.{lines_from, report}
+use Rattle.rr_desk.specs.Served.{ServesSome}
 
 -- the entries that count of a text: all where it ended, and after a read fault those that a blank line closes
 abbrev pub entries_read : ReadEnd → List ℕ → List (Result (List Field) TextFault)
@@ -47,32 +48,45 @@ pub record IsDone (source : List ℕ) (sides : Sides) (done : Done) : Type 0 whe
   pub counted : done.items ≡ length items
   pub refused : done.refused ≡ refusals outcomes
 
--- a read failed or there were too many: the items before that were decided, and their report was written as far as could be
+-- a read failed or there were too many: the items before that were decided and their lines written whole, and the last line was
+-- written or cut short
 pub record IsReadFault (source : List ℕ) (sides : Sides) (count : ℕ) : Type 0 where
   pub text : List ℕ
   pub end : ReadEnd
   pub items : List Submitted
   pub outcomes : List Outcome
+  pub between : Told
   pub reads : Reads sides.source_before sides.source_after text end
   pub unended : end ≢ Whole
   pub are_items : AreItems source [] (whole_entries text) items
   pub runs : Runs sides.before items outcomes sides.after
-  pub writes : TakesSome sides.sink_before sides.sink_after (report ReadFault items outcomes)
+  pub writes : Takes sides.sink_before between (lines_from 1 items outcomes)
+  pub ends : TakesSome between sides.sink_after (last_line ReadFault (length items))
   pub counted : count ≡ length items
 
--- a write failed: the items whose lines it told or was telling were decided and no others
-pub record IsWriteFault (source : List ℕ) (sides : Sides) (count : ℕ) : Type 0 where
+-- a write failed in the line of an item, whether or not a read had failed: the items up to that one were decided and no others
+pub record IsLineFault (source : List ℕ) (sides : Sides) (count : ℕ) : Type 0 where
   pub text : List ℕ
   pub end : ReadEnd
-  pub items : List Submitted
-  pub later : List Submitted
-  pub outcomes : List Outcome
   pub reads : Reads sides.source_before sides.source_after text end
-  pub are_items : AreItems source [] (entries_read end text) (items ++ later)
+  pub serves : ServesSome source (entries_read end text) sides.before sides.after sides.sink_before sides.sink_after count
+
+-- the text was read to its end, and a write failed in the last line: all items were decided and their lines written whole
+pub record IsLastLineFault (source : List ℕ) (sides : Sides) (count : ℕ) : Type 0 where
+  pub text : List ℕ
+  pub items : List Submitted
+  pub outcomes : List Outcome
+  pub between : Told
+  pub reads : Reads sides.source_before sides.source_after text Whole
+  pub are_items : AreItems source [] (entries text) items
   pub runs : Runs sides.before items outcomes sides.after
-  pub writes : TakesFront sides.sink_before sides.sink_after (lines_from 1 items outcomes)
-      ⊎ ((end ≡ Whole) × (later ≡ []) × TakesFront sides.sink_before sides.sink_after (report Complete items outcomes))
+  pub writes : Takes sides.sink_before between (lines_from 1 items outcomes)
+  pub cut : TakesFront between sides.sink_after (last_line Complete (length items))
   pub counted : count ≡ length items
+
+-- a write failed, in the line of an item or in the last line
+abbrev pub IsWriteFault : List ℕ → Sides → ℕ → Type 0
+IsWriteFault source sides count = IsLineFault source sides count ⊎ IsLastLineFault source sides count
 
 -- memory was refused before the first item: nothing was decided
 pub record IsUnread (sides : Sides) : Type 0 where
@@ -81,6 +95,7 @@ pub record IsUnread (sides : Sides) : Type 0 where
   pub same : sides.after ≡ sides.before
   pub writes : TakesSome sides.sink_before sides.sink_after (last_line Memory 0)
 
+-- what a submission that failed did, by its fault
 abbrev pub FailsBy : List ℕ → Sides → DeskFault → Type 0
 FailsBy source sides (fault.ReadFault items) = IsReadFault source sides items
 FailsBy source sides (fault.WriteFault items) = IsWriteFault source sides items

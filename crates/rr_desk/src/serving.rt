@@ -4,6 +4,7 @@ ghost use Rattle.std.specs.Prelude.{◌≡◌, ◌≢◌, ◌+◌, ◌<◌, ◌^
 ghost use Rattle.rr_io.specs.Told.{Told};
 ghost use Rattle.rr_io.specs.Receiving.{Reads};
 ghost use Rattle.rr_io.specs.declared.receiving.ReadEnd.{ReadEnd};
+ghost use Rattle.rr_text.specs.Entries.{entries};
 ghost use Rattle.rr_desk.specs.Runs.{Decides, is_refusal};
 ghost use Rattle.rr_desk.specs.Served.{Serves, ServesOne};
 ghost use Rattle.rr_desk.specs.Submissions.{Submits};
@@ -22,7 +23,8 @@ use rr_text::whole_part;
 use std::alloc::Global;
 
 /// Submits what the reader gives to a registry of this source, and writes the report. The items are judged one by one, in
-/// order, and stand also where the report cannot be written.
+/// order. Where the line of an item cannot be written, that item and those before it stand, and those behind it are never
+/// judged.
 pub fn submit<R: Source, W: Sink>(
     alloc: Global,
     registry: &mut Registry,
@@ -30,7 +32,7 @@ pub fn submit<R: Source, W: Sink>(
     reader: &mut R,
     writer: &mut W,
 ) -> Result<Done, DeskFault>
-    ensures { Submits source.now (record {
+    ensures submits { Submits source.now (record {
       source_before = R.told reader.old;
       source_after = R.told reader.new;
       sink_before = W.told writer.old;
@@ -38,6 +40,8 @@ pub fn submit<R: Source, W: Sink>(
       before = registry.old;
       after = registry.new;
     }) result }
+    ensures reader_aside { R.aside reader.new ≡ R.aside reader.old }
+    ensures writer_aside { W.aside writer.new ≡ W.aside writer.old }
 {
     match read_to_end(alloc, reader) {
         Ok((text, end)) => {
@@ -62,7 +66,7 @@ fn report_whole<W: Sink>(
     text: &[u8],
     writer: &mut W,
 ) -> Result<Done, DeskFault>
-    ensures { (before after : Told) → Reads before after text.now ReadEnd.Whole → Submits source.now (record {
+    ensures submits { (before after : Told) → Reads before after text.now ReadEnd.Whole → Submits source.now (record {
       source_before = before;
       source_after = after;
       sink_before = W.told writer.old;
@@ -70,6 +74,7 @@ fn report_whole<W: Sink>(
       before = registry.old;
       after = registry.new;
     }) result }
+    ensures aside { W.aside writer.new ≡ W.aside writer.old }
 {
     match serve_all(alloc, registry, source, text, writer) {
         Ok(done) => match write_last_line(writer, Ending::Complete, done.items) {
@@ -88,7 +93,7 @@ fn report_part<W: Sink>(
     text: &[u8],
     writer: &mut W,
 ) -> Result<Done, DeskFault>
-    ensures { (end : ReadEnd) (before after : Told) → end ≢ ReadEnd.Whole → Reads before after text.now end → Submits source.now (record {
+    ensures submits { (end : ReadEnd) (before after : Told) → end ≢ ReadEnd.Whole → Reads before after text.now end → Submits source.now (record {
       source_before = before;
       source_after = after;
       sink_before = W.told writer.old;
@@ -96,6 +101,7 @@ fn report_part<W: Sink>(
       before = registry.old;
       after = registry.new;
     }) result }
+    ensures aside { W.aside writer.new ≡ W.aside writer.old }
 {
     match serve_all(alloc, registry, source, whole_part(text), writer) {
         Ok(done) => {
@@ -114,7 +120,8 @@ fn serve_all<W: Sink>(
     text: &[u8],
     writer: &mut W,
 ) -> Result<Done, u64>
-    ensures { Serves source.now text.now registry.old registry.new (W.told writer.old) (W.told writer.new) result }
+    ensures serves { Serves source.now (entries text.now) registry.old registry.new (W.told writer.old) (W.told writer.new) result }
+    ensures aside { W.aside writer.new ≡ W.aside writer.old }
 {
     let mut secrets = Secrets::new(alloc);
     let mut done = Done {
@@ -140,7 +147,8 @@ fn serve_one<W: Sink>(
 ) -> Result<Done, u64>
     requires items { done.items + 1 < 2 ^ 64 }
     requires refused { done.refused + 1 < 2 ^ 64 }
-    ensures { ServesOne secrets.now request done registry.old registry.new (W.told writer.old) (W.told writer.new) result }
+    ensures serves { ServesOne secrets.now request done registry.old registry.new (W.told writer.old) (W.told writer.new) result }
+    ensures aside { W.aside writer.new ≡ W.aside writer.old }
 {
     let Request { key, action } = request;
     let outcome = decide(alloc, registry, secrets, action);

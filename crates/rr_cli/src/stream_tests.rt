@@ -40,12 +40,13 @@ fn a_failed_read_leaves_the_items_before_it(rt: HostRuntime) -> Result<(), Fail>
 
 #[test]
 fn a_failed_write_leaves_the_items_told(rt: HostRuntime) -> Result<(), Fail> {
-    for (room, items, refused) in [
-        (0, 1, true),
-        (42, 1, true),
-        (43, 2, true),
-        (86, 3, true),
-        (139, 3, false),
+    for (room, items, stand, refused) in [
+        (0, 1, 4, true),
+        (42, 1, 4, true),
+        (43, 2, 5, true),
+        (86, 3, 6, true),
+        (129, 3, 6, true),
+        (139, 3, 6, false),
     ] {
         let mut desk = PlainDesk::new(rt.alloc())?;
         let mut reader = Counted::new(THREE.as_bytes());
@@ -57,6 +58,41 @@ fn a_failed_write_leaves_the_items_told(rt: HostRuntime) -> Result<(), Fail> {
             Ok(Done { items, refused: 0 })
         };
         assert_eq!(rt; done, wanted, "with room for {room} bytes");
+        assert_eq!(rt;
+            desk.registry().objects().len(),
+            stand,
+            "with room for {room} bytes"
+        );
+    }
+    Ok(())
+}
+
+#[test]
+fn a_failed_read_and_a_failed_write_leave_the_items_told(rt: HostRuntime) -> Result<(), Fail> {
+    let report = "\
+1 inetnum 10.0.0.0 - 10.255.255.255: added
+2 inetnum 11.0.0.0 - 11.255.255.255: added
+% read fault after 2 items
+";
+    for (room, wanted, stand) in [
+        (0, DeskFault::WriteFault { items: 1 }, 4),
+        (42, DeskFault::WriteFault { items: 1 }, 4),
+        (43, DeskFault::WriteFault { items: 2 }, 5),
+        (86, DeskFault::ReadFault { items: 2 }, 5),
+        (100, DeskFault::ReadFault { items: 2 }, 5),
+    ] {
+        let mut desk = PlainDesk::new(rt.alloc())?;
+        let mut reader = Cut::new(Counted::new(THREE.as_bytes()), 7, THREE.len() - 5);
+        let mut writer = Cut::new(Counted::new(Vec::new(rt.alloc())), 5, room);
+        let done = desk.submit(rt.alloc(), &mut reader, &mut writer);
+        assert_eq!(rt; done, Err(wanted), "with room for {room} bytes");
+        assert_eq!(rt;
+            desk.registry().objects().len(),
+            stand,
+            "with room for {room} bytes"
+        );
+        let written = writer.into_inner().into_inner();
+        assert_eq!(rt; written.as_slice(), &report.as_bytes()[..room]);
     }
     Ok(())
 }

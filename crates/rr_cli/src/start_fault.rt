@@ -6,7 +6,8 @@ use rr_text::TextFault;
 use std::alloc::{AllocError, AllocFailed};
 use thiserror::Error;
 
-/// Why the opening objects cannot be registered. With the built-in ones only want of memory comes to pass.
+/// Why the opening objects cannot be registered. With the built-in ones only want of memory comes to pass, as tests alone
+/// show.
 #[derive(Clone, Copy, Debug, PartialEq, Eq, Error)]
 pub enum StartFault {
     /// A paragraph cannot be read.

@@ -39,6 +39,7 @@ abbrev pub action_of : List ℕ → List Field → Key → Bool → Result Item 
 action_of source own key true = Ok (Delete key)
 action_of source own key false = submission (object_of own source)
 
+-- what is asked where the key was read or not
 abbrev pub request_of_key : List ℕ → List Field → Bool → Result Key ObjectFault → Request
 request_of_key source own deletes (Err fault) = unread (code_of fault)
 request_of_key source own deletes (Ok key) = record { key = Some key; action = action_of source own key deletes }
@@ -47,7 +48,7 @@ request_of_key source own deletes (Ok key) = record { key = Some key; action = a
 unfoldable pub request_of : List ℕ → List Field → Request
 request_of source fields = request_of_key source (own_fields fields) (asks_deletion fields) (key_of (own_fields fields))
 
--- memory was refused: the item is refused, and shows the key if that was read
+-- memory was refused: the item is refused, and a key that it shows is that of its paragraph
 pub record LacksMemory (fields : List Field) (request : Request) : Type 0 where
   pub refused : request.action ≡ Err E90
   pub shown : IfSome request.key (λ key. key_of (own_fields fields) ≡ Ok key)

@@ -21,6 +21,7 @@ Runs old (item ∷ items) [] new = ⊥
 Runs old (item ∷ items) (outcome ∷ outcomes) new =
     (between : Reg) × Decides old item.secrets item.request.action outcome between × Runs between items outcomes new
 
+-- whether an outcome is a refusal
 abbrev pub is_refusal : Outcome → Bool
 is_refusal Added = false
 is_refusal Changed = false

@@ -1,9 +1,6 @@
 //! What paragraphs of a submission ask.
 
-ghost use Rattle.std.specs.Prelude.{◌≡◌, ◌⊎◌, Ok, Err, IfOk, IfErr};
-ghost use Rattle.rr_object.specs.KeySpellings.{key_of as spelled_key};
-ghost use Rattle.rr_object.specs.Readings.{object_of};
-ghost use Rattle.rr_desk.specs.SubmissionTexts.{own_fields};
+ghost use Rattle.std.specs.Prelude.{◌≡◌, ◌⊎◌, Err};
 
 use crate::submission_text::{asks_deletion, own_paragraph};
 use rr_auth::Item;
@@ -22,7 +19,7 @@ pub struct Request {
 }
 
 impl Request {
-    ghost use Rattle.rr_desk.specs.Requests.{IsRequest, action_of, submission, text_code, unread};
+    ghost use Rattle.rr_desk.specs.Requests.{IsRequest, action_of, text_code, unread};
 
     /// The request of a paragraph that was refused before its class and key were read.
     pub fn unread(code: Code) -> Request

@@ -19,7 +19,8 @@ pub record BreaksOff (old new : Told) (bytes : List ℕ) : Type 0 where
   pub gives : Gives old between bytes
   pub fails : Fails between new
 
--- the reading of these bytes, by how it ended (profile: Endless after 16,777,216 reads, each of which gave a byte)
+-- the reading of these bytes, by how it ended: with no byte left, by a failed call, or with no fault and at least
+-- 16,777,216 bytes (profile)
 abbrev pub Reads : Told → Told → List ℕ → ReadEnd → Type 0
 Reads old new bytes Whole = Gives old new bytes × IsSpent new
 Reads old new bytes Broken = BreaksOff old new bytes

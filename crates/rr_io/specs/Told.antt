@@ -2,7 +2,8 @@
 use Rattle.std.specs.Prelude.{◌≡◌, ℕ, ◌-◌, ◌^◌, ◌<◌, ◌≤◌, List, Option, None, Some}
 
 -- `bytes` are those that a reader has left, or that a writer has taken: None where it does not say, as over a file or a
--- socket. `faults` counts its failed calls and stays at 2^64 - 1 once it is there (profile).
+-- socket. `faults` counts its failed calls: each count stays at 2^64 - 1 once it is there, and that of a `Cut` is the sum of
+-- its own and of what is inside (profile).
 pub record Told : Type 0 where
   pub bytes : Option (List ℕ)
   pub faults : ℕ

@@ -19,7 +19,7 @@ pub enum ReadEnd {
     Whole,
     /// By a failed read.
     Broken,
-    /// By `READ_LIMIT` reads, each of which gave a byte.
+    /// Before its end was seen, with at least 16,777,216 bytes read and no fault.
     Endless,
 }
 

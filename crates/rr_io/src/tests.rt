@@ -52,6 +52,22 @@ fn reads_and_writes_whole_texts(rt: HostRuntime) -> Result<(), AllocError> {
 }
 
 #[test]
+fn a_long_text_in_whole_blocks_is_read_to_its_end(rt: HostRuntime) -> Result<(), AllocError> {
+    let mut text = Vec::with_capacity(rt.alloc(), (1 << 24) + 1)?;
+    for _ in 0..4_096 {
+        text.extend_from_slice(&[b'a'; READ_SIZE])?;
+    }
+    text.push(b'b')?;
+    assert_eq!(rt; text.len(), (1 << 24) + 1);
+
+    let mut source = Cut::new(Counted::new(text.as_slice()), READ_SIZE, (1 << 24) + 2);
+    let (bytes, end) = read_to_end(rt.alloc(), &mut source)?;
+    assert_eq!(rt; end, ReadEnd::Whole);
+    assert!(rt; bytes.as_slice() == text.as_slice());
+    Ok(())
+}
+
+#[test]
 fn a_failed_read_ends_the_reading(rt: HostRuntime) -> Result<(), AllocError> {
     let mut source = Cut::new(Counted::new(&b"abcdef"[..]), 3, 4);
     let (bytes, end) = read_to_end(rt.alloc(), &mut source)?;

@@ -23,7 +23,7 @@ is_colon b = b == 58
 abbrev pub is_hash : ℕ → Bool
 is_hash b = b == 35
 
--- a name is made of letters, digits, `-` and `_` (RFC 2622, 2)
+-- an attribute's name is made of letters, digits, `-` and `_` (profile)
 abbrev pub is_name_byte : ℕ → Bool
 is_name_byte b = is_ascii_alphanumeric b || (b == 45) || (b == 95)
 
@@ -32,7 +32,7 @@ abbrev pub begins : (ℕ → Bool) → List ℕ → Bool
 begins test [] = false
 begins test (b ∷ bs) = test b
 
--- an attribute's name is 1 to 64 such bytes, the first a letter (RFC 2622, 2; the length: profile)
+-- an attribute's name is 1 to 64 such bytes, the first a letter (profile)
 abbrev pub is_name : List ℕ → Bool
 is_name name = begins is_ascii_alphabetic name && list_all is_name_byte name && nat_le (length name) 64
 

@@ -9,7 +9,7 @@ use Rattle.rr_text.specs.declared.line.LineKind.TheVariants.{Blank, Skipped, Con
 use Rattle.rr_text.specs.Bytes.{is_refused, is_colon, is_name, trim_end}
 use Rattle.rr_text.specs.Lines.{line_kind}
 
--- the name that a line opens with: what stands before its first colon, less the blanks behind it (RFC 2622, 2)
+-- the name that a line opens with: what stands before its first colon, less the blanks behind it (RFC 2622, 2; the blanks: profile)
 abbrev pub written_name : List ℕ → List ℕ
 written_name line = trim_end (before_first is_colon line)
 

@@ -7,6 +7,6 @@ use Rattle.rr_text.specs.Bytes.{is_hash, trim}
 abbrev pub uncommented : List ℕ → List ℕ
 uncommented line = trim (before_first is_hash line)
 
--- a value means its lines less their comments, joined by one space (RFC 2622, 2)
+-- a value means its lines less their comments, joined by one space (RFC 2622, 2; the space: profile)
 unfoldable pub value_meaning : List (List ℕ) → List ℕ
 value_meaning lines = trim (join_with_byte 32 (map uncommented lines))

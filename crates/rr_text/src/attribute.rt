@@ -6,7 +6,8 @@ use crate::text::Text;
 use std::alloc::{AllocError, Global};
 use std::marker::Model;
 
-/// An attribute of a paragraph. Contracts see its name in lower case and the lines of its value.
+/// An attribute: a name and the lines of a value. By itself it may hold any bytes; that the name is in lower case and that there
+/// is at least one line, each without blanks round it, is a fact of the attributes inside a `Paragraph`.
 #[derive(Debug, Drop)]
 pub struct Attribute {
     name: Text,
@@ -24,7 +25,7 @@ impl Model for Attribute {
 impl Attribute {
     ghost use Rattle.rr_text.specs.Fields.{is_named};
 
-    /// The attribute of this name and these lines.
+    /// The attribute of this name and these lines, which are taken as they are.
     pub fn new(name: Text, lines: Vec<Text>) -> Attribute
         ensures name { result.name ≡ name }
         ensures lines { result.lines ≡ lines.items }
@@ -32,21 +33,21 @@ impl Attribute {
         Attribute { name, lines }
     }
 
-    /// The name, in lower case.
+    /// The name, which is in lower case inside a `Paragraph`.
     pub fn name(&self) -> &[u8]
         ensures { result.now ≡ self.now.name }
     {
         self.name.as_slice()
     }
 
-    /// The lines of the value, at least one, each without the blanks round it.
+    /// The lines of the value; inside a `Paragraph` at least one, each without the blanks round it.
     pub fn lines(&self) -> &[Text]
         ensures { result.now ≡ self.now.lines }
     {
         self.lines.as_slice()
     }
 
-    /// Whether this is the name, which is given in lower case.
+    /// Whether the name has these bytes; inside a `Paragraph` it is in lower case.
     pub fn is_named(&self, name: &[u8]) -> bool
         ensures { result ≡ is_named name.now self.now }
     {

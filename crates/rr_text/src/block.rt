@@ -40,8 +40,9 @@ fn split_block(text: &[u8]) -> (&[u8], &[u8])
     text.split_at(text.len() - rest.len())
 }
 
-/// The first block of the text from a place on, with the place of the blank line after it.
-pub fn take_block(text: &[u8], from: usize) -> Option<(&[u8], usize)>
+/// The first block of the text from a place on, with the place of the blank line after it, or the end of the text where
+/// there is none.
+pub(crate) fn take_block(text: &[u8], from: usize) -> Option<(&[u8], usize)>
     requires { from ≤ length text.now }
     ensures none { IfNone result (blocks (text_lines (drop from text.now)) ≡ []) }
     ensures found { IfSome result (λ taken. (from < taken.1) × (taken.1 ≤ length text.now)

@@ -153,7 +153,7 @@ fn read_fields(alloc: Global, block: &[u8]) -> Result<Vec<Attribute>, AllocError
 }
 
 /// The paragraph of a block that has no fault, whatever its size.
-pub fn read_paragraph(alloc: Global, block: &[u8]) -> Result<Paragraph, AllocError>
+pub(crate) fn read_paragraph(alloc: Global, block: &[u8]) -> Result<Paragraph, AllocError>
     requires { faults.block_fault (text_lines block.now) ≡ None }
     ensures value { IfOk result (λ paragraph. paragraph ≡ entries.block_fields (text_lines block.now)) }
     ensures fields { IfOk result (λ paragraph. AreFields paragraph) }
@@ -163,7 +163,7 @@ pub fn read_paragraph(alloc: Global, block: &[u8]) -> Result<Paragraph, AllocErr
 }
 
 /// The entry of a block.
-pub fn read_entry(alloc: Global, block: &[u8]) -> Result<Paragraph, TextFault>
+pub(crate) fn read_entry(alloc: Global, block: &[u8]) -> Result<Paragraph, TextFault>
     requires { starts_block (text_lines block.now) ≡ true }
     ensures found { IfOk result (λ paragraph. (0 < length paragraph) × AreFields paragraph
         × (entries.block_entry (text_lines block.now) ≡ Ok paragraph)) }

@@ -12,7 +12,7 @@ pub enum TextFault {
     /// It has more than 65,536 bytes.
     #[error("the paragraph is too large")]
     TooLarge,
-    /// A line that is not skipped has a control byte.
+    /// A line that is not skipped has a control byte other than tab, CR and LF.
     #[error("a line has a control byte")]
     BadByte,
     /// The first line continues a value that is not there.

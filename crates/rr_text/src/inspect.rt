@@ -13,7 +13,7 @@ use crate::trim::trim_end;
 
 /// The place of the first colon of a line.
 #[inline]
-pub fn colon_place(line: &[u8]) -> Option<usize>
+pub(crate) fn colon_place(line: &[u8]) -> Option<usize>
     ensures { result ≡ position bytes.is_colon line.now }
 {
     line.iter().position(|byte| *byte == b':')
@@ -111,7 +111,7 @@ fn later_fault(text: &[u8]) -> Option<TextFault>
 }
 
 /// The fault of the first faulty line of a block.
-pub fn block_fault(block: &[u8]) -> Option<TextFault>
+pub(crate) fn block_fault(block: &[u8]) -> Option<TextFault>
     ensures { result ≡ faults.block_fault (text_lines block.now) }
 {
     if block.is_empty() {

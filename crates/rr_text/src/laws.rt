@@ -1,6 +1,5 @@
 //! Laws of RPSL text: functions that do nothing, whose contracts are proved.
 
-ghost use Rattle.std.specs.Prelude.{◌≡◌, List, ℕ};
 ghost use Rattle.rr_text.specs.Laws as laws;
 
 /// Canonical text determines its paragraph, whatever its size.

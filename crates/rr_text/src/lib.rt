@@ -1,20 +1,20 @@
-//! RPSL text: paragraphs of attributes, read from text and printed as it (RFC 2622, section 2).
+//! RPSL text: paragraphs of attributes, read from text and printed as it (RFC 2622, 2).
 #![tactic(auto)]
 
 pub mod attribute;
-pub mod block;
+mod block;
 pub mod canonical;
-pub mod entry;
+mod entry;
 pub mod fault;
-pub mod inspect;
+mod inspect;
 pub mod laws;
-pub mod line;
+mod line;
 pub mod paragraph;
 pub mod reader;
 #[cfg(test)]
 mod tests;
 pub mod text;
-pub mod trim;
+mod trim;
 pub mod value;
 pub mod whole;
 

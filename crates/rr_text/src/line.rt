@@ -7,9 +7,9 @@ ghost use Rattle.rr_text.specs.Lines.{is_blank_line, is_skipped_line, is_paragra
 
 use memchr::memchr;
 
-/// What kind of line a line is (RFC 2622, section 2).
+/// What kind of line a line is (RFC 2622, 2).
 #[derive(Clone, Copy, Debug, PartialEq, Eq)]
-pub enum LineKind {
+pub(crate) enum LineKind {
     /// Blanks alone, which ends a paragraph.
     Blank,
     /// A line that begins with `#` or `%`.
@@ -23,7 +23,7 @@ pub enum LineKind {
 impl LineKind {
     /// The kind of a line.
     #[tactic(auto, unfolding(crate::specs::Lines::line_kind))]
-    pub fn of(line: &[u8]) -> LineKind
+    pub(crate) fn of(line: &[u8]) -> LineKind
         ensures { result ≡ line_kind line.now }
     {
         if is_blank_only(line) {
@@ -38,7 +38,7 @@ impl LineKind {
     }
 
     /// Whether such a line is the first of an attribute.
-    pub fn opens_attribute(self) -> bool
+    pub(crate) fn opens_attribute(self) -> bool
         ensures { result ≡ opens_attribute self }
     {
         match self {
@@ -50,7 +50,7 @@ impl LineKind {
 
 /// Whether a byte is a space, a tab, a CR or an LF.
 #[inline]
-pub fn is_blank_byte(byte: u8) -> bool
+pub(crate) fn is_blank_byte(byte: u8) -> bool
     ensures { result ≡ is_blank byte }
 {
     (byte == b' ') | (byte == b'\t') | (byte == b'\r') | (byte == b'\n')
@@ -66,7 +66,7 @@ fn is_refused_byte(byte: u8) -> bool
 
 /// Whether a line is one of blanks alone, which ends a paragraph.
 #[inline]
-pub fn is_blank_only(line: &[u8]) -> bool
+pub(crate) fn is_blank_only(line: &[u8]) -> bool
     ensures { result ≡ is_blank_line line.now }
 {
     line.iter().all(|byte| is_blank_byte(*byte))
@@ -94,7 +94,7 @@ fn begins_continuation(line: &[u8]) -> bool
 
 /// Whether a line is neither blank nor skipped.
 #[inline]
-pub fn is_of_paragraph(line: &[u8]) -> bool
+pub(crate) fn is_of_paragraph(line: &[u8]) -> bool
     ensures { result ≡ is_paragraph_line line.now }
 {
     !is_blank_only(line) && !begins_skipped(line)
@@ -102,7 +102,7 @@ pub fn is_of_paragraph(line: &[u8]) -> bool
 
 /// Whether a line has a byte that only skipped lines may have.
 #[inline]
-pub fn has_refused_byte(line: &[u8]) -> bool
+pub(crate) fn has_refused_byte(line: &[u8]) -> bool
     ensures { result ≡ list_any is_refused line.now }
 {
     let mut found = false;
@@ -113,7 +113,7 @@ pub fn has_refused_byte(line: &[u8]) -> bool
 }
 
 /// Whether a line has the LF that ends it.
-pub fn has_line_feed(line: &[u8]) -> bool
+pub(crate) fn has_line_feed(line: &[u8]) -> bool
     ensures { result ≡ list_any is_line_feed line.now }
 {
     line.iter().any(|byte| *byte == b'\n')
@@ -128,7 +128,7 @@ fn first_line_feed(text: &[u8]) -> Option<usize>
 }
 
 /// The first line of a text with the LF that ends it, and what follows it.
-pub fn split_line(text: &[u8]) -> (&[u8], &[u8])
+pub(crate) fn split_line(text: &[u8]) -> (&[u8], &[u8])
     requires { 0 < length text.now }
     ensures whole { text.now ≡ result.0.now ++ result.1.now }
     ensures lines { text_lines text.now ≡ result.0.now ∷ text_lines result.1.now }

@@ -1,6 +1,6 @@
 //! The paragraphs of a text in turn.
 
-ghost use Rattle.std.specs.Prelude.{◌≡◌, ◌≢◌, ◌<◌, ◌≤◌, IfOk, IfErr, IfSome, None, Ok, Err, [], ◌∷◌, length, drop, take};
+ghost use Rattle.std.specs.Prelude.{◌≡◌, ◌≢◌, ◌<◌, ◌≤◌, IfOk, IfErr, IfSome, None, Ok, Err, [], ◌∷◌, length, drop};
 ghost use Rattle.rr_text.specs.Fields.{AreFields};
 ghost use Rattle.rr_text.specs.Entries.{entries};
 
@@ -11,7 +11,7 @@ use crate::paragraph::Paragraph;
 use std::alloc::Global;
 
 /// The first paragraph of the text from a place on, with the place after it; `None` where there
-/// is no more (RFC 2622, section 2). After a fault, `skip_paragraph` gives the place to go on at.
+/// is no more (RFC 2622, 2). After a fault, `skip_paragraph` gives the place to go on at.
 pub fn next_paragraph(
     alloc: Global,
     text: &[u8],

@@ -1,6 +1,6 @@
 //! Texts less the blanks round them.
 
-ghost use Rattle.std.specs.Prelude.{◌≡◌, ◌≤◌, length};
+ghost use Rattle.std.specs.Prelude.{◌≡◌};
 ghost use Rattle.rr_text.specs.Bytes as bytes;
 
 use crate::line::is_blank_byte;
@@ -22,7 +22,7 @@ fn trim_start(text: &[u8]) -> &[u8]
 
 /// A text less the blanks behind it.
 #[tactic(auto, using(crate::proofs::TrimLemmas::trim_end_blank, crate::proofs::TrimLemmas::trim_end_kept, crate::proofs::TrimLemmas::trim_end_none))]
-pub fn trim_end(text: &[u8]) -> &[u8]
+pub(crate) fn trim_end(text: &[u8]) -> &[u8]
     ensures { result.now ≡ bytes.trim_end text.now }
 {
     let mut rest = text;
@@ -36,7 +36,7 @@ pub fn trim_end(text: &[u8]) -> &[u8]
 }
 
 /// A text less the blanks round it.
-pub fn trim(text: &[u8]) -> &[u8]
+pub(crate) fn trim(text: &[u8]) -> &[u8]
     ensures { result.now ≡ bytes.trim text.now }
 {
     trim_end(trim_start(text))

@@ -52,7 +52,7 @@ fn join_uncommented(alloc: Global, lines: &[Text]) -> Result<Vec<u8>, AllocError
 }
 
 /// What the value of an attribute says: its lines without their comments, joined by one space
-/// (RFC 2622, section 2). The error is want of memory.
+/// (RFC 2622, 2; the space: profile). The error is want of memory.
 #[tactic(auto, unfolding(crate::specs::Meanings::value_meaning))]
 pub fn meaning(alloc: Global, attribute: &Attribute) -> Result<Text, AllocError>
     ensures { IfOk result (λ text. text ≡ meanings.value_meaning attribute.now.lines) }

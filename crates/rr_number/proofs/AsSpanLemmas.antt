@@ -1,19 +1,19 @@
 -- The spellings of blocks of AS numbers, and what is read of them.
-use Rattle.std.proofs.Common.{◌≡◌, ℕ, ◌≤◌, ◌==◌, true, not, List, [], ◌∷◌, take, drop, Some, nat_le, refl, ap, sym, subst, arith}
+use Rattle.std.proofs.Common.{◌≡◌, ℕ, ◌≤◌, ◌==◌, true, not, List, [], ◌∷◌, take, drop, Some, nat_le, refl, sym, subst, arith}
 use Rattle.std.proofs.lemmas.Bool.Decides.{nat_tests}
-use Rattle.std.proofs.lemmas.Option.{option_and_then_some, cond_some}
+use Rattle.std.proofs.lemmas.Option.{option_and_then_some}
 use Rattle.std.specs.Char.{to_ascii_uppercase}
 use Rattle.std.specs.Prelude.{codes}
 use Rattle.std.specs.Str.{all_ascii_digits}
 use Rattle.rr_number.specs.AsNumbers.{IsAsNumber, as_number_of, as_number_text}
 use Rattle.rr_number.specs.AsSpans.{IsAsSpan, IsAsSpanText, as_pair_of, as_span_of, as_span_text}
-use Rattle.rr_number.specs.Cuts.{lacks}
 use Rattle.rr_number.specs.Dashes.{IsDashed, dash, dashed_of, is_blank}
 use Rattle.rr_number.specs.Names.{upper}
-use Rattle.rr_number.specs.SpanTexts.{ends_of}
 use Rattle.rr_number.specs.Spans.{Ends}
 use Rattle.rr_number.proofs.AsNumberLemmas.{IsAsNumber-printed, as_number_of-read, as_number_of-spelled}
+use Rattle.rr_number.proofs.CutsLemmas.{lacks}
 use Rattle.rr_number.proofs.DashLemmas.{HasNoBlank, dashed_of-read, dashed_of-spelled}
+use Rattle.rr_number.proofs.SpanTextLemmas.{ends_of-ordered}
 
 digits_no_blank : (ds : List ℕ) → all_ascii_digits ds ≡ true → HasNoBlank ds
 digits_no_blank [] digits = refl
@@ -45,11 +45,6 @@ as_text_no_dash (a ∷ b ∷ ds) begins digits =
     let first : to_ascii_uppercase a ≡ 65 = cc in
     let second : to_ascii_uppercase b ≡ 83 = cc in
     rw (letter_is_no_dash a 65 first (omega arith), letter_is_no_dash b 83 second (omega arith), digits_no_dash ds digits) refl
-
-ends_of-ordered : (x y : ℕ) (s : Ends) → ends_of x y ≡ Some s → (x ≤ y) × (s.first ≡ x) × (s.last ≡ y)
-ends_of-ordered x y s is =
-    let parts = cond_some (nat_le x y) _ _ is in
-    (grind (arith, nat_tests, parts.0), ap (λ (e : Ends). e.first) (sym parts.1), ap (λ (e : Ends). e.last) (sym parts.1))
 
 as_pair_of-spelled : (text first last : List ℕ) (s : Ends) → IsDashed text first last → as_pair_of first last ≡ Some s → IsAsSpanText text s
 unfolding as_pair_of

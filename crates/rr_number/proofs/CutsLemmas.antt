@@ -7,8 +7,14 @@ use Rattle.std.proofs.lemmas.List.Sums.{split_at_first, passes_at_first}
 use Rattle.std.proofs.lemmas.Option.{cond_some}
 use Rattle.std.specs.Char.{is_ascii_digit}
 use Rattle.std.specs.List.{before_first, after_first, position_or_len}
+use Rattle.std.specs.Prelude.{Bool, not, ◌&&◌}
 use Rattle.std.specs.Str.{all_ascii_digits}
-use Rattle.rr_number.specs.Cuts.{cut_at, lacks}
+use Rattle.rr_number.specs.Cuts.{cut_at}
+
+-- no byte of the text is the separator
+abbrev pub lacks : ℕ → List ℕ → Bool
+lacks separator [] = true
+lacks separator (b ∷ bs) = not (b == separator) && lacks separator bs
 
 -- a text is its part before the first separator, the separator, and the part after it
 pub cut_at-joined : (s : ℕ) (text before after : List ℕ) → cut_at s text ≡ Some (before, after) → text ≡ before ++ (s ∷ after)

@@ -2,9 +2,9 @@
 use Rattle.std.proofs.Common.{◌≡◌, ℕ, ◌&&◌, Bool, true, false, cond, not, List, [], ◌∷◌, ◌++◌, Some, refl, ap, sym, subst, ◌∙◌, arith, append_assoc}
 use Rattle.std.proofs.lemmas.Bool.Decides.{nat_tests}
 use Rattle.std.specs.List.{list_all}
-use Rattle.rr_number.specs.Cuts.{cut_at, lacks}
+use Rattle.rr_number.specs.Cuts.{cut_at}
 use Rattle.rr_number.specs.Dashes.{IsDashed, dash, dashed_of, is_blank, trim_start, trim_end, before_end}
-use Rattle.rr_number.proofs.CutsLemmas.{cut_at-joined, cut_at-append, lacks-append}
+use Rattle.rr_number.proofs.CutsLemmas.{cut_at-append, cut_at-joined, lacks, lacks-append}
 use Rattle.rr_number.proofs.Choices.{option_map-some}
 
 -- no byte of the text is a blank

@@ -17,7 +17,7 @@ use Rattle.rr_number.specs.declared.operator.Operator.{Operator}
 use Rattle.rr_number.specs.declared.operator.Operator.TheVariants.{Plain, Plus, Minus, Lengths}
 
 -- two orders in turn find equal what both find equal
-ties : (a b : Ordering) → ordering_then a b ≡ Equal → (a ≡ Equal) × (b ≡ Equal)
+pub ties : (a b : Ordering) → ordering_then a b ≡ Equal → (a ≡ Equal) × (b ≡ Equal)
 ties Less b tie = (cc, cc)
 ties Equal b tie = (cc, cc)
 ties Greater b tie = (cc, cc)

@@ -8,7 +8,8 @@ use Rattle.std.specs.Fmt.{decimal}
 use Rattle.std.specs.Str.{all_ascii_digits, bytes_eq}
 use Rattle.rr_number.specs.Bounds.{Bounds, IsBounds}
 use Rattle.rr_number.specs.Cuts.{cut_at}
-use Rattle.rr_number.specs.Operators.{IsOperator, IsOneLength, IsOperatorValue, IsTwoLengths, caret, carried_of, dash, lengths_cut_of, one_length_of, operator_of, operator_text, plus, two_lengths_of}
+use Rattle.rr_number.specs.Dashes.{dash}
+use Rattle.rr_number.specs.Operators.{IsOperator, IsOneLength, IsOperatorValue, IsTwoLengths, caret, carried_of, lengths_cut_of, one_length_of, operator_of, operator_text, plus, two_lengths_of}
 use Rattle.rr_number.specs.Prefixes.{length_of}
 use Rattle.rr_number.specs.declared.operator.Operator.{Operator}
 use Rattle.rr_number.specs.declared.operator.Operator.TheVariants.{Plain, Plus, Minus, Lengths}

@@ -4,7 +4,7 @@ use Rattle.std.proofs.lemmas.List.{take_at, drop_at}
 use Rattle.std.proofs.lemmas.Option.{option_and_then_some}
 use Rattle.std.specs.List.{before_first, position_or_len}
 use Rattle.rr_number.specs.Applied.{IsRanged, operator_for, pair_of, range_text, ranged_of}
-use Rattle.rr_number.specs.Cuts.{from_first, lacks}
+use Rattle.rr_number.specs.Cuts.{from_first}
 use Rattle.rr_number.specs.Operators.{IsOperator, caret, operator_of, operator_text}
 use Rattle.rr_number.specs.Prefixes.{PrefixParts, IsPrefix, prefix_of, prefix_text, slash}
 use Rattle.rr_number.specs.Ranges.{RangeParts, IsRange}
@@ -12,7 +12,7 @@ use Rattle.rr_number.specs.declared.operator.Operator.{Operator}
 use Rattle.rr_number.specs.declared.operator.Operator.TheVariants.{Plain, Plus, Minus, Lengths}
 use Rattle.rr_number.proofs.AddressLemmas.{lacks-address}
 use Rattle.rr_number.proofs.Choices.{option_map-some}
-use Rattle.rr_number.proofs.CutsLemmas.{lacks-digits, lacks-joined, place_after}
+use Rattle.rr_number.proofs.CutsLemmas.{lacks, lacks-digits, lacks-joined, place_after}
 use Rattle.rr_number.proofs.OperatorLemmas.{IsOperator-text, operator_of-read, operator_of-spelled}
 use Rattle.rr_number.proofs.PrefixLemmas.{IsPrefix-text, prefix_of-read, prefix_of-spelled}
 use Rattle.rr_number.proofs.RangeLemmas.{IsOperatorValue-for}

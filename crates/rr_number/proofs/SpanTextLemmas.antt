@@ -1,32 +1,19 @@
 -- Lemmas on the texts of spans of addresses.
-use Rattle.std.proofs.Common.{◌≡◌, ℕ, ◌≤◌, ◌==◌, true, false, nat_lt, nat_le, List, [], ◌∷◌, length, Option, Some, None, refl, sym, ap, subst, inl, inr, arith}
+use Rattle.std.proofs.Common.{◌≡◌, ℕ, ◌≤◌, true, nat_le, List, [], ◌∷◌, Option, Some, None, refl, sym, ap, subst, inl, inr, arith}
 use Rattle.std.proofs.lemmas.Bool.Decides.{nat_tests}
 use Rattle.std.proofs.lemmas.Option.{option_and_then_some, cond_some}
-use Rattle.std.specs.List.{position_or_len}
 use Rattle.rr_number.specs.Addresses.{IsAddress, address_of, address_text}
-use Rattle.rr_number.specs.Cuts.{cut_at, lacks}
 use Rattle.rr_number.specs.Dashes.{IsDashed, dash, dashed_of}
 use Rattle.rr_number.specs.Prefixes.{PrefixParts, IsPrefix, prefix_of, slash}
 use Rattle.rr_number.specs.Spans.{Ends, IsSpan}
 use Rattle.rr_number.specs.SpanTexts.{IsAddressPair, IsSpanText, ends_of, pair_of, span_by, span_of, span_text}
 use Rattle.rr_number.proofs.AddressLemmas.{address_of-spelled, address_of-read, IsAddress-text, lacks-address}
 use Rattle.rr_number.proofs.Choices.{option_map-some}
-use Rattle.rr_number.proofs.CutsLemmas.{lacks-digits, lacks-joined}
+use Rattle.rr_number.proofs.CutsLemmas.{cut_at-lacks, lacks, lacks-digits, lacks-joined}
 use Rattle.rr_number.proofs.DashLemmas.{HasNoBlank, dashed_of-spelled, dashed_of-read}
 use Rattle.rr_number.proofs.PrefixLemmas.{prefix_of-spelled, prefix_of-read}
 
--- a text without the separator is not cut
-position_or_len-lacks : (s : ℕ) (text : List ℕ) → lacks s text ≡ true → position_or_len (λ b. b == s) text ≡ length text
-position_or_len-lacks s [] none = refl
-position_or_len-lacks s (b ∷ bs) none = grind (arith, nat_tests, position_or_len-lacks s bs)
-
-cut_at-lacks : (s : ℕ) (text : List ℕ) → lacks s text ≡ true → cut_at s text ≡ None
-unfolding cut_at
-cut_at-lacks s text none =
-    let outside : nat_lt (position_or_len (λ b. b == s) text) (length text) ≡ false =
-    rw (position_or_len-lacks s text none) (grind (arith, nat_tests)) in
-    rw outside refl
-
+-- a text without a dash is not cut
 dashed_of-lacks : (text : List ℕ) → lacks dash text ≡ true → dashed_of text ≡ None
 unfolding dashed_of
 dashed_of-lacks text none = rw (cut_at-lacks dash text none) refl
@@ -45,7 +32,8 @@ prefix_lacks_dash : (text : List ℕ) (p : PrefixParts) → IsPrefix text p → 
 prefix_lacks_dash text p spelled =
     rw spelled.spelled (lacks-joined dash slash spelled.address_text spelled.length_text refl (lacks-address dash spelled.address_text spelled.address refl refl spelled.first) (lacks-digits dash spelled.length_text refl spelled.second.digits))
 
-ends_of-ordered : (x y : ℕ) (s : Ends) → ends_of x y ≡ Some s → (x ≤ y) × (s.first ≡ x) × (s.last ≡ y)
+-- the ends that two numbers make are these, in order
+pub ends_of-ordered : (x y : ℕ) (s : Ends) → ends_of x y ≡ Some s → (x ≤ y) × (s.first ≡ x) × (s.last ≡ y)
 ends_of-ordered x y s is =
     let parts = cond_some (nat_le x y) _ _ is in
     (grind (arith, nat_tests, parts.0), ap (λ (e : Ends). e.first) (sym parts.1), ap (λ (e : Ends). e.last) (sym parts.1))

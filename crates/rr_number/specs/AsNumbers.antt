@@ -4,7 +4,7 @@ use Rattle.std.specs.Str.{bytes_eq}
 use Rattle.rr_number.specs.Names.{upper}
 use Rattle.rr_number.specs.Numerals.{IsNumber, number_of}
 
--- The greatest AS number: one of two octets (RFC 2622, 2).
+-- The greatest AS number: one of two octets (profile).
 abbrev pub greatest_as_number : ℕ
 greatest_as_number = 65535
 
@@ -13,7 +13,7 @@ pub record IsAsNumber (text : List ℕ) (n : ℕ) : Type 0 where
   pub begins : upper (take 2 text) ≡ codes "AS"
   pub number : IsNumber 10 (greatest_as_number + 1) (drop 2 text) n
 
--- The AS number that a text spells, if it spells one.
+-- The AS number that a text spells, if it spells one (RFC 2622, 2).
 unfoldable pub as_number_of : List ℕ → Option ℕ
 as_number_of text =
     if bytes_eq (upper (take 2 text)) (codes "AS") then number_of 10 (greatest_as_number + 1) (drop 2 text) else None

@@ -6,7 +6,7 @@ use Rattle.rr_number.specs.Dashes.{IsDashed, dash, dashed_of}
 use Rattle.rr_number.specs.SpanTexts.{ends_of}
 use Rattle.rr_number.specs.Spans.{Ends}
 
--- The ends of a block are AS numbers, the first not above the last (RFC 2725, 9; profile).
+-- The ends of a block are AS numbers, the first not above the last (RFC 2725, 10; profile).
 pub record IsAsSpan (s : Ends) : Type 0 where
   pub ordered : s.first ≤ s.last
   pub bound : s.last ≤ greatest_as_number

@@ -1,5 +1,5 @@
 -- Texts cut at a separator.
-use Rattle.std.specs.Prelude.{ℕ, ◌==◌, Bool, true, not, ◌&&◌, List, [], ◌∷◌, length, Option, Some, None, nat_lt, if◌then◌else◌, drop}
+use Rattle.std.specs.Prelude.{ℕ, ◌==◌, List, length, Option, Some, None, nat_lt, if◌then◌else◌, drop}
 use Rattle.std.specs.List.{before_first, after_first, position_or_len}
 
 -- The parts of the text before and after its first separator, if it has one (profile).
@@ -8,11 +8,6 @@ cut_at separator text =
     if nat_lt (position_or_len (λ b. b == separator) text) (length text)
     then Some (before_first (λ b. b == separator) text, after_first (λ b. b == separator) text)
     else None
-
--- No byte of the text is the separator (profile).
-abbrev pub lacks : ℕ → List ℕ → Bool
-lacks separator [] = true
-lacks separator (b ∷ bs) = not (b == separator) && lacks separator bs
 
 -- The text from its first separator on, or nothing where it has none (profile).
 abbrev pub from_first : ℕ → List ℕ → List ℕ

@@ -1,10 +1,10 @@
--- Two texts with a dash between them, as the keys of inetnums and as-blocks have them.
+-- Two texts with a dash between them, as the keys of inetnums and as-blocks have them, and the dash of operators.
 use Rattle.std.specs.Prelude.{◌≡◌, ℕ, ◌==◌, Bool, true, ◌||◌, List, [], ◌∷◌, ◌++◌, Option, if◌then◌else◌}
 use Rattle.std.specs.List.{list_all}
 use Rattle.std.specs.Option.{option_map}
 use Rattle.rr_number.specs.Cuts.{cut_at}
 
--- The separator, '-'.
+-- The dash, '-': between the ends of a span or a block (profile), and in operators (RFC 2622, 2).
 abbrev pub dash : ℕ
 dash = 45
 

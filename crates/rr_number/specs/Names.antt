@@ -13,10 +13,11 @@ upper bs = map to_ascii_uppercase bs
 abbrev pub is_name_byte : ℕ → Bool
 is_name_byte b = is_ascii_alphanumeric b || (b == 95 || b == 45)
 
--- A text begins with a letter, or ends with a letter or a digit.
+-- A text begins with a letter.
 abbrev pub begins_with_letter : List ℕ → Bool
 begins_with_letter bs = option_map_or is_ascii_alphabetic (slice_get bs 0) false
 
+-- A text ends with a letter or a digit.
 abbrev pub ends_with_alphanumeric : List ℕ → Bool
 ends_with_alphanumeric bs = option_map_or is_ascii_alphanumeric (slice_get bs (length bs - 1)) false
 

@@ -7,19 +7,18 @@ use Rattle.std.specs.Option.{option_and_then, option_map}
 use Rattle.std.specs.Str.{bytes_eq}
 use Rattle.rr_number.specs.Bounds.{Bounds, IsBounds, bounds_cmp}
 use Rattle.rr_number.specs.Cuts.{cut_at}
+use Rattle.rr_number.specs.Dashes.{dash}
 use Rattle.rr_number.specs.Prefixes.{IsLength, length_of}
 use Rattle.rr_number.specs.declared.operator.Operator.{Operator}
 use Rattle.rr_number.specs.declared.operator.Operator.TheVariants.{Plain, Plus, Minus, Lengths}
 
--- The bytes of operators: '^', '+' and '-' (RFC 2622, 2).
+-- The byte that begins an operator, '^' (RFC 2622, 2).
 abbrev pub caret : ℕ
 caret = 94
 
+-- The byte of the operator `^+`, '+' (RFC 2622, 2).
 abbrev pub plus : ℕ
 plus = 43
-
-abbrev pub dash : ℕ
-dash = 45
 
 -- One length, as `^n`, bounds on both sides (RFC 2622, 2).
 pub record IsOneLength (text : List ℕ) (b : Bounds) : Type 0 where
@@ -109,13 +108,14 @@ kept b = if nat_le b.low b.high && nat_le b.low 32 then Some b else None
 unfoldable pub lengths_under : Operator → Bounds → Option Bounds
 lengths_under operator b = kept (tabled operator b)
 
--- The place of an operator's form among the forms, and its bounds where it has some (profile).
+-- The place of an operator's form among the forms (profile).
 abbrev pub operator_place : Operator → ℕ
 operator_place Plain = 0
 operator_place Plus = 1
 operator_place Minus = 2
 operator_place (Lengths b) = 3
 
+-- The bounds of an operator, zeros where it has none (profile).
 abbrev pub operator_bounds : Operator → Bounds
 operator_bounds (Lengths b) = b
 operator_bounds _ = record { low = 0; high = 0 }

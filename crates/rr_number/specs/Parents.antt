@@ -13,11 +13,12 @@ but_last [] = []
 but_last (c ∷ []) = []
 but_last (c ∷ d ∷ ds) = c ∷ but_last (d ∷ ds)
 
--- The text of all components but the last, if there are several.
+-- Some components as one text, with colons between them (RFC 2622, 5).
 abbrev pub front_by : List (List ℕ) → Option (List ℕ)
 front_by [] = None
 front_by (c ∷ cs) = Some (join_with_byte 58 (c ∷ cs))
 
+-- The text of all components but the last, if there are several (RFC 2622, 5).
 unfoldable pub front_of : List ℕ → Option (List ℕ)
 front_of text = front_by (but_last (components text))
 

@@ -17,14 +17,16 @@ prefix_of RouteSet = codes "RS-"
 abbrev pub components : List ℕ → List (List ℕ)
 components text = slice_split (λ b. b == 58) text
 
--- A component is an AS number, or the word of a set: a name that begins as its kind's do and is not reserved (RFC 2622, 5).
+-- A component that is an AS number (RFC 2622, 5).
 abbrev pub is_as_number : List ℕ → Bool
 is_as_number component = is_some (as_number_of component)
 
+-- The word of a set is a name that begins as its kind's do and is not reserved (RFC 2622, 5).
 abbrev pub is_set_word : SetKind → List ℕ → Bool
 is_set_word kind component =
     is_name component && (starts_with nat_eq (upper component) (prefix_of kind) && not (is_reserved (upper component)))
 
+-- A component is an AS number or the word of a set (RFC 2622, 5).
 abbrev pub is_component : SetKind → List ℕ → Bool
 is_component kind component = is_as_number component || is_set_word kind component
 
@@ -61,12 +63,10 @@ pub record IsSetText (text : List ℕ) : Type 0 where
 abbrev pub has_prefix : SetKind → List ℕ → Bool
 has_prefix kind text = list_any (λ component. starts_with nat_eq component (prefix_of kind)) (components text)
 
--- The kind of a set is told by the components beside AS numbers (RFC 2622, 5).
+-- A set is an as-set where a component of its name begins as those of as-sets do (RFC 2622, 5).
 abbrev pub is_as_set : List ℕ → Bool
 is_as_set text = has_prefix AsSet text
 
-abbrev pub is_route_set : List ℕ → Bool
-is_route_set text = has_prefix RouteSet text
-
+-- The kind of a set is told by the components beside AS numbers: an as-set, and else a route-set (RFC 2622, 5).
 abbrev pub kind_of : List ℕ → SetKind
 kind_of text = if is_as_set text then AsSet else RouteSet

@@ -11,7 +11,7 @@ use rr_io::{Sink, write_all};
 use std::marker::Model;
 use std::{fmt, io};
 
-/// The greatest AS number (RFC 2622, 2).
+/// The greatest AS number, of two octets (profile).
 const GREATEST: u32 = 65_535;
 
 /// The most digits that an AS number is spelled in (profile).
@@ -64,8 +64,8 @@ impl AsNumber {
         self.number
     }
 
-    /// The AS number that the bytes spell: `AS`, in any letter case, and 1 to 10 digits
-    /// (RFC 2622, 2).
+    /// The AS number that the bytes spell: `AS`, in any letter case, and 1 to 10 digits of a number of at most 65535
+    /// (RFC 2622, 2; the count of digits and the bound: profile).
     pub fn read(bytes: &[u8]) -> Option<Self>
         ensures exact { result ≡ as_number_of bytes.now }
         ensures found { IfSome result (IsAsNumber bytes.now) }

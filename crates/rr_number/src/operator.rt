@@ -4,7 +4,8 @@ ghost use Rattle.rr_io.specs.Sending.{Writes};
 ghost use Rattle.rr_number.specs.Applied.{applied};
 ghost use Rattle.rr_number.specs.Bounds.{IsBounds};
 ghost use Rattle.rr_number.specs.Cuts.{cut_at};
-ghost use Rattle.rr_number.specs.Operators.{IsOperator, IsOperatorValue, carried_of, dash, lengths_cut_of, lengths_text, one_length_of, operator_of, operator_text, two_lengths_of};
+ghost use Rattle.rr_number.specs.Dashes.{dash};
+ghost use Rattle.rr_number.specs.Operators.{IsOperator, carried_of, lengths_cut_of, lengths_text, one_length_of, operator_of, operator_text, two_lengths_of};
 ghost use Rattle.rr_number.specs.declared.operator.Operator.{Operator};
 
 use crate::digits::cut;

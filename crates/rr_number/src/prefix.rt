@@ -2,7 +2,6 @@
 ghost use Rattle.std.specs.Prelude.{◌≡◌, ◌+◌, ◌<◌, ◌≤◌, ◌++◌, IfSome, length, Some};
 ghost use Rattle.rr_io.specs.Sending.{Writes};
 ghost use Rattle.rr_number.specs.Prefixes.{PrefixParts, count_of, masked, masked_of, length_of, prefix_of, prefix_text, span_of, IsMasked, IsPrefix};
-ghost use Rattle.rr_number.specs.PrefixLaws.{CoversLonger, PrefixesHaveSpans, PrefixesNeverCross, SpansTellPrefixes};
 ghost use Rattle.rr_number.specs.Spans.{covers};
 
 use crate::address::Address;
@@ -14,7 +13,7 @@ use std::marker::Model;
 use std::{fmt, io};
 
 /// A prefix: the addresses whose first `length` bits are those of `address`, whose other bits are zero.
-/// Prefixes are ordered by address, then by length (RFC 2622, 2).
+/// Prefixes are ordered by address, then by length (profile).
 #[derive(Clone, Copy, Debug, PartialEq, Eq, PartialOrd, Ord)]
 pub struct Prefix {
     address: Address,

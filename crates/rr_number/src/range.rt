@@ -6,7 +6,6 @@ ghost use Rattle.rr_number.specs.Applied.{IsRanged, operator_for, pair_of, range
 ghost use Rattle.rr_number.specs.Cuts.{from_first};
 ghost use Rattle.rr_number.specs.Operators.{caret};
 ghost use Rattle.rr_number.specs.Prefixes.{PrefixParts};
-ghost use Rattle.rr_number.specs.RangeLaws.{OperatorsAdmit, OperatorsKeepRanges, PrintedOperatorsMakeRanges, PrintedRangesAreRead};
 ghost use Rattle.rr_number.specs.Ranges.{admits, bare, IsRange};
 ghost use Rattle.rr_number.specs.declared.operator.Operator.{Operator};
 
@@ -19,7 +18,7 @@ use std::marker::Model;
 use std::{fmt, io};
 
 /// A range of prefixes: those that the prefix covers and whose length lies from `low` to `high`. Ranges are
-/// ordered by address, length, `low` and `high` (RFC 2622, 2).
+/// ordered by address, length, `low` and `high` (profile).
 #[derive(Clone, Copy, Debug, PartialEq, Eq, PartialOrd, Ord)]
 pub struct Range {
     prefix: Prefix,

@@ -8,9 +8,9 @@ ghost use Rattle.std.specs.Cmp.Rules.{comparing};
 ghost use Rattle.std.specs.Ordering.{as_partial_cmp, nat_cmp};
 ghost use Rattle.std.specs.List.{list_all, list_any, starts_with};
 ghost use Rattle.rr_io.specs.Sending.{Writes};
-ghost use Rattle.rr_number.specs.Names.{is_reserved, upper};
+ghost use Rattle.rr_number.specs.Names.{upper};
 ghost use Rattle.rr_number.specs.SetNameLaws.{ComponentsArePrinted, FrontsLackTheLast, KindsAreTold, SetNamesAreReadAgain, SetNamesIgnoreCase};
-ghost use Rattle.rr_number.specs.SetNames.{has_prefix, kind_of, IsSetText, component_text, components, is_any_set, is_as_number, is_component, is_name_of_kind, is_set_name, is_set_word, prefix_of, set_name_of, set_text};
+ghost use Rattle.rr_number.specs.SetNames.{has_prefix, kind_of, IsSetText, component_text, components, is_any_set, is_component, is_name_of_kind, is_set_name, is_set_word, prefix_of, set_name_of, set_text};
 
 mod parent;
 

@@ -3,7 +3,7 @@
 ghost use Rattle.std.specs.Prelude.{◌≡◌, IfOk};
 ghost use Rattle.std.specs.List.{list_all};
 ghost use Rattle.std.specs.Option.{option_copied};
-ghost use Rattle.rr_number.specs.Parents.{front_of, named_by, parent_of};
+ghost use Rattle.rr_number.specs.Parents.{front_of, parent_of};
 ghost use Rattle.rr_number.specs.SetNames.{components, is_as_number};
 
 use super::SetName;

@@ -1,7 +1,6 @@
 -- Keys are ordered, and told apart, by their classes and bytes.
 use Rattle.std.proofs.Common.{◌≡◌, ℕ, ◌+◌, ◌/◌, ◌%◌, ◌≤◌, ◌<◌, List, ◌∷◌, ◌++◌, length, refl, sym, ap, ◌∙◌, arith}
-use Rattle.std.specs.declared.cmp.Ordering.{Ordering}
-use Rattle.std.specs.declared.cmp.Ordering.TheVariants.{Less, Equal, Greater}
+use Rattle.std.specs.declared.cmp.Ordering.TheVariants.{Equal}
 use Rattle.std.specs.Ordering.{nat_cmp, ordering_then}
 use Rattle.std.specs.Cmp.{tied_itself}
 use Rattle.std.specs.Cmp.Lexicographic.{slice_cmp, nat_list_cmp_total}
@@ -16,6 +15,7 @@ use Rattle.rr_object.specs.declared.key.Key.TheVariants.{Mntner, AsBlock, AutNum
 use Rattle.rr_object.specs.contracts.key.KeyOrd.TheImpl as derived
 use Rattle.rr_object.specs.KeyOrders.{BytesTellKeys, IsKeyValue, IsRoute, class_and_bytes_cmp}
 use Rattle.rr_object.specs.KeyTexts.{address_bytes, as_number_bytes, key_bytes, length_bytes}
+use Rattle.rr_number.proofs.NumberOrders.{ties}
 use Rattle.rr_object.proofs.Digits.{decimal_parts, four_bytes, four_bytes_cmp, hex_cmp, joined_cmp, then_assoc, then_equal, two_bytes, two_bytes_cmp}
 
 number_cmp : (m n : ℕ) → m ≤ 65535 → n ≤ 65535 → slice_cmp nat_cmp (as_number_bytes m) (as_number_bytes n) ≡ nat_cmp m n
@@ -84,34 +84,23 @@ ordered_by_bytes (AsSet n) (AsSet m) fa fb = refl
 ordered_by_bytes (RouteSet n) (RouteSet m) fa fb = refl
 ordered_by_bytes a b fa fb = refl
 
--- two orders one after the other tie only where both do
-then_first : (a b : Ordering) → ordering_then a b ≡ Equal → a ≡ Equal
-then_first Less b e = e
-then_first Equal b e = refl
-then_first Greater b e = e
-
-then_second : (a b : Ordering) → ordering_then a b ≡ Equal → b ≡ Equal
-then_second Less b e = cc
-then_second Equal b e = e
-then_second Greater b e = cc
-
 tied : (xs ys : List ℕ) → xs ≡ ys → slice_cmp nat_cmp xs ys ≡ Equal
 tied xs ys e = ap (slice_cmp nat_cmp xs) (sym e) ∙ tied_itself nat_list_cmp_total xs
 
 same_ends : (s t : Ends) → ordering_then (nat_cmp s.first t.first) (nat_cmp s.last t.last) ≡ Equal → s ≡ t
 same_ends s t e =
-    let first : s.first ≡ t.first = nat_cmp-IsAntisymmetric _ _ (then_first _ _ e) in
-    let last : s.last ≡ t.last = nat_cmp-IsAntisymmetric _ _ (then_second _ _ e) in
+    let first : s.first ≡ t.first = nat_cmp-IsAntisymmetric _ _ (ties _ _ e).0 in
+    let last : s.last ≡ t.last = nat_cmp-IsAntisymmetric _ _ (ties _ _ e).1 in
     (λ i. record { first = first i; last = last i })
 
 same_route : (p q : PrefixParts) (m n : ℕ)
     → ordering_then (nat_cmp p.address q.address) (ordering_then (nat_cmp p.length q.length) (nat_cmp m n)) ≡ Equal
     → Route p m ≡ Route q n
 same_route p q m n e =
-    let rest = then_second _ _ e in
-    let address : p.address ≡ q.address = nat_cmp-IsAntisymmetric _ _ (then_first _ _ e) in
-    let length : p.length ≡ q.length = nat_cmp-IsAntisymmetric _ _ (then_first _ _ rest) in
-    let origin : m ≡ n = nat_cmp-IsAntisymmetric _ _ (then_second _ _ rest) in
+    let rest = (ties _ _ e).1 in
+    let address : p.address ≡ q.address = nat_cmp-IsAntisymmetric _ _ (ties _ _ e).0 in
+    let length : p.length ≡ q.length = nat_cmp-IsAntisymmetric _ _ (ties _ _ rest).0 in
+    let origin : m ≡ n = nat_cmp-IsAntisymmetric _ _ (ties _ _ rest).1 in
     (λ i. Route (record { address = address i; length = length i }) (origin i))
 
 pub bytes_tell : BytesTellKeys

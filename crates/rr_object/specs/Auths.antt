@@ -1,16 +1,13 @@
 -- Values of `auth` (RFC 2622, 3; the scheme `SHA256-PW`: profile).
-use Rattle.std.specs.Prelude.{ℕ, Bool, ◌==◌, ◌&&◌, nat_le, length, List, [], ◌∷◌, Option, Some, None, codes, if◌then◌else◌}
+use Rattle.std.specs.Prelude.{ℕ, Bool, ◌&&◌, nat_le, length, List, [], ◌∷◌, Option, Some, None, codes, if◌then◌else◌}
 use Rattle.std.specs.Char.{is_ascii_alphanumeric}
 use Rattle.std.specs.List.{list_all, before_first, after_first}
 use Rattle.std.specs.Option.{option_map, option_and_then}
 use Rattle.std.specs.Result.{result_ok}
 use Rattle.hex.specs.Hex.{decode_sized}
+use Rattle.rr_text.specs.Bytes.{is_colon}
 use Rattle.rr_object.specs.Items.{is_keyword, only, words}
 use Rattle.rr_object.specs.Parts.{AuthParts}
-
--- a colon stands between a salt and a digest (profile)
-abbrev pub is_colon : ℕ → Bool
-is_colon b = b == 58
 
 -- a salt is 0 to 16 letters or digits (profile)
 abbrev pub is_salt : List ℕ → Bool

@@ -1,6 +1,6 @@
 -- Which bytes separate the parts of a text.
 use Rattle.std.specs.Prelude.{ℕ, Bool}
-use Rattle.rr_text.specs.Bytes.{is_blank}
+use Rattle.rr_number.specs.Dashes.{is_blank}
 use Rattle.rr_object.specs.declared.lists.Separators.{Separators}
 use Rattle.rr_object.specs.declared.lists.Separators.TheVariants.{Items, Words}
 use Rattle.rr_object.specs.Items.{is_separator}

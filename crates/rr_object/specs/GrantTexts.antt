@@ -1,4 +1,4 @@
--- How lists of items spell entries of `mnt-routes` (RFC 2725, 9; what follows a name: profile).
+-- How lists of items spell entries of `mnt-routes` (RFC 2725, 10; what follows a name: profile).
 use Rattle.std.specs.Prelude.{◌≡◌, ℕ, true, false, ◌⊎◌, List, [], ◌∷◌, ◌++◌, Some, codes}
 use Rattle.rr_number.specs.Names.{maintainer_name_of}
 use Rattle.rr_object.specs.Grants.{for_each_prefix, grants_of, is_any, range_item}
@@ -12,7 +12,7 @@ pub record IsNameAlone (items : List (List ℕ)) (grant : GrantParts) : Type 0 w
   pub named : maintainer_name_of item ≡ Some grant.name
   pub value : grant ≡ for_each_prefix grant.name
 
--- so is a maintainer's name and `ANY` (RFC 2725, 9)
+-- so is a maintainer's name and `ANY` (RFC 2725, 10)
 pub record IsNameWithAny (items : List (List ℕ)) (grant : GrantParts) : Type 0 where
   pub item : List ℕ
   pub keyword : List ℕ
@@ -21,7 +21,7 @@ pub record IsNameWithAny (items : List (List ℕ)) (grant : GrantParts) : Type 0
   pub any : is_any keyword ≡ true
   pub value : grant ≡ for_each_prefix grant.name
 
--- a maintainer's name and well spelled ranges in braces are an entry for what these ranges admit (RFC 2725, 9);
+-- a maintainer's name and well spelled ranges in braces are an entry for what these ranges admit (RFC 2725, 10);
 -- a dropped range stands for nothing (profile)
 pub record IsNameWithRanges (items : List (List ℕ)) (grant : GrantParts) : Type 0 where
   pub item : List ℕ
@@ -31,11 +31,11 @@ pub record IsNameWithRanges (items : List (List ℕ)) (grant : GrantParts) : Typ
   pub good : are_good range_item listed ≡ true
   pub value : grant ≡ record { name = grant.name; any = false; ranges = meant range_item listed }
 
--- an entry is spelled in one of these three ways (RFC 2725, 9; profile)
+-- an entry is spelled in one of these three ways (RFC 2725, 10; profile)
 abbrev pub IsEntry : List (List ℕ) → GrantParts → Type 0
 IsEntry items grant = IsNameAlone items grant ⊎ (IsNameWithAny items grant ⊎ IsNameWithRanges items grant)
 
--- items spell entries where they are those of the first and, behind them, those of the others (RFC 2725, 9)
+-- items spell entries where they are those of the first and, behind them, those of the others (RFC 2725, 10)
 pub record IsCut (Front Rest : List (List ℕ) → Type 0) (items : List (List ℕ)) : Type 0 where
   pub front : List (List ℕ)
   pub rest : List (List ℕ)
@@ -43,17 +43,17 @@ pub record IsCut (Front Rest : List (List ℕ) → Type 0) (items : List (List �
   pub first : Front front
   pub others : Rest rest
 
--- items that spell these entries, one behind another (RFC 2725, 9)
+-- items that spell these entries, one behind another (RFC 2725, 10)
 abbrev pub AreEntries : List GrantParts → List (List ℕ) → Type 0
 AreEntries [] items = items ≡ []
 AreEntries (grant ∷ grants) items = IsCut (λ front. IsEntry front grant) (AreEntries grants) items
 
--- what is read of items is what they spell (RFC 2725, 9)
+-- what is read of items is what they spell (RFC 2725, 10)
 abbrev pub ReadGrantsAreSpelled : Type 0
 ReadGrantsAreSpelled =
     (items : List (List ℕ)) (grants : List GrantParts) → grants_of items ≡ Some grants → AreEntries grants items
 
--- what items spell is read of them (RFC 2725, 9)
+-- what items spell is read of them (RFC 2725, 10)
 abbrev pub SpelledGrantsAreRead : Type 0
 SpelledGrantsAreRead =
     (items : List (List ℕ)) (grants : List GrantParts) → AreEntries grants items → grants_of items ≡ Some grants

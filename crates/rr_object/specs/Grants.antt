@@ -1,4 +1,4 @@
--- Entries of `mnt-routes` (RFC 2725, 9; what follows a name: profile).
+-- Entries of `mnt-routes` (RFC 2725, 10; what follows a name: profile).
 use Rattle.std.specs.Prelude.{ℕ, Bool, true, false, List, [], ◌∷◌, ◌++◌, Option, Some, None, codes, if◌then◌else◌}
 use Rattle.std.specs.Option.{option_map, option_and_then, option_to_list}
 use Rattle.std.specs.Str.{bytes_eq}
@@ -15,11 +15,11 @@ use Rattle.rr_object.specs.Parts.{GrantParts}
 abbrev pub is_any : List ℕ → Bool
 is_any item = is_keyword (codes "any") item
 
--- ranges stand in braces: an opening one (RFC 2725, 9)
+-- ranges stand in braces: an opening one (RFC 2725, 10)
 abbrev pub is_opening : List ℕ → Bool
 is_opening item = bytes_eq item (codes "{")
 
--- and a closing one (RFC 2725, 9)
+-- and a closing one (RFC 2725, 10)
 abbrev pub is_closing : List ℕ → Bool
 is_closing item = bytes_eq item (codes "}")
 
@@ -28,22 +28,22 @@ is_closing item = bytes_eq item (codes "}")
 unfoldable pub range_item : List ℕ → Option (Option RangeParts)
 range_item item = option_map (λ ranged. applied ranged.1 (bare ranged.0)) (ranged_of item)
 
--- an entry for each prefix (RFC 2725, 9)
+-- an entry for each prefix (RFC 2725, 10)
 abbrev pub for_each_prefix : List ℕ → GrantParts
 for_each_prefix name = record { name = name; any = true; ranges = [] }
 
--- an entry for the prefixes that a range admits, none yet (RFC 2725, 9)
+-- an entry for the prefixes that a range admits, none yet (RFC 2725, 10)
 abbrev pub for_no_prefix : List ℕ → GrantParts
 for_no_prefix name = record { name = name; any = false; ranges = [] }
 
--- an entry for one range more, where that is not dropped (RFC 2725, 9; profile)
+-- an entry for one range more, where that is not dropped (RFC 2725, 10; profile)
 abbrev pub with_range : GrantParts → Option RangeParts → GrantParts
 with_range grant None = grant
 with_range grant (Some range) =
     record { name = grant.name; any = grant.any; ranges = grant.ranges ++ range ∷ [] }
 
 -- what an item adds to the entry that was begun: the entry that it ends, if it ends one, and what is begun
--- then. An entry is a maintainer's name, then `ANY`, ranges in braces, or nothing, which means `ANY` (RFC 2725, 9; profile)
+-- then. An entry is a maintainer's name, then `ANY`, ranges in braces, or nothing, which means `ANY` (RFC 2725, 10; profile)
 unfoldable pub next_entry : Begun → List ℕ → Option (Option GrantParts × Begun)
 next_entry Nothing item = option_map (λ name. (None, Named name)) (maintainer_name_of item)
 next_entry (Named name) item =
@@ -54,18 +54,18 @@ next_entry (Braced grant) item =
     if is_closing item then Some (Some grant, Nothing)
     else option_map (λ range. (None, Braced (with_range grant range))) (range_item item)
 
--- the entry that the end of the list ends; braces have to be closed (RFC 2725, 9)
+-- the entry that the end of the list ends; braces have to be closed (RFC 2725, 10)
 abbrev pub last_entry : Begun → Option (List GrantParts)
 last_entry Nothing = Some []
 last_entry (Named name) = Some (for_each_prefix name ∷ [])
 last_entry (Braced grant) = None
 
--- the entries of a list of items behind what was begun; nothing where one is badly spelled (RFC 2725, 9)
+-- the entries of a list of items behind what was begun; nothing where one is badly spelled (RFC 2725, 10)
 unfoldable pub entries_behind : Begun → List (List ℕ) → Option (List GrantParts)
 entries_behind begun [] = last_entry begun
 entries_behind begun (item ∷ others) =
     option_and_then (λ next. option_map (λ entries. option_to_list next.0 ++ entries) (entries_behind next.1 others)) (next_entry begun item)
 
--- the entries of a list of items (RFC 2725, 9)
+-- the entries of a list of items (RFC 2725, 10)
 abbrev pub grants_of : List (List ℕ) → Option (List GrantParts)
 grants_of listed = entries_behind Nothing listed

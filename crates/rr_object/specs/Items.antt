@@ -3,7 +3,7 @@ use Rattle.std.specs.Prelude.{ℕ, Bool, not, ◌==◌, ◌||◌, length, List, 
 use Rattle.std.specs.List.{flat_map, filter_map, list_all, slice_split}
 use Rattle.std.specs.Char.{to_ascii_lowercase}
 use Rattle.std.specs.Str.{bytes_eq}
-use Rattle.rr_text.specs.Bytes.{is_blank}
+use Rattle.rr_number.specs.Dashes.{is_blank}
 use Rattle.rr_text.specs.Fields.{Field, is_named}
 use Rattle.rr_text.specs.Meanings.{value_meaning}
 
@@ -17,7 +17,8 @@ only [] = None
 only (value ∷ []) = Some value
 only (value ∷ (other ∷ others)) = None
 
--- list items are separated by commas or blanks (RFC 2622, 2; blanks: profile)
+-- list items are separated by commas or blanks, which are spaces, tabs and CRs: an LF ends a line and stands in no
+-- value (RFC 2622, 2; blanks: profile)
 abbrev pub is_separator : ℕ → Bool
 is_separator b = (b == 44) || is_blank b
 
@@ -41,7 +42,7 @@ words text = parts_at is_blank text
 abbrev pub joined : List (List ℕ) → List ℕ
 joined values = flat_map (λ value. value ++ 44 ∷ []) values
 
--- the braces round ranges (RFC 2725, 9)
+-- the braces round ranges (RFC 2725, 10)
 abbrev pub is_brace : ℕ → Bool
 is_brace b = (b == 123) || (b == 125)
 

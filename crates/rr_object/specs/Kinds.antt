@@ -7,7 +7,7 @@ use Rattle.rr_object.specs.declared.kind.Kind.TheVariants.{MntBy, Source, Auth, 
 use Rattle.rr_object.specs.declared.kind.Occurs.{Occurs}
 use Rattle.rr_object.specs.declared.kind.Occurs.TheVariants.{Once, WithItems, Freely, AsText}
 
--- the name of an interpreted attribute (RFC 2622, 3 to 6; RFC 2725, 9)
+-- the name of an interpreted attribute (RFC 2622, 3 to 6; RFC 2725, 10)
 abbrev pub kind_name : Kind → List ℕ
 kind_name MntBy = codes "mnt-by"
 kind_name Source = codes "source"
@@ -20,7 +20,7 @@ kind_name Members = codes "members"
 kind_name MbrsByRef = codes "mbrs-by-ref"
 
 -- how often an attribute stands in an object of a class: once, with at least one item over all occurrences,
--- freely; or it is kept as text there and not read (RFC 2622, 3 to 6; RFC 2725, 9; profile)
+-- freely; or it is kept as text there and not read (RFC 2622, 3 to 6; RFC 2725, 10; profile)
 unfoldable pub occurs : Kind → Class → Occurs
 occurs MntBy class = WithItems
 occurs Source class = Once
@@ -81,6 +81,6 @@ is_read_as WithItems = true
 is_read_as Freely = true
 is_read_as AsText = false
 
--- an attribute is interpreted in objects of a class (RFC 2622, 3 to 6; RFC 2725, 9)
+-- an attribute is interpreted in objects of a class (RFC 2622, 3 to 6; RFC 2725, 10)
 abbrev pub is_read : Kind → Class → Bool
 is_read kind class = is_read_as (occurs kind class)

@@ -1,11 +1,12 @@
 -- Items of `members`, `member-of` and `mbrs-by-ref`, and maintainers' names (RFC 2622, 5).
-use Rattle.std.specs.Prelude.{ℕ, Bool, true, false, ◌==◌, is_some, List, Option, Some, None, drop, if◌then◌else◌}
-use Rattle.std.specs.List.{before_first, position_or_len}
+use Rattle.std.specs.Prelude.{ℕ, Bool, true, false, ◌==◌, is_some, List, Option, Some, None, if◌then◌else◌}
+use Rattle.std.specs.List.{before_first}
 use Rattle.std.specs.Option.{option_map, option_and_then}
 use Rattle.rr_number.specs.declared.operator.Operator.TheVariants.{Plain}
 use Rattle.rr_number.specs.Names.{maintainer_name_of}
 use Rattle.rr_number.specs.AsNumbers.{as_number_of}
-use Rattle.rr_number.specs.Operators.{operator_of}
+use Rattle.rr_number.specs.Cuts.{from_first}
+use Rattle.rr_number.specs.Operators.{caret, operator_of}
 use Rattle.rr_number.specs.SetNames.{set_name_of, kind_of}
 use Rattle.rr_number.specs.declared.set_kind.SetKind.{SetKind}
 use Rattle.rr_number.specs.declared.set_kind.SetKind.TheVariants.{AsSet, RouteSet}
@@ -47,16 +48,12 @@ unfoldable pub as_set_item : List ℕ → Option (Option Member)
 as_set_item item =
     option_and_then (λ set. if is_in_as_sets set then Some (Some (member.Set set Plain)) else None) (set_of item)
 
--- an operator begins with `^` (RFC 2622, 2)
-abbrev pub is_caret : ℕ → Bool
-is_caret b = b == 94
-
 -- an AS number or a set's name, with an operator or none (RFC 2622, 5)
 unfoldable pub operated_set : List ℕ → Option Member
 operated_set item =
     option_and_then
-    (λ set. option_map (member.Set set) (operator_of (drop (position_or_len is_caret item) item)))
-    (set_of (before_first is_caret item))
+    (λ set. option_map (member.Set set) (operator_of (from_first caret item)))
+    (set_of (before_first (λ b. b == caret) item))
 
 -- an item of a route-set: a range, which may be dropped, or a set (RFC 2622, 5)
 unfoldable pub route_set_item : List ℕ → Option (Option Member)

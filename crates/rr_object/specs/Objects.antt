@@ -5,7 +5,7 @@ use Rattle.rr_object.specs.declared.key.Key.{Key}
 use Rattle.rr_object.specs.declared.member.Member.{Member}
 use Rattle.rr_object.specs.Parts.{GrantParts, AuthParts, ByRefParts}
 
--- an object: its key, its paragraph, and what the interpreted attributes of it say (RFC 2622, 2 to 6; RFC 2725, 9)
+-- an object: its key, its paragraph, and what the interpreted attributes of it say (RFC 2622, 2 to 6; RFC 2725, 10)
 pub record Obj : Type 0 where
   pub key : Key
   pub paragraph : List Field

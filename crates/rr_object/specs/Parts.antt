@@ -2,7 +2,7 @@
 use Rattle.std.specs.Prelude.{ℕ, Bool, List}
 use Rattle.rr_number.specs.Ranges.{RangeParts}
 
--- an entry of `mnt-routes`: a maintainer, for each prefix or for those that a range admits (RFC 2725, 9)
+-- an entry of `mnt-routes`: a maintainer, for each prefix or for those that a range admits (RFC 2725, 10)
 pub record GrantParts : Type 0 where
   pub name : List ℕ
   pub any : Bool

@@ -1,4 +1,4 @@
--- The object that a paragraph is, or its first fault (RFC 2622, 2 to 6; RFC 2725, 9; the order: profile).
+-- The object that a paragraph is, or its first fault (RFC 2622, 2 to 6; RFC 2725, 10; the order: profile).
 use Rattle.std.specs.Prelude.{ℕ, Bool, false, not, ◌==◌, ◌||◌, List, [], Option, is_none, unwrap_or, Result, Ok, Err, codes, map, count_by, if◌then◌else◌}
 use Rattle.std.specs.List.{list_any}
 use Rattle.std.specs.Option.{option_map_or, option_and_then}
@@ -54,7 +54,7 @@ items_among MbrsByRef values = items (list_text MbrsByRef values)
 unfoldable pub items_of : Kind → List Field → List (List ℕ)
 items_of kind fields = items_among kind (values_of (kind_name kind) fields)
 
--- the items of an attribute that are read in an object of a class (RFC 2622, 3 to 6; RFC 2725, 9)
+-- the items of an attribute that are read in an object of a class (RFC 2622, 3 to 6; RFC 2725, 10)
 unfoldable pub items_read : Kind → Class → List Field → List (List ℕ)
 items_read kind class fields = if is_read kind class then items_of kind fields else []
 
@@ -69,7 +69,7 @@ breaks WithItems kind fields = not (is_filled (items_of kind fields))
 breaks Freely kind fields = false
 breaks AsText kind fields = false
 
--- the same of an attribute in an object of a class (RFC 2622, 3 to 6; RFC 2725, 9)
+-- the same of an attribute in an object of a class (RFC 2622, 3 to 6; RFC 2725, 10)
 abbrev pub is_miscounted_in : Class → Kind → List Field → Bool
 is_miscounted_in class kind fields = breaks (occurs kind class) kind fields
 
@@ -80,7 +80,8 @@ is_miscounted class fields =
     not (count_of (class_name class) fields == 1)
     || (is_miscounted_in class MntBy fields || (is_miscounted_in class Source fields || is_miscounted_in class Auth fields))
 
--- the members that a set lists; other classes have none (RFC 2622, 5)
+-- an item of `members` in an object of a class: as-sets have their own rule, route-sets the other; the other classes stand
+-- with route-sets here, but `members` is not read in them (RFC 2622, 5)
 abbrev pub member_item : Class → List ℕ → Option (Option Member)
 member_item class.Mntner item = route_set_item item
 member_item class.AsBlock item = route_set_item item
@@ -110,7 +111,7 @@ are_maintainers kind class fields = are_good maintainer_item (items_read kind cl
 unfoldable pub has_bad_text : List Field → Bool
 has_bad_text fields = list_any is_kept_out fields || is_none (source_of fields)
 
--- a bad value of `mnt-by`, `mnt-lower`, `mnt-routes` or `auth` (RFC 2622, 3; RFC 2725, 9)
+-- a bad value of `mnt-by`, `mnt-lower`, `mnt-routes` or `auth` (RFC 2622, 3; RFC 2725, 10)
 unfoldable pub has_bad_authority : Class → List Field → Bool
 has_bad_authority class fields =
     not (are_maintainers MntBy class fields)
@@ -125,7 +126,7 @@ has_bad_membership class fields =
     || (not (are_good referrer_item (items_read MbrsByRef class fields))
     || not (are_good set_item (items_read MemberOf class fields)))
 
--- an interpreted attribute of an object of the class has a bad value (RFC 2622, 2 to 6; RFC 2725, 9)
+-- an interpreted attribute of an object of the class has a bad value (RFC 2622, 2 to 6; RFC 2725, 10)
 unfoldable pub has_bad_value : Class → List Field → Bool
 has_bad_value class fields =
     has_bad_text fields || (has_bad_authority class fields || has_bad_membership class fields)
@@ -134,7 +135,7 @@ has_bad_value class fields =
 abbrev pub by_ref_of : List (List ℕ) → ByRefParts
 by_ref_of listed = record { any = list_any is_any listed; names = meant referrer_item listed }
 
--- an object of this key, with what its paragraph says (RFC 2622, 2 to 6; RFC 2725, 9)
+-- an object of this key, with what its paragraph says (RFC 2622, 2 to 6; RFC 2725, 10)
 unfoldable pub obj_at : Key → List Field → Obj
 obj_at key fields =
     let class = class_of key in
@@ -162,7 +163,7 @@ abbrev pub result_and_then : {X Y : Type 0} → (X → Result Y ObjectFault) →
 result_and_then next (Ok x) = next x
 result_and_then next (Err fault) = Err fault
 
--- the object that a paragraph is in a registry of any source (RFC 2622, 2 to 6; RFC 2725, 9)
+-- the object that a paragraph is in a registry of any source (RFC 2622, 2 to 6; RFC 2725, 10)
 unfoldable pub obj_of : List Field → Result Obj ObjectFault
 obj_of fields = result_and_then (obj_of_key fields) (key_of fields)
 

@@ -22,7 +22,7 @@ impl Model for ByRef {
 
 impl ByRef {
     /// These maintainers' objects, or anybody's.
-    pub fn new(any: bool, names: Vec<Name>) -> ByRef
+    pub(crate) fn new(any: bool, names: Vec<Name>) -> ByRef
         ensures any { result.any ≡ any }
         ensures names { result.names ≡ names.items }
     {

@@ -1,11 +1,10 @@
 //! The classes of objects.
 
-ghost use Rattle.std.specs.Prelude.{◌≡◌, ◌<◌, ◌≤◌, find};
-ghost use Rattle.std.specs.Str.{bytes_eq};
-ghost use Rattle.rr_object.specs.Classes.{all_classes, class_name, class_named, class_number};
+ghost use Rattle.std.specs.Prelude.{◌≡◌, ◌<◌, ◌≤◌};
+ghost use Rattle.rr_object.specs.Classes.{class_name, class_named, class_number};
 
-/// A class of objects. Classes are ordered by their numbers, as answers and dumps list them (profile).
-#[derive(Clone, Copy, Debug, PartialEq, Eq, PartialOrd, Ord)]
+/// A class of objects.
+#[derive(Clone, Copy, Debug, PartialEq, Eq)]
 pub enum Class {
     /// A maintainer (RFC 2622, 3).
     Mntner,

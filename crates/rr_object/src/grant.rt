@@ -6,7 +6,7 @@ use rr_number::{Name, Range};
 use std::alloc::AllocError;
 use std::marker::Model;
 
-/// An entry of `mnt-routes`: a maintainer, and for which prefixes it may authorise routes (RFC 2725, 9).
+/// An entry of `mnt-routes`: a maintainer, and for which prefixes it may authorise routes (RFC 2725, 10).
 #[derive(Debug, Drop)]
 pub struct Grant {
     name: Name,
@@ -26,7 +26,7 @@ impl Grant {
     ghost use Rattle.rr_object.specs.Grants.{with_range};
 
     /// The entry of this maintainer: for each prefix, or for those that one of the ranges admits.
-    pub fn new(name: Name, any: bool, ranges: Vec<Range>) -> Grant
+    pub(crate) fn new(name: Name, any: bool, ranges: Vec<Range>) -> Grant
         ensures name { result.name ≡ name }
         ensures any { result.any ≡ any }
         ensures ranges { result.ranges ≡ ranges.items }

@@ -3,7 +3,7 @@
 ghost use Rattle.std.specs.Prelude.{◌≡◌, ◌≢◌, ◌++◌, map, IfErr, IfOk, None, OnOk, Some};
 ghost use Rattle.std.specs.Option.{option_to_list};
 ghost use Rattle.rr_number.specs.Names.{maintainer_name_of};
-ghost use Rattle.rr_object.specs.Grants.{for_each_prefix, for_no_prefix, grants_of, is_any, is_closing, is_opening, last_entry, next_entry, range_item, with_range};
+ghost use Rattle.rr_object.specs.Grants.{grants_of, is_any, last_entry, next_entry, range_item};
 ghost use Rattle.rr_object.specs.declared.fault.ObjectFault.TheVariants.{BadValue, Memory};
 ghost use Rattle.rr_object.specs.declared.grants.Begun.TheVariants.{Braced, Named};
 

@@ -1,7 +1,6 @@
 //! Keys read from texts.
 
 ghost use Rattle.std.specs.Prelude.{◌≡◌, IfOk, map};
-ghost use Rattle.rr_number.specs.Names.{maintainer_name_of};
 ghost use Rattle.rr_object.specs.KeySpellings.{as_set_key_of, inetnum_span_of, is_prefix_span, key_of_text, route_key_of, route_key_of_words, route_set_key_of};
 ghost use Rattle.rr_object.specs.declared.class.Class.TheVariants as class;
 

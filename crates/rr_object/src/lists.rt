@@ -2,8 +2,8 @@
 
 ghost use Rattle.std.specs.Prelude.{◌≡◌, ◌<◌, [], ◌∷◌, IfOk, IfNone, IfSome, count_by, length, map, position};
 ghost use Rattle.std.specs.List.{slice_split};
-ghost use Rattle.rr_text.specs.Bytes.{is_blank};
 ghost use Rattle.rr_text.specs.Fields.{is_named};
+ghost use Rattle.rr_number.specs.Dashes.{is_blank};
 ghost use Rattle.rr_object.specs.Items.{items, joined, parts_at, spaced, values_of, words};
 ghost use Rattle.rr_object.specs.Cuts.{separates};
 ghost use Rattle.rr_object.specs.Readings.{count_of};
@@ -158,8 +158,9 @@ fn first_separator(text: &[u8], kind: Separators) -> Option<usize>
     text.iter().position(|b| kind.separates(*b))
 }
 
+/// Whether a byte is a space, a tab or a CR.
 fn is_blank(b: u8) -> bool
     ensures { result ≡ is_blank b }
 {
-    b == b' ' || b == b'\t' || b == b'\r' || b == b'\n'
+    b == b' ' || b == b'\t' || b == b'\r'
 }

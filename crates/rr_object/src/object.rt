@@ -1,7 +1,6 @@
 //! Objects of the registry.
 
-ghost use Rattle.std.specs.Prelude.{◌≡◌, ◌≢◌, Err, IfErr, IfOk, Ok, map};
-ghost use Rattle.rr_text.specs.Fields.{with_value};
+ghost use Rattle.std.specs.Prelude.{◌≡◌, ◌≢◌, Err, IfErr, IfOk, Ok};
 ghost use Rattle.rr_object.specs.Readings.{obj_of, object_of, public_of};
 ghost use Rattle.rr_object.specs.declared.fault.ObjectFault.TheVariants.{Memory};
 
@@ -21,7 +20,7 @@ use rr_text::Paragraph;
 use std::alloc::{AllocError, Global};
 use std::marker::Model;
 
-/// An object: its paragraph, and what the interpreted attributes of it say (RFC 2622, 2 to 6; RFC 2725, 9).
+/// An object: its paragraph, and what the interpreted attributes of it say (RFC 2622, 2 to 6; RFC 2725, 10).
 #[derive(Debug, Drop)]
 pub struct Object {
     key: Key,

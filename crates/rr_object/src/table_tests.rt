@@ -1,4 +1,4 @@
-//! The table of interpreted attributes, row by row (RFC 2622, 3 to 6; RFC 2725, 9; profile).
+//! The table of interpreted attributes, row by row (RFC 2622, 3 to 6; RFC 2725, 10; profile).
 use crate::tests::code;
 use std::alloc::Global;
 use std::test::Fail;

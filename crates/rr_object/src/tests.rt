@@ -273,6 +273,7 @@ fn keys_have_their_texts_and_bytes(rt: HostRuntime) -> Result<(), Fail> {
         (Class::Route, "10.0.0.0/8"),
         (Class::Route, "10.0.0.0/8^+ AS1"),
         (Class::Route, "10.0.0.0/8 AS1 AS2"),
+        (Class::Route, "10.0.0.0/8\nAS1"),
         (Class::Inetnum, "10.0.0.0 - 10.0.0.2"),
     ] {
         assert!(rt;

@@ -7,6 +7,7 @@ use Rattle.std.specs.Ordering.{eq_by_cmp, ordering_then}
 use Rattle.std.specs.Cmp.{IsTotalOrder, then_total, on_total, nat_cmp_total, tied_itself, Equal-is}
 use Rattle.std.specs.Cmp.Lexicographic.{nat_list_cmp_total}
 use Rattle.std.specs.FinMap.{IsAntisymmetric, nat_cmp-IsAntisymmetric, slice_cmp-IsAntisymmetric}
+use Rattle.rr_number.proofs.NumberOrders.{ties}
 use Rattle.rr_object.specs.Classes.{class_number}
 use Rattle.rr_object.specs.Keys.{class_of}
 use Rattle.rr_object.specs.declared.key.Key.{Key}
@@ -15,17 +16,6 @@ use Rattle.rr_object.specs.KeyOrders.{key_cmp, words_of}
 
 pub keys_total : IsTotalOrder key_cmp
 keys_total = then_total (on_total (λ k. class_number (class_of k)) nat_cmp_total) (on_total words_of nat_list_cmp_total)
-
--- two orders one after the other tie only where both do
-then_first : (a b : Ordering) → ordering_then a b ≡ Equal → a ≡ Equal
-then_first Less b e = e
-then_first Equal b e = refl
-then_first Greater b e = e
-
-then_second : (a b : Ordering) → ordering_then a b ≡ Equal → b ≡ Equal
-then_second Less b e = cc
-then_second Equal b e = e
-then_second Greater b e = cc
 
 head : List ℕ → ℕ
 head [] = 0
@@ -58,8 +48,8 @@ key_back (RouteSet n) = refl
 -- only equal keys tie
 pub keys_exact : IsAntisymmetric key_cmp
 keys_exact a b e =
-    let same_class = nat_cmp-IsAntisymmetric (class_number (class_of a)) (class_number (class_of b)) (then_first _ _ e) in
-    let same_words = slice_cmp-IsAntisymmetric nat_cmp-IsAntisymmetric (words_of a) (words_of b) (then_second _ _ e) in
+    let same_class = nat_cmp-IsAntisymmetric (class_number (class_of a)) (class_number (class_of b)) ((ties _ _ e).0) in
+    let same_words = slice_cmp-IsAntisymmetric nat_cmp-IsAntisymmetric (words_of a) (words_of b) ((ties _ _ e).1) in
     sym (key_back a) ∙ (λ i. key_at (same_class i) (same_words i)) ∙ key_back b
 
 pub tied_key : (k : Key) → eq_by_cmp key_cmp k k ≡ true

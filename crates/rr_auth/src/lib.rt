@@ -1,5 +1,5 @@
 //! Who may change a registry: secrets, the authority of maintainers, and the verdict on an item
-//! (RFC 2725, sections 9 and 10).
+//! (RFC 2725, 9 and 10).
 #![tactic(auto)]
 
 mod authority;

@@ -1,11 +1,11 @@
 //! A list of spans in order.
 
-ghost use Rattle.std.specs.Prelude.{◌≡◌, ◌≤◌, ◌↔◌, fold, None, true, false, filter, map, IsTrue, IfOk, IfErr, IfSome, IfNone, OnOk, OnErr};
+ghost use Rattle.std.specs.Prelude.{◌≡◌, ◌↔◌, fold, None, true, filter, map, IsTrue, IfOk, IfErr, IfSome, IfNone, OnOk, OnErr};
 ghost use Rattle.std.specs.List.{list_any};
 ghost use Rattle.std.specs.Option.{option_copied};
 ghost use Rattle.std.specs.FinMap as span_map;
 ghost use Rattle.std.specs.FinMap.{is_sorted};
-ghost use Rattle.rr_number.specs.Spans.{covers, crosses, size, span_cmp};
+ghost use Rattle.rr_number.specs.Spans.{covers, crosses, span_cmp};
 ghost use Rattle.rr_cover.specs.InsertFaults.{value_of};
 ghost use Rattle.rr_cover.specs.SpanLists.{nearer, StandsAt, BelongsAt};
 ghost use Rattle.rr_cover.specs.SpanMaps.{crosses_some, covering, inside, NoneCross, IsClosest, NoneCovers};

@@ -95,7 +95,7 @@ struct Doubling<'a> {
 
 impl Labelled for Doubling<'_> {
     ghost use Rattle.rr_graph.specs.declared.labels.Edge.{Edge};
-    ghost use Rattle.std.specs.Prelude.{◌==◌, ◌+◌, ◌*◌, ℕ, Contains, Option, Some, None, filter, if◌then◌else◌, map, nat_le};
+    ghost use Rattle.std.specs.Prelude.{◌==◌, ◌+◌, ◌*◌, ℕ, Contains, Some, None, filter, if◌then◌else◌, map, nat_le};
     ghost use Rattle.std.proofs.lemmas.Map.Lookups.{exact_unsigned};
 
     type Node = u8;

@@ -1,6 +1,6 @@
 //! The closest objects of a class to a span, by a scan.
 
-ghost use Rattle.std.specs.Prelude.{◌≡◌, find};
+ghost use Rattle.std.specs.Prelude.{◌≡◌};
 ghost use Rattle.std.specs.List.{list_all};
 ghost use Rattle.std.specs.Option.{option_copied};
 ghost use Rattle.rr_auth.specs.Closest.{closest_of, is_closest, is_no_closer, block_span, inetnum_span, prefix_of_closest, route_prefix, route_span};

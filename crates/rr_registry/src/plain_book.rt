@@ -20,7 +20,6 @@ pub struct PlainBook {
 
 impl Model for PlainBook {
     ghost use Rattle.rr_auth.specs.Registries.{Reg};
-    ghost use Rattle.rr_object.specs.KeyOrders.{key_cmp};
     ghost use Rattle.std.specs.FinMap as map;
     ghost use Rattle.rr_object.specs.contracts.key.Key as key;
     ghost use Rattle.rr_object.specs.contracts.object.Object as object;

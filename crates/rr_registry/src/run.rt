@@ -1,6 +1,6 @@
 //! Runs of items.
 
-ghost use Rattle.std.specs.Prelude.{◌≡◌, ◌++◌, IfOk, OnErr, List};
+ghost use Rattle.std.specs.Prelude.{◌≡◌, IfOk, OnErr};
 
 use crate::outcome::Outcome;
 use crate::registry::Registry;

@@ -5,7 +5,6 @@ ghost use Rattle.std.specs.List.{filter_map};
 ghost use Rattle.std.specs.Option.{option_copied};
 ghost use Rattle.std.specs.Str.{bytes_eq};
 ghost use Rattle.rr_number.specs.Ranges.{RangeParts, bare};
-ghost use Rattle.rr_object.specs.Parts.{ByRefParts};
 ghost use Rattle.rr_sets.specs.RouteObjects.{range_listed, range_of_key};
 ghost use Rattle.rr_sets.specs.RouteSets.{HasRange, IsAnyRange, IsByReference, IsTaken, ListsRange, has_set, key_of_kind, rs_any, set_of};
 ghost use Rattle.rr_object.specs.declared.member.MemberSet.{MemberSet};

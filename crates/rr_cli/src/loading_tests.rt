@@ -1,36 +1,36 @@
 //! Lists of objects taken as registries.
-use crate::plain_desk::{OPENING, PlainDesk, read_objects, read_source};
+use crate::opening;
+use crate::plain_desk::PlainDesk;
 use rr_io::{Counted, write_all};
+use rr_object::Object;
 use rr_registry::{LoadFault, Registry};
-use std::alloc::Global;
+use rr_text::next_paragraph;
 use std::test::Fail;
 
-/// The fault of the objects of these texts, taken in this order; `None` where they are a registry.
-fn load_fault(alloc: Global, texts: &[&str]) -> Result<Option<LoadFault>, Fail> {
-    let source = read_source(alloc)?;
-    let mut objects = Vec::new(alloc);
-    for text in texts {
-        let mut more = read_objects(alloc, text.as_bytes(), &source)?;
-        objects.append(&mut more)?;
-    }
-    Ok(Registry::from_objects(alloc, objects).err())
-}
-
 #[test]
+#[tactic(auto, using(crate::proofs::OpeningObjects::opening_is_readable))]
 fn a_list_twice_over_has_a_duplicate(rt: HostRuntime) -> Result<(), Fail> {
-    assert_eq!(rt; load_fault(rt.alloc(), &[OPENING])?, None);
-    let fault = load_fault(rt.alloc(), &[OPENING, OPENING])?;
+    let alloc = rt.alloc();
+    let source = opening::read_source(alloc)?;
+    let mut objects = opening::read_objects(alloc, opening::text().as_bytes(), &source)?;
+    let mut again = opening::read_objects(alloc, opening::text().as_bytes(), &source)?;
+    objects.append(&mut again)?;
+    let fault = Registry::from_objects(alloc, objects).err();
     assert_eq!(rt; fault, Some(LoadFault::Duplicate(4)));
     Ok(())
 }
 
 #[test]
 fn an_object_alone_names_a_missing_maintainer(rt: HostRuntime) -> Result<(), Fail> {
-    let block = "as-block: AS0 - AS65535\nmnt-by: ROOT-MNT\nsource: TEST\n";
-    assert_eq!(rt;
-        load_fault(rt.alloc(), &[block])?,
-        Some(LoadFault::Unnamed(1))
-    );
+    let alloc = rt.alloc();
+    let source = opening::read_source(alloc)?;
+    let block = b"as-block: AS0 - AS65535\nmnt-by: ROOT-MNT\nsource: TEST\n";
+    let mut objects = Vec::new(alloc);
+    if let Some((paragraph, _)) = next_paragraph(alloc, block, 0)? {
+        objects.push(Object::read(alloc, paragraph, &source)?)?;
+    }
+    let fault = Registry::from_objects(alloc, objects).err();
+    assert_eq!(rt; fault, Some(LoadFault::Unnamed(1)));
     Ok(())
 }
 

@@ -8,8 +8,8 @@ ghost use Rattle.std.specs.IoError.{error_kind};
 mod hostile_tests;
 #[cfg(test)]
 mod loading_tests;
+mod opening;
 mod plain_desk;
-mod start_fault;
 #[cfg(test)]
 mod stream_tests;
 #[cfg(test)]
@@ -18,7 +18,6 @@ mod tests;
 use plain_desk::PlainDesk;
 use rr_desk::{DeskFault, Done};
 use rr_io::Counted;
-use start_fault::StartFault;
 use std::io::ErrorKind;
 use std::process::ExitCode;
 use std::{env, io};
@@ -55,8 +54,8 @@ fn run(rt: &HostRuntime) -> io::Result<u8> {
     }
     let mut desk = match PlainDesk::new(rt.alloc()) {
         Ok(desk) => desk,
-        Err(fault) => {
-            eprintln!(rt; "irrdesk: the opening objects cannot be registered: {fault}")?;
+        Err(_) => {
+            eprintln!(rt; "irrdesk: the opening objects cannot be registered: out of memory")?;
             return Ok(FAILED);
         }
     };

@@ -3,37 +3,17 @@
 ghost use Rattle.std.specs.Prelude.{◌≡◌, IfOk};
 ghost use Rattle.rr_text.specs.Entries.{entries};
 ghost use Rattle.rr_desk.specs.Submissions.{Submits};
-ghost use Rattle.rr_cli.specs.Opening.{AreObjects, IsOpened};
+ghost use Rattle.rr_registry.specs.Loading.{IsTaken};
+ghost use Rattle.rr_cli.specs.Opening.{AreObjects, IsOpened, built_in_source, opening_text};
 
-use crate::start_fault::StartFault;
+use crate::opening;
 use rr_desk::{DeskFault, Done};
 use rr_io::{Sink, Source};
 use rr_number::Name;
 use rr_object::Object;
-use rr_registry::Registry;
-use rr_text::next_paragraph;
+use rr_registry::{LoadFault, Registry};
 use std::alloc::{AllocError, Global};
 use std::marker::Model;
-
-/// The registry that the opening objects stand in (profile).
-const SOURCE: &str = "TEST";
-
-/// The opening objects: the root maintainer, whose secret is `bc`, and the blocks of all AS numbers and of all addresses
-/// (profile).
-pub(crate) const OPENING: &str = "\
-mntner:         ROOT-MNT
-auth:           SHA256-PW a:ba7816bf8f01cfea414140de5dae2223b00361a396177a9cb410ff61f20015ad
-mnt-by:         ROOT-MNT
-source:         TEST
-
-as-block:       AS0 - AS65535
-mnt-by:         ROOT-MNT
-source:         TEST
-
-inetnum:        0.0.0.0 - 255.255.255.255
-mnt-by:         ROOT-MNT
-source:         TEST
-";
 
 /// A desk over a registry in memory. Contracts see the registry.
 #[derive(Drop)]
@@ -48,7 +28,7 @@ impl Model for PlainDesk {
     ghost use Rattle.std.specs.FinMap as map;
     ghost use Rattle.rr_object.specs.contracts.key.Key as key;
     ghost use Rattle.rr_object.specs.contracts.object.Object as object;
-    ghost use Rattle.rr_cli.specs.declared.plain_desk.TheConstants.{SOURCE};
+    ghost use Rattle.rr_cli.specs.Opening.{built_in_source};
 
     ghost Value = { Reg };
 
@@ -56,17 +36,18 @@ impl Model for PlainDesk {
 
     ghost view = { λ d. d.registry };
 
-    ghost invariant = { λ d. d.source ≡ SOURCE.now };
+    ghost invariant = { λ d. d.source ≡ built_in_source };
 }
 
 impl PlainDesk {
-    /// A desk with the opening objects.
-    pub fn new(alloc: Global) -> Result<PlainDesk, StartFault>
-        ensures { IfOk result (IsOpened SOURCE.now (entries OPENING.now)) }
+    /// A desk with the opening objects; the error is want of memory.
+    #[tactic(auto, using(crate::proofs::OpeningObjects::opening_is_readable))]
+    pub fn new(alloc: Global) -> Result<PlainDesk, AllocError>
+        ensures { IfOk result (IsOpened built_in_source (entries opening_text)) }
     {
-        let source = read_source(alloc)?;
-        let objects = read_objects(alloc, OPENING.as_bytes(), &source)?;
-        let registry = Registry::from_objects(alloc, objects)?;
+        let source = opening::read_source(alloc)?;
+        let objects = opening::read_objects(alloc, opening::text().as_bytes(), &source)?;
+        let registry = register(alloc, objects)?;
         Ok(PlainDesk { registry, source })
     }
 
@@ -85,7 +66,7 @@ impl PlainDesk {
         reader: &mut R,
         writer: &mut W,
     ) -> Result<Done, DeskFault>
-        ensures submits { Submits SOURCE.now (record {
+        ensures submits { Submits built_in_source (record {
           source_before = R.told reader.old;
           source_after = R.told reader.new;
           sink_before = W.told writer.old;
@@ -100,31 +81,17 @@ impl PlainDesk {
     }
 }
 
-/// The name of the built-in source; the error is want of memory.
-#[tactic(auto, unfolding(rr_number::specs::Names::is_name))]
-pub(crate) fn read_source(alloc: Global) -> Result<Name, AllocError>
-    ensures { IfOk result (λ source. source ≡ SOURCE.now) }
+/// The registry of the opening objects; the error is want of memory.
+#[tactic(auto, using(crate::proofs::OpeningRegistry::opening_faultless))]
+fn register(alloc: Global, objects: Vec<Object>) -> Result<Registry, AllocError>
+    requires { AreObjects built_in_source (entries opening_text) objects.items }
+    ensures { IfOk result (IsTaken objects.items) }
 {
-    match Name::read(alloc, SOURCE.as_bytes())? {
-        Some(source) => Ok(source),
-        None => unreachable!(),
+    match Registry::from_objects(alloc, objects) {
+        Ok(registry) => Ok(registry),
+        Err(fault) => match fault {
+            LoadFault::Memory => Err(AllocError),
+            _ => unreachable!(),
+        },
     }
-}
-
-/// The objects that the paragraphs of a text are.
-pub(crate) fn read_objects(
-    alloc: Global,
-    text: &[u8],
-    source: &Name,
-) -> Result<Vec<Object>, StartFault>
-    ensures { IfOk result (λ objects. AreObjects source.now (entries text.now) objects.items) }
-{
-    let mut objects = Vec::new(alloc);
-    let mut from = 0;
-    'entries: while let Some((paragraph, next)) = next_paragraph(alloc, text, from)? {
-        let object = Object::read(alloc, paragraph, source)?;
-        objects.push(object)?;
-        from = next;
-    }
-    Ok(objects)
 }

@@ -1,0 +1,3 @@
+pub mod OpeningTexts
+pub mod OpeningObjects
+pub mod OpeningRegistry

@@ -9,3 +9,7 @@ counted_inner c = c.inner
 -- its failed calls
 abbrev pub counted_faults : {T : Type 0} → Counted T → ℕ
 counted_faults c = c.failed
+
+-- its reads that did not fail
+abbrev pub counted_reads : {T : Type 0} → Counted T → ℕ
+counted_reads c = c.reads

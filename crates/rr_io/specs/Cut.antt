@@ -19,9 +19,13 @@ cut_step c = c.step
 abbrev pub cut_left : {T : Type 0} → Cut T → ℕ
 cut_left c = c.left
 
--- it tells the bytes of what is inside, and counts its own failed calls beside those of what is inside
+-- it tells the bytes and the reads of what is inside, and counts its own failed calls beside those of what is inside
 abbrev pub cut_told : {T : Type 0} → (T → Told) → Cut T → Told
-cut_told told c = record { bytes = (told c.inner).bytes; faults = (told c.inner).faults + c.failed }
+cut_told told c = record {
+  bytes = (told c.inner).bytes;
+  faults = (told c.inner).faults + c.failed;
+  reads = (told c.inner).reads;
+}
 
 -- so many bytes passed in a call
 pub record Passes {T : Type 0} (old new : Cut T) (count : ℕ) : Type 0 where

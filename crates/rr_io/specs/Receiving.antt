@@ -1,5 +1,5 @@
 -- What a reader gives.
-use Rattle.std.specs.Prelude.{◌≡◌, ℕ, ◌^◌, ◌≤◌, List, [], ◌++◌, length, Some}
+use Rattle.std.specs.Prelude.{◌≡◌, ℕ, ◌+◌, ◌-◌, ◌^◌, ◌<◌, ◌≤◌, List, [], ◌++◌, length, max, Some}
 use Rattle.rr_io.specs.Told.{Told, Fails}
 use Rattle.rr_io.specs.declared.receiving.ReadEnd.{ReadEnd}
 use Rattle.rr_io.specs.declared.receiving.ReadEnd.TheVariants.{Whole, Broken, Endless}
@@ -8,6 +8,11 @@ use Rattle.rr_io.specs.declared.receiving.ReadEnd.TheVariants.{Whole, Broken, En
 pub record Gives (old new : Told) (bytes : List ℕ) : Type 0 where
   pub consumed : (xs : List ℕ) → old.bytes ≡ Some xs → (rest : List ℕ) × (new.bytes ≡ Some rest) × (xs ≡ bytes ++ rest)
   pub no_fault : new.faults ≡ old.faults
+
+-- so many reads were counted: each of them, up to 2^64 - 1, where the count stays (profile)
+pub record CountsReads (old new : Told) (count : ℕ) : Type 0 where
+  pub exact : old.reads + count < 2 ^ 64 → new.reads ≡ old.reads + count
+  pub full : 2 ^ 64 ≤ old.reads + count → new.reads ≡ max old.reads (2 ^ 64 - 1)
 
 -- no byte is left
 pub record IsSpent (told : Told) : Type 0 where

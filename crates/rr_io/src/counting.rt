@@ -1,26 +1,32 @@
-//! std's readers and writers, with their failed calls counted.
+//! std's readers and writers, with their failed calls and their reads counted.
 use super::{Sink, Source};
 use std::io;
 use std::io::{ErrorKind, Read, Write};
 
-/// A reader or a writer of std whose failed calls are counted, up to `u64::MAX`. It tells its bytes where std does: over
-/// memory, and not over files, sockets and standard streams.
+/// A reader or a writer of std. Its failed calls are counted, and a reader's other calls as its reads, each up to
+/// `u64::MAX`. It tells its bytes where std does: over memory, and not over files, sockets and standard streams.
 #[derive(Drop)]
 pub struct Counted<T> {
     inner: T,
     failed: u64,
+    reads: u64,
 }
 
 impl<T> Counted<T> {
-    ghost use Rattle.std.specs.Prelude.{◌≡◌, ◌<◌, ◌≤◌, ◌-◌, ◌^◌};
-    ghost use Rattle.rr_io.specs.Counted.{counted_inner, counted_faults};
+    ghost use Rattle.std.specs.Prelude.{◌≡◌, ◌<◌, ◌≤◌, ◌+◌, ◌-◌, ◌^◌, max};
+    ghost use Rattle.rr_io.specs.Counted.{counted_inner, counted_faults, counted_reads};
 
-    /// `inner`, with no failed call so far.
+    /// `inner`, with no failed call and no read so far.
     pub fn new(inner: T) -> Self
         ensures inner { counted_inner result ≡ inner }
         ensures faults { counted_faults result ≡ 0 }
+        ensures reads { counted_reads result ≡ 0 }
     {
-        Counted { inner, failed: 0 }
+        Counted {
+            inner,
+            failed: 0,
+            reads: 0,
+        }
     }
 
     /// How many calls failed, up to `u64::MAX`.
@@ -30,11 +36,18 @@ impl<T> Counted<T> {
         self.failed
     }
 
+    /// How many reads did not fail, up to `u64::MAX`.
+    pub fn reads(&self) -> u64
+        ensures { result ≡ counted_reads self.now }
+    {
+        self.reads
+    }
+
     /// The reader or writer itself.
     pub fn into_inner(self) -> T
         ensures { result ≡ counted_inner self }
     {
-        let Counted { inner, failed: _ } = self;
+        let Counted { inner, .. } = self;
         inner
     }
 
@@ -42,17 +55,30 @@ impl<T> Counted<T> {
         ensures inner { self.new.inner ≡ self.old.inner }
         ensures none_forgotten { self.old.failed ≤ self.new.failed }
         ensures counted { self.old.failed < 2 ^ 64 - 1 → self.old.failed < self.new.failed }
+        ensures no_read { self.new.reads ≡ self.old.reads }
     {
         self.failed = self.failed.saturating_add(1);
+    }
+
+    fn count_read(&mut self)
+        ensures inner { self.new.inner ≡ self.old.inner }
+        ensures no_fault { self.new.failed ≡ self.old.failed }
+        ensures exact { self.old.reads + 1 < 2 ^ 64 → self.new.reads ≡ self.old.reads + 1 }
+        ensures full { 2 ^ 64 ≤ self.old.reads + 1 → self.new.reads ≡ max self.old.reads (2 ^ 64 - 1) }
+    {
+        self.reads = self.reads.saturating_add(1);
     }
 }
 
 impl<T: Read> Source for Counted<T> {
-    ghost told = { λ c. record { bytes = T.remaining c.inner; faults = c.failed } };
+    ghost told = { λ c. record { bytes = T.remaining c.inner; faults = c.failed; reads = c.reads } };
 
     fn read(&mut self, buf: &mut [u8]) -> io::Result<usize> {
         match self.inner.read(buf) {
-            Ok(count) => Ok(count),
+            Ok(count) => {
+                self.count_read();
+                Ok(count)
+            }
             Err(error) => {
                 self.count_fault();
                 Err(error)
@@ -62,7 +88,7 @@ impl<T: Read> Source for Counted<T> {
 }
 
 impl<T: Write> Sink for Counted<T> {
-    ghost told = { λ c. record { bytes = T.contents c.inner; faults = c.failed } };
+    ghost told = { λ c. record { bytes = T.contents c.inner; faults = c.failed; reads = 0 } };
 
     fn write(&mut self, bytes: &[u8]) -> io::Result<usize> {
         match self.inner.write(bytes) {

@@ -2,7 +2,7 @@
 ghost use Rattle.std.specs.Prelude.{◌≡◌, ◌<◌, ◌≤◌, ◌+◌, ◌-◌, ◌^◌, length, take, min, IfOk, OnErr, IsErr};
 ghost use Rattle.rr_io.specs.Told.{Fails};
 ghost use Rattle.rr_io.specs.Sending.{Takes};
-ghost use Rattle.rr_io.specs.Receiving.{Gives, IsSpent};
+ghost use Rattle.rr_io.specs.Receiving.{CountsReads, Gives, IsSpent};
 
 use super::{Sink, Source};
 use std::io;
@@ -77,6 +77,7 @@ impl<T: Source> Source for Cut<T> {
         ensures bound { IfOk result (λ count. count ≤ length buf.new) }
         ensures gives { IfOk result (λ count. Gives (cut_told T.told self.old) (cut_told T.told self.new) (take count buf.new)) }
         ensures spent { IfOk result (λ count. count ≡ 0 → 0 < length buf.new → IsSpent (cut_told T.told self.new)) }
+        ensures counts { IfOk result (λ _. CountsReads (cut_told T.told self.old) (cut_told T.told self.new) 1) }
         ensures fails { OnErr result (Fails (cut_told T.told self.old) (cut_told T.told self.new)) }
         ensures aside { T.aside (cut_inner self.new) ≡ T.aside (cut_inner self.old) }
         ensures passes { IfOk result (λ count. Passes self.old self.new count) }

@@ -2,13 +2,13 @@
 ghost use Rattle.std.specs.Prelude.{◌≡◌, ◌<◌, ◌≤◌, take, length, IfOk, OnErr};
 ghost use Rattle.rr_io.specs.Told.{Told, Fails, untold};
 ghost use Rattle.rr_io.specs.Sending.{Takes};
-ghost use Rattle.rr_io.specs.Receiving.{Gives, IsSpent};
+ghost use Rattle.rr_io.specs.Receiving.{CountsReads, Gives, IsSpent};
 
 use std::io;
 
 /// A reader. An error of any kind is a fault, and leaves what there is to read as it was.
 pub trait Source {
-    // The bytes that are left to read, and the count of failed reads.
+    // The bytes that are left to read, and the counts of failed reads and of the others.
     ghost told: { Self → Told };
 
     // What stands beside the reader and is left alone by a read.
@@ -19,6 +19,7 @@ pub trait Source {
         ensures bound { IfOk result (λ count. count ≤ length buf.new) }
         ensures gives { IfOk result (λ count. Gives (told self.old) (told self.new) (take count buf.new)) }
         ensures spent { IfOk result (λ count. count ≡ 0 → 0 < length buf.new → IsSpent (told self.new)) }
+        ensures counts { IfOk result (λ _. CountsReads (told self.old) (told self.new) 1) }
         ensures fails { OnErr result (Fails (told self.old) (told self.new)) }
         ensures aside { aside self.new ≡ aside self.old };
 }

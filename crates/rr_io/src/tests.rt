@@ -64,6 +64,7 @@ fn a_long_text_in_whole_blocks_is_read_to_its_end(rt: HostRuntime) -> Result<(),
     let (bytes, end) = read_to_end(rt.alloc(), &mut source)?;
     assert_eq!(rt; end, ReadEnd::Whole);
     assert!(rt; bytes.as_slice() == text.as_slice());
+    assert_eq!(rt; source.into_inner().reads(), 4_098);
     Ok(())
 }
 
@@ -84,6 +85,7 @@ fn an_interrupted_read_is_a_fault(rt: HostRuntime) -> Result<(), AllocError> {
     assert_eq!(rt; bytes.as_slice(), &b"ab"[..]);
     assert_eq!(rt; end, ReadEnd::Broken);
     assert_eq!(rt; source.faults(), 1);
+    assert_eq!(rt; source.reads(), 1);
     Ok(())
 }
 

@@ -19,7 +19,7 @@ pub enum ReadEnd {
     Whole,
     /// By a failed read.
     Broken,
-    /// Before its end was seen, with at least 16,777,216 bytes read and no fault.
+    /// After 16,777,216 reads without an end and without a fault.
     Endless,
 }
 

@@ -11,6 +11,7 @@ pub Takes-none : (told : Told) → Takes told told []
 Takes-none told = record {
   appended = λ xs e. rw append-nil e;
   no_fault = refl;
+  no_read = refl;
 }
 
 -- one writing and then another
@@ -18,6 +19,7 @@ pub Takes-then : {start middle end : Told} (xs ys : List ℕ) → Takes start mi
 Takes-then xs ys p q = record {
   appended = λ zs e. rw (← append_assoc) (q.appended _ (p.appended zs e));
   no_fault = q.no_fault ∙ p.no_fault;
+  no_read = q.no_read ∙ p.no_read;
 }
 
 -- one writing, and then another that a fault cut short

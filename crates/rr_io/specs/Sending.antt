@@ -2,10 +2,11 @@
 use Rattle.std.specs.Prelude.{◌≡◌, ℕ, ◌<◌, List, ◌++◌, length, Result, Ok, Err, Some, ◌⊎◌}
 use Rattle.rr_io.specs.Told.{Told, Fails}
 
--- these bytes were taken, in this order, and no call failed
+-- these bytes were taken, in this order, and no call failed or was counted as a read
 pub record Takes (old new : Told) (bytes : List ℕ) : Type 0 where
   pub appended : (xs : List ℕ) → old.bytes ≡ Some xs → new.bytes ≡ Some (xs ++ bytes)
   pub no_fault : new.faults ≡ old.faults
+  pub no_read : new.reads ≡ old.reads
 
 -- a front of these bytes was taken, and not all of them: then a call failed
 pub record TakesFront (old new : Told) (bytes : List ℕ) : Type 0 where

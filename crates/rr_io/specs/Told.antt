@@ -2,9 +2,9 @@
 use Rattle.std.specs.Prelude.{◌≡◌, ℕ, ◌-◌, ◌^◌, ◌<◌, ◌≤◌, List, Option, None, Some}
 
 -- `bytes` are those that a reader has left, or that a writer has taken: None where it does not say, as over a file or a
--- socket. `faults` counts its failed calls, and `reads` the calls of a reader that did not fail: a writer has none. Each count
--- stays at 2^64 - 1 once it is there; the faults of a `Cut` are the sum of its own and of those inside, and its reads are
--- those inside (profile).
+-- socket. `faults` counts its failed calls, and `reads` its reads that did not fail: a write changes none. Each count stays
+-- at 2^64 - 1 once it is there; the faults of a `Cut` are the sum of its own and of those inside, and its reads are those
+-- inside (profile).
 pub record Told : Type 0 where
   pub bytes : Option (List ℕ)
   pub faults : ℕ

@@ -3,7 +3,7 @@ use super::{Sink, Source};
 use std::io;
 use std::io::{ErrorKind, Read, Write};
 
-/// A reader or a writer of std. Its failed calls are counted, and a reader's other calls as its reads, each up to
+/// A reader or a writer of std. Its failed calls are counted, and so are the reads that do not fail, each up to
 /// `u64::MAX`. It tells its bytes where std does: over memory, and not over files, sockets and standard streams.
 #[derive(Drop)]
 pub struct Counted<T> {
@@ -88,7 +88,7 @@ impl<T: Read> Source for Counted<T> {
 }
 
 impl<T: Write> Sink for Counted<T> {
-    ghost told = { λ c. record { bytes = T.contents c.inner; faults = c.failed; reads = 0 } };
+    ghost told = { λ c. record { bytes = T.contents c.inner; faults = c.failed; reads = c.reads } };
 
     fn write(&mut self, bytes: &[u8]) -> io::Result<usize> {
         match self.inner.write(bytes) {

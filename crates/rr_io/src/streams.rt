@@ -8,7 +8,7 @@ use std::io;
 
 /// A reader. An error of any kind is a fault, and leaves what there is to read as it was.
 pub trait Source {
-    // The bytes that are left to read, and the counts of failed reads and of the others.
+    // The bytes that are left to read, and the counts of the reads that failed and of those that did not.
     ghost told: { Self → Told };
 
     // What stands beside the reader and is left alone by a read.

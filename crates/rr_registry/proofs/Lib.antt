@@ -4,5 +4,7 @@ pub mod Names
 pub mod Order
 pub mod Origins
 pub mod Places
+pub mod KeysUnderSets
+pub mod ReferrerLists
 pub mod Running
 pub mod SetLists

@@ -1,11 +1,11 @@
 -- Where an object is put into a list.
 use Rattle.std.proofs.Common.{◌≡◌, ℕ, zero, suc, ◌+◌, ◌<◌, ◌≤◌, Bool, true, false, cond, not, List, [], ◌∷◌, T, ◌&&◌, get_or, map, length, refl, sym, ap, subst, ◌∙◌, arith, one-add}
-use Rattle.std.specs.Prelude.{Option, None, Some, find, insert, slice_set, slice_get}
+use Rattle.std.specs.Prelude.{Option, None, Some, filter, find, insert, remove, slice_set, slice_get}
 use Rattle.std.specs.List.Sorted.{IsPartitionPoint, IsPartitionedBy}
 use Rattle.std.specs.FinMap.{is_sorted}
 use Rattle.std.specs.FinMap.Entries.{below_all}
-use Rattle.std.specs.Option.{option_and_then}
-use Rattle.rr_auth.proofs.KeyLaws.{keys_total}
+use Rattle.std.specs.Option.{option_and_then, option_map_or}
+use Rattle.rr_auth.proofs.KeyLaws.{keys_exact, keys_total}
 use Rattle.rr_auth.specs.Registries.{is_mntner_of}
 use Rattle.rr_object.specs.declared.key.Key.TheVariants.{Mntner}
 use Rattle.rr_registry.proofs.Order.{by_name, mntner_key}
@@ -169,3 +169,62 @@ mntner_nowhere n os e none = sym (by_name n os) ∙ found_nowhere (Mntner n) os 
 
 pub mntner_there : (n : List ℕ) (os : List Obj) (o : Obj) (b : Bool) → is_in_order os ≡ true → slice_get os (place_of (Mntner n) os) ≡ Some o → b ≡ is_mntner_of n o.key → find (λ x. is_mntner_of n x.key) os ≡ cond b (Some o) None
 mntner_there n os o b e there is = sym (by_name n os) ∙ found_there (Mntner n) os o b e there (is ∙ sym (mntner_key n o.key))
+
+-- an object of a key stands at its place, if there is one
+standing : (k : Key) (o : Option Obj) → option_map_or (λ x. eq_by_cmp key_cmp k x.key) o false ≡ true → option_and_then (λ x. cond (eq_by_cmp key_cmp k x.key) (Some x) None) o ≡ o
+standing k None e = cc
+standing k (Some x) e = ap (λ b. cond b (Some x) None) e
+
+none_standing : (k : Key) (o : Option Obj) → option_map_or (λ x. eq_by_cmp key_cmp k x.key) o false ≡ false → option_and_then (λ x. cond (eq_by_cmp key_cmp k x.key) (Some x) None) o ≡ None
+none_standing k None e = refl
+none_standing k (Some x) e = ap (λ b. cond b (Some x) None) e
+
+pub found_standing : (k : Key) (os : List Obj) (i : ℕ) → is_in_order os ≡ true → i ≡ place_of k os → stands_at k os i ≡ true → find (λ o. eq_by_cmp key_cmp k o.key) os ≡ slice_get os i
+found_standing k os i e at stands =
+    let there : stands_at k os (place_of k os) ≡ true = subst (λ j. stands_at k os j ≡ true) at stands in
+    found_at_place k os e ∙ standing k (slice_get os (place_of k os)) there ∙ ap (slice_get os) (sym at)
+
+pub found_not_standing : (k : Key) (os : List Obj) (i : ℕ) → is_in_order os ≡ true → i ≡ place_of k os → stands_at k os i ≡ false → find (λ o. eq_by_cmp key_cmp k o.key) os ≡ None
+found_not_standing k os i e at stands =
+    let there : stands_at k os (place_of k os) ≡ false = subst (λ j. stands_at k os j ≡ false) at stands in
+    found_at_place k os e ∙ none_standing k (slice_get os (place_of k os)) there
+
+-- objects behind a key are others
+others_behind : (k : Key) (os : List Obj) → T (below_all key_cmp k (map entry os)) → filter (λ o. not (eq_by_cmp key_cmp k o.key)) os ≡ os
+others_behind k [] h = refl
+others_behind k (x ∷ xs) h =
+    let parts = T_parts (is_lt (key_cmp k x.key)) (below_all key_cmp k (map entry xs)) h in
+    ap (λ r. cond (not (is_eq r)) (x ∷ filter (λ o. not (eq_by_cmp key_cmp k o.key)) xs) (filter (λ o. not (eq_by_cmp key_cmp k o.key)) xs)) (is_Less _ parts.0)
+    ∙ ap (λ ys. x ∷ ys) (others_behind k xs parts.1)
+
+later_remove : (x : Obj) (xs : List Obj) (n : ℕ) → remove (x ∷ xs) (1 + n) ≡ x ∷ remove xs n
+later_remove x xs n = rw one-add
+
+taken_at : Key → List Obj → ℕ → List Obj
+taken_at k os i = cond (stands_at k os i) (remove os i) os
+
+later_taken : (k : Key) (x : Obj) (xs : List Obj) (n : ℕ) → taken_at k (x ∷ xs) (1 + n) ≡ x ∷ taken_at k xs n
+unfolding taken_at
+later_taken k x xs n =
+    elim (stands_at k xs n) as (λ b. stands_at k xs n ≡ b → cond (stands_at k (x ∷ xs) (1 + n)) (remove (x ∷ xs) (1 + n)) (x ∷ xs) ≡ x ∷ cond b (remove xs n) xs) [
+      | true ↦ λ e. ap (λ b. cond b (remove (x ∷ xs) (1 + n)) (x ∷ xs)) (later_stands k x xs n ∙ e) ∙ later_remove x xs n
+      | false ↦ λ e. ap (λ b. cond b (remove (x ∷ xs) (1 + n)) (x ∷ xs)) (later_stands k x xs n ∙ e)
+    ] refl
+
+others_taken : (k : Key) (os : List Obj) → T (is_sorted key_cmp (map entry os)) → filter (λ o. not (eq_by_cmp key_cmp k o.key)) os ≡ taken_at k os (place_of k os)
+unfolding taken_at
+others_taken k [] h = refl
+others_taken k (x ∷ xs) h =
+    let parts = T_parts (below_all key_cmp x.key (map entry xs)) (is_sorted key_cmp (map entry xs)) h in
+    let rest = filter (λ o. not (eq_by_cmp key_cmp k o.key)) xs in
+    elim (key_cmp k x.key) as (λ r. key_cmp k x.key ≡ r → cond (not (is_eq r)) (x ∷ rest) rest ≡ taken_at k (x ∷ xs) (cond (not (not (is_gt r))) (1 + place_of k xs) 0)) [
+      | Less ↦ λ e. ap (λ ys. x ∷ ys) (others_behind k xs (none_from k x.key xs e parts.0)) ∙ sym (ap (λ r. cond (is_eq r) xs (x ∷ xs)) e)
+      | Equal ↦ λ e. others_behind k xs (subst (λ (l : Key). T (below_all key_cmp l (map entry xs))) (sym (keys_exact k x.key e)) parts.0) ∙ sym (ap (λ r. cond (is_eq r) xs (x ∷ xs)) e)
+      | Greater ↦ λ e. ap (λ ys. x ∷ ys) (others_taken k xs parts.1) ∙ sym (later_taken k x xs (place_of k xs))
+    ] refl
+
+-- the others are what is left where the object at the place of a key is taken out, if it has the key
+pub others_left : (k : Key) (os : List Obj) (i : ℕ) (b : Bool) → is_in_order os ≡ true → i ≡ place_of k os → stands_at k os i ≡ b → filter (λ o. not (eq_by_cmp key_cmp k o.key)) os ≡ cond b (remove os i) os
+unfolding taken_at
+others_left k os i b e at stands =
+    others_taken k os (subst T (sym e) tt) ∙ ap (taken_at k os) (sym at) ∙ ap (λ c. cond c (remove os i) os) stands

@@ -1,17 +1,14 @@
 -- What the objects of a registry are, as lists of them.
-use Rattle.std.proofs.Common.{◌≡◌, ◌≢◌, ◌↔◌, ◌||◌, arith, ℕ, Bool, true, false, cond, T, List, [], ◌∷◌, get_or, Contains, IsTrue, Bor, map, refl, sym, ap, subst, ◌∙◌, inl, inr}
+use Rattle.std.proofs.Common.{◌≡◌, ◌≢◌, ◌↔◌, arith, ℕ, Bool, true, false, cond, T, List, [], ◌∷◌, get_or, Contains, IsTrue, Bor, map, refl, sym, ap, subst, ◌∙◌, inl, inr}
 use Rattle.std.specs.Prelude.{Some, ◌==◌}
-use Rattle.std.specs.List.{filter, list_any}
-use Rattle.std.specs.Str.{bytes_eq}
+use Rattle.std.specs.List.{filter}
 use Rattle.std.specs.declared.cmp.Ordering.TheVariants.{Less, Equal}
 use Rattle.std.specs.Ordering.{eq_by_cmp, is_eq, ordering_reverse}
 use Rattle.std.specs.Cmp.{tied_itself}
 use Rattle.std.specs.FinMap.{get, entries, values, entries_sorted, get-entries, is_sorted, find as find_entry}
 use Rattle.std.specs.FinMap.Entries.{below_all}
-use Rattle.std.proofs.Math.Bool.{or-true}
 use Rattle.std.proofs.lemmas.List.Elements.{Contains-get_or}
 use Rattle.std.proofs.lemmas.List.Kept.{AllPairs-cons, AllPairs-filter}
-use Rattle.std.proofs.lemmas.Slice.Eq.{bytes_eq-Decides}
 use Rattle.rr_auth.proofs.KeyLaws.{keys_total}
 use Rattle.rr_object.specs.KeyOrders.{key_cmp}
 use Rattle.rr_auth.specs.Registries.{Reg, Sound}
@@ -26,9 +23,9 @@ use Rattle.rr_object.specs.declared.class.Class.TheVariants as class
 use Rattle.rr_object.specs.declared.key.Key.{Key}
 use Rattle.rr_object.specs.declared.key.Key.TheVariants.{Mntner, AsBlock, AutNum, Inetnum, Route, AsSet, RouteSet}
 use Rattle.rr_registry.proofs.Places.{T_parts, is_Less}
-use Rattle.rr_registry.specs.SetLists.{is_of_class, names_set}
+use Rattle.rr_registry.specs.SetLists.{is_of_class}
 use Rattle.rr_sets.proofs.Numbers.{Contains-filter}
-use Rattle.rr_sets.specs.Lists.{IsAutNum, IsReferrer, IsRoute, ListsOnce, lent}
+use Rattle.rr_sets.specs.Lists.{IsAutNum, IsRoute, ListsOnce, lent}
 
 abbrev Entry : Type 0
 Entry = Key × Obj
@@ -99,23 +96,6 @@ parts_of_route (Route prefix origin) is = (prefix, origin, refl)
 parts_of_route (AsSet name) is = cc
 parts_of_route (RouteSet name) is = cc
 
--- a list of names has a name where some of them is equal to it
-named_by_some : (name : List ℕ) (names : List (List ℕ)) → IsTrue (list_any (λ own. bytes_eq own name) names) ↔ Contains names name
-named_by_some name names = (on names, back names) where
-  on : (names : List (List ℕ)) → IsTrue (list_any (λ own. bytes_eq own name) names) → Contains names name
-  on [] is = cc
-  on (n ∷ ns) is = elim (bytes_eq n name) as (λ b. bytes_eq n name ≡ b → IsTrue (b || list_any (λ own. bytes_eq own name) ns) → Contains (n ∷ ns) name) [
-    | true ↦ λ e more. subst (Contains (n ∷ ns)) ((bytes_eq-Decides n name).0 e) (Contains-head n ns)
-    | false ↦ λ e more. Contains-later n ns name (on ns more)
-  ] refl is
-
-  back : (names : List (List ℕ)) → Contains names name → IsTrue (list_any (λ own. bytes_eq own name) names)
-  back [] has = absurd (Contains-nil name has)
-  back (n ∷ ns) has = elim (Contains-cons_cases n ns name has) [
-    | inl same ↦ ap (λ b. b || list_any (λ own. bytes_eq own name) ns) ((bytes_eq-Decides n name).1 same)
-    | inr later ↦ ap (λ b. bytes_eq n name || b) (back ns later) ∙ or-true (bytes_eq n name)
-  ]
-
 module _ (r : Reg) (sound : Sound r) where
   keyed : (e : Entry) → Contains (entries r) e → e.1.key ≡ e.0
   keyed e has = sound.keyed e.0 e.1 (get-entries r e.0 ∙ found_by_key (entries r) (entries_sorted r) e has)
@@ -160,11 +140,3 @@ module _ (r : Reg) (sound : Sound r) where
         λ (prefix, origin, here). ap (λ (l : Key). class_number (class_of l) == 5) (sound.keyed (Route prefix origin) o here),
       ))
       (λ o (prefix, origin, here). (Route prefix origin, here))
-
-  pub lists_referrers : (name : List ℕ) (found : List (Bor Obj)) → lent found ≡ filter (names_set name) (values r) → ListsOnce (IsReferrer r name) found
-  lists_referrers name found is = lists_those (names_set name) (IsReferrer r name) found is
-      (λ k o at. (
-        λ passes. (k, at, (named_by_some name o.member_of).0 passes),
-        λ (l, here, names). (named_by_some name o.member_of).1 names,
-      ))
-      (λ o (l, here, names). (l, here))

@@ -8,6 +8,7 @@ mod lists;
 mod load;
 mod outcome;
 mod plain_book;
+mod referrers;
 mod registry;
 mod run;
 mod set_book;

@@ -16,6 +16,7 @@ use crate::keys::{compare, is_same};
 use rr_number::{AsNumber, Name, Prefix};
 use rr_object::{Grant, Key, Object};
 use std::alloc::{AllocError, Global};
+use std::mem;
 
 /// The object of the key, among objects in the order of their keys.
 pub(crate) fn find_key<'a>(objects: &'a [Object], key: &Key) -> Option<&'a Object>
@@ -202,21 +203,21 @@ fn is_same_prefix(prefix: Prefix, other: Prefix) -> bool
     prefix.address().to_bits() == other.address().to_bits() && prefix.length() == other.length()
 }
 
-/// Puts the object into its place among objects in the order of their keys, for one of its key that stood there; the
-/// error is want of memory.
+/// Puts the object into its place among objects in the order of their keys, for one of its key that stood there, which is
+/// given back; the error is want of memory.
 #[tactic(auto, using(crate::proofs::Places::put_in_place))]
-pub(crate) fn put(objects: &mut Vec<Object>, object: Object) -> Result<(), AllocError>
+pub(crate) fn put(objects: &mut Vec<Object>, object: Object) -> Result<Option<Object>, AllocError>
     requires { is_in_order objects.old.items ≡ true }
     ensures ok { OnOk result (objects.new.items ≡ put_in object objects.old.items) }
+    ensures old { IfOk result (λ old. old ≡ find (λ o. eq_by_cmp key_cmp object.key o.key) objects.old.items) }
     ensures err { OnErr result (objects.new.items ≡ objects.old.items) }
 {
     let at = place(objects, object.key());
     if stands_at(objects, object.key(), at) {
-        objects[at] = object;
-    } else {
-        objects.insert(at, object)?;
+        return Ok(Some(mem::replace(&mut objects[at], object)));
     }
-    Ok(())
+    objects.insert(at, object)?;
+    Ok(None)
 }
 
 /// The first place whose key is not below the key, among objects in the order of their keys.
@@ -240,9 +241,16 @@ fn stands_at(objects: &[Object], key: &Key, place: usize) -> bool
     }
 }
 
-/// Takes the object of the key out.
-pub(crate) fn remove(objects: &mut Vec<Object>, key: &Key)
-    ensures { objects.new.items ≡ filter (λ o. not (eq_by_cmp key_cmp key.now o.key)) objects.old.items }
+/// Takes the object of the key out, among objects in the order of their keys.
+pub(crate) fn remove(objects: &mut Vec<Object>, key: &Key) -> Option<Object>
+    requires { is_in_order objects.old.items ≡ true }
+    ensures rest { objects.new.items ≡ filter (λ o. not (eq_by_cmp key_cmp key.now o.key)) objects.old.items }
+    ensures old { result ≡ find (λ o. eq_by_cmp key_cmp key.now o.key) objects.old.items }
 {
-    objects.retain(|object| !is_same(key, object.key()));
+    let at = place(objects, key);
+    if stands_at(objects, key, at) {
+        Some(objects.remove(at))
+    } else {
+        None
+    }
 }

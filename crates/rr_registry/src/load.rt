@@ -13,7 +13,7 @@ use crate::plain_book::PlainBook;
 use crate::registry::Registry;
 use rr_number::Name;
 use rr_object::{Grant, Object};
-use std::alloc::Global;
+use std::alloc::{AllocError, Global};
 
 /// Why a list of objects is not taken as a registry. Objects are counted from 1.
 #[derive(Clone, Copy, Debug, PartialEq, Eq)]
@@ -26,6 +26,17 @@ pub enum LoadFault {
     Unnamed(u64),
     /// Memory was wanting.
     Memory,
+}
+
+impl From<AllocError> for LoadFault {
+    ghost use Rattle.std.specs.Prelude.{◌≡◌};
+    ghost use Rattle.rr_registry.specs.declared.load.LoadFault.TheVariants.{Memory};
+
+    ghost from_gives = { λ _ fault. fault ≡ Memory };
+
+    fn from(_refused: AllocError) -> LoadFault {
+        LoadFault::Memory
+    }
 }
 
 impl Registry {
@@ -42,7 +53,7 @@ impl Registry {
             Err(fault) => Err(fault),
             Ok(gathered) => match unnamed {
                 Some(i) => Err(LoadFault::Unnamed(i as u64 + 1)),
-                None => Ok(Registry::of(PlainBook::of(gathered))),
+                None => Ok(Registry::of(PlainBook::of(alloc, gathered)?)),
             },
         }
     }
@@ -124,8 +135,6 @@ fn take_in(gathered: &mut Vec<Object>, n: u64, object: Object) -> Result<(), Loa
     if lists::some_crosses(gathered, object.key()) {
         return Err(LoadFault::Overlap(n));
     }
-    match lists::put(gathered, object) {
-        Ok(()) => Ok(()),
-        Err(_) => Err(LoadFault::Memory),
-    }
+    lists::put(gathered, object)?;
+    Ok(())
 }

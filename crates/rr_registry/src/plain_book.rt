@@ -1,21 +1,27 @@
 //! A registry as a list of objects that is scanned.
 
-ghost use Rattle.std.specs.Prelude.{◌≡◌, OnOk, OnErr};
+ghost use Rattle.std.specs.Prelude.{◌≡◌, IfOk, OnOk, OnErr};
 ghost use Rattle.std.specs.FinMap.{empty, insert, remove, values};
 ghost use Rattle.rr_auth.specs.Registries.{Sound};
+ghost use Rattle.rr_sets.specs.Lists.{IsReferrer, ListsOnce};
 
 use crate::closest::{closest, closest_routes};
 use crate::lists;
+use crate::referrers::{self, Referrers};
 use rr_auth::Book;
-use rr_number::{AsNumber, Name, Prefix, Span};
+use rr_number::{AsNumber, Name, Prefix, SetName, Span};
 use rr_object::{Class, Key, Object};
 use std::alloc::{AllocError, Global};
 use std::marker::Model;
 
 /// Objects in the order of class and key; contracts see the finite map from keys to them. It is always sound.
+///
+/// Beside them stand their keys under the sets that they name in `member-of`, and perhaps keys of objects that do not name
+/// the set: where memory was wanting while one was put.
 #[derive(Drop)]
 pub struct PlainBook {
     objects: Vec<Object>,
+    referrers: Referrers,
 }
 
 impl Model for PlainBook {
@@ -28,11 +34,12 @@ impl Model for PlainBook {
 
     ghost coded = { map.code (key.the_row).coded (object.the_row).coded };
 
-    ghost use Rattle.rr_registry.specs.Books.{book_of, IsBook};
+    ghost use Rattle.rr_registry.specs.Books.{book_of};
+    ghost use Rattle.rr_registry.specs.Referrers.{IsIndexed};
 
     ghost view = { λ b. book_of b.objects.items };
 
-    ghost invariant = { λ b. IsBook b.objects.items };
+    ghost invariant = { λ b. IsIndexed b.objects.items b.referrers.keys };
 }
 
 impl PlainBook {
@@ -45,15 +52,17 @@ impl PlainBook {
     {
         PlainBook {
             objects: Vec::new(alloc),
+            referrers: Referrers::new(alloc),
         }
     }
 
-    /// The book of these objects.
-    pub(crate) fn of(objects: Vec<Object>) -> PlainBook
+    /// The book of these objects; the error is want of memory.
+    pub(crate) fn of(alloc: Global, objects: Vec<Object>) -> Result<PlainBook, AllocError>
         requires { IsBook objects.items }
-        ensures { result ≡ book_of objects.items }
+        ensures { IfOk result (λ book. book ≡ book_of objects.items) }
     {
-        PlainBook { objects }
+        let referrers = Referrers::of(alloc, &objects)?;
+        Ok(PlainBook { objects, referrers })
     }
 
     /// The objects in the order of class and key.
@@ -66,12 +75,16 @@ impl PlainBook {
 
     /// Puts the object under its key, in place of one that stood there. The registry has to stay sound. The error is
     /// want of memory and leaves the book as it was.
-    pub fn put(&mut self, object: Object) -> Result<(), AllocError>
+    pub fn put(&mut self, alloc: Global, object: Object) -> Result<(), AllocError>
         requires { Sound (insert self.old object.key object) }
         ensures ok { OnOk result (self.new ≡ insert self.old object.key object) }
         ensures err { OnErr result (self.new ≡ self.old) }
     {
-        lists::put(&mut self.objects, object)
+        self.referrers.add(alloc, &object)?;
+        if let Some(old) = lists::put(&mut self.objects, object)? {
+            self.forget(&old);
+        }
+        Ok(())
     }
 
     /// Takes the object of the key out, if there is one. The registry has to stay sound.
@@ -79,7 +92,27 @@ impl PlainBook {
         requires { Sound (remove self.old key.now) }
         ensures { self.new ≡ remove self.old key.now }
     {
-        lists::remove(&mut self.objects, key);
+        if let Some(old) = lists::remove(&mut self.objects, key) {
+            self.forget(&old);
+        }
+    }
+
+    /// Takes the key of an object that stood here from under the sets that the object of this key no longer names.
+    fn forget(&mut self, old: &Object)
+        ensures { self.new ≡ self.old }
+    {
+        let new = lists::find_key(&self.objects, old.key());
+        self.referrers.forget(old, new);
+    }
+
+    /// The objects whose `member-of` names the set, in the order of class and key; the error is want of memory.
+    pub(crate) fn objects_that_name(&self, alloc: Global, name: &SetName) -> Result<Vec<&Object>, AllocError>
+        ensures { IfOk result (λ found. ListsOnce (IsReferrer self.now name.now) found.items) }
+    {
+        match self.referrers.keys(name) {
+            Some(keys) => referrers::objects_that_name(alloc, &self.objects, keys, name),
+            None => Ok(Vec::new(alloc)),
+        }
     }
 }
 

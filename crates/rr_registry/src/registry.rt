@@ -82,7 +82,7 @@ impl Registry {
             Ok(verdict) => match item {
                 Item::Submit(object) => {
                     object.key().is_within_bounds();
-                    self.submit(verdict, object)
+                    self.submit(alloc, verdict, object)
                 }
                 Item::Delete(key) => self.delete(verdict, &key),
             },
@@ -91,14 +91,14 @@ impl Registry {
     }
 
     /// Carries out the verdict on an object.
-    fn submit(&mut self, judged: Verdict, object: Object) -> Outcome
+    fn submit(&mut self, alloc: Global, judged: Verdict, object: Object) -> Outcome
         requires added { judged ≡ Add → Sound (insert self.old object.key object) }
         requires changed { judged ≡ Change → Sound (insert self.old object.key object) }
         ensures { IsCarriedOut self.old judged (Item.Submit object) result self.new }
     {
         match judged {
-            Verdict::Add => self.put(object, Outcome::Added),
-            Verdict::Change => self.put(object, Outcome::Changed),
+            Verdict::Add => self.put(alloc, object, Outcome::Added),
+            Verdict::Change => self.put(alloc, object, Outcome::Changed),
             Verdict::Same => Outcome::Same,
             Verdict::Delete => Outcome::Deleted,
             Verdict::Refuse(code) => Outcome::Refused(code),
@@ -106,11 +106,11 @@ impl Registry {
     }
 
     /// Puts the object under its key, with this outcome.
-    fn put(&mut self, object: Object, done: Outcome) -> Outcome
+    fn put(&mut self, alloc: Global, object: Object, done: Outcome) -> Outcome
         requires { Sound (insert self.old object.key object) }
         ensures { ((result ≡ done) × (self.new ≡ insert self.old object.key object)) ⊎ IsWant self.old result self.new }
     {
-        match self.book.put(object) {
+        match self.book.put(alloc, object) {
             Ok(()) => done,
             Err(_) => Outcome::Refused(Code::E90),
         }

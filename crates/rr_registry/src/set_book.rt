@@ -1,7 +1,7 @@
-//! The lists that expansions of sets ask for, each by one pass over the objects.
+//! The lists that expansions of sets ask for: of a class by one pass over the objects, of referrers by the keys under the set.
 
 ghost use Rattle.std.specs.Prelude.{◌≡◌, IfOk, filter};
-ghost use Rattle.rr_registry.specs.SetLists.{is_of_class, names_set};
+ghost use Rattle.rr_registry.specs.SetLists.{is_of_class};
 ghost use Rattle.rr_sets.specs.Lists.{lent};
 
 use crate::plain_book::PlainBook;
@@ -24,7 +24,7 @@ impl SetBook for PlainBook {
 
     fn referrers(&self, alloc: Global, name: &SetName) -> Result<Vec<&Object>, AllocError> {
         self.sound();
-        objects_that_name(alloc, self.objects(), name)
+        self.objects_that_name(alloc, name)
     }
 }
 
@@ -46,24 +46,4 @@ fn is_of_class(object: &Object, class: Class) -> bool
     ensures { result ≡ is_of_class class object.now }
 {
     object.key().class() == class
-}
-
-/// The objects whose `member-of` names the set.
-fn objects_that_name<'a>(
-    alloc: Global,
-    objects: &'a [Object],
-    name: &SetName,
-) -> Result<Vec<&'a Object>, AllocError>
-    ensures { IfOk result (λ found. lent found.items ≡ filter (names_set name.now) objects.now) }
-{
-    objects
-        .iter()
-        .filter(|object| names_set(object, name))
-        .collect(alloc)
-}
-
-fn names_set(object: &Object, name: &SetName) -> bool
-    ensures { result ≡ names_set name.now object.now }
-{
-    object.member_of().contains(name)
 }

@@ -13,8 +13,9 @@ returns-then-some_crosses-clause-err c =
     let crossing = sym (rw c.deref-2.ensures.value at (rw c.key-3.ensures at c.some_crosses.ensures)) ∙ c.if-some_crosses.true in
     inr (is_overlap c.args.gathered.now.items c.args.n c.args.object c.requires missing crossing)
 
-pub returns-in-Ok-clause-ok : goal.returns-in-Ok-clause-ok
-returns-in-Ok-clause-ok c =
+
+pub returns-clause-ok : goal.returns-clause-ok
+returns-clause-ok c =
     let missing = sym (found_by _ _ (rw c.deref.ensures.value at (rw c.key-2.ensures at c.find_key.ensures))) ∙ sym c.is_some.ensures ∙ c.if-is_some.false in
     let apart = sym (rw c.deref-2.ensures.value at (rw c.key-3.ensures at c.some_crosses.ensures)) ∙ c.if-some_crosses.false in
-    taken_in c.args.gathered.now.items c.args.n c.args.object _ c.requires (rw c.key.ensures at c.is_within_bounds.ensures) missing apart c.in-Ok.ensures.ok
+    taken_in c.args.gathered.now.items c.args.n c.args.object _ c.requires (rw c.key.ensures at c.is_within_bounds.ensures) missing apart c.in_ok-put.ensures.ok

@@ -1,28 +1,45 @@
-use Rattle.std.proofs.Common.{◌≡◌, sym, ap, subst, ◌∙◌}
-use Rattle.std.specs.Prelude.{OnOk, OnErr, Ok, Err}
+use Rattle.std.proofs.Common.{List, sym, ap, subst, ◌∙◌}
 use Rattle.std.specs.FinMap.{insert}
 use Rattle.rr_auth.specs.Registries.{Sound}
-use Rattle.rr_registry.specs.Books.{IsBook, book_of, put_in}
-use Rattle.rr_registry.proofs.Order.{book_put, put_is_book}
+use Rattle.rr_object.specs.Objects.{Obj}
+use Rattle.rr_registry.specs.Books.{book_of}
+use Rattle.rr_registry.specs.Referrers.{IsIndexed}
+use Rattle.rr_registry.proofs.KeysUnderSets.{indexed_put, still_indexed, still_indexed_with}
+use Rattle.rr_registry.proofs.Order.{book_put}
 use Rattle.rr_registry.proofs.plain_book.PlainBook.put.Goals as goal
 
 pub invariant_of-self : goal.invariant_of-self
 invariant_of-self c =
-    let o = c.args.object in
-    let before = c.self.inside.objects.items in
-    let after = c.put.new.objects.items in
-    elim c.put.result as (λ r. OnOk r (after ≡ put_in o before) → OnErr r (after ≡ before) → IsBook after) [
-      | Ok u ↦ λ a b. subst IsBook (sym a) (put_is_book o before c.self.invariant
-          (subst (λ r. Sound (insert r o.key o)) (sym c.self.view_is) c.requires))
-      | Err u ↦ λ a b. subst IsBook (sym b) c.self.invariant
-    ] c.put.ensures.ok c.put.ensures.err
+    still_indexed c.self.inside.objects.items c.self.inside.referrers.keys c.add.new.self.keys c.self.invariant c.in_err-add.ensures.err
 
-pub returns-clause-ok : goal.returns-clause-ok
-returns-clause-ok c =
+pub invariant_of-self-in_err-old : goal.invariant_of-self-in_err-old
+invariant_of-self-in_err-old c =
+    subst (λ (os : List Obj). IsIndexed os c.add.new.self.keys) (sym c.in_err-old.ensures.err)
+    (still_indexed_with c.self.inside.objects.items c.args.object c.self.inside.referrers.keys c.add.new.self.keys c.self.invariant c.in_ok-add.ensures.ok)
+
+pub invariant_of-self-in-Some : goal.invariant_of-self-in-Some
+invariant_of-self-in-Some c =
     let o = c.args.object in
-    let before = c.self.inside.objects.items in
-    let after = c.put.new.objects.items in
-    elim c.put.result as (λ r. OnOk r (after ≡ put_in o before) → OnOk r (book_of after ≡ insert c.args.self.now o.key o)) [
-      | Ok u ↦ λ e. ap book_of e ∙ book_put o before c.self.invariant.ordered ∙ ap (λ r. insert r o.key o) c.self.view_is
-      | Err u ↦ λ e. e
-    ] c.put.ensures.ok
+    indexed_put c.self.inside.objects.items c.put.new.objects.items o c.self.inside.referrers.keys c.add.new.self.keys c.self.invariant
+    (subst (λ r. Sound (insert r o.key o)) (sym c.self.view_is) c.requires) c.in_ok-old.ensures.ok c.in_ok-add.ensures.ok
+
+pub invariant_of-self-in_default : goal.invariant_of-self-in_default
+invariant_of-self-in_default c =
+    let o = c.args.object in
+    indexed_put c.self.inside.objects.items c.put.new.objects.items o c.self.inside.referrers.keys c.add.new.self.keys c.self.invariant
+    (subst (λ r. Sound (insert r o.key o)) (sym c.self.view_is) c.requires) c.in_ok-old.ensures.ok c.in_ok-add.ensures.ok
+
+pub returns-in-Some-clause-ok : goal.returns-in-Some-clause-ok
+returns-in-Some-clause-ok c =
+    let o = c.args.object in
+    c.forget.ensures
+    ∙ ap book_of c.in_ok-old.ensures.ok
+    ∙ book_put o c.self.inside.objects.items c.self.invariant.book.ordered
+    ∙ ap (λ r. insert r o.key o) c.self.view_is
+
+pub returns-in_default-clause-ok : goal.returns-in_default-clause-ok
+returns-in_default-clause-ok c =
+    let o = c.args.object in
+    ap book_of c.in_ok-old.ensures.ok
+    ∙ book_put o c.self.inside.objects.items c.self.invariant.book.ordered
+    ∙ ap (λ r. insert r o.key o) c.self.view_is

@@ -6,4 +6,4 @@ use Rattle.rr_registry.proofs.plain_book.PlainBookBook.get.Goals as goal
 pub returns : goal.returns
 returns c =
     let found = rw c.deref.ensures.value at c.find_key.ensures in
-    found ∙ sym (get_of_book _ _ c.self.invariant.ordered) ∙ ap (λ r. get r c.args.key.now) c.self.view_is
+    found ∙ sym (get_of_book _ _ c.self.invariant.book.ordered) ∙ ap (λ r. get r c.args.key.now) c.self.view_is

@@ -3,5 +3,5 @@ use Rattle.rr_registry.proofs.plain_book.PlainBookBook.names_maintainer.Goals as
 
 pub returns : goal.returns
 returns c =
-    let objects = told _ _ c.deref.result.now c.self.view_is c.self.invariant.ordered c.deref.ensures.value in
+    let objects = told _ _ c.deref.result.now c.self.view_is c.self.invariant.book.ordered c.deref.ensures.value in
     rw (← objects) c.some_names.ensures

@@ -14,11 +14,11 @@ returns-in-Some c =
     let place = rw c.deref.ensures.value at c.first_unnamed-unnamed.ensures.value in
     inr (fault_after os c.in-Ok.gathered.items _ c.in-Ok.ensures (found_fault os _ (sym c.in-Some.is ∙ place)))
 
-pub returns-in-None : goal.returns-in-None
-returns-in-None c =
+pub returns-in_ok-of-in-None : goal.returns-in_ok-of-in-None
+returns-in_ok-of-in-None c =
     let os = c.args.objects.items in
     let place = rw c.deref.ensures.value at c.first_unnamed-unnamed.ensures.value in
     record {
       faultless = fault_after os c.in-Ok.gathered.items _ c.in-Ok.ensures (found_fault os _ (sym c.in-None.is ∙ place));
-      whole = c.of-in-None.ensures ∙ c.of.ensures ∙ c.in-Ok.ensures.whole;
+      whole = c.of-in-None.ensures ∙ c.in_ok-of-in-None.ensures ∙ c.in-Ok.ensures.whole;
     }

@@ -30,7 +30,7 @@ use std::collections::BTreeSet;
 ///
 /// The steps outside the book are O(n log n), where n counts the names reached, the members of each, listed or by
 /// reference, and the names in its `mbrs-by-ref` and in `mnt-by` of its referrers. The book is asked once for the
-/// `referrers` of each set reached that has `mbrs-by-ref`: a pass over all its objects, where it has no index of them.
+/// `referrers` of each set reached that has `mbrs-by-ref`.
 pub fn expand_as_set<B: SetBook>(
     alloc: Global,
     book: &B,

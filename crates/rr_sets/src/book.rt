@@ -19,7 +19,8 @@ pub trait SetBook: Book {
     fn routes(&self, alloc: Global) -> Result<Vec<&Object>, AllocError>
         ensures { IfOk result (λ objects. ListsOnce (IsRoute (Self.contents self.now)) objects.items) };
 
-    /// Lists the objects whose `member-of` names the set, each once, in any order.
+    /// Lists the objects whose `member-of` names the set, each once, in any order. An expansion asks for those of each set
+    /// that it reaches, so a book should not look at all its objects for it.
     fn referrers(&self, alloc: Global, name: &SetName) -> Result<Vec<&Object>, AllocError>
         ensures { IfOk result (λ objects. ListsOnce (IsReferrer (Self.contents self.now) name.now) objects.items) };
 }

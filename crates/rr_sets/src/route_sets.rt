@@ -35,7 +35,7 @@ use std::alloc::{AllocError, Global};
 /// each, listed or by reference, the names in its `mbrs-by-ref` and in `mnt-by` of its referrers, and those pairs; E
 /// counts for each pair the references to its set: m route-sets that each list all the others and the same V ranges have
 /// mV pairs and about m²V references to them. The book is asked at most three times for the `referrers` of each set
-/// reached that has `mbrs-by-ref`: a pass over all its objects, where it has no index of them.
+/// reached that has `mbrs-by-ref`.
 pub fn expand_route_set<B: SetBook>(
     alloc: Global,
     book: &B,

@@ -1,8 +1,7 @@
 -- The opening objects are a sound registry.
 use Rattle.std.proofs.Common.{◌≡◌, ℕ, List, [], ◌∷◌, true, false, refl, sym, ap, ◌∙◌}
-use Rattle.std.specs.Prelude.{None, Some, Option, find, is_none, is_some, map, position}
+use Rattle.std.specs.Prelude.{None, Some, find, is_none, map, position}
 use Rattle.std.specs.List.{list_any}
-use Rattle.std.specs.Option.{option_map, option_or}
 use Rattle.std.specs.Ordering.{eq_by_cmp}
 use Rattle.std.specs.FinMap.{empty, insert}
 use Rattle.hex.specs.Hex.{decode_pairs}
@@ -19,7 +18,7 @@ use Rattle.rr_object.specs.Auths.{salted_digest_of, auth_of_words}
 use Rattle.rr_object.specs.Grants.{entries_behind}
 use Rattle.rr_auth.specs.Registries.{is_mntner_of, keys_cross}
 use Rattle.rr_registry.specs.Books.{book_of, is_in_order}
-use Rattle.rr_registry.specs.Loading.{clash, clash_of, gathered, load_fault, unnamed}
+use Rattle.rr_registry.specs.Loading.{clash, clash_of, load_fault}
 use Rattle.rr_registry.proofs.Gathering.{first_unnamed_is}
 use Rattle.rr_registry.proofs.Order.{book_put, empty_book, get_of_book, values_of_book}
 use Rattle.rr_cli.specs.Opening.{AreObjects, built_in_source, opening_text}

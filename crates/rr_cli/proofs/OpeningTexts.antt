@@ -1,6 +1,6 @@
 -- The entries of the opening text.
 use Rattle.std.proofs.Common.{◌≡◌, ℕ, List, [], ◌∷◌, refl}
-use Rattle.std.specs.Prelude.{Result, Ok, Err, None, codes}
+use Rattle.std.specs.Prelude.{Ok, codes}
 use Rattle.rr_text.specs.Fields.{Field}
 use Rattle.rr_text.specs.Lines.{text_lines, line_kind}
 use Rattle.rr_text.specs.Entries.{entries, block_entry, block_fields, continued}

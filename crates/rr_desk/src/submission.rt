@@ -1,7 +1,5 @@
 //! What submissions answer.
 
-use thiserror::Error;
-
 /// How many items a submission had, and how many of them were refused.
 #[derive(Clone, Copy, Debug, PartialEq, Eq)]
 pub struct Done {
@@ -12,21 +10,18 @@ pub struct Done {
 }
 
 /// Why a submission was cut short; `items` were decided before that.
-#[derive(Clone, Copy, Debug, PartialEq, Eq, Error)]
+#[derive(Clone, Copy, Debug, PartialEq, Eq)]
 pub enum DeskFault {
     /// A read failed, or there were too many.
-    #[error("the submission could not be read; items decided before that: {items}")]
     ReadFault {
         /// The items that were decided.
         items: u64,
     },
     /// A write of the report failed.
-    #[error("the report could not be written; items decided before that: {items}")]
     WriteFault {
         /// The items that were decided.
         items: u64,
     },
     /// Memory ran out before the first item.
-    #[error("out of memory")]
     Memory,
 }

@@ -48,7 +48,7 @@ told_count (Submission (ReadFault items)) = Some items
 told_count (Submission (WriteFault items)) = Some items
 told_count (Submission Memory) = None
 
--- a number in decimal digits, or nothing
+-- a number in decimal digits, or nothing (profile)
 abbrev pub count_text : Option ℕ → List ℕ
 count_text None = []
 count_text (Some count) = decimal count

@@ -32,7 +32,7 @@ pub record IsUnbegun (fault : ProgramFault) (streams : Streams) (status : ℕ) :
   pub unprinted : streams.output_after ≡ streams.output_before
   pub tells : TellsFault fault streams status
 
--- standard input was submitted to the registry of the opening objects, and the report went to standard output (profile)
+-- standard input was submitted to the registry of the opening objects, with the report on standard output (profile)
 pub record HasSubmitted (streams : Streams) (result : Result Done DeskFault) : Type 0 where
   pub opened : Reg
   pub after : Reg

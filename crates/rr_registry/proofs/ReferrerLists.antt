@@ -1,5 +1,5 @@
 -- The objects to which the keys under a set lead.
-use Rattle.std.proofs.Common.{◌≡◌, ◌≢◌, ◌↔◌, ◌||◌, ◌++◌, ℕ, true, false, cond, List, [], ◌∷◌, get_or, Contains, IsTrue, Bor, Option, None, Some, refl, sym, ap, subst, ◌∙◌, inl, inr, arith}
+use Rattle.std.proofs.Common.{◌≡◌, ◌≢◌, ◌↔◌, ◌||◌, ◌++◌, ℕ, true, false, List, [], ◌∷◌, get_or, Contains, IsTrue, Bor, Option, None, Some, refl, sym, ap, subst, ◌∙◌, inl, inr, arith}
 use Rattle.std.specs.Prelude.{find}
 use Rattle.std.specs.BTreeMap.{BTreeMap, get as keys_at, is_at}
 use Rattle.std.specs.BTreeSet.{BTreeSet, contains}
@@ -8,7 +8,7 @@ use Rattle.std.specs.Cmp.Lexicographic.{slice_cmp}
 use Rattle.std.specs.FinMap.{get}
 use Rattle.std.specs.List.{cons_option, filter_map, list_any}
 use Rattle.std.specs.List.Sorted.{IsStrictlySortedBy}
-use Rattle.std.specs.Option.{option_and_then, option_map_or}
+use Rattle.std.specs.Option.{option_map_or}
 use Rattle.std.specs.declared.cmp.Ordering.TheVariants.{Less, Equal}
 use Rattle.std.specs.Ordering.{eq_by_cmp, nat_cmp}
 use Rattle.std.specs.Str.{bytes_eq}
@@ -16,7 +16,7 @@ use Rattle.std.proofs.Math.Bool.{or-true}
 use Rattle.std.proofs.lemmas.List.Elements.{All-contains, All-from_recursion, Contains-get_or}
 use Rattle.std.proofs.lemmas.List.Kept.{AllPairs-cons}
 use Rattle.std.proofs.lemmas.Slice.Eq.{bytes_eq-Decides}
-use Rattle.rr_auth.proofs.KeyLaws.{keys_total, same_key}
+use Rattle.rr_auth.proofs.KeyLaws.{keys_total, same_key, tied_key}
 use Rattle.rr_auth.specs.Registries.{Reg}
 use Rattle.rr_graph.proofs.Listings.{Contains-cons_cases}
 use Rattle.rr_graph.proofs.Lists.{Contains-filter_map, Contains-head, Contains-later, Contains-nil}
@@ -27,9 +27,10 @@ use Rattle.rr_object.specs.declared.key.Key.{Key}
 use Rattle.rr_object.specs.KeyOrders.{key_cmp}
 use Rattle.rr_object.specs.Objects.{Obj}
 use Rattle.rr_sets.specs.Lists.{IsReferrer, ListsOnce, lent}
+use Rattle.rr_registry.proofs.KeysUnderSets.{found_has_key}
 use Rattle.rr_registry.proofs.Order.{get_of_book}
 use Rattle.rr_registry.specs.Books.{book_of}
-use Rattle.rr_registry.specs.Referrers.{IsIndexed, referrer_of, stands_under}
+use Rattle.rr_registry.specs.Referrers.{IsIndexed, stands_under}
 use Rattle.rr_registry.specs.SetLists.{names_set}
 
 lent_push : (found : List (Bor Obj)) (o : Bor Obj) (os : List Obj) → lent (found ++ o ∷ []) ++ os ≡ lent found ++ o.now ∷ os
@@ -73,47 +74,27 @@ named_by_some name names = (on names, back names) where
     | inr later ↦ ap (λ b. bytes_eq n name || b) (back ns later) ∙ or-true (bytes_eq n name)
   ]
 
--- what is found under a key has it
-found_has_key : (key : Key) (o : Obj) (os : List Obj) → find (λ x. eq_by_cmp key_cmp key x.key) os ≡ Some o → key ≡ o.key
-found_has_key key o [] at = cc
-found_has_key key o (x ∷ xs) at =
-    elim (eq_by_cmp key_cmp key x.key) as (λ b. eq_by_cmp key_cmp key x.key ≡ b → cond b (Some x) (find (λ y. eq_by_cmp key_cmp key y.key) xs) ≡ Some o → key ≡ o.key) [
-      | true ↦ λ e is. let this : x ≡ o = cc in same_key key x.key e ∙ ap (λ (y : Obj). y.key) this
-      | false ↦ λ e is. found_has_key key o xs is
-    ] refl at
-
--- a referrer is found under the key, and names the set
-referrer_parts : (name : List ℕ) (found : Option Obj) (o : Obj) → option_and_then (λ x. cond (names_set name x) (Some x) None) found ≡ Some o → (found ≡ Some o) × IsTrue (names_set name o)
-referrer_parts name None o is = cc
-referrer_parts name (Some x) o is =
-    elim (names_set name x) as (λ b. names_set name x ≡ b → cond b (Some x) None ≡ Some o → (Some x ≡ Some o) × IsTrue (names_set name o)) [
-      | true ↦ λ e at. let this : x ≡ o = cc in (at, ap (names_set name) (sym this) ∙ e)
-      | false ↦ λ e at. cc
-    ] refl is
-
-is_referrer : (name : List ℕ) (found : Option Obj) (o : Obj) → found ≡ Some o → IsTrue (names_set name o) → option_and_then (λ x. cond (names_set name x) (Some x) None) found ≡ Some o
-is_referrer name found o at names = ap (option_and_then (λ x. cond (names_set name x) (Some x) None)) at ∙ ap (λ b. cond b (Some o) None) names
+abbrev found_at : List Obj → Key → Option Obj
+found_at os key = find (λ o. eq_by_cmp key_cmp key o.key) os
 
 -- keys that rise lead to different objects
-leads_apart : (name : List ℕ) (os : List Obj) (keys : List Key) → IsStrictlySortedBy (derived.ghosts).cmp keys → HasNoRepeats (filter_map (referrer_of name os) keys)
+leads_apart : (os : List Obj) (keys : List Key) → IsStrictlySortedBy (derived.ghosts).cmp keys → HasNoRepeats (filter_map (found_at os) keys)
 unfolding IsStrictlySortedBy
-leads_apart name os [] rise = λ i j d low inside. absurd (omega arith)
-leads_apart name os (k ∷ ks) rise =
-    elim (referrer_of name os k) as (λ r. referrer_of name os k ≡ r → HasNoRepeats (cons_option r (filter_map (referrer_of name os) ks))) [
-      | None ↦ λ e. leads_apart name os ks rise.1
-      | Some o ↦ λ e. AllPairs-cons (λ a b. a ≢ b) o (filter_map (referrer_of name os) ks) (λ i d inside. other o e (get_or (filter_map (referrer_of name os) ks) i d) (Contains-get_or (filter_map (referrer_of name os) ks) i d inside)) (leads_apart name os ks rise.1)
+leads_apart os [] rise = λ i j d low inside. absurd (omega arith)
+leads_apart os (k ∷ ks) rise =
+    elim (found_at os k) as (λ r. found_at os k ≡ r → HasNoRepeats (cons_option r (filter_map (found_at os) ks))) [
+      | None ↦ λ e. leads_apart os ks rise.1
+      | Some o ↦ λ e. AllPairs-cons (λ a b. a ≢ b) o (filter_map (found_at os) ks) (λ i d inside. other o e (get_or (filter_map (found_at os) ks) i d) (Contains-get_or (filter_map (found_at os) ks) i d inside)) (leads_apart os ks rise.1)
     ] refl where
-  other : (o : Obj) → referrer_of name os k ≡ Some o → (x : Obj) → Contains (filter_map (referrer_of name os) ks) x → o ≢ x
-  other o e x has same =
-      let l = (Contains-filter_map (referrer_of name os) ks x).0 has in
-      let here = found_has_key k o os (referrer_parts name (find (λ y. eq_by_cmp key_cmp k y.key) os) o e).0 in
-      let there = found_has_key l.0 x os (referrer_parts name (find (λ y. eq_by_cmp key_cmp l.0 y.key) os) x l.2).0 in
-      let keys : k ≡ l.0 = here ∙ ap (λ (y : Obj). y.key) same ∙ sym there in
-      let below : (derived.ghosts).cmp k l.0 ≡ Less = All-contains (λ y. (derived.ghosts).cmp k y ≡ Less) ks l.0 (All-from_recursion (λ y. (derived.ghosts).cmp k y ≡ Less) ks rise.0) l.1 in
-      let tied : key_cmp k l.0 ≡ Equal = ap (key_cmp k) (sym keys) ∙ tied_itself keys_total k in
-      let wrong : Less ≡ Equal = sym below ∙ derived_order k l.0 ∙ tied in cc
+      other : (o : Obj) → found_at os k ≡ Some o → (x : Obj) → Contains (filter_map (found_at os) ks) x → o ≢ x
+      other o e x has same =
+          let l = (Contains-filter_map (found_at os) ks x).0 has in
+          let keys : k ≡ l.0 = found_has_key k o os e ∙ ap (λ (y : Obj). y.key) same ∙ sym (found_has_key l.0 x os l.2) in
+          let below : (derived.ghosts).cmp k l.0 ≡ Less = All-contains (λ y. (derived.ghosts).cmp k y ≡ Less) ks l.0 (All-from_recursion (λ y. (derived.ghosts).cmp k y ≡ Less) ks rise.0) l.1 in
+          let tied : key_cmp k l.0 ≡ Equal = ap (key_cmp k) (sym keys) ∙ tied_itself keys_total k in
+          let wrong : Less ≡ Equal = sym below ∙ derived_order k l.0 ∙ tied in cc
 
--- a key that a set has is one of its list
+-- a set has a key where it is one of its list
 listed : (key : Key) (keys : List Key) → list_any (is_at (key_cmp key)) keys ≡ true → Contains keys key
 listed key [] is = cc
 listed key (k ∷ ks) is =
@@ -122,28 +103,36 @@ listed key (k ∷ ks) is =
       | false ↦ λ e any. Contains-later k ks key (listed key ks any)
     ] refl is
 
+has_listed : (key : Key) (keys : List Key) → Contains keys key → list_any (is_at (key_cmp key)) keys ≡ true
+has_listed key [] has = absurd (Contains-nil key has)
+has_listed key (k ∷ ks) has = elim (Contains-cons_cases k ks key has) [
+  | inl same ↦ ap (λ l. eq_by_cmp key_cmp key l || list_any (is_at (key_cmp key)) ks) same ∙ ap (λ b. b || list_any (is_at (key_cmp key)) ks) (tied_key key)
+  | inr later ↦ ap (λ b. eq_by_cmp key_cmp key k || b) (has_listed key ks later) ∙ or-true (eq_by_cmp key_cmp key k)
+]
+
 module _ (os : List Obj) (sets : BTreeMap (List ℕ) (BTreeSet Key)) (indexed : IsIndexed os sets) (r : Reg) (is_r : book_of os ≡ r) (name : List ℕ) where
-  at_key : (key : Key) → get r key ≡ find (λ o. eq_by_cmp key_cmp key o.key) os
+  at_key : (key : Key) → get r key ≡ found_at os key
   at_key key = ap (λ m. get m key) (sym is_r) ∙ get_of_book os key indexed.book.ordered
 
-  stands : (o : Obj) → (refers : IsReferrer r name o) → IsTrue (stands_under sets name refers.0)
-  stands o (key, at, names) = indexed.referrers key o name (ap (λ m. get m key) is_r ∙ at) ((named_by_some name o.member_of).1 names)
+  stands : (key : Key) (o : Obj) → get r key ≡ Some o → stands_under sets name key ≡ names_set name o
+  stands key o at = indexed.referrers name key ∙ ap (λ x. option_map_or (names_set name) x false) (ap (λ m. get m key) is_r ∙ at)
 
   -- the objects to which the keys under a set lead are those that name it
-  pub lists_named : (keys : BTreeSet Key) (found : List (Bor Obj)) → Some keys ≡ keys_at (slice_cmp nat_cmp) sets name → lent found ≡ filter_map (referrer_of name os) keys.keys
+  pub lists_named : (keys : BTreeSet Key) (found : List (Bor Obj)) → Some keys ≡ keys_at (slice_cmp nat_cmp) sets name → lent found ≡ filter_map (found_at os) keys.keys
       → IsStrictlySortedBy (derived.ghosts).cmp keys.keys → ListsOnce (IsReferrer r name) found
   lists_named keys found there is rise = record {
     same = λ o. (
       λ has.
-          let k = (Contains-filter_map (referrer_of name os) keys.keys o).0 (subst (λ (xs : List Obj). Contains xs o) is has) in
-          let parts = referrer_parts name (find (λ x. eq_by_cmp key_cmp k.0 x.key) os) o k.2 in
-          (k.0, at_key k.0 ∙ parts.0, (named_by_some name o.member_of).0 parts.1),
+          let k = (Contains-filter_map (found_at os) keys.keys o).0 (subst (λ (xs : List Obj). Contains xs o) is has) in
+          let at : get r k.0 ≡ Some o = at_key k.0 ∙ k.2 in
+          let under : stands_under sets name k.0 ≡ true = ap (λ (x : Option (BTreeSet Key)). option_map_or (λ ks. contains key_cmp ks k.0) x false) (sym there) ∙ has_listed k.0 keys.keys k.1 in
+          (k.0, at, (named_by_some name o.member_of).0 (sym (stands k.0 o at) ∙ under)),
       λ (key, at, names).
-          let under : IsTrue (contains key_cmp keys key) = ap (λ (x : Option (BTreeSet Key)). option_map_or (λ ks. contains key_cmp ks key) x false) there ∙ stands o (key, at, names) in
-          let led = is_referrer name (find (λ x. eq_by_cmp key_cmp key x.key) os) o (sym (at_key key) ∙ at) ((named_by_some name o.member_of).1 names) in
-          subst (λ (xs : List Obj). Contains xs o) (sym is) ((Contains-filter_map (referrer_of name os) keys.keys o).1 (key, listed key keys.keys under, led)),
+          let under : contains key_cmp keys key ≡ true =
+          ap (λ (x : Option (BTreeSet Key)). option_map_or (λ ks. contains key_cmp ks key) x false) there ∙ stands key o at ∙ (named_by_some name o.member_of).1 names in
+          subst (λ (xs : List Obj). Contains xs o) (sym is) ((Contains-filter_map (found_at os) keys.keys o).1 (key, listed key keys.keys under, sym (at_key key) ∙ at)),
     );
-    once = subst HasNoRepeats (sym is) (leads_apart name os keys.keys rise);
+    once = subst HasNoRepeats (sym is) (leads_apart os keys.keys rise);
   }
 
   -- where there are no keys under the set, no object names it
@@ -151,7 +140,8 @@ module _ (os : List Obj) (sets : BTreeMap (List ℕ) (BTreeSet Key)) (indexed : 
   lists_none found none is = subst (ListsOnce (IsReferrer r name)) (sym is) (record {
     same = λ o. (
       λ has. absurd (Contains-nil o has),
-      λ refers. let wrong : false ≡ true = ap (λ (x : Option (BTreeSet Key)). option_map_or (λ ks. contains key_cmp ks refers.0) x false) none ∙ stands o refers in cc,
+      λ (key, at, names).
+          let wrong : false ≡ true = ap (λ (x : Option (BTreeSet Key)). option_map_or (λ ks. contains key_cmp ks key) x false) none ∙ stands key o at ∙ (named_by_some name o.member_of).1 names in cc,
     );
     once = λ i j d low inside. absurd (omega arith);
   })

@@ -1,6 +1,6 @@
 //! Scans of lists of objects.
 
-ghost use Rattle.std.specs.Prelude.{◌≡◌, ◌<◌, ◌≤◌, ◌++◌, map, not, true, find, filter, length, OnOk, OnErr, IfOk, IsTrue};
+ghost use Rattle.std.specs.Prelude.{◌≡◌, ◌<◌, ◌≤◌, ◌++◌, map, not, true, find, filter, length, OnOk, OnErr, IfOk, IfErr, IsTrue};
 ghost use Rattle.std.specs.List.{list_any};
 ghost use Rattle.std.specs.Option.{option_copied};
 ghost use Rattle.std.specs.Ordering.{eq_by_cmp, is_gt};
@@ -15,7 +15,7 @@ ghost use Rattle.rr_registry.specs.Books.{is_in_order, place_of, put_in, stands_
 use crate::keys::{compare, is_same};
 use rr_number::{AsNumber, Name, Prefix};
 use rr_object::{Grant, Key, Object};
-use std::alloc::{AllocError, Global};
+use std::alloc::{AllocError, AllocFailed, Global};
 use std::mem;
 
 /// The object of the key, among objects in the order of their keys.
@@ -204,13 +204,17 @@ fn is_same_prefix(prefix: Prefix, other: Prefix) -> bool
 }
 
 /// Puts the object into its place among objects in the order of their keys, for one of its key that stood there, which is
-/// given back; the error is want of memory.
+/// given back; the error is want of memory and gives the new one back.
 #[tactic(auto, using(crate::proofs::Places::put_in_place))]
-pub(crate) fn put(objects: &mut Vec<Object>, object: Object) -> Result<Option<Object>, AllocError>
+pub(crate) fn put(
+    objects: &mut Vec<Object>,
+    object: Object,
+) -> Result<Option<Object>, AllocFailed<Object>>
     requires { is_in_order objects.old.items ≡ true }
     ensures ok { OnOk result (objects.new.items ≡ put_in object objects.old.items) }
     ensures old { IfOk result (λ old. old ≡ find (λ o. eq_by_cmp key_cmp object.key o.key) objects.old.items) }
     ensures err { OnErr result (objects.new.items ≡ objects.old.items) }
+    ensures returned { IfErr result (λ refused. refused.value ≡ object) }
 {
     let at = place(objects, object.key());
     if stands_at(objects, object.key(), at) {

@@ -7,17 +7,15 @@ ghost use Rattle.rr_sets.specs.Lists.{IsReferrer, ListsOnce};
 
 use crate::closest::{closest, closest_routes};
 use crate::lists;
-use crate::referrers::{self, Referrers};
+use crate::referrers::{Referrers, objects_of, sets_named};
 use rr_auth::Book;
 use rr_number::{AsNumber, Name, Prefix, SetName, Span};
 use rr_object::{Class, Key, Object};
 use std::alloc::{AllocError, Global};
 use std::marker::Model;
 
-/// Objects in the order of class and key; contracts see the finite map from keys to them. It is always sound.
-///
-/// Beside them stand their keys under the sets that they name in `member-of`, and perhaps keys of objects that do not name
-/// the set: where memory was wanting while one was put.
+/// Objects in the order of class and key, and their keys under the sets that they name in `member-of`; contracts see the
+/// finite map from keys to objects. It is always sound.
 #[derive(Drop)]
 pub struct PlainBook {
     objects: Vec<Object>,
@@ -80,11 +78,20 @@ impl PlainBook {
         ensures ok { OnOk result (self.new ≡ insert self.old object.key object) }
         ensures err { OnErr result (self.new ≡ self.old) }
     {
-        self.referrers.add(alloc, &object)?;
-        if let Some(old) = lists::put(&mut self.objects, object)? {
-            self.forget(&old);
+        let before = sets_named(alloc, lists::find_key(&self.objects, object.key()))?;
+        let after = sets_named(alloc, Some(&object))?;
+        self.referrers.add(alloc, &object, &before)?;
+        match lists::put(&mut self.objects, object) {
+            Ok(Some(old)) => {
+                self.referrers.take(&old, &after);
+                Ok(())
+            }
+            Ok(None) => Ok(()),
+            Err(refused) => {
+                self.referrers.take(&refused.value, &before);
+                Err(AllocError)
+            }
         }
-        Ok(())
     }
 
     /// Takes the object of the key out, if there is one. The registry has to stay sound.
@@ -93,25 +100,21 @@ impl PlainBook {
         ensures { self.new ≡ remove self.old key.now }
     {
         if let Some(old) = lists::remove(&mut self.objects, key) {
-            self.forget(&old);
+            self.referrers.take_all(&old);
         }
     }
 
-    /// Takes the key of an object that stood here from under the sets that the object of this key no longer names.
-    fn forget(&mut self, old: &Object)
-        ensures { self.new ≡ self.old }
-    {
-        let new = lists::find_key(&self.objects, old.key());
-        self.referrers.forget(old, new);
-    }
-
     /// The objects whose `member-of` names the set, in the order of class and key; the error is want of memory. It takes
-    /// O(k (log n + m)) steps, where k keys stand under the set, n objects are registered, and m is the length of a `member-of`.
-    pub(crate) fn objects_that_name(&self, alloc: Global, name: &SetName) -> Result<Vec<&Object>, AllocError>
+    /// O(k log n) steps for k of n objects.
+    pub(crate) fn objects_that_name(
+        &self,
+        alloc: Global,
+        name: &SetName,
+    ) -> Result<Vec<&Object>, AllocError>
         ensures { IfOk result (λ found. ListsOnce (IsReferrer self.now name.now) found.items) }
     {
         match self.referrers.keys(name) {
-            Some(keys) => referrers::objects_that_name(alloc, &self.objects, keys, name),
+            Some(keys) => objects_of(alloc, &self.objects, keys),
             None => Ok(Vec::new(alloc)),
         }
     }

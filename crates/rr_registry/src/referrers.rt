@@ -1,7 +1,8 @@
 //! Which objects name which sets in their `member-of`.
 
-ghost use Rattle.std.specs.Prelude.{◌≡◌, ◌&&◌, ◌||◌, ℕ, List, true, false, not, IfOk, OnOk, OnErr, IsTrue};
+ghost use Rattle.std.specs.Prelude.{◌≡◌, ◌&&◌, ◌||◌, ℕ, List, true, false, find, not, IfOk, OnOk, OnErr, IsTrue};
 ghost use Rattle.std.specs.BTreeMap.{get};
+ghost use Rattle.std.specs.BTreeSet.{contains};
 ghost use Rattle.std.specs.Cmp.Lexicographic.{slice_cmp};
 ghost use Rattle.std.specs.List.{filter_map, list_any};
 ghost use Rattle.std.specs.List.Sorted.{IsStrictlySortedBy};
@@ -12,7 +13,7 @@ ghost use Rattle.rr_object.specs.declared.key.Key.{Key};
 ghost use Rattle.rr_object.specs.KeyOrders.{key_cmp};
 ghost use Rattle.rr_sets.specs.Lists.{lent};
 ghost use Rattle.rr_registry.specs.Books.{is_in_order};
-ghost use Rattle.rr_registry.specs.Referrers.{referrer_of, stands_under};
+ghost use Rattle.rr_registry.specs.Referrers.{is_meant, stands_under};
 ghost use Rattle.rr_registry.specs.SetLists.{names_set};
 
 use crate::lists::find_key;
@@ -43,8 +44,9 @@ impl Referrers {
             list_any (λ o. names_set name o && eq_by_cmp key_cmp o.key key) objects.now) }
     {
         let mut referrers = Referrers::new(alloc);
+        let none = BTreeSet::new(alloc);
         for object in objects {
-            referrers.add(alloc, object)?;
+            referrers.add_each(alloc, object, &none)?;
         }
         Ok(referrers)
     }
@@ -56,14 +58,46 @@ impl Referrers {
         self.keys.get(name)
     }
 
-    /// Puts the object's key under each set that it names. Where memory is wanting it may stand under some of them.
-    pub(crate) fn add(&mut self, alloc: Global, object: &Object) -> Result<(), AllocError>
+    /// Puts the object's key, which stands under none of them, under each set that it names, save the others. The error is
+    /// want of memory and changes nothing.
+    pub(crate) fn add(
+        &mut self,
+        alloc: Global,
+        object: &Object,
+        others: &BTreeSet<SetName>,
+    ) -> Result<(), AllocError>
+        requires { (name : List ℕ) (key : Key) → IsTrue (is_meant object.now (contains (slice_cmp nat_cmp) others.now) name key) → stands_under self.old.keys name key ≡ false }
         ensures ok { OnOk result ((name : List ℕ) (key : Key) → stands_under self.new.keys name key ≡
-            (stands_under self.old.keys name key || (names_set name object.now && eq_by_cmp key_cmp object.now.key key))) }
-        ensures err { OnErr result ((name : List ℕ) (key : Key) → IsTrue (stands_under self.old.keys name key) → IsTrue (stands_under self.new.keys name key)) }
+            (stands_under self.old.keys name key || is_meant object.now (contains (slice_cmp nat_cmp) others.now) name key)) }
+        ensures err { OnErr result ((name : List ℕ) (key : Key) → stands_under self.new.keys name key ≡ stands_under self.old.keys name key) }
+    {
+        match self.add_each(alloc, object, others) {
+            Ok(()) => Ok(()),
+            Err(refused) => {
+                self.take(object, others);
+                Err(refused)
+            }
+        }
+    }
+
+    /// Puts the object's key under each set that it names, save the others. Where memory is wanting it may stand under some
+    /// of them.
+    fn add_each(
+        &mut self,
+        alloc: Global,
+        object: &Object,
+        others: &BTreeSet<SetName>,
+    ) -> Result<(), AllocError>
+        ensures ok { OnOk result ((name : List ℕ) (key : Key) → stands_under self.new.keys name key ≡
+            (stands_under self.old.keys name key || is_meant object.now (contains (slice_cmp nat_cmp) others.now) name key)) }
+        ensures some { OnErr result ((name : List ℕ) (key : Key) → IsTrue (stands_under self.new.keys name key) →
+            IsTrue (stands_under self.old.keys name key || is_meant object.now (contains (slice_cmp nat_cmp) others.now) name key)) }
+        ensures kept { OnErr result ((name : List ℕ) (key : Key) → IsTrue (stands_under self.old.keys name key) → IsTrue (stands_under self.new.keys name key)) }
     {
         for name in object.member_of() {
-            self.add_under(alloc, name, object.key())?;
+            if !others.contains(name) {
+                self.add_under(alloc, name, object.key())?;
+            }
         }
         Ok(())
     }
@@ -88,15 +122,25 @@ impl Referrers {
         Ok(())
     }
 
-    /// Takes the old object's key from under the sets that it names, save those that the new one names.
-    pub(crate) fn forget(&mut self, old: &Object, new: Option<&Object>)
+    /// Takes the object's key from under each set that it names, save the others.
+    pub(crate) fn take(&mut self, object: &Object, others: &BTreeSet<SetName>)
         ensures { (name : List ℕ) (key : Key) → stands_under self.new.keys name key ≡
-            (stands_under self.old.keys name key && not (eq_by_cmp key_cmp old.now.key key && (names_set name old.now && not (option_map_or (names_set name) (option_copied new.entry) false)))) }
+            (stands_under self.old.keys name key && not (is_meant object.now (contains (slice_cmp nat_cmp) others.now) name key)) }
     {
-        for name in old.member_of() {
-            if !is_named(new, name) {
-                self.take_from(name, old.key());
+        for name in object.member_of() {
+            if !others.contains(name) {
+                self.take_from(name, object.key());
             }
+        }
+    }
+
+    /// Takes the object's key from under each set that it names.
+    pub(crate) fn take_all(&mut self, object: &Object)
+        ensures { (name : List ℕ) (key : Key) → stands_under self.new.keys name key ≡
+            (stands_under self.old.keys name key && not (is_meant object.now (λ other. false) name key)) }
+    {
+        for name in object.member_of() {
+            self.take_from(name, object.key());
         }
     }
 
@@ -126,56 +170,47 @@ impl Referrers {
     }
 }
 
-/// Those objects of the keys that name the set, among objects in the order of their keys.
-pub(crate) fn objects_that_name<'a>(
+/// The sets that the object names in its `member-of`; none without an object.
+pub(crate) fn sets_named(
+    alloc: Global,
+    object: Option<&Object>,
+) -> Result<BTreeSet<SetName>, AllocError>
+    ensures { IfOk result (λ sets. (name : List ℕ) → contains (slice_cmp nat_cmp) sets name ≡
+        option_map_or (names_set name) (option_copied object.entry) false) }
+{
+    match object {
+        Some(object) => set_of(alloc, object.member_of()),
+        None => Ok(BTreeSet::new(alloc)),
+    }
+}
+
+/// The names as a set.
+fn set_of(alloc: Global, names: &[SetName]) -> Result<BTreeSet<SetName>, AllocError>
+    ensures { IfOk result (λ sets. (name : List ℕ) → contains (slice_cmp nat_cmp) sets name ≡
+        list_any (λ own. bytes_eq own name) names.now) }
+{
+    let mut sets = BTreeSet::new(alloc);
+    for name in names {
+        sets.insert(name.copy(alloc)?)?;
+    }
+    Ok(sets)
+}
+
+/// The objects of the keys, among objects in the order of their keys.
+pub(crate) fn objects_of<'a>(
     alloc: Global,
     objects: &'a [Object],
     keys: &BTreeSet<Key>,
-    name: &SetName,
 ) -> Result<Vec<&'a Object>, AllocError>
     requires { is_in_order objects.now ≡ true }
-    ensures found { IfOk result (λ found. lent found.items ≡ filter_map (referrer_of name.now objects.now) keys.now.keys) }
+    ensures found { IfOk result (λ found. lent found.items ≡ filter_map (λ key. find (λ o. eq_by_cmp key_cmp key o.key) objects.now) keys.now.keys) }
     ensures ordered { IsStrictlySortedBy ⟦<Key as Ord>⟧.cmp keys.now.keys }
 {
     let mut found = Vec::new(alloc);
     for key in keys {
-        if let Some(object) = referrer(objects, key, name) {
+        if let Some(object) = find_key(objects, key) {
             found.push(object)?;
         }
     }
     Ok(found)
-}
-
-/// The object of the key, if it names the set, among objects in the order of their keys.
-fn referrer<'a>(objects: &'a [Object], key: &Key, name: &SetName) -> Option<&'a Object>
-    requires { is_in_order objects.now ≡ true }
-    ensures { option_copied result ≡ referrer_of name.now objects.now key.now }
-{
-    match find_key(objects, key) {
-        Some(object) => {
-            if names_set(object, name) {
-                Some(object)
-            } else {
-                None
-            }
-        }
-        None => None,
-    }
-}
-
-/// Whether the object, where there is one, names the set in its `member-of`.
-fn is_named(object: Option<&Object>, name: &SetName) -> bool
-    ensures { result ≡ option_map_or (names_set name.now) (option_copied object.entry) false }
-{
-    match object {
-        Some(object) => names_set(object, name),
-        None => false,
-    }
-}
-
-/// Whether the object names the set in its `member-of`.
-pub(crate) fn names_set(object: &Object, name: &SetName) -> bool
-    ensures { result ≡ names_set name.now object.now }
-{
-    object.member_of().contains(name)
 }

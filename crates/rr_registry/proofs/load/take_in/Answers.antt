@@ -13,7 +13,6 @@ returns-then-some_crosses-clause-err c =
     let crossing = sym (rw c.deref-2.ensures.value at (rw c.key-3.ensures at c.some_crosses.ensures)) ∙ c.if-some_crosses.true in
     inr (is_overlap c.args.gathered.now.items c.args.n c.args.object c.requires missing crossing)
 
-
 pub returns-clause-ok : goal.returns-clause-ok
 returns-clause-ok c =
     let missing = sym (found_by _ _ (rw c.deref.ensures.value at (rw c.key-2.ensures at c.find_key.ensures))) ∙ sym c.is_some.ensures ∙ c.if-is_some.false in

@@ -4,10 +4,10 @@ use Rattle.rr_registry.proofs.plain_book.PlainBook.objects_that_name.Goals as go
 
 pub returns-in-Some : goal.returns-in-Some
 returns-in-Some c =
-    let found = rw c.deref.ensures.value at c.objects_that_name.ensures.found in
-    IfOk-weaker c.objects_that_name.result _ _
+    let found = rw c.deref.ensures.value at c.objects_of.ensures.found in
+    IfOk-weaker c.objects_of.result _ _
     (λ found is. lists_named c.self.inside.objects.items c.self.inside.referrers.keys c.self.invariant c.args.self.now c.self.view_is c.args.name.now c.in-Some.keys.now found.items
-        c.in-Some.ensures is c.objects_that_name.ensures.ordered)
+    c.in-Some.ensures is c.objects_of.ensures.ordered)
     found
 
 pub returns-in-None : goal.returns-in-None

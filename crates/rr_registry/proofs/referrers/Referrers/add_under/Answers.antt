@@ -18,8 +18,8 @@ returns-in_ok-insert-in-Some-clause-ok c =
     added_under c.args.self.now.keys (c.get_mut.follows.lender after) c.args.name.now c.args.key.now after
     ((c.get_mut.follows.holds after).3 (subst IsSome there refl)).0
     (λ k.
-        updated_keys before after c.args.key.now true update k
-        ∙ ap (λ (o : Option (BTreeSet Key)). cond (eq_by_cmp key_cmp c.args.key.now k) true (option_map_or (λ ks. contains key_cmp ks k) o false)) there)
+    updated_keys before after c.args.key.now true update k
+    ∙ ap (λ (o : Option (BTreeSet Key)). cond (eq_by_cmp key_cmp c.args.key.now k) true (option_map_or (λ ks. contains key_cmp ks k) o false)) there)
 
 pub returns-in_err-insert-in-Some-clause-err : goal.returns-in_err-insert-in-Some-clause-err
 returns-in_err-insert-in-Some-clause-err c =

@@ -1,7 +1,8 @@
--- References from set to set, as edges with operators.
+-- Members as ranges, and as edges with operators.
 use Rattle.std.specs.Prelude.{ℕ, List, Option, None, Some, if◌then◌else◌}
 use Rattle.rr_auth.specs.Registries.{Reg}
 use Rattle.rr_graph.specs.declared.labels.Edge.{Edge}
+use Rattle.rr_number.specs.Ranges.{RangeParts}
 use Rattle.rr_number.specs.declared.operator.Operator.{Operator}
 use Rattle.rr_number.specs.declared.operator.Operator.TheVariants.{Plain}
 use Rattle.rr_object.specs.declared.member.Member.{Member}
@@ -10,20 +11,25 @@ use Rattle.rr_object.specs.declared.member.MemberSet.{MemberSet}
 use Rattle.rr_object.specs.declared.member.MemberSet.TheVariants.{AutNum, Set}
 use Rattle.rr_sets.specs.RouteSets.{has_set}
 
--- A member that is an AS or a set is a reference, with its operator.
+-- a member that is a range
+abbrev pub range_listed : Member → Option RangeParts
+range_listed (member.Range range) = Some range
+range_listed (member.Set set operator) = None
+
+-- a member that is an AS or a set, as a reference with its operator
 abbrev pub reference_of : Member → Option (Edge MemberSet Operator)
 reference_of (member.Range r) = None
 reference_of (member.Set set operator) = Some (record { to = set; label = operator })
 
--- A reference to an AS, without operator.
+-- a reference to an AS, without operator
 abbrev pub number_reference : ℕ → Edge MemberSet Operator
 number_reference n = record { to = AutNum n; label = Plain }
 
--- A reference to a set, without operator.
+-- a reference to a set, without operator
 abbrev pub set_reference : List ℕ → Edge MemberSet Operator
 set_reference name = record { to = Set name; label = Plain }
 
--- The name of a set that there is not.
+-- the name of a set that there is not
 abbrev pub missing_name : Reg → MemberSet → Option (List ℕ)
 missing_name r (AutNum n) = None
 missing_name r (Set name) = if has_set r name then None else Some name

@@ -258,11 +258,7 @@ fn keys_have_their_texts_and_bytes(rt: HostRuntime) -> Result<(), Fail> {
         (Class::AutNum, "AS1", "00000001"),
         (Class::AutNum, "AS4294967295", "ffffffff"),
         (Class::Inetnum, "10.0.0.0/8", "0a000000-0affffff"),
-        (
-            Class::Inetnum,
-            "10.1.0.3-10.1.0.9",
-            "0a010003-0a010009",
-        ),
+        (Class::Inetnum, "10.1.0.3-10.1.0.9", "0a010003-0a010009"),
         (Class::Route, "10.0.0.0/8  as1", "0a000000/08-00000001"),
         (Class::AsSet, "as01:as-x", "AS1:AS-X"),
         (Class::RouteSet, "RS-C", "RS-C"),

@@ -151,7 +151,7 @@ sound_changed r z o s formed e =
     ] refl e
 
 -- what stands in a registry after a deletion stood there before, under another key
-still_there : (r : Reg) (k l : Key) (x : Obj) → get (remove r k) l ≡ Some x → (eq_by_cmp key_cmp l k ≡ false) × (get r l ≡ Some x)
+pub still_there : (r : Reg) (k l : Key) (x : Obj) → get (remove r k) l ≡ Some x → (eq_by_cmp key_cmp l k ≡ false) × (get r l ≡ Some x)
 still_there r k l x f =
     elim (eq_by_cmp key_cmp l k) as (λ b. cond b None (get r l) ≡ Some x → (b ≡ false) × (get r l ≡ Some x)) [
       | true ↦ λ g. cc

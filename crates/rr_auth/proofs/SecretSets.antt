@@ -22,6 +22,7 @@ use Rattle.rr_auth.specs.Conditions.{names_unknown, lacks_origin, origin_refuses
 use Rattle.rr_auth.specs.Laws.{SameSecrets}
 use Rattle.rr_auth.specs.Passing.{fits_line, names_pass}
 use Rattle.rr_auth.specs.Registries.{Reg, maintainer, names_nobody, seen_by}
+use Rattle.rr_auth.proofs.Members.{both_or_none}
 use Rattle.rr_auth.specs.Verdicts.{first_of, place, submission, deletion, verdict}
 use Rattle.std.proofs.lemmas.Slice.Eq.{bytes_eq-Decides}
 
@@ -53,11 +54,6 @@ some_secret p (x ∷ xs) e =
       | true ↦ λ h g. (x, h, ap (λ b. b || list_any (bytes_eq x) xs) (equal_texts x x refl))
       | false ↦ λ h g. let rest = some_secret p xs g in (rest.0, rest.1, or_later (bytes_eq rest.0 x) _ rest.2)
     ] refl e
-
-both_or_none : (a b : Bool) → (a ≡ true → b ≡ true) → (b ≡ true → a ≡ true) → a ≡ b
-both_or_none true b f g = sym (f refl)
-both_or_none false true f g = g refl
-both_or_none false false f g = refl
 
 carried : (p : List ℕ → Bool) (z y : List (List ℕ)) → SameSecrets z y → list_any p z ≡ true → list_any p y ≡ true
 carried p z y s e = let found = some_secret p z e in passing_secret p y found.0 (sym (s found.0) ∙ found.2) found.1

@@ -76,7 +76,7 @@ module _ (class : Key → Option Ends) where
   closest_passes r s o sound c =
       ap (λ v. option_map_or (λ t. covers t s && list_all (is_no_closer class s t) (values r)) v false) c.class_is
       ∙ and_from _ _ c.covering (all_pass _ (values r) (λ x i.
-          no_closer s c.span x (class x.key) refl (λ u of_class. c.least x.key x u (stands_at r x sound i) of_class)))
+      no_closer s c.span x (class x.key) refl (λ u of_class. c.least x.key x u (stands_at r x sound i) of_class)))
 
   -- what `closest_of` gives is closest
   pub closest_found : (r : Reg) (s : Ends) (o : Obj) → Sound r → closest_of class (values r) s ≡ Some o → IsClosestAt class r s o
@@ -133,17 +133,22 @@ module _ (class : Key → Option Ends) where
   least_of_two y ys s t o of_class cover c =
       elim (cases_lt (size t) (size c.span)) [
         | inl smaller ↦ (y, least_first y ys s t of_class cover (λ x u i e f. let after : size c.span ≤ size u = c.least x u i e f in omega arith))
-        | inr larger ↦ (o, least_later y ys s o c (λ u e f.
-            let one : t ≡ u = some_same (sym of_class ∙ e) in
-            subst (λ v. size c.span ≤ size v) one larger))
+        | inr larger ↦ (
+          o,
+          least_later y ys s o c (λ u e f.
+              let one : t ≡ u = some_same (sym of_class ∙ e) in
+              subst (λ v. size c.span ≤ size v) one larger),
+        )
       ]
 
   least_where_first : (y : Obj) (ys : List Obj) (s : Ends) (b : Bool) → list_any (is_cover class s) ys ≡ b → is_cover class s y ≡ true
       → (b ≡ true → (x : Obj) × IsLeast ys s x) → (x : Obj) × IsLeast (y ∷ ys) s x
   least_where_first y ys s false none covering later =
-      let value = mapped_value (λ t. covers t s) (class y.key) covering in
-      (y, least_first y ys s value.0 value.1.0 value.1.1 (λ x u i e f.
-          absurd (true≢false (sym (cover_said s u x e ∙ f) ∙ none_passes (is_cover class s) x ys none i))))
+      let value = mapped_value (λ t. covers t s) (class y.key) covering in (
+        y,
+        least_first y ys s value.0 value.1.0 value.1.1 (λ x u i e f.
+            absurd (true≢false (sym (cover_said s u x e ∙ f) ∙ none_passes (is_cover class s) x ys none i))),
+      )
   least_where_first y ys s true some covering later =
       let value = mapped_value (λ t. covers t s) (class y.key) covering in
       let rest = later refl in
@@ -165,14 +170,16 @@ module _ (class : Key → Option Ends) where
   closest_exists r s sound e =
       let one = least_among (values r) s e in
       let o = one.0 in
-      let c = one.1 in
-      (o, record {
-        there = stands_at r o sound c.member;
-        span = c.span;
-        class_is = c.class_is;
-        covering = c.covering;
-        least = λ k x u f of_class g. c.least x u (found_in r k x f) (ap class (sound.keyed k x f) ∙ of_class) g;
-      })
+      let c = one.1 in (
+        o,
+        record {
+          there = stands_at r o sound c.member;
+          span = c.span;
+          class_is = c.class_is;
+          covering = c.covering;
+          least = λ k x u f of_class g. c.least x u (found_in r k x f) (ap class (sound.keyed k x f) ∙ of_class) g;
+        },
+      )
 
   -- nothing covers where nothing is closest
   pub none_covers : (r : Reg) (s : Ends) → Sound r → closest_of class (values r) s ≡ None → list_any (is_cover class s) (values r) ≡ false

@@ -232,6 +232,6 @@ routes_ask_the_closest r secrets p n sound =
           ∙ ap not (origins_ask r secrets p prefix.0 one.0 sound one.1 prefix.1)
       | false ↦ λ covered.
           ap (λ v. not (space_passes r secrets p v)) (closest_routes_none r p sound (λ k x u f of_class.
-              sym (ap (λ v. option_map_or (λ t. covers t (span_of p)) v false) (ap route_span (sound.keyed k x f) ∙ of_class))
-              ∙ none_passes (is_cover route_span (span_of p)) x (values r) covered (found_in r k x f)))
+          sym (ap (λ v. option_map_or (λ t. covers t (span_of p)) v false) (ap route_span (sound.keyed k x f) ∙ of_class))
+          ∙ none_passes (is_cover route_span (span_of p)) x (values r) covered (found_in r k x f)))
     ] refl

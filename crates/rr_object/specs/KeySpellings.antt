@@ -10,7 +10,7 @@ use Rattle.rr_number.specs.AsNumbers.{as_number_of}
 use Rattle.rr_number.specs.Prefixes.{prefix_of}
 use Rattle.rr_number.specs.SetNames.{set_name_of, kind_of, is_any_set}
 use Rattle.rr_number.specs.AsSpans.{as_span_of}
-use Rattle.rr_number.specs.SpanTexts.{span_of}
+use Rattle.rr_number.specs.SpanTexts.{spelled_span}
 use Rattle.rr_object.specs.declared.class.Class.{Class}
 use Rattle.rr_object.specs.declared.class.Class.TheVariants as class
 use Rattle.rr_object.specs.declared.key.Key.{Key}
@@ -29,7 +29,7 @@ is_prefix_span span = is_power_of_two (size span) && (span.first % size span == 
 
 -- the span of addresses that an inetnum's key spells; it has to be that of a prefix (profile)
 unfoldable pub inetnum_span_of : List ℕ → Option Ends
-inetnum_span_of text = option_and_then (λ span. if is_prefix_span span then Some span else None) (span_of text)
+inetnum_span_of text = option_and_then (λ span. if is_prefix_span span then Some span else None) (spelled_span text)
 
 -- the name of an as-set, but not `AS-ANY` (RFC 2622, 5; profile)
 abbrev pub as_set_key_of : List ℕ → Option (List ℕ)

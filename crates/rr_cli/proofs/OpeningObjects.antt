@@ -1,8 +1,6 @@
 -- The objects of the opening text.
-use Rattle.std.proofs.Common.{◌≡◌, ◌+◌, List, [], ◌∷◌, refl, ap, ◌∙◌, lit<}
+use Rattle.std.proofs.Common.{◌≡◌, List, [], ◌∷◌, refl, ap}
 use Rattle.std.specs.Prelude.{Ok, true, codes, is_some}
-use Rattle.std.specs.Int.RustNames.{count_ones}
-use Rattle.std.proofs.lemmas.Nat.{ones_cat}
 use Rattle.std.specs.List.{list_all}
 use Rattle.rr_text.specs.Entries.{entries}
 use Rattle.hex.specs.Hex.{decode_pairs}
@@ -20,7 +18,7 @@ use Rattle.rr_number.specs.Addresses.{address_of, joined_of}
 use Rattle.rr_number.specs.SpanTexts.{spelled_span}
 use Rattle.rr_object.specs.declared.key.Key.{Key}
 use Rattle.rr_object.specs.declared.key.Key.TheVariants.{Mntner, AsBlock, Inetnum}
-use Rattle.rr_object.specs.KeySpellings.{key_of, key_at, key_of_text, inetnum_span_of}
+use Rattle.rr_object.specs.KeySpellings.{key_of, key_at, key_of_text}
 use Rattle.rr_object.specs.Objects.{Obj, names_of}
 use Rattle.rr_object.specs.Readings.{object_of, obj_of, obj_at, items_of, items_read, is_miscounted, has_bad_text, has_bad_authority, has_bad_membership, has_bad_value}
 use Rattle.rr_object.specs.Kinds.{occurs}
@@ -40,14 +38,6 @@ numbers_key = AsBlock (record { first = 0; last = 65535 })
 
 abbrev pub addresses_key : Key
 addresses_key = Inetnum (record { first = 0; last = 4294967295 })
-
--- the count of all addresses is a power of two
-one_and_none : count_ones 1 + count_ones 0 ≡ 1
-unfolding count_ones
-one_and_none = refl
-
-one_bit : count_ones 4294967296 ≡ 1
-one_bit = ones_cat 32 1 0 (lit< tt) ∙ one_and_none
 
 -- the opening objects
 abbrev pub root_object : Obj
@@ -69,8 +59,8 @@ unfolding object_of obj_of key_of key_at key_of_text as_span_of ends_between das
 numbers_read = refl
 
 addresses_read : object_of addresses_fields built_in_source ≡ Ok addresses_object
-unfolding object_of obj_of key_of key_at key_of_text inetnum_span_of spelled_span ends_between dashed_of cut_at address_of joined_of number_of is_miscounted items_of items_read occurs items is_name is_reserved value_meaning trim_end trim_start has_bad_value has_bad_text has_bad_authority has_bad_membership entries_behind
-addresses_read = rw one_bit
+unfolding object_of obj_of key_of key_at key_of_text spelled_span ends_between dashed_of cut_at address_of joined_of number_of is_miscounted items_of items_read occurs items is_name is_reserved value_meaning trim_end trim_start has_bad_value has_bad_text has_bad_authority has_bad_membership entries_behind
+addresses_read = refl
 
 -- each names the root maintainer alone
 root_named : names_of root_object ≡ codes "ROOT-MNT" ∷ []

@@ -4,7 +4,8 @@ use Rattle.std.proofs.lemmas.List.{length-map}
 use Rattle.std.proofs.lemmas.List.Sums.{length-filter}
 use Rattle.rr_text.specs.Fields.{Field, is_named}
 use Rattle.rr_object.specs.declared.kind.Kind.TheVariants.{Auth}
-use Rattle.rr_object.specs.Items.{is_filled, values_of}
+use Rattle.rr_bytes.specs.Parts.{is_filled}
+use Rattle.rr_object.specs.Items.{values_of}
 use Rattle.rr_object.specs.Kinds.{kind_name}
 use Rattle.rr_object.specs.Readings.{count_of, items_of}
 

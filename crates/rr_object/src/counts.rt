@@ -1,7 +1,8 @@
 //! How often attributes stand in an object.
 
 ghost use Rattle.std.specs.Prelude.{◌≡◌, not, IfOk, map};
-ghost use Rattle.rr_object.specs.Items.{is_filled, values_of};
+ghost use Rattle.rr_bytes.specs.Parts.{is_filled};
+ghost use Rattle.rr_object.specs.Items.{values_of};
 ghost use Rattle.rr_object.specs.Kinds.{kind_name};
 ghost use Rattle.rr_object.specs.Readings.{breaks, is_miscounted, is_miscounted_in, items_of, items_read, list_text};
 ghost use Rattle.rr_object.specs.declared.kind.Kind.TheVariants as kinds;

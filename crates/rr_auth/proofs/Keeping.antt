@@ -12,14 +12,14 @@ use Rattle.rr_object.specs.declared.key.Key.{Key}
 use Rattle.rr_object.specs.declared.key.Key.TheVariants.{Mntner, AsBlock, AutNum, Inetnum, Route, AsSet, RouteSet}
 use Rattle.rr_object.specs.Objects.{Obj, names_of}
 use Rattle.rr_object.specs.KeyOrders.{IsKeyValue, key_cmp}
-use Rattle.rr_auth.specs.Registries.{Reg, Sound, is_mntner_of, maintainer, names_another, names_nobody, keys_cross, crosses_some, with_mntner}
+use Rattle.rr_auth.specs.Registries.{Reg, Sound, is_mntner_of, maintainer, names_another, names_nobody, keys_cross, seen_by, with_mntner}
 use Rattle.rr_object.specs.declared.code.Code.{Code}
 use Rattle.rr_object.specs.declared.code.Code.TheVariants.{E10, E11, E12, E13, E14, E15, E16, E17, E18}
 use Rattle.rr_auth.specs.declared.item.Item.TheVariants.{Submit, Delete as DeleteItem}
 use Rattle.rr_auth.specs.declared.verdict.Verdict.{Verdict}
 use Rattle.rr_auth.specs.declared.verdict.Verdict.TheVariants.{Add, Change, Same, Delete, Refuse}
-use Rattle.rr_auth.specs.Passing.{passes}
-use Rattle.rr_auth.specs.Conditions.{names_unknown, unauthorised, lacks_origin, origin_refuses, is_uncovered, cover_refuses, is_in_use}
+use Rattle.rr_auth.specs.Passing.{names_pass}
+use Rattle.rr_auth.specs.Conditions.{names_unknown, unauthorised, lacks_origin, origin_refuses, is_uncovered, cover_refuses, crosses_some, is_in_use}
 use Rattle.rr_auth.specs.Verdicts.{verdict, submission, addition, change, deletion, place}
 use Rattle.rr_auth.proofs.Crossing.{keys_cross_back, crosses_itself}
 use Rattle.rr_auth.proofs.KeyLaws.{keys_total, same_key}
@@ -107,7 +107,7 @@ kept_or_changed false e = cc
 change_is_no_add : (r : Reg) (z : List (List ℕ)) (stored o : Obj) → change r z stored o ≡ Add → ⊥
 change_is_no_add r z stored o e =
     let ten = not_first (names_nobody r (names_of o)) E10 _ _ e (add_differs E10) in
-    let eleven = not_first (not (passes r z stored.maintainers)) E11 _ _ ten.1 (add_differs E11) in
+    let eleven = not_first (not (names_pass r z stored.maintainers)) E11 _ _ ten.1 (add_differs E11) in
     kept_or_changed (fields_eq stored.paragraph o.paragraph) eleven.1
 
 add_is_no_change : Add ≡ Change → ⊥
@@ -124,8 +124,8 @@ first_five r z k e =
 
 addition_is_no_change : (r : Reg) (z : List (List ℕ)) (o : Obj) → addition r z o ≡ Change → ⊥
 addition_is_no_change r z o e =
-    let ten = not_first (names_unknown r o) E10 _ _ e (change_differs E10) in
-    let eleven = not_first (unauthorised r z o) E11 _ _ ten.1 (change_differs E11) in
+    let ten = not_first (names_unknown (seen_by (Some o) r) o) E10 _ _ e (change_differs E10) in
+    let eleven = not_first (unauthorised (seen_by (Some o) r) z o) E11 _ _ ten.1 (change_differs E11) in
     first_five r z o.key eleven.1
 
 -- an addition that is not refused leaves a sound registry sound
@@ -133,8 +133,8 @@ pub sound_added : (r : Reg) (z : List (List ℕ)) (o : Obj) → Sound r → IsKe
 sound_added r z o s formed e =
     elim (get r o.key) as (λ stored. submission stored r z o ≡ Add → Sound (insert r o.key o)) [
       | None ↦ λ f.
-          let ten = not_first (names_unknown r o) E10 _ _ f (add_differs E10) in
-          let eleven = not_first (unauthorised r z o) E11 _ _ ten.1 (add_differs E11) in
+          let ten = not_first (names_unknown (seen_by (Some o) r) o) E10 _ _ f (add_differs E10) in
+          let eleven = not_first (unauthorised (seen_by (Some o) r) z o) E11 _ _ ten.1 (add_differs E11) in
           let sixteen = not_first (crosses_some r o.key) E16 _ _ eleven.1 (add_differs E16) in
           sound_insert r o s formed (seen_names r o.key o (names_of o) ten.0) (apart_from r o.key s sixteen.0)
       | Some stored ↦ λ f. absurd (change_is_no_add r z stored o f)
@@ -151,7 +151,7 @@ sound_changed r z o s formed e =
     ] refl e
 
 -- what stands in a registry after a deletion stood there before, under another key
-still_there : (r : Reg) (k l : Key) (x : Obj) → get (remove r k) l ≡ Some x → (eq_by_cmp key_cmp l k ≡ false) × (get r l ≡ Some x)
+pub still_there : (r : Reg) (k l : Key) (x : Obj) → get (remove r k) l ≡ Some x → (eq_by_cmp key_cmp l k ≡ false) × (get r l ≡ Some x)
 still_there r k l x f =
     elim (eq_by_cmp key_cmp l k) as (λ b. cond b None (get r l) ≡ Some x → (b ≡ false) × (get r l ≡ Some x)) [
       | true ↦ λ g. cc
@@ -224,7 +224,7 @@ sound_removed r z k s e =
     elim (get r k) as (λ stored. deletion stored r z k ≡ Delete → Sound (remove r k)) [
       | None ↦ λ f. absurd (delete_differs E18 (sym f))
       | Some stored ↦ λ f.
-          let eleven = not_first (not (passes r z stored.maintainers)) E11 _ _ f (delete_differs E11) in
+          let eleven = not_first (not (names_pass r z stored.maintainers)) E11 _ _ f (delete_differs E11) in
           let seventeen = not_first (is_in_use r k) E17 _ _ eleven.1 (delete_differs E17) in
           sound_without r k s seventeen.0
     ] e

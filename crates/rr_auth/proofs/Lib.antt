@@ -1,7 +1,10 @@
+pub mod Covers
 pub mod Crossing
 pub mod Keeping
 pub mod KeyLaws
 pub mod Members
+pub mod Nesting
+pub mod RouteSpace
 pub mod SecretSets
 pub mod Seen
 pub mod Steps

@@ -16,11 +16,13 @@ use Rattle.rr_auth.specs.declared.item.Item.{Item}
 use Rattle.rr_auth.specs.declared.item.Item.TheVariants.{Submit, Delete as DeleteItem}
 use Rattle.rr_auth.specs.declared.verdict.Verdict.TheVariants.{Add, Change, Same, Delete}
 use Rattle.rr_auth.specs.Authority.{lower_of, routes_of}
+use Rattle.rr_auth.specs.SetParents.{parent_object, parent_refuses}
 use Rattle.rr_auth.specs.Closest.{closest_inetnum, closest_block, closest_routes, origins}
-use Rattle.rr_auth.specs.Conditions.{names_unknown, lacks_origin, origin_refuses, is_uncovered, cover_refuses, space_passes, parent_object, parent_refuses, is_in_use}
+use Rattle.rr_auth.specs.Conditions.{names_unknown, lacks_origin, origin_refuses, is_uncovered, cover_refuses, space_passes, crosses_some, is_in_use}
 use Rattle.rr_auth.specs.Laws.{SameSecrets}
-use Rattle.rr_auth.specs.Passing.{fits_line, passes}
-use Rattle.rr_auth.specs.Registries.{Reg, maintainer, names_nobody, seen_by, crosses_some}
+use Rattle.rr_auth.specs.Passing.{fits_line, names_pass}
+use Rattle.rr_auth.specs.Registries.{Reg, maintainer, names_nobody, seen_by}
+use Rattle.rr_auth.proofs.Members.{both_or_none}
 use Rattle.rr_auth.specs.Verdicts.{first_of, place, submission, deletion, verdict}
 use Rattle.std.proofs.lemmas.Slice.Eq.{bytes_eq-Decides}
 
@@ -53,11 +55,6 @@ some_secret p (x ∷ xs) e =
       | false ↦ λ h g. let rest = some_secret p xs g in (rest.0, rest.1, or_later (bytes_eq rest.0 x) _ rest.2)
     ] refl e
 
-both_or_none : (a b : Bool) → (a ≡ true → b ≡ true) → (b ≡ true → a ≡ true) → a ≡ b
-both_or_none true b f g = sym (f refl)
-both_or_none false true f g = g refl
-both_or_none false false f g = refl
-
 carried : (p : List ℕ → Bool) (z y : List (List ℕ)) → SameSecrets z y → list_any p z ≡ true → list_any p y ≡ true
 carried p z y s e = let found = some_secret p z e in passing_secret p y found.0 (sym (s found.0) ∙ found.2) found.1
 
@@ -65,11 +62,11 @@ module _ (z y : List (List ℕ)) (s : SameSecrets z y) where
   any_secret : (p : List ℕ → Bool) → list_any p z ≡ list_any p y
   any_secret p = both_or_none _ _ (carried p z y s) (carried p y z (λ x. sym (s x)))
 
-  names_pass : (r : Reg) (names : List (List ℕ)) → passes r z names ≡ passes r y names
-  names_pass r names = λ i. list_any (λ n. option_map_or (λ o. list_any (λ line. any_secret (fits_line line) i) o.auths) (maintainer r n) false) names
+  names_say : (r : Reg) (names : List (List ℕ)) → names_pass r z names ≡ names_pass r y names
+  names_say r names = λ i. list_any (λ n. option_map_or (λ o. list_any (λ line. any_secret (fits_line line) i) o.auths) (maintainer r n) false) names
 
   origin_says : (r : Reg) (k : Key) → origin_refuses r z k ≡ origin_refuses r y k
-  origin_says r (Route p n) = λ i. not (option_map_or (λ x. names_pass r (routes_of x p) i) (get r (AutNum n)) false)
+  origin_says r (Route p n) = λ i. not (option_map_or (λ x. names_say r (routes_of x p) i) (get r (AutNum n)) false)
   origin_says r (Mntner n) = refl
   origin_says r (AsBlock n) = refl
   origin_says r (AutNum n) = refl
@@ -78,11 +75,11 @@ module _ (z y : List (List ℕ)) (s : SameSecrets z y) where
   origin_says r (RouteSet n) = refl
 
   space_says : (r : Reg) (p : PrefixParts) (closest : Option PrefixParts) → space_passes r z p closest ≡ space_passes r y p closest
-  space_says r p None = λ i. option_map_or (λ x. names_pass r (routes_of x p) i) (closest_inetnum r (span_of p)) false
-  space_says r p (Some q) = λ i. list_any (λ n. option_map_or (λ x. names_pass r (routes_of x p) i) (get r (Route q n)) false) (origins r q)
+  space_says r p None = λ i. option_map_or (λ x. names_say r (routes_of x p) i) (closest_inetnum r (span_of p)) false
+  space_says r p (Some q) = λ i. list_any (λ n. option_map_or (λ x. names_say r (routes_of x p) i) (get r (Route q n)) false) (origins r q)
 
-  below_says : (r : Reg) (cover : Option Obj) → option_map_or (λ x. passes r z (lower_of x)) cover false ≡ option_map_or (λ x. passes r y (lower_of x)) cover false
-  below_says r cover = λ i. option_map_or (λ x. names_pass r (lower_of x) i) cover false
+  below_says : (r : Reg) (cover : Option Obj) → option_map_or (λ x. names_pass r z (lower_of x)) cover false ≡ option_map_or (λ x. names_pass r y (lower_of x)) cover false
+  below_says r cover = λ i. option_map_or (λ x. names_say r (lower_of x) i) cover false
 
   parent_says : (r : Reg) (set : List ℕ → Key) (name : List ℕ) → parent_refuses r z set name ≡ parent_refuses r y set name
   parent_says r set name = λ i. option_map_or (λ parent. not (below_says r (parent_object r set parent) i)) (parent_of name) false
@@ -106,17 +103,17 @@ module _ (z y : List (List ℕ)) (s : SameSecrets z y) where
 
   submission_says : (r : Reg) (o : Obj) (stored : Option Obj) → submission stored r z o ≡ submission stored r y o
   submission_says r o None = λ i. first_of (
-      record { holds = names_unknown r o; code = E10 } ∷ (
-      record { holds = not (names_pass (seen_by (Some o) r) o.maintainers i); code = E11 } ∷ [])) (place_says r o.key i)
+      record { holds = names_unknown (seen_by (Some o) r) o; code = E10 } ∷ (
+      record { holds = not (names_say (seen_by (Some o) r) o.maintainers i); code = E11 } ∷ [])) (place_says r o.key i)
   submission_says r o (Some stored) = λ i. first_of (
       record { holds = names_nobody r (names_of o); code = E10 } ∷ (
-      record { holds = not (names_pass r stored.maintainers i); code = E11 } ∷ []))
+      record { holds = not (names_say r stored.maintainers i); code = E11 } ∷ []))
       (cond (fields_eq stored.paragraph o.paragraph) Same Change)
 
   deletion_says : (r : Reg) (k : Key) (stored : Option Obj) → deletion stored r z k ≡ deletion stored r y k
   deletion_says r k None = refl
   deletion_says r k (Some stored) = λ i. first_of (
-      record { holds = not (names_pass r stored.maintainers i); code = E11 } ∷ (
+      record { holds = not (names_say r stored.maintainers i); code = E11 } ∷ (
       record { holds = is_in_use r k; code = E17 } ∷ [])) Delete
 
 pub secrets_are_a_set : (r : Reg) (z y : List (List ℕ)) (i : Item) → SameSecrets z y → verdict r z i ≡ verdict r y i

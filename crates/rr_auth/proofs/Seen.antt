@@ -15,7 +15,7 @@ use Rattle.std.specs.List.{list_any}
 use Rattle.rr_number.specs.Prefixes.{PrefixParts}
 use Rattle.rr_auth.specs.Authority.{grants}
 use Rattle.rr_object.specs.Parts.{GrantParts}
-use Rattle.rr_auth.specs.Passing.{passes, name_passes}
+use Rattle.rr_auth.specs.Passing.{names_pass, name_passes}
 use Rattle.rr_auth.proofs.KeyLaws.{keys_total}
 
 -- mntners' keys tie where their names are equal
@@ -43,10 +43,10 @@ names_nobody_map r (e ∷ es) = ap (λ b. is_none (maintainer r e.name) || b) (n
 
 -- the names of the entries that pass a test pass where some entry passes it and its name passes
 pub passes_granted : (r : Reg) (z : List (List ℕ)) (p : PrefixParts) (es : List GrantParts)
-    → passes r z (map (λ g. g.name) (filter (grants p) es)) ≡ list_any (λ g. grants p g && name_passes r z g.name) es
+    → names_pass r z (map (λ g. g.name) (filter (grants p) es)) ≡ list_any (λ g. grants p g && name_passes r z g.name) es
 passes_granted r z p [] = refl
 passes_granted r z p (e ∷ es) =
-    elim (grants p e) as (λ b. passes r z (map (λ g. g.name) (cond b (e ∷ filter (grants p) es) (filter (grants p) es)))
+    elim (grants p e) as (λ b. names_pass r z (map (λ g. g.name) (cond b (e ∷ filter (grants p) es) (filter (grants p) es)))
     ≡ ((b && name_passes r z e.name) || list_any (λ g. grants p g && name_passes r z g.name) es)) [
       | true ↦ ap (λ b. name_passes r z e.name || b) (passes_granted r z p es)
       | false ↦ passes_granted r z p es

@@ -7,6 +7,8 @@ use Rattle.rr_object.specs.declared.key.Key.{Key}
 use Rattle.rr_object.specs.declared.key.Key.TheVariants.{AutNum}
 use Rattle.rr_object.specs.Parts.{GrantParts}
 use Rattle.rr_object.specs.Objects.{Obj}
+use Rattle.rr_auth.specs.Passing.{names_pass}
+use Rattle.rr_auth.specs.Registries.{Reg}
 
 -- Below an object its mnt-lower decides where it has one, else its mnt-by (RFC 2725, 9).
 abbrev pub lower_of : Obj → List (List ℕ)
@@ -27,3 +29,11 @@ abbrev pub routes_of : Obj → PrefixParts → List (List ℕ)
 routes_of o p =
     if length o.routes == 0 then (if is_aut_num o.key then o.maintainers else lower_of o)
     else map (λ g. g.name) (filter (grants p) o.routes)
+
+-- The names that decide below an object pass (RFC 2725, 9).
+abbrev pub lower_passes : Reg → List (List ℕ) → Obj → Bool
+lower_passes r secrets x = names_pass r secrets (lower_of x)
+
+-- The names that decide about routes of the prefix pass (RFC 2725, 9).
+abbrev pub routes_pass : Reg → List (List ℕ) → PrefixParts → Obj → Bool
+routes_pass r secrets p x = names_pass r secrets (routes_of x p)

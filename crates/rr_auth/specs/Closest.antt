@@ -35,6 +35,10 @@ abbrev pub is_closest : (Key → Option Ends) → List Obj → Ends → Obj → 
 is_closest class all s o =
     option_map_or (λ t. covers t s && list_all (is_no_closer class s t) all) (class o.key) false
 
+-- An object of the class covers s.
+abbrev pub is_cover : (Key → Option Ends) → Ends → Obj → Bool
+is_cover class s o = option_map_or (λ t. covers t s) (class o.key) false
+
 -- The closest object of a class that is listed.
 abbrev pub closest_of : (Key → Option Ends) → List Obj → Ends → Option Obj
 closest_of class all s = find (is_closest class all s) all

@@ -1,14 +1,25 @@
 -- What every verdict keeps.
-use Rattle.std.specs.Prelude.{◌≡◌, ℕ, List}
+use Rattle.std.specs.Prelude.{◌≡◌, ◌&&◌, ℕ, true, false, not, List, Some, if◌then◌else◌}
 use Rattle.std.specs.List.{list_any}
+use Rattle.std.specs.FinMap.{get, values}
+use Rattle.std.specs.Option.{option_map_or}
 use Rattle.std.specs.Str.{bytes_eq}
+use Rattle.rr_number.specs.Prefixes.{PrefixParts, span_of}
+use Rattle.rr_number.specs.Spans.{Ends, IsSpan}
 use Rattle.rr_object.specs.KeyOrders.{IsKeyValue}
 use Rattle.rr_object.specs.declared.code.Code.{Code}
+use Rattle.rr_object.specs.declared.key.Key.{Key}
+use Rattle.rr_object.specs.declared.key.Key.TheVariants.{Route}
+use Rattle.rr_object.specs.Objects.{Obj}
 use Rattle.rr_auth.specs.declared.item.Item.{Item}
 use Rattle.rr_auth.specs.declared.item.Item.TheVariants.{Submit, Delete}
 use Rattle.rr_auth.specs.declared.verdict.Verdict.TheVariants.{Refuse}
+use Rattle.rr_auth.specs.Authority.{routes_pass}
+use Rattle.rr_auth.specs.Closest.{block_span, closest_block, closest_inetnum, closest_routes, inetnum_span, is_closest, is_cover, route_prefix, route_span}
+use Rattle.rr_auth.specs.Conditions.{cover_refuses}
 use Rattle.rr_auth.specs.Registries.{Reg, Sound}
-use Rattle.rr_auth.specs.Verdicts.{verdict, step}
+use Rattle.rr_auth.specs.Sources.{IsReadIn, IsRegistryOf}
+use Rattle.rr_auth.specs.Verdicts.{is_met_by, verdict, step}
 
 -- The key that an item is about is well formed.
 abbrev pub IsItem : Item → Type 0
@@ -17,16 +28,58 @@ IsItem (Delete k) = IsKeyValue k
 
 -- An item that is refused leaves the registry as it was.
 abbrev pub RefusalLeaves : Type 0
-RefusalLeaves = (r : Reg) (z : List (List ℕ)) (i : Item) (code : Code) → verdict r z i ≡ Refuse code → step r z i ≡ r
+RefusalLeaves =
+    (r : Reg) (secrets : List (List ℕ)) (i : Item) (code : Code) → verdict r secrets i ≡ Refuse code
+    → step r secrets i ≡ r
 
 -- A sound registry stays sound, whatever is submitted.
 abbrev pub StaysSound : Type 0
-StaysSound = (r : Reg) (z : List (List ℕ)) (i : Item) → Sound r → IsItem i → Sound (step r z i)
+StaysSound = (r : Reg) (secrets : List (List ℕ)) (i : Item) → Sound r → IsItem i → Sound (step r secrets i)
+
+-- A registry of a source stays one, whatever is submitted that is read in that source.
+abbrev pub StaysOfSource : Type 0
+StaysOfSource =
+    (source : List ℕ) (r : Reg) (secrets : List (List ℕ)) (i : Item) → IsRegistryOf source r → IsReadIn source i
+    → IsRegistryOf source (step r secrets i)
+
+-- Each verdict is one that its item can meet.
+abbrev pub VerdictsAreMet : Type 0
+VerdictsAreMet = (r : Reg) (secrets : List (List ℕ)) (i : Item) → is_met_by i (verdict r secrets i) ≡ true
 
 -- Two lists hold the same secrets, in whatever order and however often each.
 abbrev pub SameSecrets : List (List ℕ) → List (List ℕ) → Type 0
-SameSecrets z y = (secret : List ℕ) → list_any (bytes_eq secret) z ≡ list_any (bytes_eq secret) y
+SameSecrets secrets others = (secret : List ℕ) → list_any (bytes_eq secret) secrets ≡ list_any (bytes_eq secret) others
 
 -- Secrets are a set: a verdict depends on which are given, and on nothing else of their list.
 abbrev pub SecretsAreASet : Type 0
-SecretsAreASet = (r : Reg) (z y : List (List ℕ)) (i : Item) → SameSecrets z y → verdict r z i ≡ verdict r y i
+SecretsAreASet =
+    (r : Reg) (secrets others : List (List ℕ)) (i : Item) → SameSecrets secrets others
+    → verdict r secrets i ≡ verdict r others i
+
+-- In a sound registry there is one closest inetnum to a span at most: each one that is closest is the one that is given.
+abbrev pub OneClosestInetnum : Type 0
+OneClosestInetnum =
+    (r : Reg) (s : Ends) (k : Key) (o : Obj) → Sound r → IsSpan s → get r k ≡ Some o
+    → is_closest inetnum_span (values r) s o ≡ true → closest_inetnum r s ≡ Some o
+
+-- Of as-blocks likewise.
+abbrev pub OneClosestBlock : Type 0
+OneClosestBlock =
+    (r : Reg) (s : Ends) (k : Key) (o : Obj) → Sound r → IsSpan s → get r k ≡ Some o
+    → is_closest block_span (values r) s o ≡ true → closest_block r s ≡ Some o
+
+-- In a sound registry all closest routes to a prefix have one prefix, the one that is given.
+abbrev pub ClosestRoutesAgree : Type 0
+ClosestRoutesAgree =
+    (r : Reg) (p : PrefixParts) (k : Key) (o : Obj) → Sound r → get r k ≡ Some o
+    → is_closest route_span (values r) (span_of p) o ≡ true → closest_routes r p ≡ route_prefix o.key
+
+-- E13 of a route in a sound registry: the names that decide about it pass for no closest route, or, where no route covers
+-- it, not for the closest inetnum.
+abbrev pub RoutesAskTheClosest : Type 0
+RoutesAskTheClosest =
+    (r : Reg) (secrets : List (List ℕ)) (p : PrefixParts) (n : ℕ) → Sound r
+    → cover_refuses r secrets (Route p n) ≡ not (
+    if list_any (is_cover route_span (span_of p)) (values r)
+    then list_any (λ x. is_closest route_span (values r) (span_of p) x && routes_pass r secrets p x) (values r)
+    else option_map_or (routes_pass r secrets p) (closest_inetnum r (span_of p)) false)

@@ -3,6 +3,8 @@ pub mod Closest
 pub mod Conditions
 pub mod Laws
 pub mod Passing
-pub mod Places
+pub mod Private
 pub mod Registries
+pub mod SetParents
+pub mod Sources
 pub mod Verdicts

@@ -1,4 +1,5 @@
--- Which maintainers' names pass with a set of secrets.
+-- Who passes with a set of secrets: a secret fits a line, a maintainer passes where some secret fits one of its lines, and a
+-- list of names passes where one of them is that of a maintainer that passes.
 use Rattle.std.specs.Prelude.{ℕ, Bool, false, ◌++◌, List}
 use Rattle.std.specs.List.{list_any}
 use Rattle.std.specs.Option.{option_map_or}
@@ -12,14 +13,14 @@ use Rattle.rr_auth.specs.Registries.{Reg, maintainer}
 abbrev pub fits_line : AuthParts → List ℕ → Bool
 fits_line line secret = bytes_eq (sha256 (line.salt ++ secret)) line.digest
 
--- Some secret fits one of the maintainer's lines (profile).
-abbrev pub fits : List (List ℕ) → Obj → Bool
-fits secrets o = list_any (λ line. list_any (fits_line line) secrets) o.auths
+-- A maintainer passes where some secret fits one of its lines (profile).
+abbrev pub passes : List (List ℕ) → Obj → Bool
+passes secrets o = list_any (λ line. list_any (fits_line line) secrets) o.auths
 
--- The name is that of a maintainer which some secret fits.
+-- The name is that of a maintainer that passes.
 abbrev pub name_passes : Reg → List (List ℕ) → List ℕ → Bool
-name_passes r secrets name = option_map_or (fits secrets) (maintainer r name) false
+name_passes r secrets name = option_map_or (passes secrets) (maintainer r name) false
 
 -- A list of names passes where one of them does: some secret fits one of the maintainers named (RFC 2622, 3).
-abbrev pub passes : Reg → List (List ℕ) → List (List ℕ) → Bool
-passes r secrets names = list_any (name_passes r secrets) names
+abbrev pub names_pass : Reg → List (List ℕ) → List (List ℕ) → Bool
+names_pass r secrets names = list_any (name_passes r secrets) names

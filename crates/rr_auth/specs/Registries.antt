@@ -38,10 +38,6 @@ keys_cross (AsBlock s) (AsBlock t) = crosses s t
 keys_cross (Inetnum s) (Inetnum t) = crosses s t
 keys_cross _ _ = false
 
--- Some object of the registry crosses the key.
-abbrev pub crosses_some : Reg → Key → Bool
-crosses_some r k = list_any (λ o. keys_cross o.key k) (values r)
-
 -- The key is that of the mntner of this name.
 abbrev pub is_mntner_of : List ℕ → Key → Bool
 is_mntner_of name (Mntner n) = bytes_eq n name

@@ -1,18 +1,18 @@
 -- The verdict on an item, and the registry after it.
-use Rattle.std.specs.Prelude.{ℕ, Bool, not, List, [], ◌∷◌, Option, None, Some, if◌then◌else◌}
+use Rattle.std.specs.Prelude.{ℕ, Bool, true, false, List, [], ◌∷◌, Option, None, Some, if◌then◌else◌}
+use Rattle.std.specs.Option.{option_map_or}
 use Rattle.std.specs.FinMap.{get, insert, remove}
 use Rattle.rr_text.specs.Fields.{fields_eq}
 use Rattle.rr_object.specs.declared.code.Code.{Code}
 use Rattle.rr_object.specs.declared.code.Code.TheVariants.{E10, E11, E12, E13, E14, E15, E16, E17, E18}
 use Rattle.rr_object.specs.declared.key.Key.{Key}
-use Rattle.rr_object.specs.Objects.{Obj, names_of}
+use Rattle.rr_object.specs.Objects.{Obj}
 use Rattle.rr_auth.specs.declared.item.Item.{Item}
 use Rattle.rr_auth.specs.declared.item.Item.TheVariants.{Submit, Delete as DeleteItem}
 use Rattle.rr_auth.specs.declared.verdict.Verdict.{Verdict}
 use Rattle.rr_auth.specs.declared.verdict.Verdict.TheVariants.{Add, Change, Same, Delete, Refuse}
-use Rattle.rr_auth.specs.Registries.{Reg, names_nobody, crosses_some}
-use Rattle.rr_auth.specs.Passing.{passes}
-use Rattle.rr_auth.specs.Conditions.{names_unknown, unauthorised, lacks_origin, origin_refuses, is_uncovered, cover_refuses, is_in_use}
+use Rattle.rr_auth.specs.Registries.{Reg, seen_by}
+use Rattle.rr_auth.specs.Conditions.{names_unknown, unauthorised, is_uncovered, cover_refuses, lacks_origin, origin_refuses, crosses_some, is_in_use, is_unregistered}
 
 -- A condition of refusal with its code.
 pub record Refusal : Type 0 where
@@ -26,43 +26,53 @@ first_of (c ∷ cs) v = if c.holds then Refuse c.code else first_of cs v
 
 -- What the place of a new object in the hierarchy says of it (RFC 2725, 9; profile).
 abbrev pub place : Reg → List (List ℕ) → Key → Verdict
-place r z k = first_of (
+place r secrets k = first_of (
     record { holds = crosses_some r k; code = E16 } ∷ (
     record { holds = lacks_origin r k; code = E14 } ∷ (
-    record { holds = origin_refuses r z k; code = E15 } ∷ (
+    record { holds = origin_refuses r secrets k; code = E15 } ∷ (
     record { holds = is_uncovered r k; code = E12 } ∷ (
-    record { holds = cover_refuses r z k; code = E13 } ∷ []))))) Add
+    record { holds = cover_refuses r secrets k; code = E13 } ∷ []))))) Add
 
--- An object whose key is new is added (RFC 2725, 9; profile).
+-- An object whose key is new is added. Its names are looked up in the registry with itself, where it is a mntner: so a
+-- new mntner may name itself, and its own secret counts (RFC 2725, 9; profile).
 abbrev pub addition : Reg → List (List ℕ) → Obj → Verdict
-addition r z o = first_of (
-    record { holds = names_unknown r o; code = E10 } ∷ (
-    record { holds = unauthorised r z o; code = E11 } ∷ [])) (place r z o.key)
+addition r secrets o = first_of (
+    record { holds = names_unknown (seen_by (Some o) r) o; code = E10 } ∷ (
+    record { holds = unauthorised (seen_by (Some o) r) secrets o; code = E11 } ∷ [])) (place r secrets o.key)
 
 -- An object whose key is registered is a change, which the stored mnt-by decides; the same text changes nothing
 -- (RFC 2725, 9; profile).
 abbrev pub change : Reg → List (List ℕ) → Obj → Obj → Verdict
-change r z stored o = first_of (
-    record { holds = names_nobody r (names_of o); code = E10 } ∷ (
-    record { holds = not (passes r z stored.maintainers); code = E11 } ∷ []))
+change r secrets stored o = first_of (
+    record { holds = names_unknown r o; code = E10 } ∷ (
+    record { holds = unauthorised r secrets stored; code = E11 } ∷ []))
     (if fields_eq stored.paragraph o.paragraph then Same else Change)
 
 -- An object is an addition where no object is stored under its key, else a change of that one (RFC 2725, 9).
 abbrev pub submission : Option Obj → Reg → List (List ℕ) → Obj → Verdict
-submission None r z o = addition r z o
-submission (Some stored) r z o = change r z stored o
+submission None r secrets o = addition r secrets o
+submission (Some stored) r secrets o = change r secrets stored o
 
 -- A deletion needs the object, its mnt-by, and that no other object names it (RFC 2725, 9; profile).
 abbrev pub deletion : Option Obj → Reg → List (List ℕ) → Key → Verdict
-deletion None r z k = Refuse E18
-deletion (Some stored) r z k = first_of (
-    record { holds = not (passes r z stored.maintainers); code = E11 } ∷ (
-    record { holds = is_in_use r k; code = E17 } ∷ [])) Delete
+deletion stored r secrets k = first_of (
+    record { holds = is_unregistered stored; code = E18 } ∷ (
+    record { holds = option_map_or (unauthorised r secrets) stored false; code = E11 } ∷ (
+    record { holds = is_in_use r k; code = E17 } ∷ []))) Delete
 
 -- The verdict on an item: the first code in this order that holds (profile).
 abbrev pub verdict : Reg → List (List ℕ) → Item → Verdict
-verdict r z (Submit o) = submission (get r o.key) r z o
-verdict r z (DeleteItem k) = deletion (get r k) r z k
+verdict r secrets (Submit o) = submission (get r o.key) r secrets o
+verdict r secrets (DeleteItem k) = deletion (get r k) r secrets k
+
+-- A verdict that an item can meet: an object is never deleted by being submitted, and what is to be deleted is deleted
+-- or refused (profile).
+abbrev pub is_met_by : Item → Verdict → Bool
+is_met_by (Submit o) Delete = false
+is_met_by (Submit o) _ = true
+is_met_by (DeleteItem k) Delete = true
+is_met_by (DeleteItem k) (Refuse code) = true
+is_met_by (DeleteItem k) _ = false
 
 -- The registry with an item's object under its key, in place of one that stood there.
 abbrev pub added : Reg → Item → Reg
@@ -84,4 +94,4 @@ after (Refuse code) r i = r
 
 -- The registry after an item: what its verdict leaves.
 abbrev pub step : Reg → List (List ℕ) → Item → Reg
-step r z i = after (verdict r z i) r i
+step r secrets i = after (verdict r secrets i) r i

@@ -2,10 +2,11 @@
 
 ghost use Rattle.std.specs.Prelude.{◌≡◌, ◌&&◌, map, filter, IfOk};
 ghost use Rattle.std.specs.List.{list_any};
+ghost use Rattle.rr_number.specs.Prefixes.{PrefixParts};
 ghost use Rattle.rr_number.specs.Ranges.{admits};
-ghost use Rattle.rr_auth.specs.Authority.{grants, is_aut_num, lower_of, routes_of};
-ghost use Rattle.rr_auth.specs.Passing.{name_passes, passes};
-ghost use Rattle.rr_auth.specs.Conditions.{lower_passes, routes_pass};
+ghost use Rattle.rr_auth.specs.Authority.{grants, is_aut_num, lower_of, lower_passes, routes_of, routes_pass};
+ghost use Rattle.rr_auth.specs.Passing.{name_passes, names_pass};
+ghost use Rattle.rr_auth.specs.Private.{names_among};
 
 use crate::book::Book;
 use crate::passing::{name_passes, names_pass};
@@ -31,12 +32,31 @@ pub fn lower_names(object: &Object) -> &[Name]
 pub fn route_names(alloc: Global, object: &Object, prefix: Prefix) -> Result<Vec<Name>, AllocError>
     ensures { IfOk result (λ names. names.items ≡ routes_of object.now prefix) }
 {
+    match names_for_routes(object) {
+        RouteNames::Granted(entries) => granted_names(alloc, entries, prefix),
+        RouteNames::Named(names) => copy_names(alloc, names),
+    }
+}
+
+/// Whose names decide about routes below an object.
+enum RouteNames<'a> {
+    /// Those whose entries of mnt-routes grant the route's prefix.
+    Granted(&'a [Grant]),
+    /// These, whatever the prefix.
+    Named(&'a [Name]),
+}
+
+/// Who decides about routes below the object: its mnt-routes where it has any; else the mnt-by of an aut-num, and of
+/// another object `lower_names` (RFC 2725, 9; profile).
+fn names_for_routes(object: &Object) -> RouteNames<'_>
+    ensures { (p : PrefixParts) → names_among p result ≡ routes_of object.now p }
+{
     if !object.routes().is_empty() {
-        granted_names(alloc, object.routes(), prefix)
+        RouteNames::Granted(object.routes())
     } else if is_aut_num(object.key()) {
-        copy_names(alloc, object.maintainers())
+        RouteNames::Named(object.maintainers())
     } else {
-        copy_names(alloc, lower_names(object))
+        RouteNames::Named(lower_names(object))
     }
 }
 
@@ -96,12 +116,9 @@ pub fn lower_passes<B: Book>(book: &B, secrets: &Secrets, object: &Object) -> bo
 pub fn routes_pass<B: Book>(book: &B, secrets: &Secrets, object: &Object, prefix: Prefix) -> bool
     ensures { result ≡ routes_pass (B.contents book.now) secrets.now prefix object.now }
 {
-    if !object.routes().is_empty() {
-        some_grant_passes(book, secrets, object.routes(), prefix)
-    } else if is_aut_num(object.key()) {
-        names_pass(book, None, secrets, object.maintainers())
-    } else {
-        lower_passes(book, secrets, object)
+    match names_for_routes(object) {
+        RouteNames::Granted(entries) => some_grant_passes(book, secrets, entries, prefix),
+        RouteNames::Named(names) => names_pass(book, None, secrets, names),
     }
 }
 
@@ -113,7 +130,7 @@ fn some_grant_passes<B: Book>(
     entries: &[Grant],
     prefix: Prefix,
 ) -> bool
-    ensures { result ≡ passes (B.contents book.now) secrets.now (map (λ g. g.name) (filter (grants prefix) entries.now)) }
+    ensures { result ≡ names_pass (B.contents book.now) secrets.now (map (λ g. g.name) (filter (grants prefix) entries.now)) }
 {
     some_entry_passes(book, secrets, entries, prefix)
 }

@@ -12,7 +12,8 @@ use std::alloc::{AllocError, Global};
 
 /// One sound registry. Its calls are answers over a finite map from keys to objects; none but `origins` takes memory.
 pub trait Book {
-    ghost use Rattle.rr_auth.specs.Registries.{Reg, Sound, maintainer, crosses_some, is_named};
+    ghost use Rattle.rr_auth.specs.Registries.{Reg, Sound, maintainer, is_named};
+    ghost use Rattle.rr_auth.specs.Conditions.{crosses_some};
     ghost use Rattle.rr_auth.specs.Closest.{closest_inetnum, closest_block, closest_routes, origins};
 
     ghost contents: { Self → Reg };

@@ -6,8 +6,10 @@ ghost use Rattle.std.specs.Option.{option_and_then, option_copied};
 ghost use Rattle.std.specs.FinMap.{get};
 ghost use Rattle.rr_number.specs.Prefixes.{span_of};
 ghost use Rattle.rr_auth.specs.Closest.{closest_inetnum};
-ghost use Rattle.rr_auth.specs.Conditions.{is_in_use, lacks_origin, lower_passes, origin_refuses, parent_key, route_passes, routes_pass};
-ghost use Rattle.rr_auth.specs.Places.{below, below_parent, below_space};
+ghost use Rattle.rr_auth.specs.Authority.{lower_passes, routes_pass};
+ghost use Rattle.rr_auth.specs.Conditions.{is_in_use, lacks_origin, origin_refuses, route_passes};
+ghost use Rattle.rr_auth.specs.Private.{below, below_parent, below_space};
+ghost use Rattle.rr_auth.specs.SetParents.{parent_key};
 ghost use Rattle.rr_auth.specs.Verdicts.{addition, change, deletion, first_of, place, submission, verdict};
 
 use crate::authority::{lower_passes, routes_pass};

@@ -1,6 +1,6 @@
 //! Laws of verdicts, for readers and for the proofs of other crates. Nothing calls these functions.
 
-ghost use Rattle.rr_auth.specs.Laws.{RefusalLeaves, SecretsAreASet, StaysSound};
+ghost use Rattle.rr_auth.specs.Laws.{ClosestRoutesAgree, OneClosestBlock, OneClosestInetnum, RefusalLeaves, RoutesAskTheClosest, SecretsAreASet, StaysOfSource, StaysSound, VerdictsAreMet};
 
 /// An item that is refused leaves the registry as it was.
 #[tactic(auto, using(crate::proofs::Steps::refusal_leaves))]
@@ -14,8 +14,39 @@ pub fn registries_stay_sound()
     ensures { StaysSound }
 {}
 
+/// A registry of a source stays one, whatever is submitted that is read in that source.
+pub fn registries_stay_of_their_source()
+    ensures { StaysOfSource }
+{}
+
+/// A submission is never answered as a deletion, nor a deletion as an addition or a change.
+pub fn verdicts_are_met_by_their_items()
+    ensures { VerdictsAreMet }
+{}
+
 /// Secrets are a set: a verdict depends on which are given, and on nothing else of their list.
 #[tactic(auto, using(crate::proofs::SecretSets::secrets_are_a_set))]
 pub fn only_which_secrets_are_given_matters()
     ensures { SecretsAreASet }
+{}
+
+/// A span has one closest inetnum at most.
+pub fn closest_inetnums_are_one()
+    ensures { OneClosestInetnum }
+{}
+
+/// A span has one closest as-block at most.
+pub fn closest_blocks_are_one()
+    ensures { OneClosestBlock }
+{}
+
+/// The closest routes to a prefix have one prefix.
+pub fn closest_routes_have_one_prefix()
+    ensures { ClosestRoutesAgree }
+{}
+
+/// A route is refused by the space that it lies in where no closest route authorises it, or, where no route covers it,
+/// the closest inetnum doesn't.
+pub fn routes_ask_the_closest_routes_or_inetnum()
+    ensures { RoutesAskTheClosest }
 {}

@@ -17,6 +17,6 @@ pub use authority::{lower_names, route_names};
 pub use book::Book;
 pub use item::Item;
 pub use judging::judge;
-pub use passing::fits;
+pub use passing::passes;
 pub use secrets::{Secret, Secrets};
 pub use verdict::Verdict;

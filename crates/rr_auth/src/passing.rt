@@ -4,7 +4,7 @@ ghost use Rattle.std.specs.Prelude.{◌≡◌, is_none};
 ghost use Rattle.std.specs.List.{list_any};
 ghost use Rattle.std.specs.Option.{option_copied};
 ghost use Rattle.rr_object.specs.Objects.{names_of};
-ghost use Rattle.rr_auth.specs.Passing.{fits, fits_line, name_passes, passes};
+ghost use Rattle.rr_auth.specs.Passing.{fits_line, name_passes, names_pass, passes};
 ghost use Rattle.rr_auth.specs.Registries.{is_mntner_of, maintainer, names_nobody, seen_by};
 
 use crate::book::Book;
@@ -13,10 +13,10 @@ use rr_number::Name;
 use rr_object::{Auth, Grant, Key, Object};
 use sha2::{Digest, Sha256};
 
-/// Whether some secret fits one of the maintainer's lines: SHA-256 of the salt and then the secret is the line's
-/// digest (profile; FIPS 180-4).
-pub fn fits(maintainer: &Object, secrets: &Secrets) -> bool
-    ensures { result ≡ fits secrets.now maintainer.now }
+/// Whether the maintainer passes: some secret fits one of its lines, so that SHA-256 of the salt and then the secret is
+/// the line's digest (profile; FIPS 180-4).
+pub fn passes(maintainer: &Object, secrets: &Secrets) -> bool
+    ensures { result ≡ passes secrets.now maintainer.now }
 {
     some_line_fits(maintainer.auths(), secrets.as_slice())
 }
@@ -72,12 +72,12 @@ fn is_mntner_of(key: &Key, name: &Name) -> bool
     }
 }
 
-/// Whether the name is that of a maintainer which some secret fits.
+/// Whether the name is that of a maintainer that passes.
 pub fn name_passes<B: Book>(book: &B, own: Option<&Object>, secrets: &Secrets, name: &Name) -> bool
     ensures { result ≡ name_passes (seen_by (option_copied own.entry) (B.contents book.now)) secrets.now name.now }
 {
     match maintainer_seen(book, own, name) {
-        Some(maintainer) => fits(maintainer, secrets),
+        Some(maintainer) => passes(maintainer, secrets),
         None => false,
     }
 }
@@ -89,7 +89,7 @@ pub fn names_pass<B: Book>(
     secrets: &Secrets,
     names: &[Name],
 ) -> bool
-    ensures { result ≡ passes (seen_by (option_copied own.entry) (B.contents book.now)) secrets.now names.now }
+    ensures { result ≡ names_pass (seen_by (option_copied own.entry) (B.contents book.now)) secrets.now names.now }
 {
     names
         .iter()

@@ -71,6 +71,15 @@ impl Secrets {
         Ok(())
     }
 
+    /// Adds the secret of these bytes, which it keeps; the error is want of memory and leaves the secrets as they were.
+    pub fn add_owned(&mut self, bytes: Vec<u8>) -> Result<(), AllocError>
+        ensures ok { OnOk result (self.new ≡ self.old ++ bytes.items ∷ []) }
+        ensures err { OnErr result (self.new ≡ self.old) }
+    {
+        self.list.push(Secret { bytes })?;
+        Ok(())
+    }
+
     /// Adds these secrets too, all or none; the error is want of memory and leaves the secrets as they were.
     pub fn add_all(&mut self, more: Secrets) -> Result<(), AllocError>
         ensures ok { OnOk result (self.new ≡ self.old ++ more) }

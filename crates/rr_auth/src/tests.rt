@@ -1,5 +1,5 @@
 //! Published digests as lines of a maintainer.
-use crate::{Secrets, fits};
+use crate::{Secrets, passes};
 use rr_number::Name;
 use rr_object::Object;
 use rr_text::next_paragraph;
@@ -16,12 +16,12 @@ fn maintainer(alloc: Global, line: &str) -> Result<Object, Fail> {
     Ok(Object::read(alloc, paragraph, &source)?)
 }
 
-/// Whether the secret alone fits the line.
-fn fits_alone(alloc: Global, line: &str, secret: &str) -> Result<bool, Fail> {
+/// Whether a maintainer with the line passes with the secret alone.
+fn passes_alone(alloc: Global, line: &str, secret: &str) -> Result<bool, Fail> {
     let maintainer = maintainer(alloc, line)?;
     let mut secrets = Secrets::new(alloc);
     secrets.add(alloc, secret.as_bytes())?;
-    Ok(fits(&maintainer, &secrets))
+    Ok(passes(&maintainer, &secrets))
 }
 
 /// The messages of the examples of FIPS 180-4 with their digests, and the second one cut into salt and secret.
@@ -51,8 +51,8 @@ const PUBLISHED: [(&str, &str); 5] = [
 #[test]
 fn published_digests_fit_their_messages_alone(rt: HostRuntime) -> Result<(), Fail> {
     for (line, message) in &PUBLISHED {
-        assert!(rt; fits_alone(rt.alloc(), line, message)?, "{line}");
-        assert!(rt; !fits_alone(rt.alloc(), line, "bc")?, "{line}");
+        assert!(rt; passes_alone(rt.alloc(), line, message)?, "{line}");
+        assert!(rt; !passes_alone(rt.alloc(), line, "bc")?, "{line}");
     }
     Ok(())
 }

@@ -206,10 +206,7 @@ fn is_same_prefix(prefix: Prefix, other: Prefix) -> bool
 /// Puts the object into its place among objects in the order of their keys, for one of its key that stood there, which is
 /// given back; the error is want of memory and gives the new one back.
 #[tactic(auto, using(crate::proofs::Places::put_in_place))]
-pub fn put(
-    objects: &mut Vec<Object>,
-    object: Object,
-) -> Result<Option<Object>, AllocFailed<Object>>
+pub fn put(objects: &mut Vec<Object>, object: Object) -> Result<Option<Object>, AllocFailed<Object>>
     requires { is_in_order objects.old.items ≡ true }
     ensures ok { OnOk result (objects.new.items ≡ put_in object objects.old.items) }
     ensures old { IfOk result (λ old. old ≡ find (λ o. eq_by_cmp key_cmp object.key o.key) objects.old.items) }

@@ -1,6 +1,5 @@
 //! Lists of objects taken as registries.
-use rr_desk::opening;
-use rr_desk::PlainDesk;
+use rr_desk::{PlainDesk, opening};
 use rr_io::{Counted, write_all};
 use rr_object::Object;
 use rr_registry::{LoadFault, Registry};

@@ -4,23 +4,26 @@ use Rattle.std.specs.Prelude.{Ok, true, codes, is_some}
 use Rattle.std.specs.List.{list_all}
 use Rattle.rr_text.specs.Entries.{entries}
 use Rattle.hex.specs.Hex.{decode_pairs}
-use Rattle.rr_text.specs.Bytes.{trim_start, trim_end}
+use Rattle.rr_bytes.specs.Trims.{trim_start, trim_end}
 use Rattle.rr_text.specs.Meanings.{value_meaning}
-use Rattle.rr_number.specs.Names.{is_name, is_reserved}
-use Rattle.rr_number.specs.Cuts.{cut_at}
+use Rattle.rr_bytes.specs.NameBytes.{is_name}
+use Rattle.rr_number.specs.Names.{is_reserved}
+use Rattle.rr_bytes.specs.Cuts.{cut_at}
 use Rattle.rr_number.specs.Dashes.{dashed_of}
 use Rattle.rr_number.specs.Numerals.{number_of}
 use Rattle.rr_number.specs.AsNumbers.{as_number_of}
-use Rattle.rr_number.specs.AsSpans.{as_span_of, as_pair_of}
+use Rattle.rr_number.specs.AsSpans.{as_span_of}
+use Rattle.rr_number.specs.EndsTexts.{ends_between}
 use Rattle.rr_number.specs.Addresses.{address_of, joined_of}
-use Rattle.rr_number.specs.SpanTexts.{span_of, pair_of}
+use Rattle.rr_number.specs.SpanTexts.{spelled_span}
 use Rattle.rr_object.specs.declared.key.Key.{Key}
 use Rattle.rr_object.specs.declared.key.Key.TheVariants.{Mntner, AsBlock, Inetnum}
 use Rattle.rr_object.specs.KeySpellings.{key_of, key_at, key_of_text}
 use Rattle.rr_object.specs.Objects.{Obj, names_of}
 use Rattle.rr_object.specs.Readings.{object_of, obj_of, obj_at, items_of, items_read, is_miscounted, has_bad_text, has_bad_authority, has_bad_membership, has_bad_value}
 use Rattle.rr_object.specs.Kinds.{occurs}
-use Rattle.rr_object.specs.Items.{items, words, is_keyword}
+use Rattle.rr_bytes.specs.LetterCase.{is_keyword}
+use Rattle.rr_object.specs.Items.{items, words}
 use Rattle.rr_object.specs.Auths.{salted_digest_of, auth_of_words}
 use Rattle.rr_object.specs.Grants.{entries_behind}
 use Rattle.rr_desk.specs.Opening.{AreObjects, are_readable, built_in_source, opening_text}
@@ -52,11 +55,11 @@ unfolding object_of obj_of key_of key_at key_of_text is_miscounted items_of item
 root_read = refl
 
 numbers_read : object_of numbers_fields built_in_source ≡ Ok numbers_object
-unfolding object_of obj_of key_of key_at key_of_text as_span_of as_pair_of dashed_of cut_at as_number_of number_of is_miscounted items_of items_read occurs items is_name is_reserved value_meaning trim_end trim_start has_bad_value has_bad_text has_bad_authority has_bad_membership entries_behind
+unfolding object_of obj_of key_of key_at key_of_text as_span_of ends_between dashed_of cut_at as_number_of number_of is_miscounted items_of items_read occurs items is_name is_reserved value_meaning trim_end trim_start has_bad_value has_bad_text has_bad_authority has_bad_membership entries_behind
 numbers_read = refl
 
 addresses_read : object_of addresses_fields built_in_source ≡ Ok addresses_object
-unfolding object_of obj_of key_of key_at key_of_text span_of pair_of dashed_of cut_at address_of joined_of number_of is_miscounted items_of items_read occurs items is_name is_reserved value_meaning trim_end trim_start has_bad_value has_bad_text has_bad_authority has_bad_membership entries_behind
+unfolding object_of obj_of key_of key_at key_of_text spelled_span ends_between dashed_of cut_at address_of joined_of number_of is_miscounted items_of items_read occurs items is_name is_reserved value_meaning trim_end trim_start has_bad_value has_bad_text has_bad_authority has_bad_membership entries_behind
 addresses_read = refl
 
 -- each names the root maintainer alone

@@ -5,15 +5,17 @@ use Rattle.std.specs.List.{list_any}
 use Rattle.std.specs.Ordering.{eq_by_cmp}
 use Rattle.std.specs.FinMap.{empty, insert}
 use Rattle.hex.specs.Hex.{decode_pairs}
-use Rattle.rr_text.specs.Bytes.{trim_start, trim_end}
+use Rattle.rr_bytes.specs.Trims.{trim_start, trim_end}
 use Rattle.rr_text.specs.Entries.{entries}
 use Rattle.rr_text.specs.Meanings.{value_meaning}
-use Rattle.rr_number.specs.Names.{is_name, is_reserved}
+use Rattle.rr_bytes.specs.NameBytes.{is_name}
+use Rattle.rr_number.specs.Names.{is_reserved}
 use Rattle.rr_object.specs.Objects.{Obj, names_of}
 use Rattle.rr_object.specs.KeyOrders.{key_cmp}
 use Rattle.rr_object.specs.Readings.{obj_at, items_of, items_read}
 use Rattle.rr_object.specs.Kinds.{occurs}
-use Rattle.rr_object.specs.Items.{items, words, is_keyword}
+use Rattle.rr_bytes.specs.LetterCase.{is_keyword}
+use Rattle.rr_object.specs.Items.{items, words}
 use Rattle.rr_object.specs.Auths.{salted_digest_of, auth_of_words}
 use Rattle.rr_object.specs.Grants.{entries_behind}
 use Rattle.rr_auth.specs.Registries.{is_mntner_of, keys_cross}

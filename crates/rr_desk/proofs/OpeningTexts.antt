@@ -5,7 +5,7 @@ use Rattle.rr_text.specs.Fields.{Field}
 use Rattle.rr_text.specs.Lines.{text_lines, line_kind}
 use Rattle.rr_text.specs.Entries.{entries, block_entry, block_fields, continued}
 use Rattle.rr_text.specs.Blocks.{blocks, from_unskipped}
-use Rattle.rr_text.specs.Bytes.{trim_start, trim_end}
+use Rattle.rr_bytes.specs.Trims.{trim_start, trim_end}
 use Rattle.rr_text.specs.Faults.{block_fault, later_fault, line_fault, opening_fault}
 use Rattle.rr_desk.specs.Opening.{opening_text}
 

@@ -38,7 +38,7 @@ pub fn text() -> &'static str
 }
 
 /// The name of the built-in source; the error is want of memory.
-#[tactic(auto, unfolding(rr_number::specs::Names::is_name))]
+#[tactic(auto, unfolding(rr_bytes::specs::NameBytes::is_name))]
 pub fn read_source(alloc: Global) -> Result<Name, AllocError>
     ensures { IfOk result (λ source. source ≡ built_in_source) }
 {

@@ -2,16 +2,17 @@
 
 ghost use Rattle.std.specs.Prelude.{◌≡◌, IfOk};
 ghost use Rattle.rr_text.specs.Entries.{entries};
+ghost use Rattle.rr_submission.specs.Ledgers.{registry_ledger};
 ghost use Rattle.rr_submission.specs.Submissions.{Submits};
 ghost use Rattle.rr_registry.specs.Loading.{IsTaken};
 ghost use Rattle.rr_desk.specs.Opening.{AreObjects, IsOpened, built_in_source, opening_text};
 
 use crate::opening;
-use rr_submission::{DeskFault, Done};
 use rr_io::{Sink, Source};
 use rr_number::Name;
 use rr_object::Object;
 use rr_registry::{LoadFault, Registry};
+use rr_submission::{DeskFault, Done};
 use std::alloc::{AllocError, Global};
 use std::marker::Model;
 
@@ -66,14 +67,14 @@ impl PlainDesk {
         reader: &mut R,
         writer: &mut W,
     ) -> Result<Done, DeskFault>
-        ensures submits { Submits built_in_source (record {
+        ensures submits { Submits registry_ledger built_in_source (record {
           source_before = R.told reader.old;
           source_after = R.told reader.new;
           sink_before = W.told writer.old;
           sink_after = W.told writer.new;
           before = self.old;
           after = self.new;
-        }) result }
+        }) self.old self.new result }
         ensures reader_aside { R.aside reader.new ≡ R.aside reader.old }
         ensures writer_aside { W.aside writer.new ≡ W.aside writer.old }
     {

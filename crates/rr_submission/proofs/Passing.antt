@@ -4,14 +4,14 @@ use Rattle.std.specs.Prelude.{Result}
 use Rattle.rr_text.specs.Fields.{Field}
 use Rattle.rr_text.specs.declared.fault.TextFault.{TextFault}
 use Rattle.rr_submission.specs.SubmissionTexts.{secrets_of, is_secrets_alone}
-use Rattle.rr_submission.specs.Submitted.{AreItems, Submitted}
-use Rattle.rr_submission.specs.Submitted.AreItems.{secrets_alone, faulty, unread_for_memory}
+use Rattle.rr_submission.specs.SubmissionItems.{AreItems, Asked}
+use Rattle.rr_submission.specs.SubmissionItems.AreItems.{secrets_alone, faulty, unread_for_memory}
 use Rattle.rr_submission.specs.Requests.{unread, text_code}
 use Rattle.rr_text.specs.declared.fault.TextFault.TheVariants.{TooLarge, BadByte, FirstContinues, NoColon, BadName, Memory}
 
 -- the items of the rest are those of the whole
 pub record Passes (source : List ℕ) (before after : List (List ℕ)) (whole rest : List (Result (List Field) TextFault)) : Type 0 where
-  pub items_stay : (items : List Submitted) → AreItems source after rest items → AreItems source before whole items
+  pub items_stay : (items : List Asked) → AreItems source after rest items → AreItems source before whole items
 
 pub Passes-none : (source : List ℕ) (secrets : List (List ℕ)) (entries : List (Result (List Field) TextFault)) → Passes source secrets secrets entries entries
 Passes-none source secrets entries = record { items_stay = λ items h. h }
@@ -22,7 +22,7 @@ pub Passes-alone : {source : List ℕ} {before after : List (List ℕ)} {whole r
 Passes-alone fields p e alone = record { items_stay = λ items h. p.items_stay items (rw e (secrets_alone alone h)) }
 
 -- a paragraph that could not be read is an item
-pub AreItems-faulty : (source : List ℕ) (secrets : List (List ℕ)) (fault : TextFault) (whole : List (Result (List Field) TextFault)) (items : List Submitted) →
+pub AreItems-faulty : (source : List ℕ) (secrets : List (List ℕ)) (fault : TextFault) (whole : List (Result (List Field) TextFault)) (items : List Asked) →
     0 < length whole → (fault ≢ Memory → whole ≡ Err fault ∷ drop 1 whole) → AreItems source secrets (drop 1 whole) items →
     AreItems source secrets whole (record { secrets = secrets; request = unread (text_code fault) } ∷ items)
 AreItems-faulty source secrets Memory (entry ∷ more) items h e rest = unread_for_memory entry rest

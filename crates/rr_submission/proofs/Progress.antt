@@ -1,38 +1,42 @@
 -- How far a submission has come.
 use Rattle.std.proofs.Common.{◌≡◌, ℕ, ◌+◌, ◌<◌, ◌≤◌, Bool, true, false, List, [], ◌∷◌, ◌++◌, length, cond, refl, ap, sym, ◌∙◌, inl, append_assoc, length-append, Ok, Err, arith, drop, suc, zero-add}
-use Rattle.std.specs.Prelude.{Result}
+use Rattle.std.specs.Prelude.{Result, map}
 use Rattle.std.proofs.lemmas.List.Sums.{sum_by-append}
 use Rattle.std.proofs.lemmas.List.{append-nil}
 use Rattle.rr_io.specs.Told.{Told}
-use Rattle.rr_io.specs.Sending.{Takes, TakesFront}
+use Rattle.rr_io.specs.Sending.{Takes, TakesFront, TakesSome}
 use Rattle.rr_io.proofs.Transfers.{Takes-none, Takes-then}
 use Rattle.rr_text.specs.Entries.{entries}
 use Rattle.rr_text.specs.Fields.{Field}
 use Rattle.rr_text.specs.declared.fault.TextFault.{TextFault}
 use Rattle.rr_auth.specs.Registries.{Reg}
 use Rattle.rr_registry.specs.declared.outcome.Outcome.{Outcome}
+use Rattle.rr_registry.specs.Runs.{Decides, Run}
+use Rattle.rr_submission.specs.declared.ledger.Ledger.{Ghosts}
+use Rattle.rr_submission.specs.declared.stop.Stop.{Stop}
+use Rattle.rr_submission.specs.declared.stop.Stop.TheVariants.{Unwritten, Halted}
 use Rattle.rr_submission.specs.declared.submission.Done.{Done}
 use Rattle.rr_submission.specs.declared.request.Request.{Request}
 use Rattle.rr_submission.specs.SubmissionTexts.{is_secrets_alone, secrets_of}
 use Rattle.rr_submission.specs.Requests.{request_of}
-use Rattle.rr_submission.specs.Submitted.{AreItems, Submitted}
-use Rattle.rr_submission.specs.Submitted.AreItems.{at_end, secrets_alone, asked, faulty}
-use Rattle.rr_submission.specs.Runs.{Decides, Runs, is_refusal, refusals}
-use Rattle.rr_submission.specs.Reports.{item_line, lines_from}
-use Rattle.rr_submission.specs.Served.{ServesAll, ServesSome}
+use Rattle.rr_submission.specs.SubmissionItems.{AreItems, Asked, submitted}
+use Rattle.rr_submission.specs.SubmissionItems.AreItems.{at_end, secrets_alone, asked, faulty}
+use Rattle.rr_submission.specs.Refusals.{is_refusal, refusals}
+use Rattle.rr_submission.specs.Reports.{item_line, lines_from, stop_lines}
+use Rattle.rr_submission.specs.Served.{HaltsAt, Serves, ServesAll, ServesHalted, ServesOne, ServesSome}
 
 -- one item more is decided
-pub Runs-more : (old between new : Reg) (items : List Submitted) (outcomes : List Outcome) (item : Submitted) (outcome : Outcome) →
-    Runs old items outcomes between → Decides between item.secrets item.request.action outcome new →
-    Runs old (items ++ item ∷ []) (outcomes ++ outcome ∷ []) new
-Runs-more old between new [] [] item outcome e d = (new, rw (← e) d, refl)
-Runs-more old between new [] (o ∷ os) item outcome e d = absurd e
-Runs-more old between new (i ∷ is) [] item outcome e d = absurd e
-Runs-more old between new (i ∷ is) (o ∷ os) item outcome r d = (r.0, r.1, Runs-more r.0 between new is os item outcome r.2 d)
+pub Run-more : (old between new : Reg) (items : List Asked) (outcomes : List Outcome) (item : Asked) (outcome : Outcome) →
+    Run old (map submitted items) outcomes between → Decides between item.secrets item.request.action outcome new →
+    Run old (map submitted (items ++ item ∷ [])) (outcomes ++ outcome ∷ []) new
+Run-more old between new [] [] item outcome e d = (new, rw (← e) d, refl)
+Run-more old between new [] (o ∷ os) item outcome e d = absurd e
+Run-more old between new (i ∷ is) [] item outcome e d = absurd e
+Run-more old between new (i ∷ is) (o ∷ os) item outcome r d = (r.0, r.1, Run-more r.0 between new is os item outcome r.2 d)
 
 -- and has the next line
-pub lines_from-more : (number : ℕ) (old new : Reg) (items : List Submitted) (outcomes : List Outcome) (item : Submitted) (outcome : Outcome) →
-    Runs old items outcomes new →
+pub lines_from-more : (number : ℕ) (old new : Reg) (items : List Asked) (outcomes : List Outcome) (item : Asked) (outcome : Outcome) →
+    Run old (map submitted items) outcomes new →
     lines_from number (items ++ item ∷ []) (outcomes ++ outcome ∷ []) ≡ lines_from number items outcomes ++ item_line (number + length items) item.request.key outcome
 unfolding lines_from
 lines_from-more number old new [] [] item outcome e = rw append-nil (ap (λ n. item_line n item.request.key outcome) (omega arith))
@@ -52,10 +56,10 @@ refusals-more outcomes outcome = sum_by-append _ outcomes (outcome ∷ []) ∙ a
 
 -- the text up to a place: its items were decided and their lines written
 pub record ComesTo (source text : List ℕ) (old new : Reg) (before after : Told) (secrets : List (List ℕ)) (at : ℕ) (done : Done) : Type 0 where
-  pub items : List Submitted
+  pub items : List Asked
   pub outcomes : List Outcome
-  pub are_items : (later : List Submitted) → AreItems source secrets (entries (drop at text)) later → AreItems source [] (entries text) (items ++ later)
-  pub runs : Runs old items outcomes new
+  pub are_items : (later : List Asked) → AreItems source secrets (entries (drop at text)) later → AreItems source [] (entries text) (items ++ later)
+  pub runs : Run old (map submitted items) outcomes new
   pub writes : Takes before after (lines_from 1 items outcomes)
   pub counted : done.items ≡ length items
   pub refused : done.refused ≡ refusals outcomes
@@ -86,21 +90,21 @@ at_most_one false = omega arith
 pub ComesTo-more : {source text : List ℕ} {old between : Reg} {before middle : Told} {secrets : List (List ℕ)} {at : ℕ} {done : Done}
     (new : Reg) (after : Told) (given : List (List ℕ)) (next : ℕ) (then : Done) (request : Request) (outcome : Outcome) →
     ComesTo source text old between before middle secrets at done →
-    ((later : List Submitted) → AreItems source given (entries (drop next text)) later →
+    ((later : List Asked) → AreItems source given (entries (drop next text)) later →
     AreItems source secrets (entries (drop at text)) (record { secrets = given; request = request } ∷ later)) →
     at < next → next ≤ length text → Decides between given request.action outcome new →
     then.items ≡ done.items + 1 → then.refused ≡ done.refused + cond (is_refusal outcome) 1 0 →
     Takes middle after (item_line then.items request.key outcome) →
     ComesTo source text old new before after given next then
 ComesTo-more {source} {text} new after given next then request outcome p found lower upper decides items refused line =
-    let item : Submitted = record { secrets = given; request = request } in
+    let item : Asked = record { secrets = given; request = request } in
     let number : then.items ≡ 1 + length p.items = items ∙ (ap (λ n. n + 1) p.counted ∙ omega arith) in
     let shown = rw number at line in
     record {
       items = p.items ++ item ∷ [];
       outcomes = p.outcomes ++ outcome ∷ [];
       are_items = λ later h. rw append_assoc (p.are_items (item ∷ later) (found later h));
-      runs = Runs-more _ _ _ p.items p.outcomes item outcome p.runs decides;
+      runs = Run-more _ _ _ p.items p.outcomes item outcome p.runs decides;
       writes = rw (lines_from-more 1 _ _ p.items p.outcomes item outcome p.runs) (Takes-then _ _ p.writes shown);
       counted = omega (arith, items, p.counted, length-append p.items (item ∷ []));
       refused = refused ∙ (ap (λ n. n + cond (is_refusal outcome) 1 0) p.refused ∙ sym (refusals-more p.outcomes outcome));
@@ -123,12 +127,12 @@ ServesAll-end p none = record {
 }
 
 alone_or_asked : (source : List ℕ) (secrets : List (List ℕ)) (fields : List Field) (es : List (Result (List Field) TextFault)) (b : Bool) → is_secrets_alone fields ≡ b →
-    ((items : List Submitted) × AreItems source (secrets ++ secrets_of fields) es items) → (items : List Submitted) × AreItems source secrets (Ok fields ∷ es) items
+    ((items : List Asked) × AreItems source (secrets ++ secrets_of fields) es items) → (items : List Asked) × AreItems source secrets (Ok fields ∷ es) items
 alone_or_asked source secrets fields es true e rest = (rest.0, secrets_alone e rest.1)
 alone_or_asked source secrets fields es false e rest = (_, asked (request_of source fields) e (inl refl) rest.1)
 
 -- whatever follows in a text are items too
-pub some_items : (source : List ℕ) (secrets : List (List ℕ)) (es : List (Result (List Field) TextFault)) → (items : List Submitted) × AreItems source secrets es items
+pub some_items : (source : List ℕ) (secrets : List (List ℕ)) (es : List (Result (List Field) TextFault)) → (items : List Asked) × AreItems source secrets es items
 some_items source secrets [] = ([], at_end)
 some_items source secrets (Err fault ∷ es) = let rest = some_items source secrets es in (_, faulty fault rest.1)
 some_items source secrets (Ok fields ∷ es) = alone_or_asked source secrets fields es (is_secrets_alone fields) refl (some_items source (secrets ++ secrets_of fields) es)
@@ -137,13 +141,13 @@ some_items source secrets (Ok fields ∷ es) = alone_or_asked source secrets fie
 pub ServesSome-cut : {source text : List ℕ} {old between : Reg} {before middle : Told} {secrets : List (List ℕ)} {at : ℕ} {done : Done}
     (new : Reg) (after : Told) (given : List (List ℕ)) (next count : ℕ) (request : Request) (outcome : Outcome) →
     ComesTo source text old between before middle secrets at done →
-    ((later : List Submitted) → AreItems source given (entries (drop next text)) later →
+    ((later : List Asked) → AreItems source given (entries (drop next text)) later →
     AreItems source secrets (entries (drop at text)) (record { secrets = given; request = request } ∷ later)) →
     Decides between given request.action outcome new → count ≡ done.items + 1 →
     TakesFront middle after (item_line count request.key outcome) →
     ServesSome source (entries text) old new before after count
 ServesSome-cut {source} {text} {middle} new after given next count request outcome p found decides items line =
-    let item : Submitted = record { secrets = given; request = request } in
+    let item : Asked = record { secrets = given; request = request } in
     let rest = some_items source given (entries (drop next text)) in
     record {
       told = p.items;
@@ -153,8 +157,47 @@ ServesSome-cut {source} {text} {middle} new after given next count request outco
       outcome = outcome;
       between = middle;
       are_items = p.are_items (item ∷ rest.0) (found rest.0 rest.1);
-      runs = Runs-more _ _ _ p.items p.outcomes item outcome p.runs decides;
+      runs = Run-more _ _ _ p.items p.outcomes item outcome p.runs decides;
       writes = p.writes;
       cut = line;
       counted = items ∙ ap (λ n. n + 1) p.counted;
     }
+
+-- the ledger came to a halt
+pub ServesHalted-cut : {L : Type 0} (g : Ghosts L) {source text : List ℕ} (old between new : L) {before middle : Told} {secrets : List (List ℕ)} {at : ℕ} {done : Done}
+    (after : Told) (given : List (List ℕ)) (next count : ℕ) (request : Request) →
+    ComesTo source text (g.registry old) (g.registry between) before middle secrets at done → g.Ready between →
+    ((later : List Asked) → AreItems source given (entries (drop next text)) later →
+    AreItems source secrets (entries (drop at text)) (record { secrets = given; request = request } ∷ later)) →
+    HaltsAt g between given request.action new → count ≡ done.items → TakesSome middle after (stop_lines count request.key) →
+    ServesHalted g source (entries text) old new before after count
+ServesHalted-cut g {source} {text} old between new {before} {middle} after given next count request p ready found halts items lines =
+    let item : Asked = record { secrets = given; request = request } in
+    let rest = some_items source given (entries (drop next text)) in
+    record {
+      told = p.items;
+      last = item;
+      later = rest.0;
+      outcomes = p.outcomes;
+      middle = between;
+      between = middle;
+      are_items = p.are_items (item ∷ rest.0) (found rest.0 rest.1);
+      runs = p.runs;
+      ready = ready;
+      halts = halts;
+      writes = p.writes;
+      ends = lines;
+      counted = items ∙ p.counted;
+    }
+
+-- an item could not be served
+pub Serves-cut : {L : Type 0} (g : Ghosts L) {source text : List ℕ} (old between new : L) {before middle : Told} {secrets : List (List ℕ)} {at : ℕ} {done : Done}
+    (after : Told) (given : List (List ℕ)) (next : ℕ) (request : Request) (stop : Stop) →
+    ComesTo source text (g.registry old) (g.registry between) before middle secrets at done → g.Ready between →
+    ((later : List Asked) → AreItems source given (entries (drop next text)) later →
+    AreItems source secrets (entries (drop at text)) (record { secrets = given; request = request } ∷ later)) →
+    ServesOne g given request done between new middle after (Err stop) → Serves g source (entries text) old new before after (Err stop)
+Serves-cut g old between new after given next request (Unwritten count) p ready found one =
+    ServesSome-cut _ after given next count request one.outcome p found one.decides one.items one.writes
+Serves-cut g old between new after given next request (Halted count) p ready found one =
+    ServesHalted-cut g old between new after given next count request p ready found one.halts one.items one.writes

@@ -4,13 +4,15 @@ use Rattle.rr_object.specs.declared.class.Class.{Class}
 use Rattle.rr_object.specs.declared.key.Key.{Key}
 use Rattle.rr_object.specs.Classes.{class_name}
 use Rattle.rr_object.specs.Codes.{code_name}
+use Rattle.rr_object.specs.declared.code.Code.TheVariants.{E91}
 use Rattle.rr_object.specs.Keys.{class_of}
 use Rattle.rr_object.specs.KeyTexts.{key_text}
 use Rattle.rr_registry.specs.declared.outcome.Outcome.{Outcome}
 use Rattle.rr_registry.specs.declared.outcome.Outcome.TheVariants.{Added, Changed, Same, Deleted, Refused}
 use Rattle.rr_submission.specs.declared.ending.Ending.{Ending}
+use Rattle.rr_submission.specs.declared.ending.Ending.TheVariants.{Stopped}
 use Rattle.rr_submission.specs.Endings.{last_line}
-use Rattle.rr_submission.specs.Submitted.{Submitted}
+use Rattle.rr_submission.specs.SubmissionItems.{Asked}
 
 -- the word of an outcome
 abbrev pub outcome_word : Outcome → List ℕ
@@ -50,12 +52,16 @@ abbrev pub item_line : ℕ → Option Key → Outcome → List ℕ
 item_line number key outcome = number_part number ++ subject key ++ outcome_part outcome
 
 -- the lines of items, numbered from here on
-unfoldable pub lines_from : ℕ → List Submitted → List Outcome → List ℕ
+unfoldable pub lines_from : ℕ → List Asked → List Outcome → List ℕ
 lines_from number [] outcomes = []
 lines_from number (item ∷ items) [] = []
 lines_from number (item ∷ items) (outcome ∷ outcomes) =
     item_line number item.request.key outcome ++ lines_from (number + 1) items outcomes
 
+-- what ends a report where the ledger comes to a halt at an item behind so many: the line of the item, and the last line
+unfoldable pub stop_lines : ℕ → Option Key → List ℕ
+stop_lines count key = item_line (count + 1) key (Refused E91) ++ last_line Stopped count
+
 -- a report has a line for each item, and a last line
-unfoldable pub report : Ending → List Submitted → List Outcome → List ℕ
+unfoldable pub report : Ending → List Asked → List Outcome → List ℕ
 report ending items outcomes = lines_from 1 items outcomes ++ last_line ending (length items)

@@ -1,5 +1,5 @@
--- What a submission does: to the registry, and to its reader and its writer (profile).
-use Rattle.std.specs.Prelude.{◌≡◌, ◌≢◌, ℕ, List, [], length, Result, Ok, Err, ◌⊎◌}
+-- What a submission does: to the ledger and its registry, and to its reader and its writer (profile).
+use Rattle.std.specs.Prelude.{◌≡◌, ◌≢◌, ℕ, List, [], length, map, Result, Ok, Err, ◌⊎◌}
 use Rattle.rr_io.specs.Told.{Told}
 use Rattle.rr_io.specs.Receiving.{Gives, Reads}
 use Rattle.rr_io.specs.Sending.{Takes, TakesFront, TakesSome}
@@ -11,15 +11,19 @@ use Rattle.rr_text.specs.Fields.{Field}
 use Rattle.rr_text.specs.declared.fault.TextFault.{TextFault}
 use Rattle.rr_auth.specs.Registries.{Reg}
 use Rattle.rr_registry.specs.declared.outcome.Outcome.{Outcome}
+use Rattle.rr_registry.specs.Runs.{Run}
 use Rattle.rr_submission.specs.declared.ending.Ending.TheVariants.{Complete, ReadFault, Memory}
 use Rattle.rr_submission.specs.declared.submission.Done.{Done}
 use Rattle.rr_submission.specs.declared.submission.DeskFault.{DeskFault}
 use Rattle.rr_submission.specs.declared.submission.DeskFault.TheVariants as fault
-use Rattle.rr_submission.specs.Submitted.{AreItems, Submitted}
-use Rattle.rr_submission.specs.Runs.{Runs, refusals}
+use Rattle.rr_submission.specs.declared.ledger.Ledger.{Ghosts}
+use Rattle.rr_submission.specs.declared.stop.Stop.{Stop}
+use Rattle.rr_submission.specs.declared.stop.Stop.TheVariants.{Unwritten, Halted}
+use Rattle.rr_submission.specs.SubmissionItems.{AreItems, Asked, submitted}
+use Rattle.rr_submission.specs.Refusals.{refusals}
 use Rattle.rr_submission.specs.Endings.{last_line}
 use Rattle.rr_submission.specs.Reports.{lines_from, report}
-use Rattle.rr_submission.specs.Served.{ServesSome}
+use Rattle.rr_submission.specs.Served.{ServesSome, ServesHalted}
 
 -- the entries that count of a text: all where it ended, and after a read fault those that a blank line closes
 abbrev pub entries_read : ReadEnd → List ℕ → List (Result (List Field) TextFault)
@@ -39,11 +43,11 @@ pub record Sides : Type 0 where
 -- the text was read to its end, each item was decided, and the whole report was written
 pub record IsDone (source : List ℕ) (sides : Sides) (done : Done) : Type 0 where
   pub text : List ℕ
-  pub items : List Submitted
+  pub items : List Asked
   pub outcomes : List Outcome
   pub reads : Reads sides.source_before sides.source_after text Whole
   pub are_items : AreItems source [] (entries text) items
-  pub runs : Runs sides.before items outcomes sides.after
+  pub runs : Run sides.before (map submitted items) outcomes sides.after
   pub writes : Takes sides.sink_before sides.sink_after (report Complete items outcomes)
   pub counted : done.items ≡ length items
   pub refused : done.refused ≡ refusals outcomes
@@ -53,13 +57,13 @@ pub record IsDone (source : List ℕ) (sides : Sides) (done : Done) : Type 0 whe
 pub record IsReadFault (source : List ℕ) (sides : Sides) (count : ℕ) : Type 0 where
   pub text : List ℕ
   pub end : ReadEnd
-  pub items : List Submitted
+  pub items : List Asked
   pub outcomes : List Outcome
   pub between : Told
   pub reads : Reads sides.source_before sides.source_after text end
   pub unended : end ≢ Whole
   pub are_items : AreItems source [] (whole_entries text) items
-  pub runs : Runs sides.before items outcomes sides.after
+  pub runs : Run sides.before (map submitted items) outcomes sides.after
   pub writes : Takes sides.sink_before between (lines_from 1 items outcomes)
   pub ends : TakesSome between sides.sink_after (last_line ReadFault (length items))
   pub counted : count ≡ length items
@@ -74,12 +78,12 @@ pub record IsLineFault (source : List ℕ) (sides : Sides) (count : ℕ) : Type 
 -- the text was read to its end, and a write failed in the last line: all items were decided and their lines written whole
 pub record IsLastLineFault (source : List ℕ) (sides : Sides) (count : ℕ) : Type 0 where
   pub text : List ℕ
-  pub items : List Submitted
+  pub items : List Asked
   pub outcomes : List Outcome
   pub between : Told
   pub reads : Reads sides.source_before sides.source_after text Whole
   pub are_items : AreItems source [] (entries text) items
-  pub runs : Runs sides.before items outcomes sides.after
+  pub runs : Run sides.before (map submitted items) outcomes sides.after
   pub writes : Takes sides.sink_before between (lines_from 1 items outcomes)
   pub cut : TakesFront between sides.sink_after (last_line Complete (length items))
   pub counted : count ≡ length items
@@ -88,6 +92,13 @@ pub record IsLastLineFault (source : List ℕ) (sides : Sides) (count : ℕ) : T
 abbrev pub IsWriteFault : List ℕ → Sides → ℕ → Type 0
 IsWriteFault source sides count = IsLineFault source sides count ⊎ IsLastLineFault source sides count
 
+-- the ledger came to a halt at an item, whether or not a read had failed: the items before it were decided and no others
+pub record IsStoreFault {L : Type 0} (g : Ghosts L) (source : List ℕ) (sides : Sides) (old new : L) (count : ℕ) : Type 0 where
+  pub text : List ℕ
+  pub end : ReadEnd
+  pub reads : Reads sides.source_before sides.source_after text end
+  pub serves : ServesHalted g source (entries_read end text) old new sides.sink_before sides.sink_after count
+
 -- memory was refused before the first item: nothing was decided
 pub record IsUnread (sides : Sides) : Type 0 where
   pub text : List ℕ
@@ -95,13 +106,29 @@ pub record IsUnread (sides : Sides) : Type 0 where
   pub same : sides.after ≡ sides.before
   pub writes : TakesSome sides.sink_before sides.sink_after (last_line Memory 0)
 
--- what a submission that failed did, by its fault
-abbrev pub FailsBy : List ℕ → Sides → DeskFault → Type 0
-FailsBy source sides (fault.ReadFault items) = IsReadFault source sides items
-FailsBy source sides (fault.WriteFault items) = IsWriteFault source sides items
-FailsBy source sides fault.Memory = IsUnread sides
+-- what a submission that failed did, by its fault; a ledger that is ready does not say that it is stopped
+abbrev pub FailsBy : {L : Type 0} → Ghosts L → List ℕ → Sides → L → L → DeskFault → Type 0
+FailsBy g source sides old new (fault.ReadFault items) = IsReadFault source sides items
+FailsBy g source sides old new (fault.WriteFault items) = IsWriteFault source sides items
+FailsBy g source sides old new (fault.StoreFault items) = IsStoreFault g source sides old new items
+FailsBy g source sides old new fault.Memory = IsUnread sides
+FailsBy g source sides old new fault.Stopped = ⊥
 
--- what a submission to a registry of this source does, by its answer
-abbrev pub Submits : List ℕ → Sides → Result Done DeskFault → Type 0
-Submits source sides (Ok done) = IsDone source sides done
-Submits source sides (Err cause) = FailsBy source sides cause
+-- what a submission to a ledger with a registry of this source does, by its answer
+abbrev pub Submits : {L : Type 0} → Ghosts L → List ℕ → Sides → L → L → Result Done DeskFault → Type 0
+Submits g source sides old new (Ok done) = IsDone source sides done
+Submits g source sides old new (Err cause) = FailsBy g source sides old new cause
+
+-- a fact that holds unless the ledger came to a halt
+abbrev pub UnlessStoreFault : Result Done DeskFault → Type 0 → Type 0
+UnlessStoreFault (Ok done) fact = fact
+UnlessStoreFault (Err (fault.ReadFault items)) fact = fact
+UnlessStoreFault (Err (fault.WriteFault items)) fact = fact
+UnlessStoreFault (Err (fault.StoreFault items)) fact = Unit {0}
+UnlessStoreFault (Err fault.Memory) fact = fact
+UnlessStoreFault (Err fault.Stopped) fact = fact
+
+-- the fault of a submission whose items could not all be served
+abbrev pub fault_of : Stop → DeskFault
+fault_of (Unwritten items) = fault.WriteFault items
+fault_of (Halted items) = fault.StoreFault items

@@ -4,8 +4,8 @@ ghost use Rattle.std.specs.Prelude.{◌≡◌};
 ghost use Rattle.rr_io.specs.Sending.{Writes};
 ghost use Rattle.rr_submission.specs.Endings.{before_count, behind_count, last_line};
 
-use itoa::Buffer;
-use rr_io::{Sink, write_pieces};
+use crate::report_line::ReportLine;
+use rr_io::{Sink, write_all};
 use std::io;
 
 /// How a submission ended.
@@ -17,6 +17,8 @@ pub enum Ending {
     ReadFault,
     /// With want of memory, before its first item.
     Memory,
+    /// With a halt of the ledger at an item, whose line has the code E91.
+    Stopped,
 }
 
 impl Ending {
@@ -27,6 +29,7 @@ impl Ending {
             Ending::Complete => "% items ",
             Ending::ReadFault => "% read fault after ",
             Ending::Memory => "% memory after ",
+            Ending::Stopped => "% stopped after ",
         }
     }
 
@@ -35,25 +38,28 @@ impl Ending {
     {
         match self {
             Ending::Complete => "\n",
-            Ending::ReadFault | Ending::Memory => " items\n",
+            Ending::ReadFault | Ending::Memory | Ending::Stopped => " items\n",
         }
     }
 }
 
-/// Writes the last line of a report on this many items. After a fault the writer has taken a front of it.
-#[tactic(auto, unfolding(crate::specs::Endings::last_line))]
+/// Writes the last line of a report on this many items, whole in the first call of the writer. After a fault the writer has
+/// taken a front of it.
 pub fn write_last_line<W: Sink>(writer: &mut W, ending: Ending, items: u64) -> io::Result<()>
     ensures writes { Writes (W.told writer.old) (W.told writer.new) (last_line ending items) result }
     ensures aside { W.aside writer.new ≡ W.aside writer.old }
 {
-    let mut buffer = Buffer::new();
-    let number = buffer.format(items).as_bytes();
-    write_pieces(
-        writer,
-        &[
-            ending.before_count().as_bytes(),
-            number,
-            ending.behind_count().as_bytes(),
-        ],
-    )
+    write_all(writer, last_line(ending, items).as_bytes())
+}
+
+/// The last line.
+#[tactic(auto, unfolding(crate::specs::Endings::last_line), using(crate::proofs::LineSizes::before_count_short, crate::proofs::LineSizes::behind_count_short))]
+fn last_line(ending: Ending, items: u64) -> ReportLine
+    ensures { result ≡ last_line ending items }
+{
+    let mut line = ReportLine::new();
+    line.push(ending.before_count().as_bytes());
+    line.push_number(items);
+    line.push(ending.behind_count().as_bytes());
+    line
 }

@@ -3,7 +3,7 @@
 ghost use Rattle.std.specs.Prelude.{◌≡◌, ◌∷◌, ◌++◌, ◌<◌, ◌≤◌, ℕ, [], List, length, drop, IfOk, IfSome, IfNone, OnOk, OnErr};
 ghost use Rattle.rr_text.specs.Entries.{entries};
 ghost use Rattle.rr_submission.specs.SubmissionTexts.{secrets_of};
-ghost use Rattle.rr_submission.specs.Submitted.{AreItems, Submitted};
+ghost use Rattle.rr_submission.specs.SubmissionItems.{AreItems, Asked};
 
 use crate::request::Request;
 use crate::secret::secret_of;
@@ -25,7 +25,7 @@ pub fn next_item(
 ) -> Option<(Request, usize)>
     requires { from ≤ length text.now }
     ensures none { IfNone result (AreItems source.now secrets.old (entries (drop from text.now)) []) }
-    ensures found { IfSome result (λ found. (items : List Submitted)
+    ensures found { IfSome result (λ found. (items : List Asked)
         → AreItems source.now secrets.new (entries (drop found.1 text.now)) items
         → AreItems source.now secrets.old (entries (drop from text.now))
         (record { secrets = secrets.new; request = found.0 } ∷ items)) }

@@ -1,18 +1,18 @@
 //! The lines of a report on items.
 
-ghost use Rattle.std.specs.Prelude.{◌≡◌, ◌++◌};
+ghost use Rattle.std.specs.Prelude.{◌≡◌, ◌+◌, ◌≤◌, ◌++◌, length};
 ghost use Rattle.rr_io.specs.Sending.{Writes};
 ghost use Rattle.rr_object.specs.Keys.{class_of};
 ghost use Rattle.rr_object.specs.KeyTexts.{key_text};
 ghost use Rattle.rr_submission.specs.Reports.{class_part, item_line, number_part, outcome_part, outcome_word, refusal_code, subject};
 
-use itoa::Buffer;
-use rr_io::{Sink, write_all, write_pieces};
+use crate::report_line::ReportLine;
+use rr_io::{Sink, write_all};
 use rr_object::{Class, Key};
 use rr_registry::Outcome;
 use std::io;
 
-/// Writes the line of an item. After a fault the writer has taken a front of it.
+/// Writes the line of an item, whole in the first call of the writer. After a fault the writer has taken a front of it.
 pub fn write_item_line<W: Sink>(
     writer: &mut W,
     number: u64,
@@ -22,55 +22,64 @@ pub fn write_item_line<W: Sink>(
     ensures writes { Writes (W.told writer.old) (W.told writer.new) (item_line number key.now outcome) result }
     ensures aside { W.aside writer.new ≡ W.aside writer.old }
 {
-    write_number(writer, number)?;
-    write_subject(writer, key)?;
-    write_outcome(writer, outcome)
+    write_all(writer, item_line(number, key, outcome).as_bytes())
 }
 
-fn write_number<W: Sink>(writer: &mut W, number: u64) -> io::Result<()>
-    ensures writes { Writes (W.told writer.old) (W.told writer.new) (number_part number) result }
-    ensures aside { W.aside writer.new ≡ W.aside writer.old }
+/// The line of an item.
+fn item_line(number: u64, key: &Option<Key>, outcome: Outcome) -> ReportLine
+    ensures { result ≡ item_line number key.now outcome }
 {
-    let mut buffer = Buffer::new();
-    write_pieces(writer, &[buffer.format(number).as_bytes(), b" "])
+    let mut line = ReportLine::new();
+    push_item_number(&mut line, number);
+    push_subject(&mut line, key);
+    push_outcome(&mut line, outcome);
+    line
+}
+
+fn push_item_number(line: &mut ReportLine, number: u64)
+    requires { length line.old ≤ 0 }
+    ensures value { line.new ≡ line.old ++ number_part number }
+    ensures short { length line.new ≤ 21 }
+{
+    line.push_number(number);
+    line.push(b" ");
 }
 
 /// The class and the key, or `-`.
-fn write_subject<W: Sink>(writer: &mut W, key: &Option<Key>) -> io::Result<()>
-    ensures writes { Writes (W.told writer.old) (W.told writer.new) (subject key.now) result }
-    ensures aside { W.aside writer.new ≡ W.aside writer.old }
+fn push_subject(line: &mut ReportLine, key: &Option<Key>)
+    requires { length line.old ≤ 21 }
+    ensures value { line.new ≡ line.old ++ subject key.now }
+    ensures short { length line.new ≤ 286 }
 {
     match key {
-        None => write_all(writer, b"-"),
-        Some(key) => write_key(writer, key),
+        None => line.push(b"-"),
+        Some(key) => {
+            push_class(line, key.class());
+            line.push_key(key);
+        }
     }
 }
 
-fn write_key<W: Sink>(writer: &mut W, key: &Key) -> io::Result<()>
-    ensures writes { Writes (W.told writer.old) (W.told writer.new) (class_part (class_of key.now) ++ key_text key.now) result }
-    ensures aside { W.aside writer.new ≡ W.aside writer.old }
+#[tactic(auto, using(crate::proofs::LineSizes::class_name_short))]
+fn push_class(line: &mut ReportLine, class: Class)
+    requires { length line.old ≤ 21 }
+    ensures value { line.new ≡ line.old ++ class_part class }
+    ensures short { length line.new ≤ 31 }
 {
-    write_class(writer, key.class())?;
-    key.print_to(writer)
-}
-
-fn write_class<W: Sink>(writer: &mut W, class: Class) -> io::Result<()>
-    ensures writes { Writes (W.told writer.old) (W.told writer.new) (class_part class) result }
-    ensures aside { W.aside writer.new ≡ W.aside writer.old }
-{
-    write_pieces(writer, &[class.name().as_bytes(), b" "])
+    line.push(class.name().as_bytes());
+    line.push(b" ");
 }
 
 /// What stands behind the subject.
-fn write_outcome<W: Sink>(writer: &mut W, outcome: Outcome) -> io::Result<()>
-    ensures writes { Writes (W.told writer.old) (W.told writer.new) (outcome_part outcome) result }
-    ensures aside { W.aside writer.new ≡ W.aside writer.old }
+#[tactic(auto, using(crate::proofs::LineSizes::outcome_word_short, crate::proofs::LineSizes::refusal_code_short))]
+fn push_outcome(line: &mut ReportLine, outcome: Outcome)
+    requires { length line.old ≤ 286 }
+    ensures { line.new ≡ line.old ++ outcome_part outcome }
 {
-    let code = refusal_code(outcome);
-    write_pieces(
-        writer,
-        &[b": ", word(outcome).as_bytes(), code.as_bytes(), b"\n"],
-    )
+    line.push(b": ");
+    line.push(word(outcome).as_bytes());
+    line.push(refusal_code(outcome).as_bytes());
+    line.push(b"\n");
 }
 
 fn word(outcome: Outcome) -> &'static str

@@ -1,5 +1,5 @@
 use Rattle.std.proofs.Common.{◌≤◌, ◌∙◌, sym, arith}
-use Rattle.rr_submission.specs.Submitted.AreItems.{at_end, asked, unread_for_memory}
+use Rattle.rr_submission.specs.SubmissionItems.AreItems.{at_end, asked, unread_for_memory}
 use Rattle.rr_submission.proofs.Passing.{Passes-alone, AreItems-faulty}
 use Rattle.rr_submission.proofs.items.next_item.Goals as goal
 

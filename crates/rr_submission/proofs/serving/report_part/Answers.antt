@@ -1,5 +1,6 @@
-use Rattle.std.proofs.Common.{inl}
-use Rattle.rr_submission.proofs.Exits.{IsLineFault-part, IsReadFault-part}
+use Rattle.std.proofs.Common.{ap}
+use Rattle.rr_text.specs.Entries.{entries}
+use Rattle.rr_submission.proofs.Exits.{IsReadFault-part, Submits-stop_part, UnlessStoreFault-stop}
 use Rattle.rr_submission.proofs.serving.report_part.Goals as goal
 
 pub returns-in-Ok-clause-submits : goal.returns-in-Ok-clause-submits
@@ -9,4 +10,8 @@ returns-in-Ok-clause-submits g c = λ end before after other reads.
 
 pub returns-in-Err-clause-submits : goal.returns-in-Err-clause-submits
 returns-in-Err-clause-submits g c = λ end before after other reads.
-    inl (IsLineFault-part c.args.source.now c.args.text.now _ c.in-Err.items end other (rw c.whole_part.ensures at c.in-Err.ensures.serves) reads)
+    rw c.fault.ensures (Submits-stop_part g.L.Ledger c.args.source.now c.args.text.now before after _ _ _ _ end c.in-Err.stop _ other
+    (ap entries c.whole_part.ensures) c.in-Err.ensures.serves reads)
+
+pub returns-in-Err-clause-ready : goal.returns-in-Err-clause-ready
+returns-in-Err-clause-ready g c = rw c.fault.ensures (UnlessStoreFault-stop c.in-Err.stop _ c.in-Err.ensures.ready)

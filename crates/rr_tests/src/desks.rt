@@ -28,7 +28,7 @@ pub fn expect_report<R: Abort + AllocGlobal>(
     report: &str,
 ) -> Result<(), Fail> {
     let (_, last) = submitted(rt.alloc(), submissions)?;
-    assert_eq!(rt; last.as_slice(), report.as_bytes());
+    assert_eq!(rt; str::from_utf8(last.as_slice())?, report);
     Ok(())
 }
 

@@ -170,7 +170,11 @@ fn the_smallest_range_that_covers_is_the_closest(rt: HostRuntime) -> Result<(), 
     ] {
         let wanted = Span::read(closest.as_bytes()).ok_or("no span")?;
         let asked = Span::read(span.as_bytes()).ok_or("no span")?;
-        let object = desk.registry().book().closest_inetnum(asked).ok_or("nothing")?;
+        let object = desk
+            .registry()
+            .book()
+            .closest_inetnum(asked)
+            .ok_or("nothing")?;
         assert_eq!(rt; *object.key(), Key::Inetnum(wanted), "{span}");
     }
     Ok(())
@@ -178,8 +182,7 @@ fn the_smallest_range_that_covers_is_the_closest(rt: HostRuntime) -> Result<(), 
 
 #[test]
 fn a_stranger_cannot_cross_what_is_held(rt: HostRuntime) -> Result<(), Fail> {
-    let text =
-        "password: abc\n\ninetnum: 10.0.255.0 - 10.1.0.255\nmnt-by: B-MNT\nsource: TEST\n";
+    let text = "password: abc\n\ninetnum: 10.0.255.0 - 10.1.0.255\nmnt-by: B-MNT\nsource: TEST\n";
     let refused = "1 inetnum 10.0.255.0 - 10.1.0.255: refused E16\n% items 1\n";
     expect_report(&rt, &[HOLDERS, HELD, text], refused)
 }

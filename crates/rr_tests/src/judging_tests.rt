@@ -83,12 +83,19 @@ fn registry(alloc: Global, text: &str) -> Result<Registry, Fail> {
 }
 
 const ALONE: &str = "route-set: RS-C\nmnt-by: A-MNT\nsource: TEST\n";
+
 const KNOWN: &str = "route-set: RS-A\nmnt-by: A-MNT\nsource: TEST\n";
+
 const OTHER: &str = "route-set: RS-A\nmembers: AS2\nmnt-by: A-MNT\nsource: TEST\n";
+
 const BELOW: &str = "route-set: RS-A:RS-C\nmnt-by: A-MNT\nsource: TEST\n";
+
 const DEEPER: &str = "route-set: RS-A:RS-B:RS-C\nmnt-by: A-MNT\nsource: TEST\n";
+
 const NOWHERE: &str = "route-set: RS-C:RS-D\nmnt-by: A-MNT\nsource: TEST\n";
+
 const BY_NOBODY: &str = "route-set: RS-C\nmnt-by: C-MNT\nsource: TEST\n";
+
 const TAKING: &str = "route-set: RS-C\nmbrs-by-ref: C-MNT\nmnt-by: A-MNT\nsource: TEST\n";
 
 #[test]

@@ -4,6 +4,8 @@
 mod insert_fault;
 pub mod laws;
 mod span_list;
+mod span_nest;
 
 pub use insert_fault::InsertFault;
 pub use span_list::SpanList;
+pub use span_nest::SpanNest;

@@ -83,9 +83,9 @@ module _ {T : Type 0} where
             begins = last.begins;
             reaches = last.reaches;
             last = λ u held begins reaches.
-            elim (held_where u held) [
-              | inl low ↦ ahead_back u t (ahead_chain u span t (fits.ahead.each u low) behind)
-              | inr (inl own) ↦ subst (λ w. is_ahead t w ≡ false) (sym own) (ahead_back span t behind)
-              | inr (inr high) ↦ last.last u high begins reaches
-            ];
+                elim (held_where u held) [
+                  | inl low ↦ ahead_back u t (ahead_chain u span t (fits.ahead.each u low) behind)
+                  | inr (inl own) ↦ subst (λ w. is_ahead t w ≡ false) (sym own) (ahead_back span t behind)
+                  | inr (inr high) ↦ last.last u high begins reaches
+                ];
           }

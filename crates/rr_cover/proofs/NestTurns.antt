@@ -11,7 +11,6 @@ use Rattle.rr_cover.proofs.Nearest.{contradicted}
 use Rattle.rr_cover.proofs.NestOrder.{ahead_itself, ahead_back, ahead_chain}
 use Rattle.rr_cover.proofs.NestHeld.{Made, held_where, stands_low, stands_own, stands_high, none_low, none_high, at_other, at_own}
 
-
 module _ {T : Type 0} where
   regroup : (a b c : Option T) → option_or (option_or a b) c ≡ option_or a (option_or b c)
   regroup None b c = refl
@@ -54,11 +53,11 @@ module _ {T : Type 0} where
   pub only_made : (p : Ends → Bool) (nest : Nest T) (span : Ends) (value : T) (before after : Nest T) → Made nest span value before after → Only p before → p span ≡ true → Only p after → Only p nest
   only_made p nest span value before after made low own high = record {
     each = λ s held.
-    elim (held_where nest span value before after made s held) [
-      | inl in_low ↦ low.each s in_low
-      | inr (inl same) ↦ ap p same ∙ own
-      | inr (inr in_high) ↦ high.each s in_high
-    ];
+        elim (held_where nest span value before after made s held) [
+          | inl in_low ↦ low.each s in_low
+          | inr (inl same) ↦ ap p same ∙ own
+          | inr (inr in_high) ↦ high.each s in_high
+        ];
   }
 
   pub behind_chain : (s t : Ends) (nest : Nest T) → is_ahead s t ≡ true → Only (λ u. is_ahead t u) nest → Only (λ u. is_ahead s u) nest
@@ -86,15 +85,15 @@ module _ {T : Type 0} where
     pub low_of : (p : Ends → Bool) → Only p nest → Only p before
     low_of p only = record {
       each = λ s held.
-      let there = held_some (standing before s) held in
-      only.each s (ap is_some (stands_low nest span value before after made_by opened.fits s there.0 there.1));
+          let there = held_some (standing before s) held in
+          only.each s (ap is_some (stands_low nest span value before after made_by opened.fits s there.0 there.1));
     }
 
     pub high_of : (p : Ends → Bool) → Only p nest → Only p after
     high_of p only = record {
       each = λ s held.
-      let there = held_some (standing after s) held in
-      only.each s (ap is_some (stands_high nest span value before after made_by opened.fits s there.0 there.1));
+          let there = held_some (standing after s) held in
+          only.each s (ap is_some (stands_high nest span value before after made_by opened.fits s there.0 there.1));
     }
 
   -- a side with the value at one of its spans changed
@@ -108,10 +107,10 @@ module _ {T : Type 0} where
   pub only_changed : (p : Ends → Bool) (old new : Nest T) (k : Ends) (o : Option T) → Changed old new k o → p k ≡ true → Only p old → Only p new
   only_changed p old new k o changed passes only = record {
     each = λ s held.
-    elim (changed_held (standing old s) o s k (eq_by_cmp span_cmp s k) refl (sym (ap is_some (changed.all s)) ∙ held)) [
-      | inl same ↦ ap p same ∙ passes
-      | inr there ↦ only.each s there
-    ];
+        elim (changed_held (standing old s) o s k (eq_by_cmp span_cmp s k) refl (sym (ap is_some (changed.all s)) ∙ held)) [
+          | inl same ↦ ap p same ∙ passes
+          | inr there ↦ only.each s there
+        ];
   }
 
   just : (o : Option T) → option_or o (option_or None None) ≡ o
@@ -160,8 +159,8 @@ module _ {T : Type 0} where
           (none_high nest span value before after (made_by nest span value before after opened) opened.fits s (ap (λ t. is_ahead span t) own ∙ ahead_itself span))
       case s false tied =
           sym (
-            opened.all s
-            ∙ ap (λ x. option_or (standing before s) (option_or x (standing after s))) (at_other span value s (eq_by_cmp span_cmp s span) refl (λ own. contradicted _ tied (same_tied s k (own ∙ sym same))))
+          opened.all s
+          ∙ ap (λ x. option_or (standing before s) (option_or x (standing after s))) (at_other span value s (eq_by_cmp span_cmp s span) refl (λ own. contradicted _ tied (same_tied s k (own ∙ sym same))))
           )
 
   -- the first node of a tree and the rest

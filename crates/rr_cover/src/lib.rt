@@ -1,6 +1,7 @@
 //! Values kept by span, and the spans that cover a span or lie inside it.
 #![tactic(auto)]
 
+mod in_order;
 mod insert_fault;
 pub mod laws;
 mod span_list;

@@ -255,7 +255,7 @@ fn take_out<T: Drop>(nest: Nest<T>, span: Span) -> (Option<T>, Nest<T>)
 }
 
 /// Puts a value in the place of the one that stands at the span; where none stands there it comes back.
-pub(super) fn replace<T: Drop>(nest: &mut Nest<T>, span: Span, value: T) -> Result<T, T>
+fn replace<T: Drop>(nest: &mut Nest<T>, span: Span, value: T) -> Result<T, T>
     requires { IsNest nest.old }
     ensures ok { IfOk result (λ old. standing nest.old span ≡ Some old) }
     ensures all { OnOk result ((s : Ends) → standing nest.new s
@@ -280,12 +280,7 @@ pub(super) fn replace<T: Drop>(nest: &mut Nest<T>, span: Span, value: T) -> Resu
 }
 
 /// Puts a value at a span that is not held. Where memory is refused, nothing changes and the value comes back.
-pub(super) fn add<T: Drop>(
-    nest: &mut Nest<T>,
-    alloc: Global,
-    span: Span,
-    value: T,
-) -> Result<(), T>
+fn add<T: Drop>(nest: &mut Nest<T>, alloc: Global, span: Span, value: T) -> Result<(), T>
     requires order { IsNest nest.old }
     requires missing { standing nest.old span ≡ None }
     ensures all { OnOk result ((s : Ends) → standing nest.new s
@@ -324,6 +319,32 @@ fn place<T: Drop>(nest: &mut Nest<T>, node: Box<Node<T>>)
 {
     let whole = mem::replace(nest, Nest::Empty);
     *nest = put(whole, node);
+}
+
+/// Puts the value at the span, and gives back the one that stood there. Where memory is refused, nothing changes and
+/// the value comes back.
+pub(super) fn set<T: Drop>(
+    nest: &mut Nest<T>,
+    alloc: Global,
+    span: Span,
+    value: T,
+) -> Result<Option<T>, T>
+    requires { IsNest nest.old }
+    ensures stood { IfOk result (λ old. old ≡ standing nest.old span) }
+    ensures all { OnOk result ((s : Ends) → standing nest.new s
+        ≡ (if eq_by_cmp span_cmp s span then Some value else standing nest.old s)) }
+    ensures err { OnErr result (nest.new ≡ nest.old) }
+    ensures back { IfErr result (λ given. given ≡ value) }
+    ensures nest { IsNest nest.new }
+{
+    let value = match replace(nest, span, value) {
+        Ok(old) => return Ok(Some(old)),
+        Err(value) => value,
+    };
+    match add(nest, alloc, span, value) {
+        Ok(()) => Ok(None),
+        Err(value) => Err(value),
+    }
 }
 
 /// Takes out the value that stands at the span.

@@ -21,8 +21,8 @@ fork-requires-in_default-open-clause-fits g c =
     let opened = c.in-Some.ensures.some in
     fits_last node.span node.value c.args.before c.args.after back.span back.value c.in-Some.inner c.in-Some.outer c.in-Some.inner c.fork-front-in_default-open.result c.requires.fits opened (record {
       all = λ s.
-      c.fork-front-in_default-open.ensures.all s
-      ∙ ap (λ x. option_or (standing c.args.before s) (option_or (at_span node.span node.value s) x)) (sym (c.in_default-open.ensures.none s));
+          c.fork-front-in_default-open.ensures.all s
+          ∙ ap (λ x. option_or (standing c.args.before s) (option_or (at_span node.span node.value s) x)) (sym (c.in_default-open.ensures.none s));
     }) opened.fits.ahead
 
 pub returns-in_default-open-clause-all : goal.returns-in_default-open-clause-all

@@ -21,8 +21,8 @@ fork-requires-in_default-open-clause-fits g c =
     let none = c.in_default-open.ensures.none in
     fits_first c.args.node.value.span c.args.node.value.value c.args.before c.args.after front.span front.value c.in-Some.outer c.in-Some.inner c.in-Some.inner c.fork-back-in_default-open.result c.requires.fits opened (record {
       all = λ s.
-      c.fork-back-in_default-open.ensures.all s
-      ∙ ap (λ x. option_or x (option_or (at_span c.args.node.value.span c.args.node.value.value s) (standing c.args.after s))) (sym (none s));
+          c.fork-back-in_default-open.ensures.all s
+          ∙ ap (λ x. option_or x (option_or (at_span c.args.node.value.span c.args.node.value.value s) (standing c.args.after s))) (sym (none s));
     }) opened.fits.behind
 
 pub returns-in_default-open-clause-all : goal.returns-in_default-open-clause-all

@@ -4,6 +4,8 @@
 mod in_order;
 mod insert_fault;
 pub mod laws;
+#[cfg(test)]
+mod sequence_tests;
 mod span_list;
 mod span_nest;
 

@@ -159,3 +159,6 @@ impl<T: Drop> SpanNest<T> {
         take(&mut self.root, span)
     }
 }
+
+#[cfg(test)]
+mod tests;

@@ -1,7 +1,7 @@
 //! The lines of a text.
 
 ghost use Rattle.std.specs.Prelude.{◌≡◌, ◌<◌, ◌∷◌, ◌++◌, ◌⊎◌, [], length, true};
-ghost use Rattle.std.specs.List.{list_any, list_all, position};
+ghost use Rattle.std.specs.List.{list_any, position};
 ghost use Rattle.rr_bytes.specs.Blanks.{is_line_feed};
 ghost use Rattle.rr_bytes.specs.NameBytes.{begins};
 ghost use Rattle.rr_text.specs.Bytes.{is_refused};

@@ -9,6 +9,8 @@ pub mod Meanings
 pub mod CanonicalText
 pub mod WholePart
 pub mod Laws
+pub mod LinesSoFar
+pub mod DraftParts
 pub use Rattle.rr_io.specs.Told
 pub use Rattle.rr_io.specs.Receiving
 pub use Rattle.rr_io.specs.Sending

@@ -20,7 +20,7 @@ use crate::trim::{trim, trim_end};
 use std::alloc::{AllocError, Global};
 
 /// The most bytes that a paragraph has.
-const SIZE_LIMIT: usize = 65_536;
+pub(crate) const SIZE_LIMIT: usize = 65_536;
 
 /// What stands before and behind the first colon of a line.
 #[tactic(auto, using(crate::proofs::FaultLemmas::found_at, crate::proofs::FaultLemmas::none_at))]

@@ -4,11 +4,13 @@
 pub mod attribute;
 mod block;
 pub mod canonical;
+mod draft;
 mod entry;
 pub mod fault;
 mod inspect;
 pub mod laws;
 mod line;
+mod line_so_far;
 pub mod paragraph;
 pub mod reader;
 #[cfg(test)]

@@ -72,8 +72,9 @@ pub(crate) fn is_blank_only(line: &[u8]) -> bool
     line.iter().all(|byte| is_blank_byte(*byte))
 }
 
+/// Whether a line begins with `#` or `%`.
 #[inline]
-fn begins_skipped(line: &[u8]) -> bool
+pub(crate) fn begins_skipped(line: &[u8]) -> bool
     ensures { result ≡ is_skipped_line line.now }
 {
     match line {

@@ -6,7 +6,7 @@ use Rattle.std.specs.declared.vec.IntoIter.{IntoIter}
 use Rattle.std.specs.declared.io.Error.{Error}
 use Rattle.std.specs.declared.io.ErrorKind.{ErrorKind}
 use Rattle.std.specs.declared.io.ErrorKind.TheVariants.{OutOfMemory}
-use Rattle.rr_desk.specs.declared.submission.DeskFault.TheVariants.{ReadFault, WriteFault, Memory}
+use Rattle.rr_submission.specs.declared.submission.DeskFault.TheVariants.{ReadFault, WriteFault, Memory}
 use Rattle.rr_cli.specs.declared.program_fault.ProgramFault.{ProgramFault}
 use Rattle.rr_cli.specs.declared.program_fault.ProgramFault.TheVariants.{WordsGiven, WordsNotText, WordsMemory, OpeningMemory, Submission}
 

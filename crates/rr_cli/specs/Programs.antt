@@ -4,12 +4,12 @@ use Rattle.rr_io.specs.Told.{Told}
 use Rattle.rr_io.specs.Sending.{TakesSome}
 use Rattle.rr_text.specs.Entries.{entries}
 use Rattle.rr_auth.specs.Registries.{Reg}
-use Rattle.rr_desk.specs.declared.submission.Done.{Done}
-use Rattle.rr_desk.specs.declared.submission.DeskFault.{DeskFault}
-use Rattle.rr_desk.specs.Submissions.{Submits}
+use Rattle.rr_submission.specs.declared.submission.Done.{Done}
+use Rattle.rr_submission.specs.declared.submission.DeskFault.{DeskFault}
+use Rattle.rr_submission.specs.Submissions.{Submits}
 use Rattle.rr_cli.specs.declared.program_fault.ProgramFault.{ProgramFault}
 use Rattle.rr_cli.specs.declared.program_fault.ProgramFault.TheVariants.{OpeningMemory, Submission}
-use Rattle.rr_cli.specs.Opening.{IsOpened, built_in_source, opening_text}
+use Rattle.rr_desk.specs.Opening.{IsOpened, built_in_source, opening_text}
 use Rattle.rr_cli.specs.ProgramFaults.{fault_line, fault_status}
 
 -- standard input, standard output and standard error, before and after

@@ -1,5 +1,5 @@
 //! Thousands of texts of a seeded generator, each submitted whole and in pieces.
-use crate::plain_desk::PlainDesk;
+use rr_desk::PlainDesk;
 use rand_core::utils::NextWord;
 use rand_pcg::Pcg32;
 use rr_io::{Counted, Cut, Source};

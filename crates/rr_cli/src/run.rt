@@ -2,11 +2,11 @@
 
 ghost use Rattle.std.specs.Prelude.{◌≡◌};
 ghost use Rattle.rr_text.specs.Entries.{entries};
-ghost use Rattle.rr_cli.specs.Opening.{IsOpened, built_in_source, opening_text};
+ghost use Rattle.rr_desk.specs.Opening.{IsOpened, built_in_source, opening_text};
 ghost use Rattle.rr_cli.specs.ProgramFaults.{words_fault};
 ghost use Rattle.rr_cli.specs.Programs.{Runs, SubmitsTo, done_status};
 
-use crate::plain_desk::PlainDesk;
+use rr_desk::PlainDesk;
 use crate::program_fault::ProgramFault;
 use rr_desk::Done;
 use rr_io::{Sink, Source};

@@ -1,5 +1,5 @@
 //! Submissions whose reader or writer fails in mid-stream.
-use crate::plain_desk::PlainDesk;
+use rr_desk::PlainDesk;
 use rr_desk::{DeskFault, Done};
 use rr_io::{Counted, Cut};
 use std::test::Fail;

@@ -4,9 +4,9 @@ use Rattle.std.specs.Str.{bytes_eq}
 use Rattle.rr_number.specs.Names.{upper}
 use Rattle.rr_number.specs.Numerals.{IsNumber, number_of}
 
--- The greatest AS number: one of two octets (profile).
+-- The greatest AS number: one of four octets (RFC 6793, 3).
 abbrev pub greatest_as_number : ℕ
-greatest_as_number = 65535
+greatest_as_number = 4294967295
 
 -- An AS number is spelled as `AS`, in any letter case, and one to ten (profile) digits (RFC 2622, 2).
 pub record IsAsNumber (text : List ℕ) (n : ℕ) : Type 0 where

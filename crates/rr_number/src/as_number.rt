@@ -1,5 +1,5 @@
 //! AS numbers.
-ghost use Rattle.std.specs.Prelude.{◌≡◌, ◌++◌, length, ◌+◌, ◌≤◌, ℕ, IfSome, Some, SomeIff};
+ghost use Rattle.std.specs.Prelude.{◌≡◌, ◌++◌, length, ◌+◌, ◌≤◌, ℕ, IfSome, Some};
 ghost use Rattle.rr_io.specs.Sending.{Writes};
 ghost use Rattle.rr_number.specs.Numerals.{number_of};
 ghost use Rattle.rr_number.specs.AsNumbers.{as_number_of, as_number_text, greatest_as_number, IsAsNumber};
@@ -11,8 +11,8 @@ use rr_io::{Sink, write_all};
 use std::marker::Model;
 use std::{fmt, io};
 
-/// The greatest AS number, of two octets (profile).
-const GREATEST: u32 = 65_535;
+/// The greatest AS number, of four octets (RFC 6793, 3).
+const GREATEST: u32 = 4_294_967_295;
 
 /// The most digits that an AS number is spelled in (profile).
 const MOST_DIGITS: usize = 10;
@@ -37,20 +37,8 @@ impl Model for AsNumber {
 }
 
 impl AsNumber {
-    /// The AS of a number, if it is not above the greatest.
-    pub fn new(number: u32) -> Option<Self>
-        ensures { SomeIff result (number ≤ greatest_as_number) number }
-    {
-        if number <= GREATEST {
-            Some(AsNumber { number })
-        } else {
-            None
-        }
-    }
-
-    /// The AS of a number that is known not to be above the greatest.
-    pub(crate) fn known(number: u32) -> Self
-        requires { number ≤ greatest_as_number }
+    /// The AS of a number; none is above the greatest.
+    pub fn new(number: u32) -> Self
         ensures { result ≡ number }
     {
         AsNumber { number }
@@ -64,8 +52,8 @@ impl AsNumber {
         self.number
     }
 
-    /// The AS number that the bytes spell: `AS`, in any letter case, and 1 to 10 digits of a number of at most 65535
-    /// (RFC 2622, 2; the count of digits and the bound: profile).
+    /// The AS number that the bytes spell: `AS`, in any letter case, and 1 to 10 digits of a number of at most
+    /// 4294967295 (RFC 2622, 2; RFC 6793, 3; the count of digits: profile).
     pub fn read(bytes: &[u8]) -> Option<Self>
         ensures exact { result ≡ as_number_of bytes.now }
         ensures found { IfSome result (IsAsNumber bytes.now) }

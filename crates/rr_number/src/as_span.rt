@@ -47,14 +47,14 @@ impl AsSpan {
     pub fn first(self) -> AsNumber
         ensures { result ≡ self.first }
     {
-        AsNumber::known(self.span.first())
+        AsNumber::new(self.span.first())
     }
 
     /// The last AS number.
     pub fn last(self) -> AsNumber
         ensures { result ≡ self.last }
     {
-        AsNumber::known(self.span.last())
+        AsNumber::new(self.span.last())
     }
 
     /// The block's numbers.

@@ -104,6 +104,8 @@ fn names_are_copied_and_compared_by_their_bytes(rt: HostRuntime) -> Result<(), F
 fn as_numbers_have_leading_zeros_only_as_spelled(rt: HostRuntime) {
     for (text, want) in [
         ("AS65535", "AS65535"),
+        ("AS65536", "AS65536"),
+        ("AS4294967295", "AS4294967295"),
         ("as007", "AS7"),
         ("aS0", "AS0"),
         ("As0000000001", "AS1"),
@@ -115,8 +117,9 @@ fn as_numbers_have_leading_zeros_only_as_spelled(rt: HostRuntime) {
         );
     }
     for text in [
-        "AS65536",
         "AS4294967296",
+        "AS9999999999",
+        "AS04294967295",
         "AS00000000001",
         "AS",
         "A1",
@@ -160,7 +163,7 @@ fn blocks_have_one_dash(rt: HostRuntime) {
         " AS10 - AS20",
         "AS10 - AS20 ",
         "10 - 20",
-        "AS10 - AS65536",
+        "AS10 - AS4294967296",
         "-",
     ] {
         assert!(rt; AsSpan::read(text.as_bytes()).is_none(), "{text}");
@@ -200,7 +203,7 @@ fn names_of_sets_are_printed_without_leading_zeros(rt: HostRuntime) -> Result<()
         "as-x::as-y",
         "as-x:mnt",
         "as-x:peeras",
-        "AS65536:as-x",
+        "AS4294967296:as-x",
         "as-x: as-y",
         "as-x^+",
     ] {
@@ -251,7 +254,7 @@ fn the_kind_is_told_by_the_components_beside_as_numbers(rt: HostRuntime) -> Resu
 fn all_components_but_the_last_name_the_parent(rt: HostRuntime) -> Result<(), Fail> {
     assert_eq!(rt;
         parent_of(rt.alloc(), "as1:as-x")?,
-        AsNumber::new(1).map(Parent::Number)
+        Some(Parent::Number(AsNumber::new(1)))
     );
     assert_eq!(rt; parent_of(rt.alloc(), "AS01:AS2:AS-X")?, Some(Parent::Bare));
     assert_eq!(rt; parent_of(rt.alloc(), "as-x")?, None);

@@ -1,11 +1,9 @@
 -- The keys that texts and paragraphs spell (RFC 2622, 3 to 6; profile).
-use Rattle.std.specs.Prelude.{ℕ, Bool, not, ◌&&◌, ◌%◌, ◌==◌, List, [], ◌∷◌, Option, Some, None, Result, Ok, Err, if◌then◌else◌}
-use Rattle.std.specs.Int.{is_power_of_two}
+use Rattle.std.specs.Prelude.{ℕ, not, ◌&&◌, List, [], ◌∷◌, Option, Some, None, Result, Ok, Err, if◌then◌else◌}
 use Rattle.std.specs.Option.{option_map, option_and_then}
 use Rattle.rr_text.specs.Fields.{Field}
 use Rattle.rr_text.specs.Meanings.{value_meaning}
 use Rattle.rr_number.specs.Names.{maintainer_name_of}
-use Rattle.rr_number.specs.Spans.{Ends, size}
 use Rattle.rr_number.specs.AsNumbers.{as_number_of}
 use Rattle.rr_number.specs.Prefixes.{prefix_of}
 use Rattle.rr_number.specs.SetNames.{set_name_of, kind_of, is_any_set}
@@ -22,14 +20,6 @@ use Rattle.rr_object.specs.Classes.{class_named}
 use Rattle.rr_object.specs.Items.{only, values_of, words}
 use Rattle.rr_object.specs.Kinds.{kind_name}
 use Rattle.rr_object.specs.Members.{is_as_set}
-
--- a span of addresses is that of a prefix where its size is a power of two and divides its first number (RFC 2622, 2)
-abbrev pub is_prefix_span : Ends → Bool
-is_prefix_span span = is_power_of_two (size span) && (span.first % size span == 0)
-
--- the span of addresses that an inetnum's key spells; it has to be that of a prefix (profile)
-unfoldable pub inetnum_span_of : List ℕ → Option Ends
-inetnum_span_of text = option_and_then (λ span. if is_prefix_span span then Some span else None) (span_of text)
 
 -- the name of an as-set, but not `AS-ANY` (RFC 2622, 5; profile)
 abbrev pub as_set_key_of : List ℕ → Option (List ℕ)
@@ -58,7 +48,7 @@ unfoldable pub key_of_text : Class → List ℕ → Option Key
 key_of_text class.Mntner text = option_map Mntner (maintainer_name_of text)
 key_of_text class.AsBlock text = option_map AsBlock (as_span_of text)
 key_of_text class.AutNum text = option_map AutNum (as_number_of text)
-key_of_text class.Inetnum text = option_map Inetnum (inetnum_span_of text)
+key_of_text class.Inetnum text = option_map Inetnum (span_of text)
 key_of_text class.Route text = route_key_of_words (words text)
 key_of_text class.AsSet text = option_map AsSet (as_set_key_of text)
 key_of_text class.RouteSet text = option_map RouteSet (route_set_key_of text)

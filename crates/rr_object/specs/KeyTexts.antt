@@ -1,10 +1,11 @@
 -- The texts of keys: in reports, and as the bytes by which they are ordered.
 use Rattle.std.specs.Prelude.{ℕ, ◌+◌, ◌/◌, ◌%◌, List, [], ◌∷◌, ◌++◌}
-use Rattle.std.specs.Int.{to_be_bytes, w16, w32}
+use Rattle.std.specs.Int.{to_be_bytes, w32}
 use Rattle.hex.specs.Hex.{encode_lower}
 use Rattle.rr_number.specs.AsNumbers.{as_number_text}
 use Rattle.rr_number.specs.AsSpans.{as_span_text}
-use Rattle.rr_number.specs.Prefixes.{prefix_text}
+use Rattle.rr_number.specs.Prefixes.{PrefixParts, prefix_text}
+use Rattle.rr_number.specs.Spans.{Ends}
 use Rattle.rr_number.specs.SpanTexts.{span_text}
 use Rattle.rr_object.specs.declared.key.Key.{Key}
 use Rattle.rr_object.specs.declared.key.Key.TheVariants.{Mntner, AsBlock, AutNum, Inetnum, Route, AsSet, RouteSet}
@@ -19,25 +20,33 @@ key_text (Route prefix origin) = prefix_text prefix ++ (32 ∷ as_number_text or
 key_text (AsSet name) = name
 key_text (RouteSet name) = name
 
--- an AS number as four hexadecimal digits in lower case (profile)
-abbrev pub as_number_bytes : ℕ → List ℕ
-as_number_bytes number = encode_lower (to_be_bytes w16 number)
-
--- and an address as eight such digits (profile)
-abbrev pub address_bytes : ℕ → List ℕ
-address_bytes address = encode_lower (to_be_bytes w32 address)
+-- an address or an AS number as eight hexadecimal digits in lower case (profile)
+abbrev pub eight_digits : ℕ → List ℕ
+eight_digits number = encode_lower (to_be_bytes w32 number)
 
 -- a length as two decimal digits (profile)
 abbrev pub length_bytes : ℕ → List ℕ
 length_bytes length = (48 + length / 10) ∷ ((48 + length % 10) ∷ [])
 
+-- the ends of a span with a dash between them (profile)
+abbrev pub span_bytes : (ℕ → List ℕ) → Ends → List ℕ
+span_bytes digits span = digits span.first ++ (45 ∷ digits span.last)
+
+-- a route as its address, its length and its origin (profile)
+abbrev pub route_bytes : (ℕ → List ℕ) → PrefixParts → ℕ → List ℕ
+route_bytes digits prefix origin =
+    eight_digits prefix.address ++ (47 ∷ (length_bytes prefix.length ++ (45 ∷ digits origin)))
+
+-- a key as bytes, with these digits for an AS number; a set's name is itself (profile)
+abbrev pub bytes_with : (ℕ → List ℕ) → Key → List ℕ
+bytes_with digits (Mntner name) = name
+bytes_with digits (AsBlock block) = span_bytes digits block
+bytes_with digits (AutNum number) = digits number
+bytes_with digits (Inetnum span) = span_bytes eight_digits span
+bytes_with digits (Route prefix origin) = route_bytes digits prefix origin
+bytes_with digits (AsSet name) = name
+bytes_with digits (RouteSet name) = name
+
 -- a key as the bytes by which the keys of a class are ordered and stored (profile)
 abbrev pub key_bytes : Key → List ℕ
-key_bytes (Mntner name) = name
-key_bytes (AsBlock block) = as_number_bytes block.first ++ (45 ∷ as_number_bytes block.last)
-key_bytes (AutNum number) = as_number_bytes number
-key_bytes (Inetnum span) = address_bytes span.first ++ (45 ∷ address_bytes span.last)
-key_bytes (Route prefix origin) =
-    address_bytes prefix.address ++ (47 ∷ (length_bytes prefix.length ++ (45 ∷ as_number_bytes origin)))
-key_bytes (AsSet name) = name
-key_bytes (RouteSet name) = name
+key_bytes key = bytes_with eight_digits key

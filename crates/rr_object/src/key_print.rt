@@ -1,15 +1,14 @@
 //! Keys as texts.
 
 ghost use Rattle.std.specs.Prelude.{◌≡◌, ◌≤◌, ◌∷◌, ◌++◌, IfOk, OnOk};
-ghost use Rattle.hex.specs.Hex.{encode_lower};
 ghost use Rattle.rr_io.specs.Sending.{Writes};
 ghost use Rattle.rr_number.specs.AsNumbers.{as_number_text};
 ghost use Rattle.rr_number.specs.Prefixes.{prefix_text};
-ghost use Rattle.rr_object.specs.KeyTexts.{address_bytes, as_number_bytes, key_bytes, key_text, length_bytes};
+ghost use Rattle.rr_object.specs.KeyTexts.{eight_digits, key_bytes, key_text, length_bytes, route_bytes, span_bytes};
 
 use crate::key::Key;
 use rr_io::{Sink, write_pieces};
-use rr_number::{AsNumber, Prefix};
+use rr_number::{AsNumber, Prefix, Span};
 use std::alloc::{AllocError, Global};
 use std::io;
 
@@ -36,9 +35,9 @@ impl Key {
     {
         match self {
             Key::Mntner(name) => Vec::from_slice(alloc, name.as_bytes()),
-            Key::AsBlock(block) => as_number_pair(alloc, block.first(), block.last()),
-            Key::AutNum(number) => as_number_bytes(alloc, *number),
-            Key::Inetnum(span) => address_pair(alloc, span.first(), span.last()),
+            Key::AsBlock(block) => span_bytes(alloc, block.span()),
+            Key::AutNum(number) => number_bytes(alloc, number.number()),
+            Key::Inetnum(span) => span_bytes(alloc, *span),
             Key::Route(prefix, origin) => route_bytes(alloc, *prefix, *origin),
             Key::AsSet(name) => Vec::from_slice(alloc, name.as_bytes()),
             Key::RouteSet(name) => Vec::from_slice(alloc, name.as_bytes()),
@@ -56,25 +55,12 @@ fn print_route<W: Sink>(prefix: Prefix, origin: AsNumber, writer: &mut W) -> io:
     write_pieces(writer, &pieces)
 }
 
-/// Adds bytes as hexadecimal digits in lower case.
-fn push_hex(alloc: Global, text: &mut Vec<u8>, bytes: &[u8]) -> Result<(), AllocError>
-    ensures { OnOk result (text.new.items ≡ text.old.items ++ encode_lower bytes.now) }
+/// Adds a number as eight hexadecimal digits in lower case.
+fn push_digits(alloc: Global, text: &mut Vec<u8>, number: u32) -> Result<(), AllocError>
+    ensures { OnOk result (text.new.items ≡ text.old.items ++ eight_digits number) }
 {
-    let digits = hex::encode(alloc, bytes)?;
+    let digits = hex::encode(alloc, &number.to_be_bytes())?;
     text.extend_from_slice(digits.as_bytes())
-}
-
-fn push_as_number(alloc: Global, text: &mut Vec<u8>, number: AsNumber) -> Result<(), AllocError>
-    ensures { OnOk result (text.new.items ≡ text.old.items ++ as_number_bytes number) }
-{
-    let number = number.number() as u16;
-    push_hex(alloc, text, &number.to_be_bytes())
-}
-
-fn push_address(alloc: Global, text: &mut Vec<u8>, address: u32) -> Result<(), AllocError>
-    ensures { OnOk result (text.new.items ≡ text.old.items ++ address_bytes address) }
-{
-    push_hex(alloc, text, &address.to_be_bytes())
 }
 
 fn push_length(text: &mut Vec<u8>, length: u8) -> Result<(), AllocError>
@@ -84,42 +70,30 @@ fn push_length(text: &mut Vec<u8>, length: u8) -> Result<(), AllocError>
     text.extend_from_slice(&[b'0' + length / 10, b'0' + length % 10])
 }
 
-fn as_number_bytes(alloc: Global, number: AsNumber) -> Result<Vec<u8>, AllocError>
-    ensures { IfOk result (λ bytes. bytes.items ≡ as_number_bytes number) }
+fn number_bytes(alloc: Global, number: u32) -> Result<Vec<u8>, AllocError>
+    ensures { IfOk result (λ bytes. bytes.items ≡ eight_digits number) }
 {
     let mut bytes = Vec::new(alloc);
-    push_as_number(alloc, &mut bytes, number)?;
+    push_digits(alloc, &mut bytes, number)?;
     Ok(bytes)
 }
 
-fn as_number_pair(alloc: Global, first: AsNumber, last: AsNumber) -> Result<Vec<u8>, AllocError>
-    ensures { IfOk result (λ bytes. bytes.items ≡ as_number_bytes first ++ (45 ∷ as_number_bytes last)) }
+fn span_bytes(alloc: Global, span: Span) -> Result<Vec<u8>, AllocError>
+    ensures { IfOk result (λ bytes. bytes.items ≡ span_bytes eight_digits span) }
 {
-    let mut bytes = as_number_bytes(alloc, first)?;
+    let mut bytes = number_bytes(alloc, span.first())?;
     bytes.push(b'-')?;
-    push_as_number(alloc, &mut bytes, last)?;
-    Ok(bytes)
-}
-
-fn address_pair(alloc: Global, first: u32, last: u32) -> Result<Vec<u8>, AllocError>
-    ensures { IfOk result (λ bytes. bytes.items ≡ address_bytes first ++ (45 ∷ address_bytes last)) }
-{
-    let mut bytes = Vec::new(alloc);
-    push_address(alloc, &mut bytes, first)?;
-    bytes.push(b'-')?;
-    push_address(alloc, &mut bytes, last)?;
+    push_digits(alloc, &mut bytes, span.last())?;
     Ok(bytes)
 }
 
 fn route_bytes(alloc: Global, prefix: Prefix, origin: AsNumber) -> Result<Vec<u8>, AllocError>
-    ensures { IfOk result (λ bytes. bytes.items
-        ≡ address_bytes prefix.address ++ (47 ∷ (length_bytes prefix.length ++ (45 ∷ as_number_bytes origin)))) }
+    ensures { IfOk result (λ bytes. bytes.items ≡ route_bytes eight_digits prefix origin) }
 {
-    let mut bytes = Vec::new(alloc);
-    push_address(alloc, &mut bytes, prefix.address().to_bits())?;
+    let mut bytes = number_bytes(alloc, prefix.address().to_bits())?;
     bytes.push(b'/')?;
     push_length(&mut bytes, prefix.length())?;
     bytes.push(b'-')?;
-    push_as_number(alloc, &mut bytes, origin)?;
+    push_digits(alloc, &mut bytes, origin.number())?;
     Ok(bytes)
 }

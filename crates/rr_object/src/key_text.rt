@@ -1,7 +1,7 @@
 //! Keys read from texts.
 
 ghost use Rattle.std.specs.Prelude.{◌≡◌, IfOk, map};
-ghost use Rattle.rr_object.specs.KeySpellings.{as_set_key_of, inetnum_span_of, is_prefix_span, key_of_text, route_key_of, route_key_of_words, route_set_key_of};
+ghost use Rattle.rr_object.specs.KeySpellings.{as_set_key_of, key_of_text, route_key_of, route_key_of_words, route_set_key_of};
 ghost use Rattle.rr_object.specs.declared.class.Class.TheVariants as class;
 
 use crate::class::Class;
@@ -22,7 +22,7 @@ impl Key {
             Class::Mntner => Ok(Name::read_maintainer(alloc, text)?.map(Key::Mntner)),
             Class::AsBlock => Ok(AsSpan::read(text).map(Key::AsBlock)),
             Class::AutNum => Ok(AsNumber::read(text).map(Key::AutNum)),
-            Class::Inetnum => Ok(read_inetnum_span(text).map(Key::Inetnum)),
+            Class::Inetnum => Ok(Span::read(text).map(Key::Inetnum)),
             Class::Route => read_route(alloc, text),
             Class::AsSet => Ok(read_as_set(alloc, text)?.map(Key::AsSet)),
             Class::RouteSet => Ok(read_route_set(alloc, text)?.map(Key::RouteSet)),
@@ -54,24 +54,6 @@ pub(crate) fn route_key_of(prefix: &[u8], origin: &[u8]) -> Option<Key>
     let prefix = Prefix::read(prefix)?;
     let origin = AsNumber::read(origin)?;
     Some(Key::Route(prefix, origin))
-}
-
-#[tactic(auto, unfolding(crate::specs::KeySpellings::inetnum_span_of))]
-fn read_inetnum_span(text: &[u8]) -> Option<Span>
-    ensures { result ≡ inetnum_span_of text.now }
-{
-    match Span::read(text) {
-        Some(span) if is_prefix_span(span) => Some(span),
-        _ => None,
-    }
-}
-
-/// Whether a span of addresses is that of a prefix.
-fn is_prefix_span(span: Span) -> bool
-    ensures { result ≡ is_prefix_span span }
-{
-    let size = span.size();
-    size.is_power_of_two() && u64::from(span.first()) % size == 0
 }
 
 fn read_as_set(alloc: Global, text: &[u8]) -> Result<Option<SetName>, AllocError>

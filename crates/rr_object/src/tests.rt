@@ -69,8 +69,12 @@ fn faults_are_found_in_order(rt: HostRuntime) -> Result<(), Fail> {
         ("mntner: any\nauth: x\nmnt-by: A-MNT\nsource: TEST\n", "E03"),
         ("as-set: AS-ANY\nmnt-by: A-MNT\nsource: TEST\n", "E03"),
         (
-            "inetnum: 10.0.0.1 - 10.0.0.2\nmnt-by: A-MNT\nsource: TEST\n",
+            "inetnum: 10.1.0.9 - 10.1.0.3\nmnt-by: A-MNT\nsource: TEST\n",
             "E03",
+        ),
+        (
+            "inetnum: 10.1.0.3 - 10.1.0.9\nmnt-by: A-MNT\nsource: TEST\n",
+            "ok",
         ),
         ("aut-num: AS3\nmnt-by: any\n", "E04"),
         ("mnt-by: A-MNT\naut-num: AS3\nsource: TEST\n", "E02"),
@@ -250,10 +254,12 @@ fn salted_digests_are_read(rt: HostRuntime) -> Result<(), Fail> {
 fn keys_have_their_texts_and_bytes(rt: HostRuntime) -> Result<(), Fail> {
     for (class, text, bytes) in [
         (Class::Mntner, "a-mnt", "A-MNT"),
-        (Class::AsBlock, "AS10 - AS20", "000a-0014"),
-        (Class::AutNum, "AS1", "0001"),
+        (Class::AsBlock, "AS10 - AS20", "0000000a-00000014"),
+        (Class::AutNum, "AS1", "00000001"),
+        (Class::AutNum, "AS4294967295", "ffffffff"),
         (Class::Inetnum, "10.0.0.0/8", "0a000000-0affffff"),
-        (Class::Route, "10.0.0.0/8  as1", "0a000000/08-0001"),
+        (Class::Inetnum, "10.1.0.3-10.1.0.9", "0a010003-0a010009"),
+        (Class::Route, "10.0.0.0/8  as1", "0a000000/08-00000001"),
         (Class::AsSet, "as01:as-x", "AS1:AS-X"),
         (Class::RouteSet, "RS-C", "RS-C"),
     ] {
@@ -274,7 +280,7 @@ fn keys_have_their_texts_and_bytes(rt: HostRuntime) -> Result<(), Fail> {
         (Class::Route, "10.0.0.0/8^+ AS1"),
         (Class::Route, "10.0.0.0/8 AS1 AS2"),
         (Class::Route, "10.0.0.0/8\nAS1"),
-        (Class::Inetnum, "10.0.0.0 - 10.0.0.2"),
+        (Class::Inetnum, "10.1.0.9 - 10.1.0.3"),
     ] {
         assert!(rt;
             Key::read(rt.alloc(), class, text.as_bytes())?.is_none(),
@@ -285,7 +291,7 @@ fn keys_have_their_texts_and_bytes(rt: HostRuntime) -> Result<(), Fail> {
     let key = key_of(rt.alloc(), &paragraph)?;
     assert_eq!(rt;
         key.bytes(rt.alloc())?.as_slice(),
-        b"0a000000/08-0001".as_slice()
+        b"0a000000/08-00000001".as_slice()
     );
     Ok(())
 }

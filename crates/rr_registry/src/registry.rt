@@ -6,8 +6,8 @@ ghost use Rattle.rr_auth.specs.declared.verdict.Verdict.TheVariants.{Add, Change
 ghost use Rattle.rr_registry.specs.Runs.{IsCarriedOut, IsStep, IsWant};
 
 use crate::outcome::Outcome;
-use crate::plain_book::PlainBook;
 use rr_auth::{Book, Item, Secrets, Verdict, judge};
+use rr_book::PlainBook;
 use rr_object::{Code, Key, Object};
 use std::alloc::Global;
 use std::marker::Model;

@@ -1,0 +1,7 @@
+pub mod Asking
+pub mod Exits
+pub mod Giving
+pub mod Joins
+pub mod Passing
+pub mod Progress
+pub mod Writings

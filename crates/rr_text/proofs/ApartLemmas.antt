@@ -235,6 +235,10 @@ pub no_entries : entries [] ≡ []
 unfolding entries text_lines
 no_entries = ap (map block_entry) no_blocks
 
+pub no_whole : whole_part [] ≡ []
+unfolding whole_part closed_lines text_lines
+no_whole = refl
+
 joins_by : (lines : List (List ℕ)) (front back : List ℕ) → text_lines front ≡ lines → whole_part front ≡ front → entries (front ++ back) ≡ entries front ++ entries back
 joins_by [] front back e h = let none : front ≡ [] = no_text front e in rw (none, no_entries) refl
 joins_by (line ∷ others) front back e h = entries_apart front back (apart front line others e h)
@@ -251,8 +255,12 @@ whole_by (line ∷ others) front back e h =
     ∙ (ap concat (closed_on (text_lines front) (text_lines back) (whole_lines front h))
     ∙ (concat-append (text_lines front) (closed_lines (text_lines back)) ∙ ap (λ r. r ++ concat (closed_lines (text_lines back))) (concat-text_lines front)))
 
+-- so does its whole part
+pub whole_joined : (front back : List ℕ) → whole_part front ≡ front → whole_part (front ++ back) ≡ front ++ whole_part back
+whole_joined front back h = whole_by (text_lines front) front back refl h
+
 pub joins : (front back : List ℕ) → whole_part front ≡ front → (entries (front ++ back) ≡ entries front ++ entries back) × (whole_entries (front ++ back) ≡ entries front ++ whole_entries back)
 joins front back h = (
   entries_behind front back h,
-  ap entries (whole_by (text_lines front) front back refl h) ∙ entries_behind front (whole_part back) h,
+  ap entries (whole_joined front back h) ∙ entries_behind front (whole_part back) h,
 )

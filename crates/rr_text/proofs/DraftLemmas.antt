@@ -1,6 +1,6 @@
 -- Lemmas on what a draft has of the text so far.
 use Rattle.std.proofs.Common.{◌≡◌, ◌≢◌, ℕ, ◌+◌, ◌-◌, ◌<◌, ◌≤◌, Bool, true, false, not, ◌&&◌, ◌||◌, List, [], ◌∷◌, ◌++◌, ◌⊎◌, inl, inr, length, length-append, take, map, refl, sym, ap, subst, ◌∙◌, arith, append_assoc, if◌then◌else◌}
-use Rattle.std.proofs.lemmas.List.{append-nil, take_all, take-append-le}
+use Rattle.std.proofs.lemmas.List.{append-nil, take_all, take_at, take-append-le}
 use Rattle.std.proofs.Math.Bool.{or-true, and-false}
 use Rattle.std.proofs.lemmas.List.Folds.{list_any-append}
 use Rattle.std.specs.List.{list_any, concat, onto_first}
@@ -288,13 +288,13 @@ fed_passed : (text piece block line : List ℕ) (new : Draft) → IsAtFeed text 
 fed_passed text piece block line new at h fresh =
     let none : block ≡ [] = at.cut.none refl in
     let lines : (more : List ℕ) → text_lines ((text ++ piece) ++ more) ≡ (at.cut.passed ++ (line ++ piece) ∷ []) ++ text_lines more = λ more.
-        feed_lines text piece block line false at more
-        ∙ (ap (λ ls. at.cut.passed ++ (ls ++ (line ++ piece) ∷ text_lines more)) (ap text_lines none ∙ no_text_lines)
-        ∙ sym (append_assoc at.cut.passed ((line ++ piece) ∷ []) (text_lines more)))
+    feed_lines text piece block line false at more
+    ∙ (ap (λ ls. at.cut.passed ++ (ls ++ (line ++ piece) ∷ text_lines more)) (ap text_lines none ∙ no_text_lines)
+    ∙ sym (append_assoc at.cut.passed ((line ++ piece) ∷ []) (text_lines more)))
     in
     let idle : list_any is_paragraph_line (at.cut.passed ++ (line ++ piece) ∷ []) ≡ false =
-        list_any-append is_paragraph_line at.cut.passed ((line ++ piece) ∷ [])
-        ∙ none_both (list_any is_paragraph_line at.cut.passed) (list_any is_paragraph_line ((line ++ piece) ∷ [])) at.cut.idle (idle_one (line ++ piece) h)
+    list_any-append is_paragraph_line at.cut.passed ((line ++ piece) ∷ [])
+    ∙ none_both (list_any is_paragraph_line at.cut.passed) (list_any is_paragraph_line ((line ++ piece) ∷ [])) at.cut.idle (idle_one (line ++ piece) h)
     in begun_with (text ++ piece) new fresh (cut_none (text ++ piece) (at.cut.passed ++ (line ++ piece) ∷ []) lines idle)
 
 fed_taken : (text piece block line : List ℕ) (started : Bool) (mid new : Draft) → IsAtFeed text piece started block line → is_blank_line (line ++ piece) ≡ false
@@ -332,7 +332,7 @@ fed_closed : (text piece block line : List ℕ) (mid : Draft) → IsAtFeed text 
 fed_closed text piece block line mid at h kept =
     let closing : closes (line ++ piece) ≡ true = both_true (is_blank_line (line ++ piece)) (list_any is_line_feed (line ++ piece)) h (feed_in (line ++ piece) at.some at.whole.ended) in
     let lines : text_lines (text ++ piece) ≡ (at.at.passed ++ text_lines block) ++ (line ++ piece) ∷ [] =
-        at.at.lines ∙ (ap (λ ls. at.at.passed ++ (text_lines block ++ ls)) at.whole.single ∙ sym (append_assoc at.at.passed (text_lines block) ((line ++ piece) ∷ [])))
+    at.at.lines ∙ (ap (λ ls. at.at.passed ++ (text_lines block ++ ls)) at.whole.single ∙ sym (append_assoc at.at.passed (text_lines block) ((line ++ piece) ∷ [])))
     in record {
       entry = entry_of (text ++ piece) block mid at.at.starts kept.front kept.too_large (closed_end (text ++ piece) block (line ++ piece) at.at h);
       apart = whole_closed (text ++ piece) (line ++ piece) (at.at.passed ++ text_lines block) lines closing;
@@ -429,24 +429,24 @@ pub begun_ended : (text : List ℕ) (old new : Draft) (closing : Bool) → IsBeg
 begun_ended text old new closing begun ends =
     elim (begun_lines begun.line begun.cut.begun) [
       | inl none ↦
-        let known : old.line ≡ Nothing = begun.known ∙ ap line_so_far none in
-        let cut : IsCutSo text old.started begun.block [] = rw none at begun.cut in
-        let kept : IsKept begun.block [] old.kept.items old.over old.whole = rw none at begun.kept in
-        let so : EndsLine (line_end old.started Nothing) old new closing = subst (λ (kind : LineSoFar). EndsLine (line_end old.started kind) old new closing) known ends in
-        bare_by old.started closing text begun.block old new cut kept refl so
+          let known : old.line ≡ Nothing = begun.known ∙ ap line_so_far none in
+          let cut : IsCutSo text old.started begun.block [] = rw none at begun.cut in
+          let kept : IsKept begun.block [] old.kept.items old.over old.whole = rw none at begun.kept in
+          let so : EndsLine (line_end old.started Nothing) old new closing = subst (λ (kind : LineSoFar). EndsLine (line_end old.started kind) old new closing) known ends in
+          bare_by old.started closing text begun.block old new cut kept refl so
       | inr single ↦
-        let at : IsAtLineEnd text old.started begun.block begun.line = record {
-          passed = begun.cut.passed;
-          lines = cut_all text begun.block begun.line old.started begun.cut;
-          idle = begun.cut.idle;
-          starts = begun.cut.starts;
-          none = begun.cut.none;
-          unbroken = begun.cut.unbroken;
-          whole = begun.cut.whole;
-          single = single;
-        } in
-        let so : EndsSo old.started begun.line (line_end old.started old.line) = rw begun.known (ends_so old.started begun.line) in
-        ended_by (line_end old.started old.line) text begun.block begun.line old.started closing old new at begun.kept refl so ends
+          let at : IsAtLineEnd text old.started begun.block begun.line = record {
+            passed = begun.cut.passed;
+            lines = cut_all text begun.block begun.line old.started begun.cut;
+            idle = begun.cut.idle;
+            starts = begun.cut.starts;
+            none = begun.cut.none;
+            unbroken = begun.cut.unbroken;
+            whole = begun.cut.whole;
+            single = single;
+          } in
+          let so : EndsSo old.started begun.line (line_end old.started old.line) = rw begun.known (ends_so old.started begun.line) in
+          ended_by (line_end old.started old.line) text begun.block begun.line old.started closing old new at begun.kept refl so ends
     ]
 
 unclosed_blocks : (lines : List (List ℕ)) → list_any is_blank_line lines ≡ false → list_any closes lines ≡ false
@@ -476,16 +476,36 @@ begun_whole text draft begun =
     let more = text_lines begun.block ++ text_lines begun.line in
     let all : text_lines text ≡ begun.cut.passed ++ more = cut_all text begun.block begun.line draft.started begun.cut in
     let unclosed : list_any closes more ≡ false =
-        list_any-append closes (text_lines begun.block) (text_lines begun.line)
-        ∙ none_both (list_any closes (text_lines begun.block)) (list_any closes (text_lines begun.line))
-        (unclosed_blocks (text_lines begun.block) begun.cut.unbroken) (unclosed_begun begun.line begun.cut.begun)
+    list_any-append closes (text_lines begun.block) (text_lines begun.line)
+    ∙ none_both (list_any closes (text_lines begun.block)) (list_any closes (text_lines begun.line))
+    (unclosed_blocks (text_lines begun.block) begun.cut.unbroken) (unclosed_begun begun.line begun.cut.begun)
     in
     let kept : closed_lines (text_lines text) ≡ closed_lines begun.cut.passed = ap closed_lines all ∙ closed_before begun.cut.passed more unclosed in
     let front = closed_front begun.cut.passed in
     let cut : IsSplit (closed_lines begun.cut.passed) (front.0 ++ more) =
-        lines_split text (closed_lines begun.cut.passed) (front.0 ++ more)
-        (all ∙ (ap (λ ls. ls ++ more) front.1 ∙ append_assoc (closed_lines begun.cut.passed) front.0 more))
+    lines_split text (closed_lines begun.cut.passed) (front.0 ++ more)
+    (all ∙ (ap (λ ls. ls ++ more) front.1 ∙ append_assoc (closed_lines begun.cut.passed) front.0 more))
     in
     entries_are (concat (closed_lines (text_lines text))) []
     (ap (λ ls. blocks (text_lines (concat ls))) kept
     ∙ (ap blocks cut.front ∙ idle_alone (closed_lines begun.cut.passed) (idle_front (closed_lines begun.cut.passed) front.0 begun.cut.passed front.1 begun.cut.idle)))
+
+-- one line more of a text is added
+pub lines_taken : (text done rest piece after : List ℕ) → text ≡ done ++ rest → rest ≡ piece ++ after → text ≡ (done ++ piece) ++ after
+lines_taken text done rest piece after h e = h ∙ (ap (λ r. done ++ r) e ∙ sym (append_assoc done piece after))
+
+-- the line that closes is the last one that was added
+pub lines_closed : (past text done rest piece after : List ℕ) (draft : Draft) → text ≡ done ++ rest → rest ≡ piece ++ after → IsClosed ((past ++ done) ++ piece) draft
+    → IsClosed (past ++ take (length text - length after) text) draft
+lines_closed past text done rest piece after draft h e closed =
+    let whole : text ≡ (done ++ piece) ++ after = lines_taken text done rest piece after h e in
+    let lengths : length text ≡ length (done ++ piece) + length after = ap length whole ∙ length-append (done ++ piece) after in
+    let front : take (length text - length after) text ≡ done ++ piece =
+    ap (take (length text - length after)) whole ∙ take_at (done ++ piece) after (length text - length after) (omega arith)
+    in
+    let P : List ℕ → Type 0 = λ t. IsClosed t draft in
+    subst P (append_assoc past done piece ∙ ap (λ r. past ++ r) (sym front)) closed
+
+pub empty_list : (bs : List ℕ) → length bs ≡ 0 → bs ≡ []
+empty_list [] h = refl
+empty_list (b ∷ bs) h = absurd (omega arith)

@@ -12,3 +12,4 @@ pub mod LineSoFarLemmas
 pub mod ApartLemmas
 pub mod DraftLemmas
 pub mod EntryFaults
+pub mod ReaderLemmas

@@ -1,5 +1,5 @@
 -- What a paragraph that is being read has of the text so far: parts of the reader of paragraphs.
-use Rattle.std.specs.Prelude.{◌≡◌, ℕ, Bool, true, false, ◌+◌, ◌<◌, ◌≤◌, List, [], ◌∷◌, ◌++◌, ◌⊎◌, length, take, Result, Ok, Err, if◌then◌else◌}
+use Rattle.std.specs.Prelude.{◌≡◌, ℕ, Bool, true, false, ◌+◌, ◌<◌, ◌≤◌, List, [], ◌∷◌, ◌++◌, ◌⊎◌, length, take, Option, Some, None, Result, Ok, Err, if◌then◌else◌}
 use Rattle.std.specs.List.{list_any}
 use Rattle.rr_text.specs.declared.fault.TextFault.{TextFault}
 use Rattle.rr_text.specs.declared.fault.TextFault.TheVariants.{TooLarge, BadByte, FirstContinues, NoColon, BadName, Memory, Read, Endless}
@@ -58,6 +58,11 @@ pub record IsClosed (text : List ℕ) (draft : Draft) : Type 0 where
 abbrev pub Gathers : Bool → List ℕ → Draft → Type 0
 Gathers true text draft = IsClosed text draft
 Gathers false text draft = IsBegun text draft
+
+-- the lines of a text are added up to the one that closes: so many bytes, or all of them
+abbrev pub AddsLines : List ℕ → List ℕ → Option ℕ → Draft → Type 0
+AddsLines past text None draft = IsBegun (past ++ text) draft
+AddsLines past text (Some taken) draft = IsClosed (past ++ take taken text) draft
 
 -- whether a text has a block where nothing follows it
 abbrev pub Finishes : Bool → List ℕ → Draft → Type 0

@@ -4,6 +4,7 @@ ghost use Rattle.std.specs.Prelude.{◌≤◌, length, vec_capacity};
 
 use crate::entry::{SIZE_LIMIT, read_entry};
 use crate::fault::TextFault;
+use crate::line::split_line;
 use crate::line_so_far::{LineEnd, LineSoFar, ends_line};
 use crate::paragraph::Paragraph;
 use std::alloc::{AllocError, Global};
@@ -25,7 +26,7 @@ pub(crate) struct Draft {
 }
 
 impl Draft {
-    ghost use Rattle.std.specs.Prelude.{◌≡◌, ◌<◌, ◌∷◌, ◌++◌, ℕ, List, [], IfOk};
+    ghost use Rattle.std.specs.Prelude.{◌≡◌, ◌<◌, ◌∷◌, ◌++◌, ℕ, List, [], IfOk, IfSome};
     ghost use Rattle.rr_text.specs.Lines.{text_lines};
     ghost use Rattle.rr_text.specs.LinesSoFar.{line_end};
     ghost use Rattle.rr_text.specs.DraftParts as parts;
@@ -67,6 +68,22 @@ impl Draft {
         } else {
             false
         }
+    }
+
+    /// Adds the lines of a piece of the text up to the one that closes the paragraph, and says how many bytes these are.
+    pub(crate) fn add_lines(&mut self, text: &[u8]) -> Option<usize>
+        ensures adds { (past : List ℕ) → parts.IsBegun past self.old → parts.AddsLines past text.now result self.new }
+        ensures within { IfSome result (λ taken. taken ≤ length text.now) }
+    {
+        let mut rest = text;
+        'lines: while !rest.is_empty() {
+            let (piece, after) = split_line(rest);
+            if self.add(piece) {
+                return Some(text.len() - after.len());
+            }
+            rest = after;
+        }
+        None
     }
 
     /// Ends the text, and says whether it has a paragraph.

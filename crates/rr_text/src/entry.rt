@@ -19,7 +19,7 @@ use rr_bytes::{ByteSet, cut_around, to_lower, trim, trim_end};
 use std::alloc::{AllocError, Global};
 
 /// The most bytes that a paragraph has.
-const SIZE_LIMIT: usize = 65_536;
+pub(crate) const SIZE_LIMIT: usize = 65_536;
 
 fn lower_name(alloc: Global, name: &[u8]) -> Result<Text, AllocError>
     ensures { IfOk result (λ text. text ≡ lowered name.now) }

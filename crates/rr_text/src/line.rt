@@ -69,8 +69,9 @@ pub(crate) fn is_blank_only(line: &[u8]) -> bool
         .all(|byte| ByteSet::BlanksAndLineFeeds.has(*byte))
 }
 
+/// Whether a line begins with `#` or `%`.
 #[inline]
-fn begins_skipped(line: &[u8]) -> bool
+pub(crate) fn begins_skipped(line: &[u8]) -> bool
     ensures { result ≡ is_skipped_line line.now }
 {
     match line {

@@ -137,7 +137,10 @@ fn a_held_prefix_stays_as_it_was(rt: HostRuntime) -> Result<(), Fail> {
     let (after, _) = submitted(alloc, &[HOLDERS, HELD, HOLDING, HOSTILE])?;
     let held = texts_inside(alloc, before.registry().objects(), prefix)?;
     let left = texts_inside(alloc, after.registry().objects(), prefix)?;
-    assert_eq!(rt; str::from_utf8(left.as_slice())?, str::from_utf8(held.as_slice())?);
+    assert_eq!(rt;
+        str::from_utf8(left.as_slice())?,
+        str::from_utf8(held.as_slice())?
+    );
     let wanted = "\
 inetnum:        10.1.0.0/16
 mnt-by:         A-MNT

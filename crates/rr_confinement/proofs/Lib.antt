@@ -1,0 +1,7 @@
+pub mod Agreeing
+pub mod Foreign
+pub mod Holders
+pub mod Kept
+pub mod Own
+pub mod Sets
+pub mod Space

@@ -6,7 +6,7 @@ use Rattle.std.specs.declared.vec.IntoIter.{IntoIter}
 use Rattle.std.specs.declared.io.Error.{Error}
 use Rattle.std.specs.declared.io.ErrorKind.{ErrorKind}
 use Rattle.std.specs.declared.io.ErrorKind.TheVariants.{OutOfMemory}
-use Rattle.rr_desk.specs.declared.submission.DeskFault.TheVariants.{ReadFault, WriteFault, Memory}
+use Rattle.rr_submission.specs.declared.submission.DeskFault.TheVariants.{ReadFault, WriteFault, StoreFault, Memory, Stopped}
 use Rattle.rr_cli.specs.declared.program_fault.ProgramFault.{ProgramFault}
 use Rattle.rr_cli.specs.declared.program_fault.ProgramFault.TheVariants.{WordsGiven, WordsNotText, WordsMemory, OpeningMemory, Submission}
 
@@ -36,7 +36,9 @@ message WordsMemory = codes "the words cannot be read: out of memory"
 message OpeningMemory = codes "the opening objects cannot be registered: out of memory"
 message (Submission (ReadFault items)) = codes "the submission could not be read; items decided before that: "
 message (Submission (WriteFault items)) = codes "the report could not be written; items decided before that: "
+message (Submission (StoreFault items)) = codes "the store failed; items decided before that: "
 message (Submission Memory) = codes "out of memory"
+message (Submission Stopped) = codes "the desk is stopped"
 
 -- the number behind it: how many items were decided (profile)
 abbrev pub told_count : ProgramFault → Option ℕ
@@ -46,7 +48,9 @@ told_count WordsMemory = None
 told_count OpeningMemory = None
 told_count (Submission (ReadFault items)) = Some items
 told_count (Submission (WriteFault items)) = Some items
+told_count (Submission (StoreFault items)) = Some items
 told_count (Submission Memory) = None
+told_count (Submission Stopped) = None
 
 -- a number in decimal digits, or nothing (profile)
 abbrev pub count_text : Option ℕ → List ℕ

@@ -4,12 +4,13 @@ use Rattle.rr_io.specs.Told.{Told}
 use Rattle.rr_io.specs.Sending.{TakesSome}
 use Rattle.rr_text.specs.Entries.{entries}
 use Rattle.rr_auth.specs.Registries.{Reg}
-use Rattle.rr_desk.specs.declared.submission.Done.{Done}
-use Rattle.rr_desk.specs.declared.submission.DeskFault.{DeskFault}
-use Rattle.rr_desk.specs.Submissions.{Submits}
+use Rattle.rr_submission.specs.declared.submission.Done.{Done}
+use Rattle.rr_submission.specs.declared.submission.DeskFault.{DeskFault}
+use Rattle.rr_submission.specs.Ledgers.{registry_ledger}
+use Rattle.rr_submission.specs.Submissions.{Submits}
 use Rattle.rr_cli.specs.declared.program_fault.ProgramFault.{ProgramFault}
 use Rattle.rr_cli.specs.declared.program_fault.ProgramFault.TheVariants.{OpeningMemory, Submission}
-use Rattle.rr_cli.specs.Opening.{IsOpened, built_in_source, opening_text}
+use Rattle.rr_desk.specs.Opening.{IsOpened, built_in_source, opening_text}
 use Rattle.rr_cli.specs.ProgramFaults.{fault_line, fault_status}
 
 -- standard input, standard output and standard error, before and after
@@ -37,21 +38,21 @@ pub record HasSubmitted (streams : Streams) (result : Result Done DeskFault) : T
   pub opened : Reg
   pub after : Reg
   pub opens : IsOpened built_in_source (entries opening_text) opened
-  pub submits : Submits built_in_source (record {
+  pub submits : Submits registry_ledger built_in_source (record {
     source_before = streams.input_before;
     source_after = streams.input_after;
     sink_before = streams.output_before;
     sink_after = streams.output_after;
     before = opened;
     after = after;
-  }) result
+  }) opened after result
 
 -- 0 where no item was refused, and else 1 (profile)
 abbrev pub done_status : Done → ℕ
 done_status done = if done.refused == 0 then 0 else 1
 
 -- the submission was done, and standard error left alone (profile)
-pub record IsDone (streams : Streams) (status : ℕ) : Type 0 where
+pub record IsFinished (streams : Streams) (status : ℕ) : Type 0 where
   pub done : Done
   pub submitted : HasSubmitted streams (Ok done)
   pub silent : streams.errors_after ≡ streams.errors_before
@@ -65,9 +66,9 @@ pub record IsCutShort (streams : Streams) (status : ℕ) : Type 0 where
 
 -- the submission was made, and done or cut short (profile)
 abbrev pub SubmitsTo : Streams → ℕ → Type 0
-SubmitsTo streams status = IsDone streams status ⊎ IsCutShort streams status
+SubmitsTo streams status = IsFinished streams status ⊎ IsCutShort streams status
 
 -- what the program does, by the fault of its words: with none the opening fails for want of memory, or the submission is made (profile)
-abbrev pub Runs : Option ProgramFault → Streams → ℕ → Type 0
-Runs (Some fault) streams status = IsUnbegun fault streams status
-Runs None streams status = IsUnbegun OpeningMemory streams status ⊎ SubmitsTo streams status
+abbrev pub RunsProgram : Option ProgramFault → Streams → ℕ → Type 0
+RunsProgram (Some fault) streams status = IsUnbegun fault streams status
+RunsProgram None streams status = IsUnbegun OpeningMemory streams status ⊎ SubmitsTo streams status

@@ -1,7 +1,7 @@
 //! Thousands of texts of a seeded generator, each submitted whole and in pieces.
-use crate::plain_desk::PlainDesk;
 use rand_core::utils::NextWord;
 use rand_pcg::Pcg32;
+use rr_desk::PlainDesk;
 use rr_io::{Counted, Cut, Source};
 use std::alloc::Global;
 use std::test::Fail;

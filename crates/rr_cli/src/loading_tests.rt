@@ -1,6 +1,5 @@
 //! Lists of objects taken as registries.
-use crate::opening;
-use crate::plain_desk::PlainDesk;
+use rr_desk::{PlainDesk, opening};
 use rr_io::{Counted, write_all};
 use rr_object::Object;
 use rr_registry::{LoadFault, Registry};
@@ -8,7 +7,7 @@ use rr_text::next_paragraph;
 use std::test::Fail;
 
 #[test]
-#[tactic(auto, using(crate::proofs::OpeningObjects::opening_is_readable))]
+#[tactic(auto, using(rr_desk::proofs::OpeningObjects::opening_is_readable))]
 fn a_list_twice_over_has_a_duplicate(rt: HostRuntime) -> Result<(), Fail> {
     let alloc = rt.alloc();
     let source = opening::read_source(alloc)?;

@@ -5,8 +5,6 @@
 mod hostile_tests;
 #[cfg(test)]
 mod loading_tests;
-mod opening;
-mod plain_desk;
 mod program_fault;
 mod run;
 #[cfg(test)]

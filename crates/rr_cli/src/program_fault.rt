@@ -116,7 +116,11 @@ impl ProgramFault {
             ProgramFault::Submission(DeskFault::WriteFault { .. }) => {
                 "the report could not be written; items decided before that: "
             }
+            ProgramFault::Submission(DeskFault::StoreFault { .. }) => {
+                "the store failed; items decided before that: "
+            }
             ProgramFault::Submission(DeskFault::Memory) => "out of memory",
+            ProgramFault::Submission(DeskFault::Stopped) => "the desk is stopped",
         }
     }
 
@@ -125,7 +129,9 @@ impl ProgramFault {
     {
         match self {
             ProgramFault::Submission(
-                DeskFault::ReadFault { items } | DeskFault::WriteFault { items },
+                DeskFault::ReadFault { items }
+                | DeskFault::WriteFault { items }
+                | DeskFault::StoreFault { items },
             ) => Some(items),
             _ => None,
         }

@@ -2,13 +2,12 @@
 
 ghost use Rattle.std.specs.Prelude.{◌≡◌};
 ghost use Rattle.rr_text.specs.Entries.{entries};
-ghost use Rattle.rr_cli.specs.Opening.{IsOpened, built_in_source, opening_text};
+ghost use Rattle.rr_desk.specs.Opening.{IsOpened, built_in_source, opening_text};
 ghost use Rattle.rr_cli.specs.ProgramFaults.{words_fault};
-ghost use Rattle.rr_cli.specs.Programs.{Runs, SubmitsTo, done_status};
+ghost use Rattle.rr_cli.specs.Programs.{RunsProgram, SubmitsTo, done_status};
 
-use crate::plain_desk::PlainDesk;
 use crate::program_fault::ProgramFault;
-use rr_desk::Done;
+use rr_desk::{Done, PlainDesk};
 use rr_io::{Sink, Source};
 use std::alloc::Global;
 use std::env::Args;
@@ -27,7 +26,7 @@ pub fn run<R: Source, W: Sink, E: Sink>(
     output: &mut W,
     errors: &mut E,
 ) -> u8
-    ensures runs { Runs (words_fault words) (record {
+    ensures runs { RunsProgram (words_fault words) (record {
       input_before = R.told input.old;
       input_after = R.told input.new;
       output_before = W.told output.old;

@@ -1,6 +1,5 @@
 //! Submissions whose reader or writer fails in mid-stream.
-use crate::plain_desk::PlainDesk;
-use rr_desk::{DeskFault, Done};
+use rr_desk::{DeskFault, Done, PlainDesk};
 use rr_io::{Counted, Cut};
 use std::test::Fail;
 

@@ -1,5 +1,5 @@
 //! Worked submissions, each over the opening objects. Their reports come from the definitions of the registry's rules, read by hand.
-use crate::plain_desk::PlainDesk;
+use rr_desk::PlainDesk;
 use rr_io::Counted;
 use std::process::Abort;
 use std::test::Fail;

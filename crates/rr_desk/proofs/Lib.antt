@@ -1,7 +1,3 @@
-pub mod Asking
-pub mod Exits
-pub mod Giving
-pub mod Joins
-pub mod Passing
-pub mod Progress
-pub mod Writings
+pub mod OpeningTexts
+pub mod OpeningObjects
+pub mod OpeningRegistry

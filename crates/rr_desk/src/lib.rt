@@ -1,18 +1,8 @@
-//! Submissions: the items of a text, and the report on them.
+//! The desk: a registry with its opening objects, to which submissions are made.
 #![tactic(auto)]
 
-mod ending;
-mod items;
-mod line;
-mod request;
-mod secret;
-mod serving;
-mod submission;
-mod submission_text;
+pub mod opening;
+mod plain_desk;
 
-pub use ending::{Ending, write_last_line};
-pub use items::next_item;
-pub use line::write_item_line;
-pub use request::Request;
-pub use serving::submit;
-pub use submission::{DeskFault, Done};
+pub use plain_desk::PlainDesk;
+pub use rr_submission::{DeskFault, Done};

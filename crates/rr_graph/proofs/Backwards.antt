@@ -8,7 +8,7 @@ use Rattle.std.proofs.lemmas.Map.Lookups.{CmpEqualImpliesEq}
 use Rattle.std.proofs.lemmas.Map.Views.{tells_apart}
 use Rattle.std.specs.Cmp.{IsTotalOrder}
 use Rattle.std.proofs.lemmas.Cmp.{eq_by_cmp_equiv}
-use Rattle.rr_graph.specs.Reversed.{AddsBackward, IsBackward}
+use Rattle.rr_graph.specs.ReversedParts.{AddsBackward, IsBackward}
 use Rattle.rr_graph.specs.declared.labels.Edge.{Edge}
 use Rattle.rr_graph.proofs.Listings.{Contains-cons_cases}
 use Rattle.rr_graph.proofs.Lists.{Contains-head, Contains-later, Contains-nil}

@@ -3,7 +3,7 @@ use Rattle.std.proofs.Common.{◌≡◌, ◌↔◌, List, [], ◌∷◌, ◌++�
 use Rattle.std.proofs.Common.{option_and_then}
 use Rattle.rr_graph.specs.Carried.{IsFoundPair, IsLabelledChain, IsNamed, Leads, put_through}
 use Rattle.rr_graph.specs.Chain.{IsChain, IsReached}
-use Rattle.rr_graph.specs.Reversed.{CarriesBack, IsBackward, IsCarriedPair, IsOwnPair, LeadsBack}
+use Rattle.rr_graph.specs.ReversedParts.{CarriesBack, IsBackward, IsCarriedPair, IsOwnPair, LeadsBack}
 use Rattle.rr_graph.specs.declared.labels.Edge.{Edge}
 use Rattle.rr_graph.proofs.Reached.{IsChain-push, IsChain-within, IsReached-edge}
 

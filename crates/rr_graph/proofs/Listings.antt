@@ -13,7 +13,7 @@ use Rattle.std.proofs.lemmas.Map.Lookups.{CmpEqualImpliesEq}
 use Rattle.std.proofs.lemmas.Map.Made.{IsDistinct-from_AllPairs, is_member-Decides, length-le_from_is_member}
 use Rattle.std.proofs.lemmas.Map.Views.{tells_apart}
 use Rattle.rr_graph.specs.Chain.{HasNoRepeats, MoreThan}
-use Rattle.rr_graph.specs.Listing.{IsListing, Lists}
+use Rattle.rr_graph.specs.ListingParts.{IsListing, Lists}
 
 -- a list without repeats has none after a push of what it lacks
 pub HasNoRepeats-push : {X : Type 0} (xs : List X) (y : X) → HasNoRepeats xs → (Contains xs y → ⊥) → HasNoRepeats (xs ++ y ∷ [])

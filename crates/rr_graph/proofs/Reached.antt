@@ -5,7 +5,7 @@ use Rattle.std.proofs.lemmas.Bool.{cases_lt}
 use Rattle.std.proofs.lemmas.List.{get_or_append_left, get_or_default, length-append}
 use Rattle.std.proofs.lemmas.List.Elements.{Contains-get_or}
 use Rattle.rr_graph.specs.Chain.{IsChain, IsReached}
-use Rattle.rr_graph.specs.Listing.{IsListing, Lists}
+use Rattle.rr_graph.specs.ListingParts.{IsListing, Lists}
 use Rattle.rr_graph.proofs.Listings.{Contains-Lists}
 
 module _ {N : Type 0} (edge : N → N → Type 0) where

@@ -1,4 +1,4 @@
 pub mod Chain
-pub mod Listing
 pub mod Carried
-pub mod Reversed
+pub mod ListingParts
+pub mod ReversedParts

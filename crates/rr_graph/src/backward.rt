@@ -2,7 +2,7 @@
 
 ghost use Rattle.std.specs.Prelude.{◌≡◌, [], ◌∷◌, ◌++◌, OnOk, IfOk, if◌then◌else◌};
 ghost use Rattle.std.specs.BTreeMap.{is_at};
-ghost use Rattle.rr_graph.specs.Reversed.{edges_at, AddsBackward, IsBackward};
+ghost use Rattle.rr_graph.specs.ReversedParts.{edges_at, AddsBackward, IsBackward};
 
 use crate::labels::{Edge, Labelled};
 use std::alloc::{AllocError, Global};

@@ -4,7 +4,7 @@ ghost use Rattle.std.specs.Prelude.{◌≡◌, ◌↔◌, Contains, IfOk, OnOk, 
 ghost use Rattle.rr_graph.specs.Chain.{HasNoRepeats, MoreThan};
 ghost use Rattle.std.specs.List.Sorted.{IsStrictlySortedBy};
 ghost use Rattle.rr_graph.specs.Carried.{IsFound, IsNamed, IsTooMany, Leads};
-ghost use Rattle.rr_graph.specs.Reversed.{IsCarriedPair};
+ghost use Rattle.rr_graph.specs.ReversedParts.{IsCarriedPair};
 
 use crate::backward::reversed;
 use crate::labels::{Edge, Labelled};
@@ -108,15 +108,11 @@ fn found_pairs<G: Labelled>(
 {
     let starts = own_pairs(alloc, graph, nodes)?;
     let backward = reversed(alloc, graph, nodes)?;
-    reach(
-        alloc,
-        &Pairs {
-            graph,
-            backward: &backward,
-        },
-        starts,
-        limit,
-    )
+    let pairs = Pairs {
+        graph,
+        backward: &backward,
+    };
+    reach(alloc, &pairs, starts, limit)
 }
 
 /// The values that are paired with the node, in ascending order.

@@ -4,7 +4,7 @@ ghost use Rattle.std.specs.Prelude.{◌≡◌, ◌↔◌, ◌++◌, Contains, If
 ghost use Rattle.std.specs.List.{filter_map};
 ghost use Rattle.std.specs.Option.{option_map};
 ghost use Rattle.std.proofs.lemmas.Map.Lookups.{exact_pairs};
-ghost use Rattle.rr_graph.specs.Reversed.{edges_at, IsOwnPair, LeadsBack};
+ghost use Rattle.rr_graph.specs.ReversedParts.{edges_at, IsOwnPair, LeadsBack};
 
 use crate::Graph;
 use crate::backward::Backward;

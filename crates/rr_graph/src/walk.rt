@@ -2,7 +2,7 @@
 
 ghost use Rattle.std.specs.Prelude.{◌≡◌, [], ◌∷◌, ◌⊎◌, Contains, OnOk};
 ghost use Rattle.rr_graph.specs.Chain.{MoreThan};
-ghost use Rattle.rr_graph.specs.Listing.{IsListing, Lists};
+ghost use Rattle.rr_graph.specs.ListingParts.{IsListing, Lists};
 
 use crate::{Graph, ReachFault};
 use std::alloc::Global;

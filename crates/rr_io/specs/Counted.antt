@@ -6,9 +6,13 @@ use Rattle.rr_io.specs.declared.counting.Counted.{Counted}
 abbrev pub counted_inner : {T : Type 0} → Counted T → T
 counted_inner c = c.inner
 
--- its failed calls
-abbrev pub counted_faults : {T : Type 0} → Counted T → ℕ
-counted_faults c = c.failed
+-- its reads that failed
+abbrev pub counted_failed_reads : {T : Type 0} → Counted T → ℕ
+counted_failed_reads c = c.failed_reads
+
+-- its writes that failed
+abbrev pub counted_failed_writes : {T : Type 0} → Counted T → ℕ
+counted_failed_writes c = c.failed_writes
 
 -- its reads that did not fail
 abbrev pub counted_reads : {T : Type 0} → Counted T → ℕ

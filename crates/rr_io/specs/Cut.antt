@@ -1,15 +1,19 @@
 -- What a cut reader or writer has inside, and how it is cut.
-use Rattle.std.specs.Prelude.{◌≡◌, ℕ, ◌+◌, ◌≤◌}
-use Rattle.rr_io.specs.Told.{Told}
+use Rattle.std.specs.Prelude.{◌≡◌, ℕ, ◌+◌, ◌-◌, ◌^◌, ◌<◌, ◌≤◌, ◌⊎◌, min}
+use Rattle.rr_io.specs.Told.{Told, Counts, Fails}
 use Rattle.rr_io.specs.declared.cutting.Cut.{Cut}
 
 -- the reader or writer itself
 abbrev pub cut_inner : {T : Type 0} → Cut T → T
 cut_inner c = c.inner
 
--- the calls that failed because it is cut
-abbrev pub cut_faults : {T : Type 0} → Cut T → ℕ
-cut_faults c = c.failed
+-- the reads that failed because it is cut
+abbrev pub reads_cut : {T : Type 0} → Cut T → ℕ
+reads_cut c = c.failed_reads
+
+-- the writes that failed because it is cut
+abbrev pub writes_cut : {T : Type 0} → Cut T → ℕ
+writes_cut c = c.failed_writes
 
 -- how many bytes pass in a call at most (profile)
 abbrev pub cut_step : {T : Type 0} → Cut T → ℕ
@@ -19,16 +23,36 @@ cut_step c = c.step
 abbrev pub cut_left : {T : Type 0} → Cut T → ℕ
 cut_left c = c.left
 
--- it tells the bytes and the reads of what is inside, and counts its own failed calls beside those of what is inside
-abbrev pub cut_told : {T : Type 0} → (T → Told) → Cut T → Told
-cut_told told c = record {
+-- it tells the bytes and the reads of what is inside, and the sum of its own failed calls and of those of what is inside,
+-- up to 2^64 - 1 (profile)
+abbrev pub cut_told : {T : Type 0} → (T → Told) → (Cut T → ℕ) → Cut T → Told
+cut_told told own c = record {
   bytes = (told c.inner).bytes;
-  faults = (told c.inner).faults + c.failed;
+  faults = min ((told c.inner).faults + own c) (2 ^ 64 - 1);
   reads = (told c.inner).reads;
 }
 
--- so many bytes passed in a call
-pub record Passes {T : Type 0} (old new : Cut T) (count : ℕ) : Type 0 where
+-- so many bytes passed in a call, which did not fail
+pub record Passes {T : Type 0} (own : Cut T → ℕ) (old new : Cut T) (count : ℕ) : Type 0 where
   pub step : count ≤ cut_step old
   pub left : cut_left new + count ≡ cut_left old
   pub same_step : cut_step new ≡ cut_step old
+  pub no_fault : own new ≡ own old
+
+-- a call failed because it is cut: what is inside was not called
+pub record FailsAtCut {T : Type 0} (own : Cut T → ℕ) (old new : Cut T) : Type 0 where
+  pub none_left : cut_left old ≡ 0
+  pub same_inner : cut_inner new ≡ cut_inner old
+  pub counted : Counts (own old) (own new) 1
+
+-- a call failed because that of what is inside did
+pub record FailsInside {T : Type 0} (told : T → Told) (own : Cut T → ℕ) (old new : Cut T) : Type 0 where
+  pub some_left : 0 < cut_left old
+  pub fails : Fails (told (cut_inner old)) (told (cut_inner new))
+  pub no_fault : own new ≡ own old
+
+-- a call failed, at the cut or inside, and the cut stays where it is
+abbrev pub FailsSomewhere : {T : Type 0} → (T → Told) → (Cut T → ℕ) → Cut T → Cut T → Type 0
+FailsSomewhere told own old new =
+    (FailsAtCut own old new ⊎ FailsInside told own old new)
+    × (cut_left new ≡ cut_left old) × (cut_step new ≡ cut_step old)

@@ -3,3 +3,4 @@ pub mod Sending
 pub mod Receiving
 pub mod Counted
 pub mod Cut
+pub mod Joined

@@ -1,6 +1,6 @@
 -- What a reader gives.
-use Rattle.std.specs.Prelude.{◌≡◌, ℕ, ◌+◌, ◌-◌, ◌^◌, ◌<◌, ◌≤◌, List, [], ◌++◌, length, max, Some}
-use Rattle.rr_io.specs.Told.{Told, Fails}
+use Rattle.std.specs.Prelude.{◌≡◌, ℕ, ◌+◌, ◌^◌, ◌<◌, ◌≤◌, List, [], ◌++◌, length, Some}
+use Rattle.rr_io.specs.Told.{Told, Counts, Fails}
 use Rattle.rr_io.specs.declared.receiving.ReadEnd.{ReadEnd}
 use Rattle.rr_io.specs.declared.receiving.ReadEnd.TheVariants.{Whole, Broken, Endless}
 
@@ -9,10 +9,9 @@ pub record Gives (old new : Told) (bytes : List ℕ) : Type 0 where
   pub consumed : (xs : List ℕ) → old.bytes ≡ Some xs → (rest : List ℕ) × (new.bytes ≡ Some rest) × (xs ≡ bytes ++ rest)
   pub no_fault : new.faults ≡ old.faults
 
--- so many reads were counted: each of them, up to 2^64 - 1, where the count stays (profile)
-pub record CountsReads (old new : Told) (count : ℕ) : Type 0 where
-  pub exact : old.reads + count < 2 ^ 64 → new.reads ≡ old.reads + count
-  pub full : 2 ^ 64 ≤ old.reads + count → new.reads ≡ max old.reads (2 ^ 64 - 1)
+-- so many reads were counted, each of them (profile)
+abbrev pub CountsReads : Told → Told → ℕ → Type 0
+CountsReads old new count = Counts old.reads new.reads count
 
 -- no byte is left
 pub record IsSpent (told : Told) : Type 0 where

@@ -1,37 +1,79 @@
 //! A reader and a writer as one connection.
-ghost use Rattle.std.specs.Prelude.{refl};
+ghost use Rattle.std.specs.Prelude.{◌≡◌, refl};
 
 use super::{Connection, Sink, Source};
 use std::io;
 
-/// A reader and a writer that are used as one connection.
+/// A connection that is made of a reader and a writer. Each counts its own failed calls.
 #[derive(Drop)]
-pub struct Pair<'a, R, W> {
-    pub reader: &'a mut R,
-    pub writer: &'a mut W,
+pub struct Joined<R, W> {
+    reader: R,
+    writer: W,
 }
 
-impl<R: Source, W: Sink> Source for Pair<'_, R, W> {
-    ghost told = { λ p. R.told p.reader.now };
+impl<R, W> Joined<R, W> {
+    ghost use Rattle.rr_io.specs.Joined.{joined_reader, joined_writer};
 
-    ghost aside = { λ p. W.told p.writer.now };
+    /// The reader and the writer as one connection.
+    pub fn new(reader: R, writer: W) -> Self
+        ensures reader { joined_reader result ≡ reader }
+        ensures writer { joined_writer result ≡ writer }
+    {
+        Joined { reader, writer }
+    }
+
+    /// What is read from.
+    pub fn reader(&self) -> &R
+        ensures { result.now ≡ joined_reader self.now }
+    {
+        &self.reader
+    }
+
+    /// What is written to.
+    pub fn writer(&self) -> &W
+        ensures { result.now ≡ joined_writer self.now }
+    {
+        &self.writer
+    }
+
+    /// The reader and the writer themselves.
+    pub fn into_parts(self) -> (R, W)
+        ensures { result ≡ (joined_reader self, joined_writer self) }
+    {
+        let Joined { reader, writer } = self;
+        (reader, writer)
+    }
+}
+
+impl<R: Source, W: Sink> Source for Joined<R, W> {
+    ghost told = { λ j. R.told j.reader };
+
+    ghost aside = { λ j. W.told j.writer };
 
     fn read(&mut self, buf: &mut [u8]) -> io::Result<usize> {
         self.reader.read(buf)
     }
+
+    fn failed_reads(&self) -> u64 {
+        self.reader.failed_reads()
+    }
 }
 
-impl<R: Source, W: Sink> Sink for Pair<'_, R, W> {
-    ghost told = { λ p. W.told p.writer.now };
+impl<R: Source, W: Sink> Sink for Joined<R, W> {
+    ghost told = { λ j. W.told j.writer };
 
-    ghost aside = { λ p. R.told p.reader.now };
+    ghost aside = { λ j. R.told j.reader };
 
     fn write(&mut self, bytes: &[u8]) -> io::Result<usize> {
         self.writer.write(bytes)
     }
+
+    fn failed_writes(&self) -> u64 {
+        self.writer.failed_writes()
+    }
 }
 
-impl<R: Source, W: Sink> Connection for Pair<'_, R, W> {
+impl<R: Source, W: Sink> Connection for Joined<R, W> {
     ghost read_leaves_sink = { λ _. refl };
 
     ghost write_leaves_source = { λ _. refl };

@@ -10,7 +10,7 @@ mod streams;
 
 pub use counting::Counted;
 pub use cutting::Cut;
-pub use joining::Pair;
+pub use joining::Joined;
 pub use receiving::{READ_LIMIT, READ_SIZE, ReadEnd, read_to_end};
 pub use sending::{write_all, write_pieces};
 pub use streams::{Connection, Sink, Source};

@@ -22,6 +22,10 @@ pub trait Source {
         ensures counts { IfOk result (λ _. CountsReads (told self.old) (told self.new) 1) }
         ensures fails { OnErr result (Fails (told self.old) (told self.new)) }
         ensures aside { aside self.new ≡ aside self.old };
+
+    /// How many reads failed, up to `u64::MAX`.
+    fn failed_reads(&self) -> u64
+        ensures { result ≡ (told self.now).faults };
 }
 
 /// A writer. An error of any kind is a fault, and so is a write of at least one byte that takes none.
@@ -39,6 +43,10 @@ pub trait Sink {
         ensures takes { IfOk result (λ count. Takes (told self.old) (told self.new) (take count bytes.now)) }
         ensures fails { OnErr result (Fails (told self.old) (told self.new)) }
         ensures aside { aside self.new ≡ aside self.old };
+
+    /// How many writes failed, up to `u64::MAX`: apart from the failed reads of a reader in the same value.
+    fn failed_writes(&self) -> u64
+        ensures { result ≡ (told self.now).faults };
 }
 
 /// A reader and a writer in one value, each of which leaves the other alone.

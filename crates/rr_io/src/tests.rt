@@ -74,7 +74,8 @@ fn a_failed_read_ends_the_reading(rt: HostRuntime) -> Result<(), AllocError> {
     let (bytes, end) = read_to_end(rt.alloc(), &mut source)?;
     assert_eq!(rt; bytes.as_slice(), &b"abcd"[..]);
     assert_eq!(rt; end, ReadEnd::Broken);
-    assert_eq!(rt; source.into_inner().faults(), 0);
+    assert_eq!(rt; source.failed_reads(), 1);
+    assert_eq!(rt; source.into_inner().failed_reads(), 0);
     Ok(())
 }
 
@@ -84,7 +85,7 @@ fn an_interrupted_read_is_a_fault(rt: HostRuntime) -> Result<(), AllocError> {
     let (bytes, end) = read_to_end(rt.alloc(), &mut source)?;
     assert_eq!(rt; bytes.as_slice(), &b"ab"[..]);
     assert_eq!(rt; end, ReadEnd::Broken);
-    assert_eq!(rt; source.faults(), 1);
+    assert_eq!(rt; source.failed_reads(), 1);
     assert_eq!(rt; source.reads(), 1);
     Ok(())
 }
@@ -101,21 +102,25 @@ fn a_failed_write_leaves_a_front(rt: HostRuntime) {
 fn a_write_that_takes_nothing_is_a_fault(rt: HostRuntime) {
     let mut sink = Counted::new(Full);
     assert_eq!(rt; sink.write(b"").unwrap_or(1), 0);
-    assert_eq!(rt; sink.faults(), 0);
+    assert_eq!(rt; sink.failed_writes(), 0);
     assert!(rt; write_all(&mut sink, b"a").is_err());
-    assert_eq!(rt; sink.faults(), 1);
+    assert_eq!(rt; sink.failed_writes(), 1);
 }
 
 #[test]
-fn a_pair_reads_and_writes_its_sides(rt: HostRuntime) {
-    let mut reader = Counted::new(&b"ab"[..]);
-    let mut writer = Counted::new(Vec::new(rt.alloc()));
-    let mut connection = Pair {
-        reader: &mut reader,
-        writer: &mut writer,
-    };
+fn a_connection_counts_the_faults_of_its_sides_apart(rt: HostRuntime) {
+    let reader = Cut::new(Counted::new(&b"abc"[..]), 2, 2);
+    let writer = Cut::new(Counted::new(Vec::new(rt.alloc())), 2, 3);
+    let mut connection = Joined::new(reader, writer);
     let mut block = [0u8; 4];
     assert_eq!(rt; connection.read(&mut block).unwrap_or(0), 2);
     assert!(rt; write_all(&mut connection, &block[..2]).is_ok());
-    assert_eq!(rt; writer.into_inner().as_slice(), &b"ab"[..]);
+    assert!(rt; connection.read(&mut block).is_err());
+    assert!(rt; connection.read(&mut block).is_err());
+    assert!(rt; write_all(&mut connection, b"cd").is_err());
+    assert_eq!(rt; connection.failed_reads(), 2);
+    assert_eq!(rt; connection.failed_writes(), 1);
+    assert_eq!(rt; connection.reader().failed_reads(), 2);
+    let (_, writer) = connection.into_parts();
+    assert_eq!(rt; writer.into_inner().into_inner().as_slice(), &b"abc"[..]);
 }

@@ -5,10 +5,10 @@ use Rattle.std.proofs.lemmas.Nat.{from_be_bytes-to_be_bytes_4}
 use Rattle.std.specs.Char.{is_ascii_digit}
 use Rattle.std.specs.Fmt.{decimal}
 use Rattle.std.specs.Int.{byte_at}
-use Rattle.rr_number.specs.Cuts.{cut_at}
+use Rattle.rr_bytes.specs.Cuts.{cut_at}
 use Rattle.rr_number.specs.Addresses.{IsAddress, IsOctet, address_of, address_text, dot, dotted, joined_of, octet_of}
 use Rattle.rr_number.proofs.Choices.{option_map-some}
-use Rattle.rr_number.proofs.CutsLemmas.{cut_at-append, cut_at-joined, lacks, lacks-digits, lacks-joined}
+use Rattle.rr_bytes.proofs.CutLemmas.{cut_at-append, cut_at-joined, lacks, lacks-digits, lacks-joined}
 use Rattle.rr_number.proofs.Decimals.{number_of-spelled, number_of-read, IsNumber-decimal}
 
 -- four texts that are read as octets are octets

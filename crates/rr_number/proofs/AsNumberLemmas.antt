@@ -1,12 +1,10 @@
 -- The spellings of AS numbers, and what is read of them.
 use Rattle.std.proofs.Common.{◌≡◌, ℕ, ◌+◌, ◌≤◌, ◌<◌, Bool, true, false, cond, List, Option, Some, None, take, drop, length, refl, ap, ◌∙◌, arith}
-use Rattle.std.proofs.lemmas.Fmt.{length-decimal-le}
 use Rattle.std.specs.Cmp.Lexicographic.{bytes_decides}
-use Rattle.std.specs.Fmt.{decimal}
 use Rattle.std.specs.Prelude.{codes}
 use Rattle.std.specs.Str.{bytes_eq}
 use Rattle.rr_number.specs.AsNumbers.{as_number_of, as_number_text, greatest_as_number, IsAsNumber}
-use Rattle.rr_number.specs.Names.{upper}
+use Rattle.rr_bytes.specs.LetterCase.{upper}
 use Rattle.rr_number.specs.Numerals.{number_of}
 use Rattle.rr_number.proofs.Decimals.{number_of-spelled, number_of-read, IsNumber-decimal}
 
@@ -43,9 +41,6 @@ IsAsNumber-printed n bound = record {
   begins = refl;
   number = IsNumber-decimal 10 (greatest_as_number + 1) n (omega arith) (omega arith) (omega arith) (omega arith);
 }
-
-pub length-printed : (n : ℕ) → n ≤ greatest_as_number → length (decimal n) ≤ 10
-length-printed n bound = length-decimal-le 10 n (omega arith) (omega arith) (omega arith)
 
 pub as_number_of-printed : (n : ℕ) → n ≤ greatest_as_number → as_number_of (as_number_text n) ≡ Some n
 as_number_of-printed n bound = as_number_of-read (as_number_text n) n (IsAsNumber-printed n bound)

@@ -6,14 +6,16 @@ use Rattle.std.specs.Char.{to_ascii_uppercase}
 use Rattle.std.specs.Prelude.{codes}
 use Rattle.std.specs.Str.{all_ascii_digits}
 use Rattle.rr_number.specs.AsNumbers.{IsAsNumber, as_number_of, as_number_text}
-use Rattle.rr_number.specs.AsSpans.{IsAsSpan, IsAsSpanText, as_pair_of, as_span_of, as_span_text}
-use Rattle.rr_number.specs.Dashes.{IsDashed, dash, dashed_of, is_blank}
-use Rattle.rr_number.specs.Names.{upper}
+use Rattle.rr_number.specs.AsSpans.{IsAsSpan, IsAsSpanText, as_span_of, as_span_text}
+use Rattle.rr_number.specs.EndsTexts.{ends_between}
+use Rattle.rr_bytes.specs.Blanks.{is_blank}
+use Rattle.rr_number.specs.Dashes.{dash, dashed_of}
+use Rattle.rr_bytes.specs.LetterCase.{upper}
 use Rattle.rr_number.specs.Spans.{Ends}
-use Rattle.rr_number.proofs.AsNumberLemmas.{IsAsNumber-printed, as_number_of-read, as_number_of-spelled}
-use Rattle.rr_number.proofs.CutsLemmas.{lacks}
+use Rattle.rr_number.proofs.AsNumberLemmas.{IsAsNumber-printed, as_number_of-bound, as_number_of-read, as_number_of-spelled}
+use Rattle.rr_bytes.proofs.CutLemmas.{lacks}
 use Rattle.rr_number.proofs.DashLemmas.{HasNoBlank, dashed_of-read, dashed_of-spelled}
-use Rattle.rr_number.proofs.SpanTextLemmas.{ends_of-ordered}
+use Rattle.rr_number.proofs.EndsLemmas.{ends_between-spelled, ends_between-read, ends_of-ordered, IsEndsText-text}
 
 digits_no_blank : (ds : List ℕ) → all_ascii_digits ds ≡ true → HasNoBlank ds
 digits_no_blank [] digits = refl
@@ -46,56 +48,33 @@ as_text_no_dash (a ∷ b ∷ ds) begins digits =
     let second : to_ascii_uppercase b ≡ 83 = cc in
     rw (letter_is_no_dash a 65 first (omega arith), letter_is_no_dash b 83 second (omega arith), digits_no_dash ds digits) refl
 
-as_pair_of-spelled : (text first last : List ℕ) (s : Ends) → IsDashed text first last → as_pair_of first last ≡ Some s → IsAsSpanText text s
-unfolding as_pair_of
-as_pair_of-spelled text first last s dashed read =
-    option_and_then_some _ (as_number_of first) s read (λ x is_x rest.
-    option_and_then_some _ (as_number_of last) s rest (λ y is_y ends.
-    let parts = ends_of-ordered x y s ends in
-    record {
-      first_text = first;
-      last_text = last;
-      dashed = dashed;
-      first = subst (IsAsNumber first) (sym parts.1) (as_number_of-spelled first x is_x);
-      last = subst (IsAsNumber last) (sym parts.2) (as_number_of-spelled last y is_y);
-      ordered = omega (arith, parts.0, parts.1, parts.2);
-    }))
-
 -- what is read is spelled
 pub as_span_of-spelled : (text : List ℕ) (s : Ends) → as_span_of text ≡ Some s → IsAsSpanText text s
 unfolding as_span_of
 as_span_of-spelled text s read =
     option_and_then_some _ (dashed_of text) s read (λ ends cut pair.
-    as_pair_of-spelled text ends.0 ends.1 s (dashed_of-spelled text ends cut) pair)
-
-as_pair_of-read : (first last : List ℕ) (s : Ends) → IsAsNumber first s.first → IsAsNumber last s.last → s.first ≤ s.last → as_pair_of first last ≡ Some s
-unfolding as_pair_of
-as_pair_of-read first last s is_first is_last ordered =
-    let at_first = as_number_of-read first s.first is_first in
-    let at_last = as_number_of-read last s.last is_last in
-    let test : nat_le s.first s.last ≡ true = grind (arith, nat_tests) in
-    rw (at_first, at_last, test) refl
+    ends_between-spelled IsAsNumber as_number_of as_number_of-spelled text ends.0 ends.1 s (dashed_of-spelled text ends cut) pair)
 
 -- what is spelled is read
 pub as_span_of-read : (text : List ℕ) (s : Ends) → IsAsSpanText text s → as_span_of text ≡ Some s
 unfolding as_span_of
 as_span_of-read text s is =
     let cut = dashed_of-read text is.first_text is.last_text is.dashed (as_text_no_blank _ is.first.begins is.first.number.digits) (as_text_no_blank _ is.last.begins is.last.number.digits) (as_text_no_dash _ is.first.begins is.first.number.digits) in
-    rw cut (as_pair_of-read is.first_text is.last_text s is.first is.last is.ordered)
+    rw cut (ends_between-read IsAsNumber as_number_of as_number_of-read is.first_text is.last_text s is.first is.last is.ordered)
 
 -- a printed block spells it
 pub IsAsSpanText-text : (s : Ends) → IsAsSpan s → IsAsSpanText (as_span_text s) s
-IsAsSpanText-text s is = record {
-  first_text = as_number_text s.first;
-  last_text = as_number_text s.last;
-  dashed = record {
-    before = 32 ∷ [];
-    after = 32 ∷ [];
-    before_blank = refl;
-    after_blank = refl;
-    spelled = refl;
-  };
-  first = IsAsNumber-printed s.first (omega (arith, is.ordered, is.bound));
-  last = IsAsNumber-printed s.last is.bound;
-  ordered = is.ordered;
-}
+IsAsSpanText-text s is =
+    IsEndsText-text IsAsNumber as_number_text s (IsAsNumber-printed s.first (omega (arith, is.ordered, is.bound))) (IsAsNumber-printed s.last is.bound) is.ordered
+
+-- what is read between AS numbers is a block
+pub ends_are_numbers : (first last : List ℕ) (s : Ends) → ends_between as_number_of first last ≡ Some s → IsAsSpan s
+unfolding ends_between
+ends_are_numbers first last s read =
+    option_and_then_some _ (as_number_of first) s read (λ x is_x rest.
+    option_and_then_some _ (as_number_of last) s rest (λ y is_y ends.
+    let parts = ends_of-ordered x y s ends in
+    record {
+      ordered = omega (arith, parts.0, parts.1, parts.2);
+      bound = omega (arith, parts.2, as_number_of-bound last y is_y);
+    }))

@@ -8,12 +8,12 @@ use Rattle.std.specs.Fmt.{decimal}
 use Rattle.std.specs.Option.{option_map_or}
 use Rattle.std.specs.Prelude.{is_some}
 use Rattle.rr_number.specs.AsNumbers.{as_number_of, as_number_text, greatest_as_number}
-use Rattle.rr_number.specs.Names.{upper}
+use Rattle.rr_bytes.specs.LetterCase.{upper}
 use Rattle.rr_number.specs.SetNames.{component_text, is_component, is_set_word}
 use Rattle.rr_number.specs.declared.set_kind.SetKind.{SetKind}
 use Rattle.rr_number.proofs.AsNumberLemmas.{as_number_of-bound, as_number_of-printed, IsAsNumber-printed}
 use Rattle.rr_number.proofs.Components.{lacks-upper}
-use Rattle.rr_number.proofs.CutsLemmas.{lacks, lacks-digits}
+use Rattle.rr_bytes.proofs.CutLemmas.{lacks, lacks-digits}
 use Rattle.rr_number.proofs.NameLemmas.{upper-upper}
 use Rattle.rr_number.proofs.NumberCase.{as_number_of-upper, length-as_number_text}
 use Rattle.rr_number.proofs.SetWords.{is_component-upper, is_set_word-upper, number_is_no_word}

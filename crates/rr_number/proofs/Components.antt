@@ -5,10 +5,10 @@ use Rattle.std.proofs.lemmas.List.Splits.{slice_split_first}
 use Rattle.std.proofs.lemmas.Option.{cond_some}
 use Rattle.std.specs.Char.{to_ascii_uppercase}
 use Rattle.std.specs.List.{before_first, after_first, position_or_len, slice_split, onto_first, join_with_byte}
-use Rattle.rr_number.specs.Cuts.{cut_at}
-use Rattle.rr_number.specs.Names.{upper}
+use Rattle.rr_bytes.specs.Cuts.{cut_at}
+use Rattle.rr_bytes.specs.LetterCase.{upper}
 use Rattle.rr_number.specs.SetNames.{components}
-use Rattle.rr_number.proofs.CutsLemmas.{cut_at-joined, lacks}
+use Rattle.rr_bytes.proofs.CutLemmas.{cut_at-joined, lacks}
 
 -- before a colon stands the first component
 pub components-cut : (text before after : List ℕ) → cut_at 58 text ≡ Some (before, after) → components text ≡ before ∷ components after

@@ -48,3 +48,7 @@ IsNumber-decimal most limit n one few fits wide = record {
 -- a number below 256 is printed in at most three digits
 pub three_digits : (n : ℕ) → n < 256 → length (decimal n) ≤ 3
 three_digits n small = length-decimal-le 3 n (omega arith) (omega arith) (omega arith)
+
+-- a number of 32 bits is printed in at most ten digits
+pub ten_digits : (n : ℕ) → n < 2 ^ 32 → length (decimal n) ≤ 10
+ten_digits n small = length-decimal-le 10 n (omega arith) (omega arith) (omega arith)

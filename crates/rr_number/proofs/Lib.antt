@@ -4,10 +4,9 @@ pub mod AsSpanLemmas
 pub mod Choices
 pub mod ComponentTexts
 pub mod Components
-pub mod CutsLemmas
 pub mod DashLemmas
+pub mod EndsLemmas
 pub mod Decimals
-pub mod LetterCase
 pub mod Multiples
 pub mod NameLemmas
 pub mod NumberCase

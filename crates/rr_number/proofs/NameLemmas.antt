@@ -6,7 +6,9 @@ use Rattle.std.specs.Prelude.{slice_get}
 use Rattle.std.specs.Char.{is_ascii_alphabetic, is_ascii_alphanumeric, to_ascii_uppercase}
 use Rattle.std.specs.List.{list_all}
 use Rattle.std.specs.Option.{option_map_or}
-use Rattle.rr_number.specs.Names.{upper, is_name, is_name_byte, IsUpperName, name_of}
+use Rattle.rr_bytes.specs.LetterCase.{upper}
+use Rattle.rr_bytes.specs.NameBytes.{begins, is_name, is_name_byte}
+use Rattle.rr_number.specs.Names.{IsUpperName, name_of}
 
 upper_byte-again : (b : ℕ) → to_ascii_uppercase (to_ascii_uppercase b) ≡ to_ascii_uppercase b
 upper_byte-again b = grind (arith, nat_tests)
@@ -34,10 +36,14 @@ tested-upper p same [] i = refl
 tested-upper p same (b ∷ bs) zero = same b
 tested-upper p same (b ∷ bs) (suc i) = tested-upper p same bs i
 
+begins-upper : (p : ℕ → Bool) → ((b : ℕ) → p (to_ascii_uppercase b) ≡ p b) → (bs : List ℕ) → begins p (upper bs) ≡ begins p bs
+begins-upper p same [] = refl
+begins-upper p same (b ∷ bs) = same b
+
 pub is_name-upper : (bs : List ℕ) → is_name (upper bs) ≡ is_name bs
 unfolding is_name
 is_name-upper bs =
-    rw (length-map, name_bytes-upper bs, tested-upper is_ascii_alphabetic upper_byte-letter bs 0, tested-upper is_ascii_alphanumeric upper_byte-alphanumeric bs (length bs - 1)) refl
+    rw (length-map, name_bytes-upper bs, begins-upper is_ascii_alphabetic upper_byte-letter bs, tested-upper is_ascii_alphanumeric upper_byte-alphanumeric bs (length bs - 1)) refl
 
 pub IsUpperName-upper : (bs : List ℕ) → is_name bs ≡ true → IsUpperName (upper bs)
 IsUpperName-upper bs named = record { spelled = is_name-upper bs ∙ named; upper_case = upper-upper bs }

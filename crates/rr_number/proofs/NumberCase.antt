@@ -10,7 +10,7 @@ use Rattle.std.specs.Fmt.{decimal}
 use Rattle.std.specs.Str.{all_ascii_digits}
 use Rattle.std.specs.Str.Parse.{digits_value, digits_value_after}
 use Rattle.rr_number.specs.AsNumbers.{as_number_of, as_number_text, greatest_as_number}
-use Rattle.rr_number.specs.Names.{upper}
+use Rattle.rr_bytes.specs.LetterCase.{upper}
 use Rattle.rr_number.specs.Numerals.{number_of, IsNumber}
 use Rattle.rr_number.proofs.AsNumberLemmas.{as_number_of-spelled}
 use Rattle.rr_number.proofs.NameLemmas.{upper-upper}

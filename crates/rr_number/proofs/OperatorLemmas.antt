@@ -7,14 +7,14 @@ use Rattle.std.specs.Char.{is_ascii_digit}
 use Rattle.std.specs.Fmt.{decimal}
 use Rattle.std.specs.Str.{all_ascii_digits, bytes_eq}
 use Rattle.rr_number.specs.Bounds.{Bounds, IsBounds}
-use Rattle.rr_number.specs.Cuts.{cut_at}
+use Rattle.rr_bytes.specs.Cuts.{cut_at}
 use Rattle.rr_number.specs.Dashes.{dash}
 use Rattle.rr_number.specs.Operators.{IsOperator, IsOneLength, IsOperatorValue, IsTwoLengths, caret, carried_of, lengths_cut_of, one_length_of, operator_of, operator_text, plus, two_lengths_of}
 use Rattle.rr_number.specs.Prefixes.{length_of}
 use Rattle.rr_number.specs.declared.operator.Operator.{Operator}
 use Rattle.rr_number.specs.declared.operator.Operator.TheVariants.{Plain, Plus, Minus, Lengths}
 use Rattle.rr_number.proofs.Choices.{option_map-some}
-use Rattle.rr_number.proofs.CutsLemmas.{cut_at-append, cut_at-joined, cut_at-lacks, lacks-digits}
+use Rattle.rr_bytes.proofs.CutLemmas.{cut_at-append, cut_at-joined, cut_at-lacks, lacks-digits}
 use Rattle.rr_number.proofs.Decimals.{IsNumber-decimal, number_of-read, number_of-spelled}
 
 -- what is read as one length or two is spelled so

@@ -4,18 +4,18 @@ use Rattle.std.specs.List.{onto_first, join_with_byte, list_all, list_any}
 use Rattle.std.proofs.lemmas.Bool.{and_from, and_parts, le-leb, leb-true, or_cases}
 use Rattle.std.proofs.lemmas.List.{take_at, length-map}
 use Rattle.std.proofs.lemmas.List.Splits.{join_with_byte-slice_split}
-use Rattle.rr_number.specs.Cuts.{cut_at}
+use Rattle.rr_bytes.specs.Cuts.{cut_at}
 use Rattle.std.specs.Prelude.{codes, nat_le}
 use Rattle.std.specs.Cmp.Lexicographic.{bytes_decides}
 use Rattle.std.specs.Str.{bytes_eq}
-use Rattle.rr_number.specs.Names.{upper}
+use Rattle.rr_bytes.specs.LetterCase.{upper}
 use Rattle.rr_number.specs.declared.set_kind.SetKind.{SetKind}
 use Rattle.rr_number.specs.declared.set_kind.SetKind.TheVariants.{AsSet, RouteSet}
 use Rattle.rr_number.specs.Parents.{but_last, front_by, front_of}
 use Rattle.rr_number.specs.SetNames.{component_text, components, is_any_set, is_as_number, is_component, is_name_of_kind, is_set_name, is_set_word, set_text, IsSetText}
 use Rattle.rr_number.proofs.Components.{components-join, components-uncut, components-upper, some_component, EachLacks, EachLacks-components}
 use Rattle.rr_number.proofs.SetNameLemmas.{components-set_text, or_left, or_right}
-use Rattle.rr_number.proofs.CutsLemmas.{cut_at-joined}
+use Rattle.rr_bytes.proofs.CutLemmas.{cut_at-joined}
 
 -- the last text is the whole, or stands after a colon
 abbrev pub IsLastOf : List ℕ → List ℕ → Type 0

@@ -3,11 +3,11 @@ use Rattle.std.proofs.Common.{◌≡◌, ℕ, List, Some, refl, ap, sym, arith}
 use Rattle.std.proofs.lemmas.Option.{option_and_then_some}
 use Rattle.std.specs.Fmt.{decimal}
 use Rattle.rr_number.specs.Addresses.{address_of, address_text}
-use Rattle.rr_number.specs.Cuts.{cut_at}
+use Rattle.rr_bytes.specs.Cuts.{cut_at}
 use Rattle.rr_number.specs.Prefixes.{PrefixParts, IsMasked, IsPrefix, length_of, masked_of, prefix_of, prefix_text, slash}
 use Rattle.rr_number.proofs.AddressLemmas.{address_of-spelled, address_of-read, IsAddress-text, lacks-address}
 use Rattle.rr_number.proofs.Choices.{option_map-some}
-use Rattle.rr_number.proofs.CutsLemmas.{cut_at-joined, cut_at-append}
+use Rattle.rr_bytes.proofs.CutLemmas.{cut_at-joined, cut_at-append}
 use Rattle.rr_number.proofs.Decimals.{number_of-spelled, number_of-read, IsNumber-decimal}
 use Rattle.rr_number.proofs.PrefixSpans.{masked-IsMasked}
 

@@ -3,8 +3,8 @@ use Rattle.std.proofs.Common.{◌≡◌, ℕ, ◌==◌, ◌⊎◌, true, List, [
 use Rattle.std.proofs.lemmas.List.{take_at, drop_at}
 use Rattle.std.proofs.lemmas.Option.{option_and_then_some}
 use Rattle.std.specs.List.{before_first, position_or_len}
-use Rattle.rr_number.specs.Applied.{IsRanged, operator_for, pair_of, range_text, ranged_of}
-use Rattle.rr_number.specs.Cuts.{from_first}
+use Rattle.rr_number.specs.Applied.{IsRanged, operator_for, ranged_from, range_text, ranged_of}
+use Rattle.rr_bytes.specs.Cuts.{from_first}
 use Rattle.rr_number.specs.Operators.{IsOperator, caret, operator_of, operator_text}
 use Rattle.rr_number.specs.Prefixes.{PrefixParts, IsPrefix, prefix_of, prefix_text, slash}
 use Rattle.rr_number.specs.Ranges.{RangeParts, IsRange}
@@ -12,14 +12,14 @@ use Rattle.rr_number.specs.declared.operator.Operator.{Operator}
 use Rattle.rr_number.specs.declared.operator.Operator.TheVariants.{Plain, Plus, Minus, Lengths}
 use Rattle.rr_number.proofs.AddressLemmas.{lacks-address}
 use Rattle.rr_number.proofs.Choices.{option_map-some}
-use Rattle.rr_number.proofs.CutsLemmas.{lacks, lacks-digits, lacks-joined, place_after}
+use Rattle.rr_bytes.proofs.CutLemmas.{lacks, lacks-digits, lacks-joined, place_after}
 use Rattle.rr_number.proofs.OperatorLemmas.{IsOperator-text, operator_of-read, operator_of-spelled}
 use Rattle.rr_number.proofs.PrefixLemmas.{IsPrefix-text, prefix_of-read, prefix_of-spelled}
 use Rattle.rr_number.proofs.RangeLemmas.{IsOperatorValue-for}
 
 -- what is read is spelled
 pub ranged_of-spelled : (text : List ℕ) (ranged : PrefixParts × Operator) → ranged_of text ≡ Some ranged → IsRanged text ranged.0 ranged.1
-unfolding ranged_of pair_of
+unfolding ranged_of ranged_from
 ranged_of-spelled text ranged read =
     option_and_then_some _ (prefix_of (before_first (λ b. b == caret) text)) ranged read (λ prefix is_prefix rest.
     option_map-some _ (operator_of (from_first caret text)) ranged rest (λ operator is_operator value.
@@ -48,7 +48,7 @@ lacks-prefix text p spelled =
 
 -- what is spelled is read
 pub ranged_of-read : (text : List ℕ) (p : PrefixParts) (o : Operator) → IsRanged text p o → ranged_of text ≡ Some (p, o)
-unfolding ranged_of pair_of
+unfolding ranged_of ranged_from
 ranged_of-read text p o spelled =
     let place : position_or_len (λ b. b == caret) (spelled.front ++ spelled.back) ≡ length spelled.front =
     place_after caret spelled.front spelled.back (lacks-prefix _ p spelled.first) (begins _ o spelled.second) in

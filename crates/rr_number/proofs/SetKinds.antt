@@ -9,8 +9,9 @@ use Rattle.std.specs.List.{list_all, list_any, starts_with}
 use Rattle.std.specs.Prelude.{is_some, nat_eq, nat_le}
 use Rattle.std.specs.Str.{all_ascii_digits}
 use Rattle.rr_number.specs.AsNumbers.{as_number_of, IsAsNumber}
-use Rattle.rr_number.specs.Names.{upper, is_name}
-use Rattle.rr_number.specs.SetNames.{component_text, components, is_any_set, is_as_number, is_component, is_name_of_kind, is_set_name, is_set_word, kind_of, prefix_of, set_name_of, set_text, IsSetText}
+use Rattle.rr_bytes.specs.LetterCase.{upper}
+use Rattle.rr_bytes.specs.NameBytes.{is_name}
+use Rattle.rr_number.specs.SetNames.{component_text, components, is_any_set, is_as_number, is_component, is_name_of_kind, is_set_name, is_set_word, kind_of, word_start, set_name_of, set_text, IsSetText}
 use Rattle.rr_number.specs.declared.set_kind.SetKind.{SetKind}
 use Rattle.rr_number.specs.declared.set_kind.SetKind.TheVariants.{AsSet, RouteSet}
 use Rattle.rr_number.proofs.AsNumberLemmas.{as_number_of-bound, as_number_of-spelled, IsAsNumber-printed}
@@ -76,47 +77,47 @@ in_upper_case : (c : List ℕ) → component_text c ≡ c → upper c ≡ c
 in_upper_case c printed = subst (λ (t : List ℕ). upper t ≡ t) printed (upper-component_text c)
 
 -- no text begins as both kinds do
-clash : (text : List ℕ) → starts_with nat_eq text (prefix_of RouteSet) ≡ true → starts_with nat_eq text (prefix_of AsSet) ≡ false
+clash : (text : List ℕ) → starts_with nat_eq text (word_start RouteSet) ≡ true → starts_with nat_eq text (word_start AsSet) ≡ false
 clash [] begins = absurd (cc)
 clash (x ∷ xs) begins =
     let first : nat_eq 82 x ≡ true = (and_parts (nat_eq 82 x) _ begins).0 in
     let other : nat_eq 65 x ≡ false = grind (arith, nat_tests) in
     rw other refl
 
-prefix_of_word : (kind : SetKind) (c : List ℕ) → component_text c ≡ c → is_set_word kind c ≡ true → starts_with nat_eq c (prefix_of kind) ≡ true
-prefix_of_word kind c printed word =
-    let begins = (and_parts (starts_with nat_eq (upper c) (prefix_of kind)) _ (and_parts (is_name c) _ word).1).0 in
-    subst (λ (t : List ℕ). starts_with nat_eq t (prefix_of kind) ≡ true) (in_upper_case c printed) begins
+start_of_word : (kind : SetKind) (c : List ℕ) → component_text c ≡ c → is_set_word kind c ≡ true → starts_with nat_eq c (word_start kind) ≡ true
+start_of_word kind c printed word =
+    let begins = (and_parts (starts_with nat_eq (upper c) (word_start kind)) _ (and_parts (is_name c) _ word).1).0 in
+    subst (λ (t : List ℕ). starts_with nat_eq t (word_start kind) ≡ true) (in_upper_case c printed) begins
 
-no_as_prefix_of : (c : List ℕ) (o : Option ℕ) → as_number_of c ≡ o → component_text c ≡ c → is_component RouteSet c ≡ true → starts_with nat_eq c (prefix_of AsSet) ≡ false
-no_as_prefix_of c (Some n) read printed is =
+no_as_start : (c : List ℕ) (o : Option ℕ) → as_number_of c ≡ o → component_text c ≡ c → is_component RouteSet c ≡ true → starts_with nat_eq c (word_start AsSet) ≡ false
+no_as_start c (Some n) read printed is =
     let number : IsAsNumber c n = as_number_of-spelled c n read in
-    subst (λ (t : List ℕ). starts_with nat_eq t (prefix_of AsSet) ≡ false) (in_upper_case c printed) (no_word_begins AsSet c number.begins number.number.digits number.number.some)
-no_as_prefix_of c None read printed is =
+    subst (λ (t : List ℕ). starts_with nat_eq t (word_start AsSet) ≡ false) (in_upper_case c printed) (no_word_begins AsSet c number.begins number.number.digits number.number.some)
+no_as_start c None read printed is =
     ⊎_elim
     (λ number. absurd (both_ways (is_as_number c) (ap is_some read) number))
-    (λ word. clash c (prefix_of_word RouteSet c printed word))
+    (λ word. clash c (start_of_word RouteSet c printed word))
     (or_cases (is_as_number c) (is_set_word RouteSet c) is)
 
 tails_printed : (c : List ℕ) (cs : List (List ℕ)) → map component_text (c ∷ cs) ≡ c ∷ cs → (component_text c ≡ c) × (map component_text cs ≡ cs)
 tails_printed c cs printed = (cc, cc)
 
 -- a set's word shows its kind
-has_as_prefix : (cs : List (List ℕ)) → map component_text cs ≡ cs → list_any (is_set_word AsSet) cs ≡ true → list_any (λ c. starts_with nat_eq c (prefix_of AsSet)) cs ≡ true
-has_as_prefix [] printed some = some
-has_as_prefix (c ∷ cs) printed some =
+has_as_start : (cs : List (List ℕ)) → map component_text cs ≡ cs → list_any (is_set_word AsSet) cs ≡ true → list_any (λ c. starts_with nat_eq c (word_start AsSet)) cs ≡ true
+has_as_start [] printed some = some
+has_as_start (c ∷ cs) printed some =
     let parts = tails_printed c cs printed in
     ⊎_elim
-    (λ word. or_left (starts_with nat_eq c (prefix_of AsSet)) _ (prefix_of_word AsSet c parts.0 word))
-    (λ later. or_right (starts_with nat_eq c (prefix_of AsSet)) _ (has_as_prefix cs parts.1 later))
+    (λ word. or_left (starts_with nat_eq c (word_start AsSet)) _ (start_of_word AsSet c parts.0 word))
+    (λ later. or_right (starts_with nat_eq c (word_start AsSet)) _ (has_as_start cs parts.1 later))
     (or_cases (is_set_word AsSet c) (list_any (is_set_word AsSet) cs) some)
 
-has_no_as_prefix : (cs : List (List ℕ)) → map component_text cs ≡ cs → list_all (is_component RouteSet) cs ≡ true → list_any (λ c. starts_with nat_eq c (prefix_of AsSet)) cs ≡ false
-has_no_as_prefix [] printed all = refl
-has_no_as_prefix (c ∷ cs) printed all =
+has_no_as_start : (cs : List (List ℕ)) → map component_text cs ≡ cs → list_all (is_component RouteSet) cs ≡ true → list_any (λ c. starts_with nat_eq c (word_start AsSet)) cs ≡ false
+has_no_as_start [] printed all = refl
+has_no_as_start (c ∷ cs) printed all =
     let parts = tails_printed c cs printed in
     let each = and_parts (is_component RouteSet c) (list_all (is_component RouteSet) cs) all in
-    rw (no_as_prefix_of c (as_number_of c) refl parts.0 each.0) (has_no_as_prefix cs parts.1 each.1)
+    rw (no_as_start c (as_number_of c) refl parts.0 each.0) (has_no_as_start cs parts.1 each.1)
 
 kinds_of_name : (name : List ℕ) → is_set_name name ≡ true → (is_any_set name ≡ true) ⊎ ((is_name_of_kind AsSet name ≡ true) ⊎ (is_name_of_kind RouteSet name ≡ true))
 unfolding is_set_name
@@ -134,9 +135,9 @@ kind_told name is other =
     (λ of_kind. ⊎_elim
     (λ as_set.
     let parts = and_parts (list_all (is_component AsSet) (components name)) (list_any (is_set_word AsSet) (components name)) as_set in
-    ap (λ t. is_name_of_kind (cond t AsSet RouteSet) name) (has_as_prefix (components name) printed parts.1) ∙ as_set)
+    ap (λ t. is_name_of_kind (cond t AsSet RouteSet) name) (has_as_start (components name) printed parts.1) ∙ as_set)
     (λ route_set.
     let parts = and_parts (list_all (is_component RouteSet) (components name)) (list_any (is_set_word RouteSet) (components name)) route_set in
-    ap (λ t. is_name_of_kind (cond t AsSet RouteSet) name) (has_no_as_prefix (components name) printed parts.0) ∙ route_set)
+    ap (λ t. is_name_of_kind (cond t AsSet RouteSet) name) (has_no_as_start (components name) printed parts.0) ∙ route_set)
     of_kind)
     (kinds_of_name name is.spelled)

@@ -7,7 +7,7 @@ use Rattle.std.specs.List.{join_with_byte, list_all, list_any}
 use Rattle.std.specs.Prelude.{codes, nat_le}
 use Rattle.std.specs.Str.{bytes_eq}
 use Rattle.rr_number.specs.AsNumbers.{as_number_of}
-use Rattle.rr_number.specs.Names.{upper}
+use Rattle.rr_bytes.specs.LetterCase.{upper}
 use Rattle.rr_number.specs.Numerals.{number_of}
 use Rattle.rr_number.specs.SetNames.{component_text, components, is_any_set, is_component, is_name_of_kind, is_set_name, is_set_word, set_text, IsSetText}
 use Rattle.rr_number.specs.declared.set_kind.SetKind.{SetKind}

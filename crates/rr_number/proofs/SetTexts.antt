@@ -1,7 +1,7 @@
 -- The printed text of a set's name: component by component, and in upper case.
 use Rattle.std.proofs.Common.{◌≡◌, ℕ, List, [], ◌∷◌, ◌++◌, map, Some, None, refl, ap, sym, ◌∙◌, append_assoc}
 use Rattle.std.specs.List.{join_with_byte}
-use Rattle.rr_number.specs.Cuts.{cut_at}
+use Rattle.rr_bytes.specs.Cuts.{cut_at}
 use Rattle.rr_number.specs.SetNames.{components, component_text, set_text}
 use Rattle.rr_number.proofs.Components.{components-cut, components-uncut, some_component}
 

@@ -7,8 +7,10 @@ use Rattle.std.specs.Prelude.{codes, nat_eq}
 use Rattle.std.specs.List.{starts_with}
 use Rattle.std.specs.Str.{all_ascii_digits}
 use Rattle.rr_number.specs.AsNumbers.{as_number_of, IsAsNumber}
-use Rattle.rr_number.specs.Names.{upper, is_name, is_reserved}
-use Rattle.rr_number.specs.SetNames.{is_set_word, is_component, prefix_of}
+use Rattle.rr_bytes.specs.LetterCase.{upper}
+use Rattle.rr_bytes.specs.NameBytes.{is_name}
+use Rattle.rr_number.specs.Names.{is_reserved}
+use Rattle.rr_number.specs.SetNames.{is_set_word, is_component, word_start}
 use Rattle.rr_number.specs.declared.set_kind.SetKind.{SetKind}
 use Rattle.rr_number.specs.declared.set_kind.SetKind.TheVariants.{AsSet, RouteSet}
 use Rattle.rr_number.proofs.AsNumberLemmas.{as_number_of-spelled}
@@ -22,7 +24,7 @@ pub is_component-upper : (kind : SetKind) (c : List ℕ) → is_component kind (
 is_component-upper kind c = rw (as_number_of-upper c, is_set_word-upper kind c) refl
 
 -- an AS number does not begin as a set's word does
-pub no_word_begins : (kind : SetKind) (text : List ℕ) → upper (take 2 text) ≡ codes "AS" → all_ascii_digits (drop 2 text) ≡ true → 0 < length (drop 2 text) → starts_with nat_eq (upper text) (prefix_of kind) ≡ false
+pub no_word_begins : (kind : SetKind) (text : List ℕ) → upper (take 2 text) ≡ codes "AS" → all_ascii_digits (drop 2 text) ≡ true → 0 < length (drop 2 text) → starts_with nat_eq (upper text) (word_start kind) ≡ false
 no_word_begins kind [] begins digits some = absurd (cc)
 no_word_begins kind (a ∷ []) begins digits some = absurd (cc)
 no_word_begins kind (a ∷ b ∷ []) begins digits some = absurd (omega arith)
@@ -37,5 +39,5 @@ no_word_begins RouteSet (a ∷ b ∷ d ∷ ds) begins digits some =
 pub number_is_no_word : (kind : SetKind) (c : List ℕ) (n : ℕ) → as_number_of c ≡ Some n → is_set_word kind c ≡ false
 number_is_no_word kind c n read =
     let is : IsAsNumber c n = as_number_of-spelled c n read in
-    let other : starts_with nat_eq (upper c) (prefix_of kind) ≡ false = no_word_begins kind c is.begins is.number.digits is.number.some in
-    and_right (is_name c) _ (and_left (starts_with nat_eq (upper c) (prefix_of kind)) (not (is_reserved (upper c))) other)
+    let other : starts_with nat_eq (upper c) (word_start kind) ≡ false = no_word_begins kind c is.begins is.number.digits is.number.some in
+    and_right (is_name c) _ (and_left (starts_with nat_eq (upper c) (word_start kind)) (not (is_reserved (upper c))) other)

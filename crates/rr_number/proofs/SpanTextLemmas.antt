@@ -3,14 +3,15 @@ use Rattle.std.proofs.Common.{◌≡◌, ℕ, ◌≤◌, true, nat_le, List, [],
 use Rattle.std.proofs.lemmas.Bool.Decides.{nat_tests}
 use Rattle.std.proofs.lemmas.Option.{option_and_then_some, cond_some}
 use Rattle.rr_number.specs.Addresses.{IsAddress, address_of, address_text}
-use Rattle.rr_number.specs.Dashes.{IsDashed, dash, dashed_of}
+use Rattle.rr_number.specs.Dashes.{dash, dashed_of}
 use Rattle.rr_number.specs.Prefixes.{PrefixParts, IsPrefix, prefix_of, slash}
 use Rattle.rr_number.specs.Spans.{Ends, IsSpan}
-use Rattle.rr_number.specs.SpanTexts.{IsAddressPair, IsSpanText, ends_of, pair_of, span_by, span_of, span_text}
+use Rattle.rr_number.specs.SpanTexts.{IsSpanText, span_by, spelled_span, span_text}
 use Rattle.rr_number.proofs.AddressLemmas.{address_of-spelled, address_of-read, IsAddress-text, lacks-address}
 use Rattle.rr_number.proofs.Choices.{option_map-some}
-use Rattle.rr_number.proofs.CutsLemmas.{cut_at-lacks, lacks, lacks-digits, lacks-joined}
+use Rattle.rr_bytes.proofs.CutLemmas.{cut_at-lacks, lacks, lacks-digits, lacks-joined}
 use Rattle.rr_number.proofs.DashLemmas.{HasNoBlank, dashed_of-spelled, dashed_of-read}
+use Rattle.rr_number.proofs.EndsLemmas.{ends_between-spelled, ends_between-read, IsEndsText-text}
 use Rattle.rr_number.proofs.PrefixLemmas.{prefix_of-spelled, prefix_of-read}
 
 -- a text without a dash is not cut
@@ -32,53 +33,23 @@ prefix_lacks_dash : (text : List ℕ) (p : PrefixParts) → IsPrefix text p → 
 prefix_lacks_dash text p spelled =
     rw spelled.spelled (lacks-joined dash slash spelled.address_text spelled.length_text refl (lacks-address dash spelled.address_text spelled.address refl refl spelled.first) (lacks-digits dash spelled.length_text refl spelled.second.digits))
 
--- the ends that two numbers make are these, in order
-pub ends_of-ordered : (x y : ℕ) (s : Ends) → ends_of x y ≡ Some s → (x ≤ y) × (s.first ≡ x) × (s.last ≡ y)
-ends_of-ordered x y s is =
-    let parts = cond_some (nat_le x y) _ _ is in
-    (grind (arith, nat_tests, parts.0), ap (λ (e : Ends). e.first) (sym parts.1), ap (λ (e : Ends). e.last) (sym parts.1))
-
--- two texts that are read as a span spell it
-pair_of-spelled : (text first last : List ℕ) (s : Ends) → IsDashed text first last → pair_of first last ≡ Some s → IsAddressPair text s
-unfolding pair_of
-pair_of-spelled text first last s dashed read =
-    option_and_then_some _ (address_of first) s read (λ x is_x rest.
-    option_and_then_some _ (address_of last) s rest (λ y is_y ends.
-    let parts = ends_of-ordered x y s ends in
-    record {
-      first_text = first;
-      last_text = last;
-      dashed = dashed;
-      first = subst (IsAddress first) (sym parts.1) (address_of-spelled first x is_x);
-      last = subst (IsAddress last) (sym parts.2) (address_of-spelled last y is_y);
-      ordered = omega (arith, parts.0, parts.1, parts.2);
-    }))
-
 span_by-spelled : (text : List ℕ) (s : Ends) (ends : Option (List ℕ × List ℕ)) → dashed_of text ≡ ends → span_by text ends ≡ Some s → IsSpanText text s
-span_by-spelled text s (Some ends) cut read = inl (pair_of-spelled text ends.0 ends.1 s (dashed_of-spelled text ends cut) read)
+span_by-spelled text s (Some ends) cut read = inl (ends_between-spelled IsAddress address_of address_of-spelled text ends.0 ends.1 s (dashed_of-spelled text ends cut) read)
 span_by-spelled text s None cut read =
     option_map-some _ (prefix_of text) s read (λ p is value. inr (record { prefix = p; spelled = prefix_of-spelled text p is; value = sym value }))
 
 -- what is read is spelled
-pub span_of-spelled : (text : List ℕ) (s : Ends) → span_of text ≡ Some s → IsSpanText text s
-unfolding span_of
-span_of-spelled text s read = span_by-spelled text s (dashed_of text) refl read
-
-pair_of-read : (first last : List ℕ) (s : Ends) → IsAddress first s.first → IsAddress last s.last → s.first ≤ s.last → pair_of first last ≡ Some s
-unfolding pair_of
-pair_of-read first last s is_first is_last ordered =
-    let at_first = address_of-read first s.first is_first in
-    let at_last = address_of-read last s.last is_last in
-    let test : nat_le s.first s.last ≡ true = grind (arith, nat_tests) in
-    rw (at_first, at_last, test) refl
+pub spelled_span-spelled : (text : List ℕ) (s : Ends) → spelled_span text ≡ Some s → IsSpanText text s
+unfolding spelled_span
+spelled_span-spelled text s read = span_by-spelled text s (dashed_of text) refl read
 
 -- what is spelled is read
-pub span_of-read : (text : List ℕ) (s : Ends) → IsSpanText text s → span_of text ≡ Some s
-unfolding span_of
-span_of-read text s (inl pair) =
+pub spelled_span-read : (text : List ℕ) (s : Ends) → IsSpanText text s → spelled_span text ≡ Some s
+unfolding spelled_span
+spelled_span-read text s (inl pair) =
     let cut = dashed_of-read text pair.first_text pair.last_text pair.dashed (address_no_blank _ s.first pair.first) (address_no_blank _ s.last pair.last) (lacks-address dash _ s.first refl refl pair.first) in
-    rw cut (pair_of-read pair.first_text pair.last_text s pair.first pair.last pair.ordered)
-span_of-read text s (inr span) =
+    rw cut (ends_between-read IsAddress address_of address_of-read pair.first_text pair.last_text s pair.first pair.last pair.ordered)
+spelled_span-read text s (inr span) =
     let cut = dashed_of-lacks text (prefix_lacks_dash text span.prefix span.spelled) in
     let read = prefix_of-read text span.prefix span.spelled in
     rw (cut, read) (ap Some (sym span.value))
@@ -86,17 +57,5 @@ span_of-read text s (inr span) =
 -- a printed span spells it
 pub IsSpanText-text : (s : Ends) → IsSpan s → IsSpanText (span_text s) s
 unfolding span_text
-IsSpanText-text s is = inl (record {
-  first_text = address_text s.first;
-  last_text = address_text s.last;
-  dashed = record {
-    before = 32 ∷ [];
-    after = 32 ∷ [];
-    before_blank = refl;
-    after_blank = refl;
-    spelled = refl;
-  };
-  first = IsAddress-text s.first (omega (arith, is.ordered, is.fits));
-  last = IsAddress-text s.last is.fits;
-  ordered = is.ordered;
-})
+IsSpanText-text s is =
+    inl (IsEndsText-text IsAddress address_text s (IsAddress-text s.first (omega (arith, is.ordered, is.fits))) (IsAddress-text s.last is.fits) is.ordered)

@@ -3,7 +3,7 @@ use Rattle.std.specs.Prelude.{◌≡◌, ℕ, ◌+◌, ◌*◌, List, ◌∷◌,
 use Rattle.std.specs.Fmt.{decimal}
 use Rattle.std.specs.Int.{byte_at}
 use Rattle.std.specs.Option.{option_and_then, option_map}
-use Rattle.rr_number.specs.Cuts.{cut_at}
+use Rattle.rr_bytes.specs.Cuts.{cut_at}
 use Rattle.rr_number.specs.Numerals.{IsNumber, number_of}
 
 -- The separator of octets, '.' (RFC 2622, 2).

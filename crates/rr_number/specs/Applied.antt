@@ -3,7 +3,7 @@ use Rattle.std.specs.Prelude.{◌≡◌, ℕ, Bool, false, ◌==◌, ◌&&◌, L
 use Rattle.std.specs.List.{before_first}
 use Rattle.std.specs.Option.{option_and_then, option_map}
 use Rattle.rr_number.specs.Bounds.{Bounds}
-use Rattle.rr_number.specs.Cuts.{from_first}
+use Rattle.rr_bytes.specs.Cuts.{from_first}
 use Rattle.rr_number.specs.Operators.{IsOperator, caret, lengths_under, operator_of, operator_text}
 use Rattle.rr_number.specs.Prefixes.{PrefixParts, IsPrefix, prefix_of, prefix_text}
 use Rattle.rr_number.specs.Ranges.{RangeParts, bare, bounds_of, range_of}
@@ -23,13 +23,13 @@ pub record IsRanged (text : List ℕ) (prefix : PrefixParts) (operator : Operato
   pub second : IsOperator back operator
 
 -- The prefix and the operator of two texts, if they spell them (RFC 2622, 2).
-unfoldable pub pair_of : List ℕ → List ℕ → Option (PrefixParts × Operator)
-pair_of front back =
+unfoldable pub ranged_from : List ℕ → List ℕ → Option (PrefixParts × Operator)
+ranged_from front back =
     option_and_then (λ prefix. option_map (λ operator. (prefix, operator)) (operator_of back)) (prefix_of front)
 
 -- The prefix with its operator that the text spells, if it does (RFC 2622, 2).
 unfoldable pub ranged_of : List ℕ → Option (PrefixParts × Operator)
-ranged_of text = pair_of (before_first (λ b. b == caret) text) (from_first caret text)
+ranged_of text = ranged_from (before_first (λ b. b == caret) text) (from_first caret text)
 
 -- Whether there are bounds, and these (profile).
 abbrev pub is_bounds : Option Bounds → Bounds → Bool

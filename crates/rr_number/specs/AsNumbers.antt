@@ -1,7 +1,7 @@
 -- AS numbers.
 use Rattle.std.specs.Prelude.{◌≡◌, ℕ, ◌+◌, List, ◌++◌, take, drop, codes, Option, None, if◌then◌else◌, decimal}
 use Rattle.std.specs.Str.{bytes_eq}
-use Rattle.rr_number.specs.Names.{upper}
+use Rattle.rr_bytes.specs.LetterCase.{upper}
 use Rattle.rr_number.specs.Numerals.{IsNumber, number_of}
 
 -- The greatest AS number: one of four octets (RFC 6793, 3).

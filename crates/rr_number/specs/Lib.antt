@@ -1,10 +1,11 @@
 pub mod Addresses
+pub mod AnySets
 pub mod Applied
 pub mod AsNumbers
 pub mod AsSpans
 pub mod Bounds
-pub mod Cuts
 pub mod Dashes
+pub mod EndsTexts
 pub mod Names
 pub mod Numerals
 pub mod Operators

@@ -1,29 +1,10 @@
 -- The names of maintainers and sources, and the words that they may not be.
-use Rattle.std.specs.Prelude.{◌≡◌, ℕ, Bool, true, false, not, ◌-◌, ◌==◌, ◌&&◌, ◌||◌, List, [], ◌∷◌, length, map, codes, nat_eq, nat_le, slice_get, Option, None, Some, if◌then◌else◌}
-use Rattle.std.specs.Char.{is_ascii_alphabetic, is_ascii_alphanumeric, to_ascii_uppercase}
-use Rattle.std.specs.List.{list_all, list_any, starts_with}
-use Rattle.std.specs.Option.{option_map_or}
+use Rattle.std.specs.Prelude.{◌≡◌, ℕ, Bool, true, not, ◌&&◌, List, [], ◌∷◌, codes, nat_eq, Option, None, Some, if◌then◌else◌}
+use Rattle.std.specs.List.{list_any, starts_with}
 use Rattle.std.specs.Str.{bytes_eq}
-
--- Letter case is ignored in names and keywords; they are kept and printed in upper case (RFC 2622, 2; profile).
-abbrev pub upper : List ℕ → List ℕ
-upper bs = map to_ascii_uppercase bs
-
--- Names are made of letters, digits, `_` and `-` (RFC 2622, 2).
-abbrev pub is_name_byte : ℕ → Bool
-is_name_byte b = is_ascii_alphanumeric b || (b == 95 || b == 45)
-
--- A text begins with a letter.
-abbrev pub begins_with_letter : List ℕ → Bool
-begins_with_letter bs = option_map_or is_ascii_alphabetic (slice_get bs 0) false
-
--- A text ends with a letter or a digit.
-abbrev pub ends_with_alphanumeric : List ℕ → Bool
-ends_with_alphanumeric bs = option_map_or is_ascii_alphanumeric (slice_get bs (length bs - 1)) false
-
--- A name has 1 to 80 (profile) of these bytes, the first a letter, the last a letter or a digit (RFC 2622, 2).
-unfoldable pub is_name : List ℕ → Bool
-is_name bs = nat_le (length bs) 80 && (list_all is_name_byte bs && (begins_with_letter bs && ends_with_alphanumeric bs))
+use Rattle.rr_bytes.specs.LetterCase.{upper}
+use Rattle.rr_bytes.specs.NameBytes.{is_name}
+use Rattle.rr_number.specs.AnySets.{as_any, rs_any}
 
 -- The name that a text spells, in upper case.
 abbrev pub name_of : List ℕ → Option (List ℕ)
@@ -37,7 +18,7 @@ pub record IsUpperName (name : List ℕ) : Type 0 where
 -- The words that RPSL keeps for itself, in upper case (RFC 2622, 2).
 abbrev pub reserved_words : List (List ℕ)
 reserved_words =
-    codes "ANY" ∷ (codes "AS-ANY" ∷ (codes "RS-ANY" ∷ (codes "PEERAS" ∷ (codes "AND" ∷ (codes "OR" ∷ (codes "NOT" ∷
+    codes "ANY" ∷ (as_any ∷ (rs_any ∷ (codes "PEERAS" ∷ (codes "AND" ∷ (codes "OR" ∷ (codes "NOT" ∷
     (codes "ATOMIC" ∷ (codes "FROM" ∷ (codes "TO" ∷ (codes "AT" ∷ (codes "ACTION" ∷ (codes "ACCEPT" ∷ (codes "ANNOUNCE" ∷
     (codes "EXCEPT" ∷ (codes "REFINE" ∷ (codes "NETWORKS" ∷ (codes "INTO" ∷ (codes "INBOUND" ∷ (codes "OUTBOUND" ∷ [])))))))))))))))))))
 

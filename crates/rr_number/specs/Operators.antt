@@ -6,7 +6,7 @@ use Rattle.std.specs.Ordering.{ordering_then, nat_cmp}
 use Rattle.std.specs.Option.{option_and_then, option_map}
 use Rattle.std.specs.Str.{bytes_eq}
 use Rattle.rr_number.specs.Bounds.{Bounds, IsBounds, bounds_cmp}
-use Rattle.rr_number.specs.Cuts.{cut_at}
+use Rattle.rr_bytes.specs.Cuts.{cut_at}
 use Rattle.rr_number.specs.Dashes.{dash}
 use Rattle.rr_number.specs.Prefixes.{IsLength, length_of}
 use Rattle.rr_number.specs.declared.operator.Operator.{Operator}

@@ -5,7 +5,7 @@ use Rattle.std.specs.declared.cmp.Ordering.{Ordering}
 use Rattle.std.specs.Ordering.{ordering_then, nat_cmp}
 use Rattle.std.specs.Option.{option_and_then, option_map}
 use Rattle.rr_number.specs.Addresses.{IsAddress, address_of, address_text}
-use Rattle.rr_number.specs.Cuts.{cut_at}
+use Rattle.rr_bytes.specs.Cuts.{cut_at}
 use Rattle.rr_number.specs.Numerals.{IsNumber, number_of}
 use Rattle.rr_number.specs.Spans.{Ends}
 

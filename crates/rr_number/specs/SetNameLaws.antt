@@ -1,6 +1,6 @@
 -- How the names of sets, their spellings and their kinds go together.
 use Rattle.std.specs.Prelude.{◌≡◌, ℕ, true, false, List, [], ◌∷◌, ◌++◌, map, Some}
-use Rattle.rr_number.specs.Names.{upper}
+use Rattle.rr_bytes.specs.LetterCase.{upper}
 use Rattle.rr_number.specs.Parents.{front_of}
 use Rattle.rr_number.specs.SetNames.{component_text, components, is_any_set, is_name_of_kind, kind_of, set_name_of, IsSetText}
 

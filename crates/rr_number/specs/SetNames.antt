@@ -3,15 +3,18 @@ use Rattle.std.specs.Prelude.{◌≡◌, ℕ, Bool, not, ◌==◌, ◌&&◌, ◌
 use Rattle.std.specs.List.{join_with_byte, list_all, list_any, slice_split, starts_with}
 use Rattle.std.specs.Option.{option_map_or}
 use Rattle.std.specs.Str.{bytes_eq}
+use Rattle.rr_number.specs.AnySets.{as_any, rs_any}
 use Rattle.rr_number.specs.AsNumbers.{as_number_of, as_number_text}
-use Rattle.rr_number.specs.Names.{is_name, is_reserved, upper}
+use Rattle.rr_bytes.specs.LetterCase.{upper}
+use Rattle.rr_bytes.specs.NameBytes.{is_name}
+use Rattle.rr_number.specs.Names.{is_reserved}
 use Rattle.rr_number.specs.declared.set_kind.SetKind.{SetKind}
 use Rattle.rr_number.specs.declared.set_kind.SetKind.TheVariants.{AsSet, RouteSet}
 
 -- What the names of sets of a kind begin with (RFC 2622, 2).
-abbrev pub prefix_of : SetKind → List ℕ
-prefix_of AsSet = codes "AS-"
-prefix_of RouteSet = codes "RS-"
+abbrev pub word_start : SetKind → List ℕ
+word_start AsSet = codes "AS-"
+word_start RouteSet = codes "RS-"
 
 -- The components of a set's name are the parts round its colons (RFC 2622, 5).
 abbrev pub components : List ℕ → List (List ℕ)
@@ -24,7 +27,7 @@ is_as_number component = is_some (as_number_of component)
 -- The word of a set is a name that begins as its kind's do and is not reserved (RFC 2622, 5).
 abbrev pub is_set_word : SetKind → List ℕ → Bool
 is_set_word kind component =
-    is_name component && (starts_with nat_eq (upper component) (prefix_of kind) && not (is_reserved (upper component)))
+    is_name component && (starts_with nat_eq (upper component) (word_start kind) && not (is_reserved (upper component)))
 
 -- A component is an AS number or the word of a set (RFC 2622, 5).
 abbrev pub is_component : SetKind → List ℕ → Bool
@@ -36,7 +39,7 @@ is_name_of_kind kind text = list_all (is_component kind) (components text) && li
 
 -- `AS-ANY` and `RS-ANY` name sets only by themselves (RFC 2622, 5; profile).
 abbrev pub is_any_set : List ℕ → Bool
-is_any_set text = bytes_eq (upper text) (codes "AS-ANY") || bytes_eq (upper text) (codes "RS-ANY")
+is_any_set text = bytes_eq (upper text) as_any || bytes_eq (upper text) rs_any
 
 -- A set's name has at most 255 bytes as it is spelled (profile), and its components are of one kind (RFC 2622, 5).
 unfoldable pub is_set_name : List ℕ → Bool
@@ -60,12 +63,12 @@ pub record IsSetText (text : List ℕ) : Type 0 where
   pub printed : set_text text ≡ text
 
 -- Whether a set's name, as it is printed, has a component that begins as a kind's names do.
-abbrev pub has_prefix : SetKind → List ℕ → Bool
-has_prefix kind text = list_any (λ component. starts_with nat_eq component (prefix_of kind)) (components text)
+abbrev pub has_word_start : SetKind → List ℕ → Bool
+has_word_start kind text = list_any (λ component. starts_with nat_eq component (word_start kind)) (components text)
 
 -- A set is an as-set where a component of its name begins as those of as-sets do (RFC 2622, 5).
 abbrev pub is_as_set : List ℕ → Bool
-is_as_set text = has_prefix AsSet text
+is_as_set text = has_word_start AsSet text
 
 -- The kind of a set is told by the components beside AS numbers: an as-set, and else a route-set (RFC 2622, 5).
 abbrev pub kind_of : List ℕ → SetKind

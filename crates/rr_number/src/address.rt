@@ -3,8 +3,10 @@ ghost use Rattle.std.specs.Prelude.{◌≡◌, ◌+◌, ◌<◌, ◌≤◌, ◌^
 ghost use Rattle.rr_io.specs.Sending.{Writes};
 ghost use Rattle.rr_number.specs.Addresses.{IsAddress, address_of, address_text, joined_of, octet_of};
 
-use crate::digits::{cut, read_number};
+use crate::digits::read_number;
+use crate::ends::End;
 use crate::short_text::ShortText;
+use rr_bytes::cut_at;
 use rr_io::{Sink, write_all};
 use std::marker::Model;
 use std::{fmt, io};
@@ -86,6 +88,21 @@ impl Address {
     }
 }
 
+impl End for Address {
+    ghost end_of = { address_of };
+
+    ghost end_text = { address_text };
+
+    #[inline]
+    fn read_end(text: &[u8]) -> Option<u32> {
+        Some(Address::read(text)?.to_bits())
+    }
+
+    fn push_end(number: u32, text: &mut ShortText) {
+        Address::from_bits(number).push_to(text);
+    }
+}
+
 impl fmt::Display for Address {
     ghost output = { λ a. Some (address_text a) };
 
@@ -123,8 +140,8 @@ fn join(first: &[u8], second: &[u8], third: &[u8], fourth: &[u8]) -> Option<Addr
 fn read_address(text: &[u8]) -> Option<Address>
     ensures { result ≡ address_of text.now }
 {
-    let (first, rest) = cut(text, b'.')?;
-    let (second, rest) = cut(rest, b'.')?;
-    let (third, fourth) = cut(rest, b'.')?;
+    let (first, rest) = cut_at(text, b'.')?;
+    let (second, rest) = cut_at(rest, b'.')?;
+    let (third, fourth) = cut_at(rest, b'.')?;
     join(first, second, third, fourth)
 }

@@ -5,8 +5,9 @@ ghost use Rattle.rr_number.specs.Numerals.{number_of};
 ghost use Rattle.rr_number.specs.AsNumbers.{as_number_of, as_number_text, greatest_as_number, IsAsNumber};
 
 use crate::digits::read_number;
-use crate::letter_case::spells;
+use crate::ends::End;
 use crate::short_text::ShortText;
+use rr_bytes::is_keyword;
 use rr_io::{Sink, write_all};
 use std::marker::Model;
 use std::{fmt, io};
@@ -70,18 +71,8 @@ impl AsNumber {
         ensures { result ≡ as_number_text self }
     {
         let mut text = ShortText::new();
-        self.push_to(&mut text);
+        push_text(self.number, &mut text);
         text
-    }
-
-    /// Appends the printed text, at most 12 bytes.
-    pub(crate) fn push_to(self, text: &mut ShortText)
-        requires { length text.old + 12 ≤ 40 }
-        ensures value { text.new ≡ text.old ++ as_number_text self }
-        ensures short { length text.new ≤ length text.old + 12 }
-    {
-        text.push_str("AS");
-        text.push_number(self.number);
     }
 
     /// Writes the printed text. After a fault the writer has taken a front of it.
@@ -91,6 +82,30 @@ impl AsNumber {
     {
         write_all(writer, self.text().as_bytes())
     }
+}
+
+impl End for AsNumber {
+    ghost end_of = { as_number_of };
+
+    ghost end_text = { as_number_text };
+
+    fn read_end(text: &[u8]) -> Option<u32> {
+        Some(AsNumber::read(text)?.number())
+    }
+
+    fn push_end(number: u32, text: &mut ShortText) {
+        push_text(number, text);
+    }
+}
+
+/// Appends the printed text of the number, at most 12 bytes.
+fn push_text(number: u32, text: &mut ShortText)
+    requires { length text.old + 12 ≤ 40 }
+    ensures value { text.new ≡ text.old ++ as_number_text number }
+    ensures short { length text.new ≤ length text.old + 12 }
+{
+    text.push_str("AS");
+    text.push_number(number);
 }
 
 impl fmt::Display for AsNumber {
@@ -115,7 +130,7 @@ fn number_at(bytes: &[u8]) -> Option<u32>
         return None;
     }
     let (word, digits) = bytes.split_at(2);
-    if !spells(word, b"AS") {
+    if !is_keyword(word, b"AS") {
         return None;
     }
     number_in(digits)

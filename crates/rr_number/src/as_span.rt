@@ -2,10 +2,11 @@
 
 ghost use Rattle.std.specs.Prelude.{◌≡◌, ◌≤◌, IfSome, Some};
 ghost use Rattle.rr_io.specs.Sending.{Writes};
-ghost use Rattle.rr_number.specs.AsSpans.{IsAsSpan, IsAsSpanText, as_pair_of, as_span_of, as_span_text};
+ghost use Rattle.rr_number.specs.AsSpans.{IsAsSpan, IsAsSpanText, as_span_of, as_span_text};
 ghost use Rattle.rr_number.specs.Spans.{Ends};
 
 use crate::dash::cut_at_dash;
+use crate::ends::{ends_text, read_between};
 use crate::short_text::ShortText;
 use crate::{AsNumber, Span};
 use rr_io::{Sink, write_all};
@@ -79,11 +80,7 @@ impl AsSpan {
     pub fn text(self) -> ShortText
         ensures { result ≡ as_span_text self }
     {
-        let mut text = ShortText::new();
-        self.first().push_to(&mut text);
-        text.push_str(" - ");
-        self.last().push_to(&mut text);
-        text
+        ends_text::<AsNumber>(self.span)
     }
 
     /// Writes the printed text. After a fault the writer has taken a front of it.
@@ -95,28 +92,13 @@ impl AsSpan {
     }
 }
 
-#[tactic(auto, unfolding(crate::specs::AsSpans::as_span_of))]
+#[tactic(auto, unfolding(crate::specs::AsSpans::as_span_of), using(crate::proofs::AsSpanLemmas::ends_are_numbers))]
 fn read_block(text: &[u8]) -> Option<AsSpan>
     ensures { result ≡ as_span_of text.now }
 {
-    match cut_at_dash(text) {
-        Some((first, last)) => join(first, last),
-        None => None,
-    }
-}
-
-/// The block between the AS numbers of two texts, if they are.
-#[tactic(auto, unfolding(crate::specs::AsSpans::as_pair_of))]
-fn join(first: &[u8], last: &[u8]) -> Option<AsSpan>
-    ensures { result ≡ as_pair_of first.now last.now }
-{
-    let first = AsNumber::read(first)?;
-    let last = AsNumber::read(last)?;
-    if first <= last {
-        Some(AsSpan::new(first, last))
-    } else {
-        None
-    }
+    let (first, last) = cut_at_dash(text)?;
+    let span = read_between::<AsNumber>(first, last)?;
+    Some(AsSpan { span })
 }
 
 impl fmt::Display for AsSpan {

@@ -3,13 +3,15 @@
 #![tactic(auto)]
 
 mod address;
+mod any_set;
 mod as_number;
 mod as_span;
 mod dash;
 mod digits;
+mod ends;
 pub mod laws;
-mod letter_case;
 mod name;
+mod name_text;
 mod operator;
 mod prefix;
 mod range;
@@ -19,6 +21,7 @@ mod short_text;
 pub mod span;
 
 pub use address::Address;
+pub use any_set::{AS_ANY, RS_ANY};
 pub use as_number::AsNumber;
 pub use as_span::AsSpan;
 pub use name::Name;

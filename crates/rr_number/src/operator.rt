@@ -3,15 +3,15 @@ ghost use Rattle.std.specs.Prelude.{◌≡◌, ◌+◌, ◌<◌, ◌≤◌, ◌�
 ghost use Rattle.rr_io.specs.Sending.{Writes};
 ghost use Rattle.rr_number.specs.Applied.{applied};
 ghost use Rattle.rr_number.specs.Bounds.{IsBounds};
-ghost use Rattle.rr_number.specs.Cuts.{cut_at};
+ghost use Rattle.rr_bytes.specs.Cuts.{cut_at};
 ghost use Rattle.rr_number.specs.Dashes.{dash};
 ghost use Rattle.rr_number.specs.Operators.{IsOperator, carried_of, lengths_cut_of, lengths_text, one_length_of, operator_of, operator_text, two_lengths_of};
 ghost use Rattle.rr_number.specs.declared.operator.Operator.{Operator};
 
-use crate::digits::cut;
 use crate::prefix::read_length;
 use crate::range::Range;
 use crate::short_text::ShortText;
+use rr_bytes::cut_at;
 use rr_io::{Sink, write_all};
 use std::marker::Model;
 use std::{fmt, io};
@@ -195,7 +195,7 @@ fn read_two_lengths(first: &[u8], second: &[u8]) -> Option<Operator>
 fn read_lengths(text: &[u8]) -> Option<Operator>
     ensures { result ≡ lengths_cut_of text.now (cut_at dash text.now) }
 {
-    match cut(text, b'-') {
+    match cut_at(text, b'-') {
         Some((first, second)) => read_two_lengths(first, second),
         None => read_one_length(text),
     }

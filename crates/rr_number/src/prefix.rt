@@ -5,9 +5,10 @@ ghost use Rattle.rr_number.specs.Prefixes.{PrefixParts, count_of, masked, masked
 ghost use Rattle.rr_number.specs.Spans.{covers};
 
 use crate::address::Address;
-use crate::digits::{cut, read_number};
+use crate::digits::read_number;
 use crate::short_text::ShortText;
 use crate::span::Span;
+use rr_bytes::cut_at;
 use rr_io::{Sink, write_all};
 use std::marker::Model;
 use std::{fmt, io};
@@ -161,6 +162,6 @@ fn join(address: &[u8], length: &[u8]) -> Option<Prefix>
 fn read_prefix(text: &[u8]) -> Option<Prefix>
     ensures { result ≡ prefix_of text.now }
 {
-    let (address, length) = cut(text, b'/')?;
+    let (address, length) = cut_at(text, b'/')?;
     join(address, length)
 }

@@ -1,18 +1,15 @@
 //! Ranges of prefixes.
-ghost use Rattle.std.specs.Prelude.{◌≡◌, ◌+◌, ◌≤◌, ◌==◌, ◌++◌, IfSome, if◌then◌else◌, length, nat_le, Some};
-ghost use Rattle.std.specs.List.{before_first};
+ghost use Rattle.std.specs.Prelude.{◌≡◌, ◌+◌, ◌≤◌, ◌++◌, IfSome, if◌then◌else◌, length, nat_le, Some};
 ghost use Rattle.rr_io.specs.Sending.{Writes};
-ghost use Rattle.rr_number.specs.Applied.{IsRanged, operator_for, pair_of, range_text, ranged_of};
-ghost use Rattle.rr_number.specs.Cuts.{from_first};
-ghost use Rattle.rr_number.specs.Operators.{caret};
+ghost use Rattle.rr_number.specs.Applied.{IsRanged, operator_for, ranged_from, range_text, ranged_of};
 ghost use Rattle.rr_number.specs.Prefixes.{PrefixParts};
 ghost use Rattle.rr_number.specs.Ranges.{admits, bare, IsRange};
 ghost use Rattle.rr_number.specs.declared.operator.Operator.{Operator};
 
-use crate::digits::place_of;
 use crate::operator::{LengthBounds, Operator};
 use crate::prefix::Prefix;
 use crate::short_text::ShortText;
+use rr_bytes::cut_before;
 use rr_io::{Sink, write_all};
 use std::marker::Model;
 use std::{fmt, io};
@@ -151,20 +148,9 @@ pub fn read_ranged(text: &[u8]) -> Option<(Prefix, Operator)>
     read_both(text)
 }
 
-/// The text before the first caret, and from it on.
-fn split_at_caret(text: &[u8]) -> (&[u8], &[u8])
-    ensures front { result.0.now ≡ before_first (λ b. b == caret) text.now }
-    ensures back { result.1.now ≡ from_first caret text.now }
-{
-    match place_of(text, b'^') {
-        Some(place) => text.split_at(place),
-        None => text.split_at(text.len()),
-    }
-}
-
-#[tactic(auto, unfolding(crate::specs::Applied::pair_of))]
+#[tactic(auto, unfolding(crate::specs::Applied::ranged_from))]
 fn read_pair(front: &[u8], back: &[u8]) -> Option<(Prefix, Operator)>
-    ensures { result ≡ pair_of front.now back.now }
+    ensures { result ≡ ranged_from front.now back.now }
 {
     let prefix = Prefix::read(front)?;
     let operator = Operator::read(back)?;
@@ -175,6 +161,6 @@ fn read_pair(front: &[u8], back: &[u8]) -> Option<(Prefix, Operator)>
 fn read_both(text: &[u8]) -> Option<(Prefix, Operator)>
     ensures { result ≡ ranged_of text.now }
 {
-    let (front, back) = split_at_caret(text);
+    let (front, back) = cut_before(text, b'^');
     read_pair(front, back)
 }

@@ -1,5 +1,8 @@
 //! The kinds of sets.
 
+ghost use Rattle.std.specs.Prelude.{◌≡◌};
+ghost use Rattle.rr_number.specs.SetNames.{word_start};
+
 /// A kind of sets that have names (RFC 2622, 5).
 #[derive(Clone, Copy, Debug, PartialEq, Eq)]
 pub enum SetKind {
@@ -7,4 +10,16 @@ pub enum SetKind {
     AsSet,
     /// A set of routes; its name has a component that begins with `RS-`.
     RouteSet,
+}
+
+impl SetKind {
+    /// What the words of sets of the kind begin with, in upper case (RFC 2622, 2).
+    pub fn word_start(self) -> &'static [u8]
+        ensures { result.now ≡ word_start self }
+    {
+        match self {
+            SetKind::AsSet => b"AS-",
+            SetKind::RouteSet => b"RS-",
+        }
+    }
 }

@@ -1,27 +1,24 @@
 //! The names of as-sets and route-sets.
 
 ghost use Rattle.std.specs.Prelude.{◌≡◌, ◌++◌, nat_eq, IfOk, Some};
-ghost use Rattle.std.proofs.Common.{rules};
-ghost use Rattle.std.specs.Cmp.{partial_order_from_own_ties};
-ghost use Rattle.std.specs.Cmp.Lexicographic.{pointwise, slice_cmp};
-ghost use Rattle.std.specs.Cmp.Rules.{comparing};
-ghost use Rattle.std.specs.Ordering.{as_partial_cmp, nat_cmp};
+ghost use Rattle.std.specs.Str.{bytes_eq};
 ghost use Rattle.std.specs.List.{list_all, list_any, starts_with};
 ghost use Rattle.rr_io.specs.Sending.{Writes};
-ghost use Rattle.rr_number.specs.Names.{upper};
+ghost use Rattle.rr_bytes.specs.LetterCase.{upper};
+ghost use Rattle.rr_number.specs.AnySets.{as_any, rs_any};
 ghost use Rattle.rr_number.specs.SetNameLaws.{ComponentsArePrinted, FrontsLackTheLast, KindsAreTold, SetNamesAreReadAgain, SetNamesIgnoreCase};
-ghost use Rattle.rr_number.specs.SetNames.{has_prefix, kind_of, IsSetText, component_text, components, is_any_set, is_component, is_name_of_kind, is_set_name, is_set_word, prefix_of, set_name_of, set_text};
+ghost use Rattle.rr_number.specs.SetNames.{has_word_start, kind_of, IsSetText, component_text, components, is_any_set, is_as_number, is_component, is_name_of_kind, is_set_name, is_set_word, word_start, set_name_of, set_text};
 
 mod parent;
 
-use crate::digits::cut;
-use crate::letter_case::spells;
-use crate::name::{is_name, is_reserved_in_any_case, to_upper};
+use crate::any_set::{AS_ANY, RS_ANY};
+use crate::name::is_reserved_in_any_case;
+use crate::name_text::NameText;
 use crate::{AsNumber, SetKind};
 pub use parent::Parent;
-use rr_io::{Sink, write_all};
+use rr_bytes::{cut_at, is_keyword, is_name, to_upper};
+use rr_io::Sink;
 use std::alloc::{AllocError, Global};
-use std::cmp::Ordering;
 use std::marker::Model;
 use std::{fmt, io};
 
@@ -30,21 +27,23 @@ const MOST_BYTES: usize = 255;
 
 /// The name of an as-set or a route-set, as it is printed: components joined by `:`, in upper
 /// case, each an AS number or a name that begins with `AS-` (all of them) or `RS-` (all of them),
-/// at least one of them such a name (RFC 2622, 5).
-#[derive(Debug, Drop)]
+/// at least one of them such a name (RFC 2622, 5). Names of sets are ordered by their bytes (profile).
+#[derive(Debug, PartialEq, Eq, PartialOrd, Ord, Drop)]
 pub struct SetName {
-    bytes: Vec<u8>,
+    text: NameText,
 }
 
 impl Model for SetName {
     ghost use Rattle.std.specs.Prelude.{List, ℕ};
-    ghost use Rattle.rr_number.specs.SetNames.{has_prefix, kind_of, IsSetText};
+    ghost use Rattle.rr_number.specs.SetNames.{IsSetText};
 
     ghost Value = { List ℕ };
 
-    ghost view = { λ a. a.bytes.items };
+    ghost view = { λ a. a.text };
 
-    ghost invariant = { λ a. IsSetText a.bytes.items };
+    ghost invariant = { λ a. IsSetText a.text };
+
+    ghost inverse = { λ n. record { text = n } };
 }
 
 impl SetName {
@@ -57,7 +56,8 @@ impl SetName {
             return Ok(None);
         }
         let bytes = printed(alloc, bytes)?;
-        Ok(Some(SetName { bytes }))
+        let text = NameText::from_vec(bytes);
+        Ok(Some(SetName { text }))
     }
 
     /// The name's bytes, as it is printed.
@@ -65,14 +65,14 @@ impl SetName {
         ensures value { result.now ≡ self.now }
         ensures name { IsSetText self.now }
     {
-        &self.bytes
+        self.text.as_bytes()
     }
 
     /// The kind of the set.
     pub fn kind(&self) -> SetKind
         ensures { result ≡ kind_of self.now }
     {
-        if has_prefix(SetKind::AsSet, &self.bytes) {
+        if has_word_start(SetKind::AsSet, self.as_bytes()) {
             SetKind::AsSet
         } else {
             SetKind::RouteSet
@@ -83,7 +83,21 @@ impl SetName {
     pub fn is_any(&self) -> bool
         ensures { result ≡ is_any_set self.now }
     {
-        is_any_set(&self.bytes)
+        is_any_set(self.as_bytes())
+    }
+
+    /// Whether the name is `AS-ANY`.
+    pub fn is_as_any(&self) -> bool
+        ensures { result ≡ bytes_eq self.now as_any }
+    {
+        self.as_bytes() == AS_ANY
+    }
+
+    /// Whether the name is `RS-ANY`.
+    pub fn is_rs_any(&self) -> bool
+        ensures { result ≡ bytes_eq self.now rs_any }
+    {
+        self.as_bytes() == RS_ANY
     }
 
     /// Writes the name. After a fault the writer has taken a front of it.
@@ -91,15 +105,15 @@ impl SetName {
         ensures writes { Writes (W.told writer.old) (W.told writer.new) self.now result }
         ensures aside { W.aside writer.new ≡ W.aside writer.old }
     {
-        write_all(writer, &self.bytes)
+        self.text.print_to(writer)
     }
 
     /// An equal name.
     pub fn copy(&self, alloc: Global) -> Result<Self, AllocError>
         ensures { IfOk result (λ name. name ≡ self.now) }
     {
-        let bytes = Vec::from_slice(alloc, &self.bytes)?;
-        Ok(SetName { bytes })
+        let text = self.text.copy(alloc)?;
+        Ok(SetName { text })
     }
 }
 
@@ -107,73 +121,17 @@ impl fmt::Display for SetName {
     ghost output = { λ name. Some name };
 
     fn fmt<W: fmt::Write>(&self, f: &mut fmt::Formatter<W>) -> fmt::Result {
-        let text = str::from_utf8(&self.bytes).map_err(|_| fmt::Error)?;
-        f.pad(text)
-    }
-}
-
-impl PartialEq for SetName {
-    ghost eq = { pointwise nat_eq };
-
-    ghost laws = { Prim.search (comparing, rules) };
-
-    fn eq(&self, other: &SetName) -> bool {
-        self.bytes == other.bytes
-    }
-}
-
-impl Eq for SetName {
-    ghost laws = { Prim.search (comparing, rules) };
-}
-
-impl PartialOrd for SetName {
-    ghost partial_cmp = { as_partial_cmp (slice_cmp nat_cmp) };
-
-    ghost laws = { partial_order_from_own_ties (Prim.search (comparing, rules)) (Prim.search (comparing, rules)) };
-
-    fn partial_cmp(&self, other: &SetName) -> Option<Ordering> {
-        Some(self.cmp(other))
-    }
-}
-
-/// Names of sets are ordered by their bytes (profile).
-impl Ord for SetName {
-    ghost cmp = { slice_cmp nat_cmp };
-
-    ghost total = { Prim.search (comparing, rules) };
-
-    ghost matches_partial_cmp = { Prim.search (comparing, rules) };
-
-    ghost matches_eq = { Prim.search (comparing, rules) };
-
-    fn cmp(&self, other: &SetName) -> Ordering {
-        self.bytes.cmp(&other.bytes)
+        self.text.fmt(f)
     }
 }
 
 /// Whether a component of a printed name begins as the names of the kind do.
-fn has_prefix(kind: SetKind, bytes: &[u8]) -> bool
-    ensures { result ≡ has_prefix kind bytes.now }
+fn has_word_start(kind: SetKind, bytes: &[u8]) -> bool
+    ensures { result ≡ has_word_start kind bytes.now }
 {
     bytes
         .split(|b| *b == b':')
-        .any(|component| begins_with_prefix(kind, component))
-}
-
-fn begins_with_prefix(kind: SetKind, component: &[u8]) -> bool
-    ensures { result ≡ starts_with nat_eq component.now (prefix_of kind) }
-{
-    component.starts_with(prefix_of(kind))
-}
-
-/// What the names of sets of a kind begin with (RFC 2622, 2).
-fn prefix_of(kind: SetKind) -> &'static [u8]
-    ensures { result.now ≡ prefix_of kind }
-{
-    match kind {
-        SetKind::AsSet => b"AS-",
-        SetKind::RouteSet => b"RS-",
-    }
+        .any(|component| component.starts_with(kind.word_start()))
 }
 
 #[tactic(auto, unfolding(crate::specs::SetNames::is_set_name))]
@@ -189,7 +147,7 @@ fn is_set_name(bytes: &[u8]) -> bool
 fn is_any_set(bytes: &[u8]) -> bool
     ensures { result ≡ is_any_set bytes.now }
 {
-    spells(bytes, b"AS-ANY") || spells(bytes, b"RS-ANY")
+    is_keyword(bytes, AS_ANY) || is_keyword(bytes, RS_ANY)
 }
 
 fn is_name_of_kind(kind: SetKind, bytes: &[u8]) -> bool
@@ -217,7 +175,13 @@ fn has_set_word(kind: SetKind, bytes: &[u8]) -> bool
 fn is_component(kind: SetKind, component: &[u8]) -> bool
     ensures { result ≡ is_component kind component.now }
 {
-    AsNumber::read(component).is_some() || is_set_word(kind, component)
+    is_as_number(component) || is_set_word(kind, component)
+}
+
+fn is_as_number(component: &[u8]) -> bool
+    ensures { result ≡ is_as_number component.now }
+{
+    AsNumber::read(component).is_some()
 }
 
 fn is_set_word(kind: SetKind, component: &[u8]) -> bool
@@ -228,15 +192,15 @@ fn is_set_word(kind: SetKind, component: &[u8]) -> bool
 
 /// Whether the component begins as the names of the kind do, in any letter case.
 fn begins_as(kind: SetKind, component: &[u8]) -> bool
-    ensures { result ≡ starts_with nat_eq (upper component.now) (prefix_of kind) }
+    ensures { result ≡ starts_with nat_eq (upper component.now) (word_start kind) }
 {
     if component.len() < 3 {
         return false;
     }
     let (front, _) = component.split_at(3);
     match kind {
-        SetKind::AsSet => spells(front, b"AS-"),
-        SetKind::RouteSet => spells(front, b"RS-"),
+        SetKind::AsSet => is_keyword(front, b"AS-"),
+        SetKind::RouteSet => is_keyword(front, b"RS-"),
     }
 }
 
@@ -246,7 +210,7 @@ fn printed(alloc: Global, bytes: &[u8]) -> Result<Vec<u8>, AllocError>
 {
     let mut text = Vec::with_capacity(alloc, bytes.len())?;
     let mut rest = bytes;
-    'components: while let Some((component, after)) = cut(rest, b':') {
+    'components: while let Some((component, after)) = cut_at(rest, b':') {
         push_component(alloc, &mut text, component)?;
         text.push(b':')?;
         rest = after;

@@ -2,13 +2,14 @@
 
 ghost use Rattle.std.specs.Prelude.{◌≡◌, ◌≤◌, IfSome, Some};
 ghost use Rattle.rr_io.specs.Sending.{Writes};
-ghost use Rattle.rr_number.specs.SpanTexts.{IsSpanText, pair_of, span_of, span_text};
+ghost use Rattle.rr_number.specs.SpanTexts.{IsSpanText, spelled_span, span_text};
 ghost use Rattle.rr_number.specs.Spans.{Ends, IsSpan, covers, crosses, meets, size};
 
 pub mod laws;
 
 use crate::address::Address;
 use crate::dash::cut_at_dash;
+use crate::ends::{ends_text, read_between};
 use crate::prefix::Prefix;
 use crate::short_text::ShortText;
 use rr_io::{Sink, write_all};
@@ -99,7 +100,7 @@ impl Span {
     pub fn read(text: &[u8]) -> Option<Span>
         ensures found { IfSome result (λ span. IsSpanText text.now span) }
         ensures only { (span : Ends) → IsSpanText text.now span → result ≡ Some span }
-        ensures exact { result ≡ span_of text.now }
+        ensures exact { result ≡ spelled_span text.now }
     {
         read_span(text)
     }
@@ -109,11 +110,7 @@ impl Span {
     pub fn text(self) -> ShortText
         ensures { result ≡ span_text self }
     {
-        let mut text = ShortText::new();
-        Address::from_bits(self.first).push_to(&mut text);
-        text.push_str(" - ");
-        Address::from_bits(self.last).push_to(&mut text);
-        text
+        ends_text::<Address>(self)
     }
 
     /// Writes the text of the span of addresses. After a fault the writer has taken a front of it.
@@ -139,26 +136,12 @@ pub fn printed_spans_are_read()
 {}
 
 #[inline]
-#[tactic(auto, unfolding(crate::specs::SpanTexts::pair_of))]
-fn join(first: &[u8], last: &[u8]) -> Option<Span>
-    ensures { result ≡ pair_of first.now last.now }
-{
-    let first = Address::read(first)?.to_bits();
-    let last = Address::read(last)?.to_bits();
-    if first <= last {
-        Some(Span { first, last })
-    } else {
-        None
-    }
-}
-
-#[inline]
-#[tactic(auto, unfolding(crate::specs::SpanTexts::span_of))]
+#[tactic(auto, unfolding(crate::specs::SpanTexts::spelled_span))]
 fn read_span(text: &[u8]) -> Option<Span>
-    ensures { result ≡ span_of text.now }
+    ensures { result ≡ spelled_span text.now }
 {
     match cut_at_dash(text) {
-        Some((first, last)) => join(first, last),
+        Some((first, last)) => read_between::<Address>(first, last),
         None => Some(Prefix::read(text)?.span()),
     }
 }

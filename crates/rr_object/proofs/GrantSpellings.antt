@@ -9,16 +9,19 @@ use Rattle.std.proofs.lemmas.Bool.Decides.{nat_tests}
 use Rattle.std.proofs.lemmas.Iterator.Adapters.{option_map_id}
 use Rattle.std.specs.Char.{to_ascii_lowercase, to_ascii_uppercase}
 use Rattle.std.specs.Option.{option_map, option_and_then, option_to_list}
-use Rattle.rr_number.specs.Applied.{pair_of, ranged_of}
-use Rattle.rr_number.specs.Cuts.{cut_at}
-use Rattle.rr_number.specs.Names.{is_maintainer_name, is_name, is_reserved, maintainer_name_of, name_of, upper}
+use Rattle.rr_number.specs.Applied.{ranged_from, ranged_of}
+use Rattle.rr_bytes.specs.Cuts.{cut_at}
+use Rattle.rr_bytes.specs.LetterCase.{upper}
+use Rattle.rr_bytes.specs.NameBytes.{is_name}
+use Rattle.rr_number.specs.Names.{is_maintainer_name, is_reserved, maintainer_name_of, name_of}
 use Rattle.rr_number.specs.Prefixes.{prefix_of}
 use Rattle.rr_number.specs.Ranges.{RangeParts}
 use Rattle.rr_object.specs.declared.grants.Begun.{Begun}
 use Rattle.rr_object.specs.declared.grants.Begun.TheVariants.{Nothing, Named, Braced}
 use Rattle.rr_object.specs.Grants.{entries_behind, for_each_prefix, for_no_prefix, is_any, is_closing, is_opening, last_entry, next_entry, range_item, with_range}
 use Rattle.rr_object.specs.GrantTexts.{AreEntries, IsEntry, ReadGrantsAreSpelled, SpelledGrantsAreRead}
-use Rattle.rr_object.specs.Items.{are_good, is_keyword, lowered, meant, meant_by}
+use Rattle.rr_bytes.specs.LetterCase.{is_keyword, lowered}
+use Rattle.rr_object.specs.Items.{are_good, meant, meant_by}
 use Rattle.rr_object.specs.Parts.{GrantParts}
 
 -- items that spell a name, an opening brace and ranges
@@ -301,7 +304,7 @@ opening_no_name item name true at named =
     absurd (cc (none, named))
 
 brace_no_range : range_item (codes "}") ≡ None
-unfolding range_item ranged_of prefix_of pair_of cut_at
+unfolding range_item ranged_of prefix_of ranged_from cut_at
 brace_no_range = refl
 
 closing_no_range : (item : List ℕ) (range : Option RangeParts) (b : Bool) → is_closing item ≡ b → range_item item ≡ Some range → b ≡ false

@@ -1,5 +1,4 @@
 pub mod ClassMembers
-pub mod Cutting
 pub mod DerivedOrder
 pub mod Digits
 pub mod Faulted

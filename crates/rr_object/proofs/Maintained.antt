@@ -8,7 +8,8 @@ use Rattle.rr_object.specs.declared.fault.ObjectFault.{ObjectFault}
 use Rattle.rr_object.specs.declared.class.Class.{Class}
 use Rattle.rr_object.specs.declared.key.Key.{Key}
 use Rattle.rr_object.specs.declared.kind.Kind.TheVariants.{MntBy}
-use Rattle.rr_object.specs.Items.{are_good, is_filled, meant}
+use Rattle.rr_bytes.specs.Parts.{is_filled}
+use Rattle.rr_object.specs.Items.{are_good, meant}
 use Rattle.rr_object.specs.Keys.{class_of}
 use Rattle.rr_object.specs.KeySpellings.{key_of}
 use Rattle.rr_object.specs.Kinds.{occurs}

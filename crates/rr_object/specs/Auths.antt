@@ -6,7 +6,8 @@ use Rattle.std.specs.Option.{option_map, option_and_then}
 use Rattle.std.specs.Result.{result_ok}
 use Rattle.hex.specs.Hex.{decode_sized}
 use Rattle.rr_text.specs.Bytes.{is_colon}
-use Rattle.rr_object.specs.Items.{is_keyword, only, words}
+use Rattle.rr_bytes.specs.LetterCase.{is_keyword}
+use Rattle.rr_object.specs.Items.{only, words}
 use Rattle.rr_object.specs.Parts.{AuthParts}
 
 -- a salt is 0 to 16 letters or digits (profile)

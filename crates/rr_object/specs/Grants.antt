@@ -8,7 +8,7 @@ use Rattle.rr_number.specs.Applied.{ranged_of}
 use Rattle.rr_number.specs.Applied.{applied}
 use Rattle.rr_object.specs.declared.grants.Begun.{Begun}
 use Rattle.rr_object.specs.declared.grants.Begun.TheVariants.{Nothing, Named, Braced}
-use Rattle.rr_object.specs.Items.{is_keyword}
+use Rattle.rr_bytes.specs.LetterCase.{is_keyword}
 use Rattle.rr_object.specs.Parts.{GrantParts}
 
 -- the keyword `ANY`, in any letter case (RFC 2622, 2)

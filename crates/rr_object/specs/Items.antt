@@ -1,9 +1,8 @@
 -- The values of a paragraph's attributes, and the items of lists.
-use Rattle.std.specs.Prelude.{ℕ, Bool, not, ◌==◌, ◌||◌, length, List, [], ◌∷◌, ◌++◌, Option, Some, None, is_some, filter, map, if◌then◌else◌}
-use Rattle.std.specs.List.{flat_map, filter_map, list_all, slice_split}
-use Rattle.std.specs.Char.{to_ascii_lowercase}
-use Rattle.std.specs.Str.{bytes_eq}
-use Rattle.rr_number.specs.Dashes.{is_blank}
+use Rattle.std.specs.Prelude.{ℕ, Bool, ◌==◌, ◌||◌, List, [], ◌∷◌, ◌++◌, Option, Some, None, is_some, filter, map, if◌then◌else◌}
+use Rattle.std.specs.List.{flat_map, filter_map, list_all}
+use Rattle.rr_bytes.specs.Blanks.{is_blank, is_blank_or_comma}
+use Rattle.rr_bytes.specs.Parts.{parts_at}
 use Rattle.rr_text.specs.Fields.{Field, is_named}
 use Rattle.rr_text.specs.Meanings.{value_meaning}
 
@@ -17,22 +16,9 @@ only [] = None
 only (value ∷ []) = Some value
 only (value ∷ (other ∷ others)) = None
 
--- list items are separated by commas or blanks, which are spaces, tabs and CRs: an LF ends a line and stands in no
--- value (RFC 2622, 2; blanks: profile)
-abbrev pub is_separator : ℕ → Bool
-is_separator b = (b == 44) || is_blank b
-
--- a list that has something in it (profile)
-abbrev pub is_filled : {X : Type 0} → List X → Bool
-is_filled xs = not (length xs == 0)
-
--- the parts of a text between bytes that pass a test; empty parts are ignored (profile)
-abbrev pub parts_at : (ℕ → Bool) → List ℕ → List (List ℕ)
-parts_at test text = filter is_filled (slice_split test text)
-
 -- the items of a list; empty ones are ignored (RFC 2622, 2; profile)
 unfoldable pub items : List ℕ → List (List ℕ)
-items text = parts_at is_separator text
+items text = parts_at is_blank_or_comma text
 
 -- the words of a text, which blanks separate (profile)
 unfoldable pub words : List ℕ → List (List ℕ)
@@ -62,11 +48,3 @@ meant_by (Some meant) = meant
 -- what the items stand for (profile)
 abbrev pub meant : {X : Type 0} → (List ℕ → Option (Option X)) → List (List ℕ) → List X
 meant read listed = filter_map (λ item. meant_by (read item)) listed
-
--- a text with its letters in lower case (RFC 2622, 2)
-abbrev pub lowered : List ℕ → List ℕ
-lowered text = map to_ascii_lowercase text
-
--- an item is a keyword, which is given in lower case; letter case is ignored (RFC 2622, 2)
-unfoldable pub is_keyword : List ℕ → List ℕ → Bool
-is_keyword word item = bytes_eq (lowered item) word

@@ -8,7 +8,7 @@ use Rattle.rr_number.specs.AsNumbers.{as_number_of}
 use Rattle.rr_number.specs.Prefixes.{prefix_of}
 use Rattle.rr_number.specs.SetNames.{set_name_of, kind_of, is_any_set}
 use Rattle.rr_number.specs.AsSpans.{as_span_of}
-use Rattle.rr_number.specs.SpanTexts.{span_of}
+use Rattle.rr_number.specs.SpanTexts.{spelled_span}
 use Rattle.rr_object.specs.declared.class.Class.{Class}
 use Rattle.rr_object.specs.declared.class.Class.TheVariants as class
 use Rattle.rr_object.specs.declared.key.Key.{Key}
@@ -48,7 +48,7 @@ unfoldable pub key_of_text : Class → List ℕ → Option Key
 key_of_text class.Mntner text = option_map Mntner (maintainer_name_of text)
 key_of_text class.AsBlock text = option_map AsBlock (as_span_of text)
 key_of_text class.AutNum text = option_map AutNum (as_number_of text)
-key_of_text class.Inetnum text = option_map Inetnum (span_of text)
+key_of_text class.Inetnum text = option_map Inetnum (spelled_span text)
 key_of_text class.Route text = route_key_of_words (words text)
 key_of_text class.AsSet text = option_map AsSet (as_set_key_of text)
 key_of_text class.RouteSet text = option_map RouteSet (route_set_key_of text)

@@ -1,7 +1,6 @@
 pub mod Auths
 pub mod Classes
 pub mod Codes
-pub mod Cuts
 pub mod Faults
 pub mod FirstFaults
 pub mod GrantTexts

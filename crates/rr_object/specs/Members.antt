@@ -5,7 +5,7 @@ use Rattle.std.specs.Option.{option_map, option_and_then}
 use Rattle.rr_number.specs.declared.operator.Operator.TheVariants.{Plain}
 use Rattle.rr_number.specs.Names.{maintainer_name_of}
 use Rattle.rr_number.specs.AsNumbers.{as_number_of}
-use Rattle.rr_number.specs.Cuts.{from_first}
+use Rattle.rr_bytes.specs.Cuts.{from_first}
 use Rattle.rr_number.specs.Operators.{caret, operator_of}
 use Rattle.rr_number.specs.SetNames.{set_name_of, kind_of}
 use Rattle.rr_number.specs.declared.set_kind.SetKind.{SetKind}

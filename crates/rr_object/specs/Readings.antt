@@ -18,7 +18,8 @@ use Rattle.rr_object.specs.declared.kind.Occurs.TheVariants.{Once, WithItems, Fr
 use Rattle.rr_object.specs.Auths.{auth_item}
 use Rattle.rr_object.specs.Classes.{class_name}
 use Rattle.rr_object.specs.Grants.{grants_of, is_any}
-use Rattle.rr_object.specs.Items.{only, values_of, items, joined, spaced, is_filled, are_good, meant}
+use Rattle.rr_bytes.specs.Parts.{is_filled}
+use Rattle.rr_object.specs.Items.{only, values_of, items, joined, spaced, are_good, meant}
 use Rattle.rr_object.specs.Keys.{class_of}
 use Rattle.rr_object.specs.KeySpellings.{key_of}
 use Rattle.rr_object.specs.Kinds.{kind_name, is_read, occurs}

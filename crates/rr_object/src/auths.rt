@@ -7,10 +7,9 @@ ghost use Rattle.rr_object.specs.Auths.{auth_item, auth_of_words, is_salt, is_sh
 ghost use Rattle.rr_object.specs.declared.fault.ObjectFault.TheVariants.{BadValue, Memory};
 
 use crate::auth::{Auth, DIGEST_BYTES};
-use crate::cut::cut_around;
 use crate::fault::ObjectFault;
-use crate::keyword::is_keyword;
 use crate::lists::words;
+use rr_bytes::{cut_around, is_keyword};
 use std::alloc::Global;
 
 /// The most bytes of a salt (profile).

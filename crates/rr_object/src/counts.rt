@@ -1,7 +1,7 @@
 //! How often attributes stand in an object.
 
 ghost use Rattle.std.specs.Prelude.{◌≡◌, IfOk, map};
-ghost use Rattle.rr_object.specs.Items.{is_filled};
+ghost use Rattle.rr_bytes.specs.Parts.{is_filled};
 ghost use Rattle.rr_object.specs.Readings.{breaks, is_miscounted, is_miscounted_in, items_among, items_of, list_text};
 ghost use Rattle.rr_object.specs.declared.kind.Occurs.TheVariants.{Once};
 

@@ -9,7 +9,7 @@ ghost use Rattle.rr_object.specs.declared.grants.Begun.TheVariants.{Braced, Name
 
 use crate::fault::ObjectFault;
 use crate::grant::Grant;
-use crate::keyword::is_keyword;
+use rr_bytes::is_keyword;
 use rr_number::{Name, Range, read_ranged};
 use std::alloc::{AllocError, Global};
 

@@ -1,13 +1,11 @@
 //! The values of a paragraph's attributes, and the items of lists.
 
-ghost use Rattle.std.specs.Prelude.{◌≡◌, ◌<◌, [], ◌∷◌, IfOk, IfNone, IfSome, count_by, length, map, position};
-ghost use Rattle.std.specs.List.{slice_split};
+ghost use Rattle.std.specs.Prelude.{◌≡◌, IfOk, count_by, map};
 ghost use Rattle.rr_text.specs.Fields.{is_named};
-ghost use Rattle.rr_number.specs.Dashes.{is_blank};
-ghost use Rattle.rr_object.specs.Items.{items, joined, parts_at, spaced, values_of, words};
-ghost use Rattle.rr_object.specs.Cuts.{separates};
+ghost use Rattle.rr_object.specs.Items.{items, joined, spaced, values_of, words};
 ghost use Rattle.rr_object.specs.Readings.{count_of};
 
+use rr_bytes::{ByteSet, parts_between};
 use rr_text::{Attribute, Paragraph, Text, meaning};
 use std::alloc::{AllocError, Global};
 
@@ -86,7 +84,7 @@ pub(crate) fn spaced(alloc: Global, text: &[u8]) -> Result<Vec<u8>, AllocError>
 pub(crate) fn items(alloc: Global, text: &[u8]) -> Result<Vec<&[u8]>, AllocError>
     ensures { IfOk result (λ listed. map (λ item. item.now) listed.items ≡ items text.now) }
 {
-    parts(alloc, text, Separators::Items)
+    parts_between(alloc, text, ByteSet::BlanksAndCommas)
 }
 
 /// The words of a text, which are separated by blanks.
@@ -94,73 +92,5 @@ pub(crate) fn items(alloc: Global, text: &[u8]) -> Result<Vec<&[u8]>, AllocError
 pub(crate) fn words(alloc: Global, text: &[u8]) -> Result<Vec<&[u8]>, AllocError>
     ensures { IfOk result (λ found. map (λ word. word.now) found.items ≡ words text.now) }
 {
-    parts(alloc, text, Separators::Words)
-}
-
-/// What separates the parts of a text.
-#[derive(Clone, Copy, Debug)]
-pub(crate) enum Separators {
-    /// Commas and blanks, between items.
-    Items,
-    /// Blanks, between words.
-    Words,
-}
-
-impl Separators {
-    fn separates(self, b: u8) -> bool
-        ensures { result ≡ separates self b }
-    {
-        match self {
-            Separators::Items => b == b',' || is_blank(b),
-            Separators::Words => is_blank(b),
-        }
-    }
-}
-
-/// The parts of a text, but for the empty ones.
-fn parts(alloc: Global, text: &[u8], kind: Separators) -> Result<Vec<&[u8]>, AllocError>
-    ensures { IfOk result (λ found. map (λ part. part.now) found.items ≡ parts_at (separates kind) text.now) }
-{
-    let mut found = Vec::new(alloc);
-    let mut rest = text;
-    'parts: while let Some((part, after)) = first_part(rest, kind) {
-        if !part.is_empty() {
-            found.push(part)?;
-        }
-        rest = after;
-    }
-    if !rest.is_empty() {
-        found.push(rest)?;
-    }
-    Ok(found)
-}
-
-/// The first part of a text and what stands behind the byte that ends it.
-#[tactic(auto, using(crate::proofs::Cutting::cut_none, crate::proofs::Cutting::cut_some))]
-fn first_part(text: &[u8], kind: Separators) -> Option<(&[u8], &[u8])>
-    ensures none { IfNone result (slice_split (separates kind) text.now ≡ text.now ∷ []) }
-    ensures some { IfSome result (λ cut. slice_split (separates kind) text.now ≡ cut.0.now ∷ slice_split (separates kind) cut.1.now) }
-    ensures shorter { IfSome result (λ cut. length cut.1.now < length text.now) }
-{
-    match first_separator(text, kind) {
-        None => None,
-        Some(end) => {
-            let (part, after) = text.split_at(end);
-            let (_, after) = after.split_at(1);
-            Some((part, after))
-        }
-    }
-}
-
-fn first_separator(text: &[u8], kind: Separators) -> Option<usize>
-    ensures { result ≡ position (separates kind) text.now }
-{
-    text.iter().position(|b| kind.separates(*b))
-}
-
-/// Whether a byte is a space, a tab or a CR.
-fn is_blank(b: u8) -> bool
-    ensures { result ≡ is_blank b }
-{
-    b == b' ' || b == b'\t' || b == b'\r'
+    parts_between(alloc, text, ByteSet::Blanks)
 }

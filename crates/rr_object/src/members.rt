@@ -8,11 +8,11 @@ ghost use Rattle.rr_object.specs.declared.fault.ObjectFault.TheVariants.{BadValu
 
 use crate::auth::Auth;
 use crate::auths::read_auth;
-use crate::cut::cut_before;
 use crate::fault::ObjectFault;
 use crate::grants::{is_any, read_maintainer, read_range};
 use crate::item::ReadItem;
 use crate::member::{Member, MemberSet};
+use rr_bytes::cut_before;
 use rr_number::{AsNumber, Name, Operator, SetKind, SetName};
 use std::alloc::Global;
 

@@ -17,11 +17,11 @@ use Rattle.rr_auth.proofs.KeyLaws.{keys_total}
 use Rattle.rr_auth.proofs.Crossing.{keys_cross_back, crosses_itself}
 use Rattle.rr_auth.proofs.Members.{IsIn, found_in, none_passes}
 use Rattle.rr_auth.proofs.Keeping.{after_insert}
-use Rattle.rr_registry.specs.Books.{book_of, is_in_order, put_in, IsBook}
+use Rattle.rr_book.specs.Books.{book_of, is_in_order, put_in, IsBook}
 use Rattle.rr_registry.specs.Loading.{gathered, clash, clash_of, load_fault, unnamed, IsApart, IsTakenIn, IsGathered}
 use Rattle.rr_registry.specs.declared.load.LoadFault.{LoadFault}
 use Rattle.rr_registry.specs.declared.load.LoadFault.TheVariants.{Duplicate, Overlap, Unnamed}
-use Rattle.rr_registry.proofs.Order.{book_put, by_name, empty_book, get_of_book, in_order_put, values_of_book}
+use Rattle.rr_book.proofs.Order.{book_put, by_name, empty_book, get_of_book, in_order_put, values_of_book}
 
 -- no objects are apart
 nothing : {A : Type 0} (x : A) → None ≡ Some x → ⊥

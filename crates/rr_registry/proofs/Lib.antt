@@ -1,10 +1,3 @@
-pub mod Crossing
+pub mod Fitting
 pub mod Gathering
-pub mod Names
-pub mod Order
-pub mod Origins
-pub mod Places
-pub mod KeysUnderSets
-pub mod ReferrerLists
 pub mod Running
-pub mod SetLists

@@ -1,34 +1,53 @@
--- Runs one after the other.
-use Rattle.std.proofs.Common.{List, [], ◌∷◌, ◌++◌, ap, refl, subst}
-use Rattle.rr_auth.specs.Registries.{Reg}
-use Rattle.rr_registry.specs.RunLaws.{IsSplit}
-use Rattle.rr_registry.specs.Runs.{Run, IsStep}
+-- Runs one after the other, and what they keep.
+use Rattle.std.proofs.Common.{List, [], ◌∷◌, ◌++◌, ℕ, ap, refl, sym, subst, inl, inr, Ok, Err}
+use Rattle.std.specs.Prelude.{Result}
+use Rattle.rr_object.specs.declared.code.Code.{Code}
+use Rattle.rr_auth.specs.declared.item.Item.{Item}
+use Rattle.rr_auth.specs.Registries.{Reg, Sound}
+use Rattle.rr_auth.proofs.Steps.{stays_sound}
+use Rattle.rr_registry.specs.RunLaws.{AreFormed, IsFormed, IsSplit}
+use Rattle.rr_registry.specs.Runs.{Decides, Run}
 use Rattle.rr_registry.specs.declared.outcome.Outcome.{Outcome}
 use Rattle.rr_registry.specs.declared.run.Submitted.{Submitted}
 
-pub run_append : (r s t : Reg) (items more : List Submitted) (outcomes others : List Outcome)
-    → Run r items outcomes s → Run s more others t → Run r (items ++ more) (outcomes ++ others) t
-run_append r s t [] more [] others a b = subst (λ q. Run q more others t) a b
-run_append r s t [] more (o ∷ os) others a b = absurd a
-run_append r s t (i ∷ is) more [] others a b = absurd a
-run_append r s t (i ∷ is) more (o ∷ os) others a b = (a.0, (a.1.0, run_append a.0 s t is more os others a.1.1 b))
+pub run_append : (r s t : Reg) (first later : List Submitted) (outcomes others : List Outcome)
+    → Run r first outcomes s → Run s later others t → Run r (first ++ later) (outcomes ++ others) t
+run_append r s t [] later [] others a b = subst (λ q. Run q later others t) a b
+run_append r s t [] later (o ∷ os) others a b = absurd a
+run_append r s t (i ∷ is) later [] others a b = absurd a
+run_append r s t (i ∷ is) later (o ∷ os) others a b = (a.0, a.1, run_append a.0 s t is later os others a.2 b)
 
-pub run_split : (r t : Reg) (items more : List Submitted) (outcomes : List Outcome)
-    → Run r (items ++ more) outcomes t → IsSplit r t items more outcomes
-run_split r t [] more outcomes run = record { between = r; first = []; others = outcomes; cut = refl; front = refl; back = run }
-run_split r t (i ∷ is) more [] run = absurd run
-run_split r t (i ∷ is) more (o ∷ os) run =
-    let rest = run_split run.0 t is more os run.1.1 in
+pub run_split : (r t : Reg) (first later : List Submitted) (outcomes : List Outcome)
+    → Run r (first ++ later) outcomes t → IsSplit r t first later outcomes
+run_split r t [] later outcomes run = record { between = r; fore = []; others = outcomes; cut = refl; front = refl; back = run }
+run_split r t (i ∷ is) later [] run = absurd run
+run_split r t (i ∷ is) later (o ∷ os) run =
+    let rest = run_split run.0 t is later os run.2 in
     record {
       between = rest.between;
-      first = o ∷ rest.first;
+      fore = o ∷ rest.fore;
       others = rest.others;
-      cut = ap (λ later. o ∷ later) rest.cut;
-      front = (run.0, (run.1.0, rest.front));
+      cut = ap (λ more. o ∷ more) rest.cut;
+      front = (run.0, run.1, rest.front);
       back = rest.back;
     }
 
--- one more item
-pub run_more : (r s t : Reg) (items : List Submitted) (item : Submitted) (outcomes : List Outcome) (outcome : Outcome)
-    → Run r items outcomes s → IsStep s item.secrets item.item outcome t → Run r (items ++ item ∷ []) (outcomes ++ outcome ∷ []) t
-run_more r s t items item outcomes outcome a b = run_append r s t items (item ∷ []) outcomes (outcome ∷ []) a (t, (b, refl))
+-- one more
+pub run_more : (r s t : Reg) (items : List Submitted) (submitted : Submitted) (outcomes : List Outcome) (outcome : Outcome)
+    → Run r items outcomes s → Decides s submitted.secrets submitted.action outcome t → Run r (items ++ submitted ∷ []) (outcomes ++ outcome ∷ []) t
+run_more r s t items submitted outcomes outcome a b = run_append r s t items (submitted ∷ []) outcomes (outcome ∷ []) a (t, b, refl)
+
+-- what is decided leaves a sound registry sound
+decided_sound : (r s : Reg) (secrets : List (List ℕ)) (action : Result Item Code) (outcome : Outcome)
+    → Sound r → IsFormed action → Decides r secrets action outcome s → Sound s
+decided_sound r s secrets (Ok item) outcome sound formed (inl done) = subst Sound (sym done.effect) (stays_sound r secrets item sound formed)
+decided_sound r s secrets (Ok item) outcome sound formed (inr want) = subst Sound (sym want.effect) sound
+decided_sound r s secrets (Err code) outcome sound formed d = subst Sound (sym d.1) sound
+
+pub run_stays_sound : (r s : Reg) (submitted : List Submitted) (outcomes : List Outcome)
+    → Sound r → AreFormed submitted → Run r submitted outcomes s → Sound s
+run_stays_sound r s [] [] sound formed run = subst Sound (sym run) sound
+run_stays_sound r s [] (o ∷ os) sound formed run = absurd run
+run_stays_sound r s (i ∷ is) [] sound formed run = absurd run
+run_stays_sound r s (i ∷ is) (o ∷ os) sound formed run =
+    run_stays_sound run.0 s is os (decided_sound r run.0 i.secrets i.action o sound formed.0 run.1) formed.1 run.2

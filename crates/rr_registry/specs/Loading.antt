@@ -7,7 +7,7 @@ use Rattle.rr_object.specs.KeyOrders.{IsKeyValue}
 use Rattle.rr_object.specs.Objects.{Obj, names_of}
 use Rattle.rr_auth.specs.Conditions.{crosses_some}
 use Rattle.rr_auth.specs.Registries.{Reg, keys_cross, names_nobody}
-use Rattle.rr_registry.specs.Books.{book_of, is_in_order}
+use Rattle.rr_book.specs.Books.{book_of, is_in_order}
 use Rattle.rr_registry.specs.declared.load.LoadFault.{LoadFault}
 use Rattle.rr_registry.specs.declared.load.LoadFault.TheVariants.{Duplicate, Overlap, Unnamed, Memory}
 

@@ -1,27 +1,46 @@
--- How runs fit together.
-use Rattle.std.specs.Prelude.{◌≡◌, List, ◌++◌}
-use Rattle.rr_auth.specs.Registries.{Reg}
+-- How runs fit together, and what they keep.
+use Rattle.std.specs.Prelude.{◌≡◌, List, [], ◌∷◌, ◌++◌, Result, Ok, Err}
+use Rattle.rr_object.specs.declared.code.Code.{Code}
+use Rattle.rr_auth.specs.declared.item.Item.{Item}
+use Rattle.rr_auth.specs.Laws.{IsItem}
+use Rattle.rr_auth.specs.Registries.{Reg, Sound}
 use Rattle.rr_registry.specs.Runs.{Run}
 use Rattle.rr_registry.specs.declared.outcome.Outcome.{Outcome}
 use Rattle.rr_registry.specs.declared.run.Submitted.{Submitted}
 
--- A run of items and then a run of more are one run of both lists.
+-- A run of a list and then a run of another are one run of both lists.
 abbrev pub RunsJoin : Type 0
 RunsJoin =
-    (r s t : Reg) (items more : List Submitted) (outcomes others : List Outcome)
-    → Run r items outcomes s → Run s more others t → Run r (items ++ more) (outcomes ++ others) t
+    (r s t : Reg) (first later : List Submitted) (outcomes others : List Outcome)
+    → Run r first outcomes s → Run s later others t → Run r (first ++ later) (outcomes ++ others) t
 
 -- What a run of two lists, one behind the other, is made of: a run of the first, and one of the second from where that led.
-pub record IsSplit (r t : Reg) (items more : List Submitted) (outcomes : List Outcome) : Type 0 where
+pub record IsSplit (r t : Reg) (first later : List Submitted) (outcomes : List Outcome) : Type 0 where
   pub between : Reg
-  pub first : List Outcome
+  pub fore : List Outcome
   pub others : List Outcome
-  pub cut : outcomes ≡ first ++ others
-  pub front : Run r items first between
-  pub back : Run between more others t
+  pub cut : outcomes ≡ fore ++ others
+  pub front : Run r first fore between
+  pub back : Run between later others t
 
--- A run of both lists is a run of items and then a run of more.
+-- A run of both lists is a run of the first and then a run of the second.
 abbrev pub RunsPart : Type 0
 RunsPart =
-    (r t : Reg) (items more : List Submitted) (outcomes : List Outcome)
-    → Run r (items ++ more) outcomes t → IsSplit r t items more outcomes
+    (r t : Reg) (first later : List Submitted) (outcomes : List Outcome)
+    → Run r (first ++ later) outcomes t → IsSplit r t first later outcomes
+
+-- An item that was submitted is about a well formed key.
+abbrev pub IsFormed : Result Item Code → Type 0
+IsFormed (Ok item) = IsItem item
+IsFormed (Err code) = Unit {0}
+
+-- So is each item of a list.
+abbrev pub AreFormed : List Submitted → Type 0
+AreFormed [] = Unit {0}
+AreFormed (submitted ∷ later) = IsFormed submitted.action × AreFormed later
+
+-- A run from a sound registry ends at a sound one, whatever is submitted.
+abbrev pub RunsStaySound : Type 0
+RunsStaySound =
+    (r s : Reg) (submitted : List Submitted) (outcomes : List Outcome)
+    → Sound r → AreFormed submitted → Run r submitted outcomes s → Sound s

@@ -1,5 +1,6 @@
--- What becomes of items: the outcome of each, and the registry after them.
-use Rattle.std.specs.Prelude.{◌≡◌, ℕ, ◌⊎◌, List, [], ◌∷◌}
+-- What becomes of what is submitted: the outcome of each, and the registry after it.
+use Rattle.std.specs.Prelude.{◌≡◌, ℕ, ◌⊎◌, List, [], ◌∷◌, Result, Ok, Err}
+use Rattle.rr_object.specs.declared.code.Code.{Code}
 use Rattle.rr_object.specs.declared.code.Code.TheVariants.{E90}
 use Rattle.rr_auth.specs.declared.item.Item.{Item}
 use Rattle.rr_auth.specs.declared.verdict.Verdict.{Verdict}
@@ -18,8 +19,8 @@ outcome_of Same = Unchanged
 outcome_of Delete = Deleted
 outcome_of (Refuse code) = Refused code
 
--- A verdict on an item was carried out: the outcome and the effect are the verdict's (profile).
-pub record IsDone (before : Reg) (judged : Verdict) (item : Item) (outcome : Outcome) (then : Reg) : Type 0 where
+-- A verdict on an item had its effect: the outcome and the registry after it are the verdict's (profile).
+pub record HasEffect (before : Reg) (judged : Verdict) (item : Item) (outcome : Outcome) (then : Reg) : Type 0 where
   pub outcome_is : outcome ≡ outcome_of judged
   pub effect : then ≡ after judged before item
 
@@ -30,16 +31,21 @@ pub record IsWant (before : Reg) (outcome : Outcome) (then : Reg) : Type 0 where
 
 -- A verdict on an item was carried out, or memory was wanting.
 abbrev pub IsCarriedOut : Reg → Verdict → Item → Outcome → Reg → Type 0
-IsCarriedOut before judged item outcome then = IsDone before judged item outcome then ⊎ IsWant before outcome then
+IsCarriedOut before judged item outcome then = HasEffect before judged item outcome then ⊎ IsWant before outcome then
 
 -- What one item, with the secrets given with it, does to a registry.
 abbrev pub IsStep : Reg → List (List ℕ) → Item → Outcome → Reg → Type 0
-IsStep before z item outcome then = IsCarriedOut before (verdict before z item) item outcome then
+IsStep before secrets item outcome then = IsCarriedOut before (verdict before secrets item) item outcome then
 
--- Each item in turn has its outcome and its effect (profile).
+-- What was refused as it was read keeps its code and leaves the registry; an item is a step (profile).
+abbrev pub Decides : Reg → List (List ℕ) → Result Item Code → Outcome → Reg → Type 0
+Decides before secrets (Ok item) outcome then = IsStep before secrets item outcome then
+Decides before secrets (Err code) outcome then = (outcome ≡ Refused code) × (then ≡ before)
+
+-- Each in turn is decided, over the registry that the one before it left (profile).
 abbrev pub Run : Reg → List Submitted → List Outcome → Reg → Type 0
 Run before [] [] then = then ≡ before
 Run before [] (outcome ∷ outcomes) then = ⊥
-Run before (item ∷ items) [] then = ⊥
-Run before (item ∷ items) (outcome ∷ outcomes) then =
-    (between : Reg) × (IsStep before item.secrets item.item outcome between × Run between items outcomes then)
+Run before (submitted ∷ later) [] then = ⊥
+Run before (submitted ∷ later) (outcome ∷ outcomes) then =
+    (between : Reg) × Decides before submitted.secrets submitted.action outcome between × Run between later outcomes then

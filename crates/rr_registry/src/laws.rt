@@ -1,15 +1,21 @@
 //! Laws of runs, for readers and for the proofs of other crates. Nothing calls these functions.
 
-ghost use Rattle.rr_registry.specs.RunLaws.{RunsJoin, RunsPart};
+ghost use Rattle.rr_registry.specs.RunLaws.{RunsJoin, RunsPart, RunsStaySound};
 
-/// A run of items and then a run of more are one run of both lists.
+/// A run of a list and then a run of another are one run of both lists.
 #[tactic(auto, using(crate::proofs::Running::run_append))]
 pub fn runs_join()
     ensures { RunsJoin }
 {}
 
-/// A run of both lists is a run of items and then a run of more from where it led.
+/// A run of both lists is a run of the first and then a run of the second from where that led.
 #[tactic(auto, using(crate::proofs::Running::run_split))]
 pub fn runs_part()
     ensures { RunsPart }
+{}
+
+/// A run from a sound registry ends at a sound one.
+#[tactic(auto, using(crate::proofs::Running::run_stays_sound))]
+pub fn runs_stay_sound()
+    ensures { RunsStaySound }
 {}

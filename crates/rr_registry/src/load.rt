@@ -5,12 +5,11 @@ ghost use Rattle.std.specs.List.{list_any};
 ghost use Rattle.std.specs.FinMap.{empty};
 ghost use Rattle.rr_object.specs.Objects.{names_of};
 ghost use Rattle.rr_auth.specs.Registries.{is_mntner_of};
-ghost use Rattle.rr_registry.specs.Books.{book_of};
+ghost use Rattle.rr_book.specs.Books.{book_of};
 ghost use Rattle.rr_registry.specs.Loading.{clash, clash_of, IsApart, IsGathered, IsTakenIn};
 
-use crate::lists;
-use crate::plain_book::PlainBook;
 use crate::registry::Registry;
+use rr_book::{PlainBook, lists};
 use rr_number::Name;
 use rr_object::{Grant, Object};
 use std::alloc::{AllocError, AllocFailed, Global};
@@ -133,7 +132,7 @@ fn gather(alloc: Global, objects: Vec<Object>) -> Result<Vec<Object>, LoadFault>
 }
 
 /// Puts the n-th object among those before it.
-#[tactic(auto, using(crate::proofs::Gathering::put_apart, crate::proofs::Order::book_put, crate::proofs::Order::values_of_book, crate::proofs::Order::get_of_book))]
+#[tactic(auto, using(crate::proofs::Gathering::put_apart, rr_book::proofs::Order::book_put, rr_book::proofs::Order::values_of_book, rr_book::proofs::Order::get_of_book))]
 fn take_in(gathered: &mut Vec<Object>, n: u64, object: Object) -> Result<(), LoadFault>
     requires { IsApart gathered.old.items }
     ensures ok { OnOk result (IsTakenIn gathered.old.items n object gathered.new.items) }

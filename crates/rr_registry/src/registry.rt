@@ -1,13 +1,13 @@
 //! Registries, and what items do to them.
 
-ghost use Rattle.std.specs.Prelude.{◌≡◌, ◌⊎◌};
+ghost use Rattle.std.specs.Prelude.{◌≡◌, ◌≢◌, ◌⊎◌};
 ghost use Rattle.std.specs.FinMap.{empty, insert, remove, values};
-ghost use Rattle.rr_auth.specs.declared.verdict.Verdict.TheVariants.{Add, Change, Delete};
+ghost use Rattle.rr_auth.specs.declared.verdict.Verdict.TheVariants.{Add, Change, Same, Delete};
 ghost use Rattle.rr_registry.specs.Runs.{IsCarriedOut, IsStep, IsWant};
 
 use crate::outcome::Outcome;
-use crate::plain_book::PlainBook;
 use rr_auth::{Book, Item, Secrets, Verdict, judge};
+use rr_book::PlainBook;
 use rr_object::{Code, Key, Object};
 use std::alloc::Global;
 use std::marker::Model;
@@ -94,14 +94,15 @@ impl Registry {
     fn submit(&mut self, alloc: Global, judged: Verdict, object: Object) -> Outcome
         requires added { judged ≡ Add → Sound (insert self.old object.key object) }
         requires changed { judged ≡ Change → Sound (insert self.old object.key object) }
+        requires fits { judged ≢ Delete }
         ensures { IsCarriedOut self.old judged (Item.Submit object) result self.new }
     {
         match judged {
             Verdict::Add => self.put(alloc, object, Outcome::Added),
             Verdict::Change => self.put(alloc, object, Outcome::Changed),
             Verdict::Same => Outcome::Same,
-            Verdict::Delete => Outcome::Deleted,
             Verdict::Refuse(code) => Outcome::Refused(code),
+            Verdict::Delete => unreachable!(),
         }
     }
 
@@ -118,7 +119,8 @@ impl Registry {
 
     /// Carries out the verdict on a deletion.
     fn delete(&mut self, judged: Verdict, key: &Key) -> Outcome
-        requires { judged ≡ Delete → Sound (remove self.old key.now) }
+        requires deleted { judged ≡ Delete → Sound (remove self.old key.now) }
+        requires fits { (judged ≢ Add) × (judged ≢ Change) × (judged ≢ Same) }
         ensures { IsCarriedOut self.old judged (Item.Delete key.now) result self.new }
     {
         match judged {
@@ -126,10 +128,8 @@ impl Registry {
                 self.book.remove(key);
                 Outcome::Deleted
             }
-            Verdict::Add => Outcome::Added,
-            Verdict::Change => Outcome::Changed,
-            Verdict::Same => Outcome::Same,
             Verdict::Refuse(code) => Outcome::Refused(code),
+            Verdict::Add | Verdict::Change | Verdict::Same => unreachable!(),
         }
     }
 }

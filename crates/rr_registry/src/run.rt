@@ -1,26 +1,27 @@
-//! Runs of items.
+//! Runs of what is submitted.
 
 ghost use Rattle.std.specs.Prelude.{◌≡◌, IfOk, OnErr};
 
 use crate::outcome::Outcome;
 use crate::registry::Registry;
 use rr_auth::{Item, Secrets};
+use rr_object::Code;
 use std::alloc::{AllocError, Global};
 
-/// An item with the secrets given with it.
+/// What was submitted: an item, or the code with which it was refused as it was read, and the secrets given with it.
 #[derive(Drop)]
 pub struct Submitted {
     /// The secrets.
     pub secrets: Secrets,
-    /// The item.
-    pub item: Item,
+    /// The item, or the code of its refusal.
+    pub action: Result<Item, Code>,
 }
 
 impl Registry {
-    ghost use Rattle.rr_registry.specs.Runs.{Run};
+    ghost use Rattle.rr_registry.specs.Runs.{Decides, Run};
 
-    /// Applies the items in turn and gives the outcome of each; the error is want of memory for the outcomes, before
-    /// the first item, and leaves the registry as it was.
+    /// Decides in turn what was submitted and gives the outcome of each; the error is want of memory for the outcomes,
+    /// before the first item, and leaves the registry as it was.
     pub fn run_items(
         &mut self,
         alloc: Global,
@@ -31,9 +32,19 @@ impl Registry {
     {
         let mut outcomes = Vec::with_capacity(alloc, items.len())?;
         for submitted in items {
-            let Submitted { secrets, item } = submitted;
-            outcomes.push_reserved(self.apply(alloc, &secrets, item));
+            outcomes.push_reserved(self.decide(alloc, submitted));
         }
         Ok(outcomes)
+    }
+
+    /// The outcome of what was submitted.
+    fn decide(&mut self, alloc: Global, submitted: Submitted) -> Outcome
+        ensures { Decides self.old submitted.secrets submitted.action result self.new }
+    {
+        let Submitted { secrets, action } = submitted;
+        match action {
+            Ok(item) => self.apply(alloc, &secrets, item),
+            Err(code) => Outcome::Refused(code),
+        }
     }
 }

@@ -15,7 +15,8 @@ use Rattle.rr_graph.proofs.Backwards.{Contains-take, Contains-take_cases}
 use Rattle.std.proofs.lemmas.List.Elements.{Contains-append_cases, Contains-append_left, Contains-append_right}
 use Rattle.rr_sets.specs.AsSets.{BelongsTo, IsAnyNumber, IsDirect, ListsNumber, ListsSet}
 use Rattle.rr_sets.specs.Lists.{IsAutNum, IsReferrer, ListsOnce, lent}
-use Rattle.rr_sets.specs.SetObjects.{number_listed, number_of_key, set_listed, takes}
+use Rattle.rr_sets.specs.KeyParts.{number_of_key}
+use Rattle.rr_sets.specs.SetObjects.{number_listed, set_listed, takes}
 
 -- a filtered list has what the list has and the test passes
 pub Contains-filter : {X : Type 0} (p : X → Bool) (xs : List X) (x : X) → Contains (filter p xs) x ↔ (Contains xs x × IsTrue (p x))

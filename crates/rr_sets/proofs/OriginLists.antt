@@ -20,8 +20,8 @@ use Rattle.rr_object.specs.Objects.{Obj}
 use Rattle.rr_object.specs.declared.key.Key.{Key}
 use Rattle.rr_object.specs.declared.key.Key.TheVariants.{Mntner, AsBlock, AutNum, Inetnum, Route, AsSet, RouteSet}
 use Rattle.rr_sets.specs.Lists.{IsRoute, ListsOnce}
-use Rattle.rr_sets.specs.Origins.{prefixes_at}
-use Rattle.rr_sets.specs.RouteObjects.{route_of_key}
+use Rattle.rr_sets.specs.OriginParts.{prefixes_at}
+use Rattle.rr_sets.specs.KeyParts.{route_of_key}
 
 -- one more prefix, under its origin
 pub gathered_more : (old new : ℕ → List PrefixParts) (before after : List (ℕ × PrefixParts)) (origin : ℕ) (prefix : PrefixParts) → ((n : ℕ) (p : PrefixParts) → Contains (old n) p ↔ Contains before (n, p)) → ((n : ℕ) → new n ≡ cond (is_at (nat_cmp origin) n) (old origin ++ prefix ∷ []) (old n)) → after ≡ before ++ (origin, prefix) ∷ [] → (n : ℕ) (p : PrefixParts) → Contains (new n) p ↔ Contains after (n, p)

@@ -15,9 +15,10 @@ use Rattle.rr_object.specs.declared.member.Member.TheVariants as member
 use Rattle.rr_object.specs.declared.member.MemberSet.{MemberSet}
 use Rattle.rr_object.specs.declared.member.MemberSet.TheVariants.{AutNum, Set}
 use Rattle.rr_sets.specs.Lists.{IsReferrer, IsRoute, ListsOnce, lent}
-use Rattle.rr_sets.specs.Origins.{HasRangeBy}
-use Rattle.rr_sets.specs.RouteObjects.{range_listed, range_of_key}
-use Rattle.rr_sets.specs.RouteSets.{HasRange, IsAnyRange, IsByReference, IsOriginated, IsTaken, ListsRange, set_of}
+use Rattle.rr_sets.specs.OriginParts.{HasRangeBy}
+use Rattle.rr_sets.specs.KeyParts.{range_of_key}
+use Rattle.rr_sets.specs.MemberParts.{range_listed}
+use Rattle.rr_sets.specs.RouteSets.{HasRange, IsAnyRange, IsByReference, IsOriginated, IsTaken, ListsRange, registered_set}
 use Rattle.rr_sets.specs.SetObjects.{takes}
 use Rattle.rr_sets.proofs.Numbers.{Contains-both}
 
@@ -84,7 +85,7 @@ module _ (r : Reg) (sound : Sound r) where
         (b.0, b.1, ap (λ (x : Obj). range_of_key x.key) b.2 ∙ range_of_route o p n is ∙ ap Some (sym same))
 
 -- the ranges of a registered set
-pub ranges_of_set : (r : Reg) (name : List ℕ) (set : Obj) (members : List Member) (by_ref : ByRefParts) (ranges taken : List RangeParts) → set_of r name ≡ Some set → members ≡ set.members → by_ref ≡ set.by_ref → ((range : RangeParts) → Contains taken range ↔ IsTaken r by_ref name range) → ranges ≡ filter_map range_listed members ++ taken → (range : RangeParts) → Contains ranges range ↔ (ListsRange r name range ⊎ IsByReference r name range)
+pub ranges_of_set : (r : Reg) (name : List ℕ) (set : Obj) (members : List Member) (by_ref : ByRefParts) (ranges taken : List RangeParts) → registered_set r name ≡ Some set → members ≡ set.members → by_ref ≡ set.by_ref → ((range : RangeParts) → Contains taken range ↔ IsTaken r by_ref name range) → ranges ≡ filter_map range_listed members ++ taken → (range : RangeParts) → Contains ranges range ↔ (ListsRange r name range ⊎ IsByReference r name range)
 ranges_of_set r name set members by_ref ranges taken registered is_members is_by_ref are is =
     Contains-both (filter_map range_listed members) taken ranges (ListsRange r name) (IsByReference r name) is listed belong where
       listed : (range : RangeParts) → Contains (filter_map range_listed members) range ↔ ListsRange r name range
@@ -100,7 +101,7 @@ ranges_of_set r name set members by_ref ranges taken registered is_members is_by
       )
 
 -- no set of the name is registered, so it lists nothing and nothing belongs to it
-pub ranges_of_none : (r : Reg) (name : List ℕ) (ranges : List RangeParts) → set_of r name ≡ None → ranges ≡ [] → (range : RangeParts) → Contains ranges range ↔ (ListsRange r name range ⊎ IsByReference r name range)
+pub ranges_of_none : (r : Reg) (name : List ℕ) (ranges : List RangeParts) → registered_set r name ≡ None → ranges ≡ [] → (range : RangeParts) → Contains ranges range ↔ (ListsRange r name range ⊎ IsByReference r name range)
 ranges_of_none r name ranges none empty range = (
   λ has. absurd (Contains-nil range (subst (λ (l : List RangeParts). Contains l range) empty has)),
   λ holds. elim holds [ inl listed ↦ let wrong : Some listed.0 ≡ None = sym listed.1 ∙ none in cc | inr belongs ↦ let wrong : Some belongs.0 ≡ None = sym belongs.1 ∙ none in cc ],

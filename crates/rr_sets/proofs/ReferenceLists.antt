@@ -15,7 +15,7 @@ use Rattle.rr_object.specs.declared.member.Member.TheVariants as member
 use Rattle.rr_object.specs.declared.member.MemberSet.{MemberSet}
 use Rattle.rr_object.specs.declared.member.MemberSet.TheVariants.{AutNum, Set}
 use Rattle.rr_sets.specs.AsSets.{IsDirect, ListsSet}
-use Rattle.rr_sets.specs.References.{missing_name, number_reference, reference_of, set_reference}
+use Rattle.rr_sets.specs.MemberParts.{missing_name, number_reference, reference_of, set_reference}
 use Rattle.rr_number.specs.SetNames.{kind_of}
 use Rattle.rr_number.specs.declared.set_kind.SetKind.{SetKind}
 use Rattle.rr_sets.specs.RouteSets.{AsSetRefers, Refers, RefersAs, RouteSetRefers, has_set}

@@ -8,7 +8,7 @@ use Rattle.rr_number.specs.Prefixes.{PrefixParts}
 use Rattle.rr_number.specs.Ranges.{RangeParts}
 use Rattle.rr_object.specs.declared.member.MemberSet.{MemberSet}
 use Rattle.rr_object.specs.declared.member.MemberSet.TheVariants.{AutNum, Set}
-use Rattle.rr_sets.specs.Origins.{AreOrigins, HasRangeBy}
+use Rattle.rr_sets.specs.OriginParts.{AreOrigins, HasRangeBy}
 use Rattle.rr_sets.specs.RouteSets.{HasRange, HasTooMany, InRouteSet, Refers}
 
 -- what is found by weaker values

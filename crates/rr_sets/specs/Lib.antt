@@ -1,9 +1,9 @@
 pub mod Faults
 pub mod Lists
-pub mod AsSets
 pub mod SetObjects
+pub mod AsSets
 pub mod RouteSets
-pub mod RouteObjects
-pub mod Origins
-pub mod References
+pub mod KeyParts
+pub mod MemberParts
+pub mod OriginParts
 pub mod Orders

@@ -32,12 +32,12 @@ key_of_kind AsSet name = key.AsSet name
 key_of_kind RouteSet name = key.RouteSet name
 
 -- The registered set of a name (RFC 2622, 5).
-abbrev pub set_of : Reg → List ℕ → Option Obj
-set_of r name = get r (key_of_kind (kind_of name) name)
+abbrev pub registered_set : Reg → List ℕ → Option Obj
+registered_set r name = get r (key_of_kind (kind_of name) name)
 
 -- There is such a set: it is registered, or `AS-ANY` or `RS-ANY` (RFC 2622, 5).
 abbrev pub has_set : Reg → List ℕ → Bool
-has_set r name = is_some (set_of r name) || (bytes_eq name as_any || bytes_eq name rs_any)
+has_set r name = is_some (registered_set r name) || (bytes_eq name as_any || bytes_eq name rs_any)
 
 -- An as-set refers to the ASes that are in it itself and to the sets that it lists, with no operator (RFC 2622, 5).
 abbrev pub AsSetRefers : Reg → List ℕ → MemberSet → Operator → Type 0
@@ -64,7 +64,7 @@ IsOriginated r n range = (prefix : PrefixParts) × (o : Obj) × (get r (key.Rout
 
 -- A registered set has the range in its `members` (RFC 2622, 5).
 abbrev pub ListsRange : Reg → List ℕ → RangeParts → Type 0
-ListsRange r name range = (o : Obj) × (set_of r name ≡ Some o) × Contains o.members (member.Range range)
+ListsRange r name range = (o : Obj) × (registered_set r name ≡ Some o) × Contains o.members (member.Range range)
 
 -- A registered route names the set in its `member-of`, and `mbrs-by-ref` takes its word; the range is that of its prefix
 -- alone (RFC 2622, 5; that an as-set takes routes: profile).
@@ -73,7 +73,7 @@ IsTaken r by_ref name range = (prefix : PrefixParts) × (n : ℕ) × (route : Ob
 
 -- A route belongs to a registered set by its own word (RFC 2622, 5; that an as-set takes routes: profile).
 abbrev pub IsByReference : Reg → List ℕ → RangeParts → Type 0
-IsByReference r name range = (o : Obj) × (set_of r name ≡ Some o) × IsTaken r o.by_ref name range
+IsByReference r name range = (o : Obj) × (registered_set r name ≡ Some o) × IsTaken r o.by_ref name range
 
 -- The name is `RS-ANY`, and the range that of a route (RFC 2622, 5).
 abbrev pub IsAnyRange : Reg → List ℕ → RangeParts → Type 0

@@ -4,8 +4,6 @@ use Rattle.std.specs.List.{list_any}
 use Rattle.std.specs.Str.{bytes_eq}
 use Rattle.rr_object.specs.Objects.{Obj}
 use Rattle.rr_object.specs.Parts.{ByRefParts}
-use Rattle.rr_object.specs.declared.key.Key.{Key}
-use Rattle.rr_object.specs.declared.key.Key.TheVariants.{AutNum}
 use Rattle.rr_object.specs.declared.member.Member.{Member}
 use Rattle.rr_object.specs.declared.member.Member.TheVariants as member
 use Rattle.rr_object.specs.declared.member.MemberSet.TheVariants as set
@@ -21,11 +19,6 @@ abbrev pub number_listed : Member → Option ℕ
 number_listed (member.Range r) = None
 number_listed (member.Set (set.AutNum n) operator) = Some n
 number_listed (member.Set (set.Set name) operator) = None
-
--- The number of an aut-num's key.
-abbrev pub number_of_key : Key → Option ℕ
-number_of_key (AutNum n) = Some n
-number_of_key _ = None
 
 -- The set takes the object's word that it belongs to it: `mbrs-by-ref` lists `ANY` or a maintainer in its `mnt-by`
 -- (RFC 2622, 5).

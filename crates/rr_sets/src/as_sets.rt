@@ -200,11 +200,11 @@ pub fn sorted<T: Ord + Drop>(alloc: Global, list: Vec<T>) -> Result<Vec<T>, Allo
     ensures same { CmpEqualImpliesEq T.cmp → IfOk result (λ sorted. (x : T) → Contains sorted.items x ↔ Contains list.items x) }
     ensures sorted { IfOk result (λ sorted. IsStrictlySortedBy T.cmp sorted.items) }
 {
-    ascending(alloc, set_of(alloc, list)?)
+    ascending(alloc, distinct(alloc, list)?)
 }
 
 /// The set of what the list has.
-fn set_of<T: Ord + Drop>(alloc: Global, list: Vec<T>) -> Result<BTreeSet<T>, AllocError>
+fn distinct<T: Ord + Drop>(alloc: Global, list: Vec<T>) -> Result<BTreeSet<T>, AllocError>
     ensures { IfOk result (λ set. IsFromIterResult T.cmp list.items set) }
 {
     list.into_iter().collect(alloc)

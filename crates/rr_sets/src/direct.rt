@@ -6,7 +6,8 @@ ghost use Rattle.std.specs.List.{filter_map};
 ghost use Rattle.std.specs.Option.{option_copied};
 ghost use Rattle.std.specs.Str.{bytes_eq};
 ghost use Rattle.rr_sets.specs.AsSets.{BelongsTo, IsAnyNumber, IsDirect, ListsNumber};
-ghost use Rattle.rr_sets.specs.SetObjects.{as_any, number_listed, number_of_key};
+ghost use Rattle.rr_sets.specs.KeyParts.{number_of_key};
+ghost use Rattle.rr_sets.specs.SetObjects.{as_any, number_listed};
 
 use crate::book::SetBook;
 use crate::by_reference::belonging;

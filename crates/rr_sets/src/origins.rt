@@ -3,8 +3,8 @@
 ghost use Rattle.std.specs.Prelude.{◌≡◌, ◌++◌, ℕ, [], ◌∷◌, IfOk, OnOk, if◌then◌else◌};
 ghost use Rattle.std.specs.BTreeMap.{is_at};
 ghost use Rattle.std.specs.Ordering.{nat_cmp};
-ghost use Rattle.rr_sets.specs.Origins.{AreOrigins, prefixes_at};
-ghost use Rattle.rr_sets.specs.RouteObjects.{route_of_key};
+ghost use Rattle.rr_sets.specs.OriginParts.{AreOrigins, prefixes_at};
+ghost use Rattle.rr_sets.specs.KeyParts.{route_of_key};
 
 use crate::book::SetBook;
 use rr_number::{AsNumber, Prefix};

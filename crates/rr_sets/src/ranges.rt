@@ -5,8 +5,9 @@ ghost use Rattle.std.specs.List.{filter_map};
 ghost use Rattle.std.specs.Option.{option_copied};
 ghost use Rattle.std.specs.Str.{bytes_eq};
 ghost use Rattle.rr_number.specs.Ranges.{RangeParts, bare};
-ghost use Rattle.rr_sets.specs.RouteObjects.{range_listed, range_of_key};
-ghost use Rattle.rr_sets.specs.RouteSets.{HasRange, IsAnyRange, IsByReference, IsTaken, ListsRange, has_set, key_of_kind, rs_any, set_of};
+ghost use Rattle.rr_sets.specs.KeyParts.{range_of_key};
+ghost use Rattle.rr_sets.specs.MemberParts.{range_listed};
+ghost use Rattle.rr_sets.specs.RouteSets.{HasRange, IsAnyRange, IsByReference, IsTaken, ListsRange, has_set, key_of_kind, rs_any, registered_set};
 ghost use Rattle.rr_object.specs.declared.member.MemberSet.{MemberSet};
 
 use crate::book::SetBook;
@@ -38,7 +39,7 @@ fn registered_ranges<B: SetBook>(
 ) -> Result<Vec<Range>, AllocError>
     ensures { IfOk result (λ ranges. (range : RangeParts) → Contains ranges.items range ↔ (ListsRange (B.contents book.now) name.now range ⊎ IsByReference (B.contents book.now) name.now range)) }
 {
-    match set_of(alloc, book, name)? {
+    match registered_set(alloc, book, name)? {
         Some(object) => {
             let mut ranges = ranges_listed(alloc, object.members())?;
             ranges.extend_from_slice(&ranges_by_reference(alloc, book, name, object.by_ref())?)?;
@@ -75,12 +76,12 @@ fn any_ranges<B: SetBook>(alloc: Global, book: &B, name: &SetName) -> Result<Vec
 }
 
 /// The registered set of the name; the error is want of memory.
-pub fn set_of<'a, B: SetBook>(
+pub fn registered_set<'a, B: SetBook>(
     alloc: Global,
     book: &'a B,
     name: &SetName,
 ) -> Result<Option<&'a Object>, AllocError>
-    ensures { IfOk result (λ object. option_copied object ≡ set_of (B.contents book.now) name.now) }
+    ensures { IfOk result (λ object. option_copied object ≡ registered_set (B.contents book.now) name.now) }
 {
     let key = key_of_kind(name.kind(), name.copy(alloc)?);
     Ok(book.get(&key))
@@ -100,7 +101,7 @@ fn key_of_kind(kind: SetKind, name: SetName) -> Key
 pub fn has_set<B: SetBook>(alloc: Global, book: &B, name: &SetName) -> Result<bool, AllocError>
     ensures { IfOk result (λ known. known ≡ has_set (B.contents book.now) name.now) }
 {
-    let registered = set_of(alloc, book, name)?.is_some();
+    let registered = registered_set(alloc, book, name)?.is_some();
     Ok(registered || is_as_any(name) || is_rs_any(name))
 }
 

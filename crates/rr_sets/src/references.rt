@@ -5,7 +5,7 @@ ghost use Rattle.std.specs.List.{filter_map};
 ghost use Rattle.rr_number.specs.declared.operator.Operator.{Operator};
 ghost use Rattle.rr_object.specs.declared.member.MemberSet.{MemberSet};
 ghost use Rattle.rr_sets.specs.AsSets.{ListsSet};
-ghost use Rattle.rr_sets.specs.References.{reference_of, number_reference, set_reference};
+ghost use Rattle.rr_sets.specs.MemberParts.{reference_of, number_reference, set_reference};
 ghost use Rattle.rr_sets.specs.RouteSets.{AsSetRefers, Refers, RouteSetRefers};
 
 use crate::as_sets::sets_listed;

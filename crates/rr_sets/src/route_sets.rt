@@ -8,7 +8,7 @@ ghost use Rattle.std.specs.Option.{option_copied};
 ghost use Rattle.std.specs.Ordering.{nat_cmp};
 ghost use Rattle.rr_number.specs.Ranges.{RangeParts, range_cmp};
 ghost use Rattle.rr_object.specs.declared.member.MemberSet.{MemberSet};
-ghost use Rattle.rr_sets.specs.References.{missing_name};
+ghost use Rattle.rr_sets.specs.MemberParts.{missing_name};
 ghost use Rattle.rr_sets.specs.RouteSets.{HasTooMany, InRouteSet, IsMissingName, IsReachedFrom, has_set};
 
 use crate::as_sets::sorted;
@@ -90,7 +90,7 @@ struct RouteSets<'a, B: SetBook> {
 
 impl<B: SetBook> Labelled for RouteSets<'_, B> {
     ghost use Rattle.rr_number.specs.Applied.{applied};
-    ghost use Rattle.rr_sets.specs.Origins.{HasRangeBy, prefixes_at};
+    ghost use Rattle.rr_sets.specs.OriginParts.{HasRangeBy, prefixes_at};
     ghost use Rattle.rr_sets.specs.RouteSets.{Refers};
     ghost use Rattle.rr_sets.specs.Orders.{exact_member_sets, exact_ranges};
 

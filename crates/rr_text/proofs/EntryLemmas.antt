@@ -8,7 +8,8 @@ use Rattle.rr_text.specs.declared.fault.TextFault.TheVariants.{TooLarge}
 use Rattle.rr_text.specs.Faults.{block_fault}
 use Rattle.rr_text.specs.declared.line.LineKind.{LineKind}
 use Rattle.rr_text.specs.declared.line.LineKind.TheVariants.{Blank, Skipped, Continuation, Opening}
-use Rattle.rr_text.specs.Bytes.{is_line_feed, trim_start, trim_end}
+use Rattle.rr_bytes.specs.Blanks.{is_line_feed}
+use Rattle.rr_bytes.specs.Trims.{trim_end, trim_start}
 use Rattle.rr_text.specs.Lines.{text_lines, are_whole_lines, IsWholeLine, is_blank_line, is_skipped_line, line_kind, opens_attribute}
 use Rattle.rr_text.specs.Blocks.{blocks}
 use Rattle.rr_text.specs.Fields.{Field}

@@ -1,7 +1,6 @@
 -- Lemmas on the faults of lines and blocks.
 use Rattle.std.proofs.Common.{◌≡◌, ℕ, ◌+◌, ◌<◌, ◌≤◌, Bool, true, false, List, [], ◌∷◌, length, take, drop, Option, Some, None, is_some, refl, sym, ap, ◌∙◌, arith}
 use Rattle.std.proofs.lemmas.Bool.Decides.{nat_tests}
-use Rattle.std.proofs.lemmas.List.{take_all, drop_all}
 use Rattle.std.specs.List.{position, position_or_len, list_any, before_first, after_first}
 use Rattle.std.specs.Option.{option_or}
 use Rattle.rr_text.specs.declared.fault.TextFault.{TextFault}
@@ -70,13 +69,3 @@ pub later_found : (fault : Option TextFault) (text line : List ℕ) (others : Li
     → fault ≡ later_fault (text_lines text)
 later_found None text line others e h lines = cc
 later_found (Some fault) text line others e h lines = sym (ap later_fault lines ∙ later_one line others fault (sym e))
-
--- a text without such a byte
-pub record IsAbsent (p : ℕ → Bool) (bs : List ℕ) : Type 0 where
-  pub before : before_first p bs ≡ bs
-  pub after : after_first p bs ≡ []
-
-pub none_at : (p : ℕ → Bool) (bs : List ℕ) → None ≡ position p bs → IsAbsent p bs
-none_at p bs e =
-    let past : length bs ≤ position_or_len p bs = grind (arith, nat_tests) in
-    record { before = take_all (position_or_len p bs) bs past; after = drop_all (position_or_len p bs + 1) bs (omega arith) }

@@ -1,8 +1,8 @@
 pub mod LineLemmas
 pub mod BlockLemmas
 pub mod FaultLemmas
-pub mod TrimLemmas
 pub mod EntryLemmas
+pub mod PlaceLemmas
 pub mod SoundLemmas
 pub mod FieldLemmas
 pub mod MeaningLemmas

@@ -4,7 +4,7 @@ use Rattle.std.proofs.lemmas.Bool.Decides.{nat_tests}
 use Rattle.std.proofs.lemmas.List.Sums.{position_or_len_is}
 use Rattle.memchr.specs.Find.{IsFirstByte}
 use Rattle.std.specs.List.{position, position_or_len, onto_first}
-use Rattle.rr_text.specs.Bytes.{is_line_feed}
+use Rattle.rr_bytes.specs.Blanks.{is_line_feed}
 use Rattle.rr_text.specs.Lines.{text_lines, are_whole_lines}
 
 -- a text is its first line and what follows that

@@ -6,14 +6,18 @@ use Rattle.std.proofs.lemmas.List.Folds.{list_any-append}
 use Rattle.std.specs.List.{list_any, list_all, flat_map, AllByRecursion, onto_first, before_first, after_first, position_or_len}
 use Rattle.std.specs.Char.{to_ascii_lowercase, is_ascii_alphabetic}
 use Rattle.rr_text.specs.declared.line.LineKind.TheVariants.{Continuation, Opening}
-use Rattle.rr_text.specs.Bytes.{is_line_feed, is_blank, is_refused, is_colon, is_name, is_name_byte, begins, trim, trim_start, trim_end, before_trimmed}
+use Rattle.rr_bytes.specs.Blanks.{is_blank_or_line_feed, is_line_feed}
+use Rattle.rr_bytes.specs.LetterCase.{lowered}
+use Rattle.rr_bytes.specs.NameBytes.{begins, is_attribute_name, is_name_byte}
+use Rattle.rr_bytes.specs.Trims.{before_trimmed, trim, trim_end, trim_start}
+use Rattle.rr_text.specs.Bytes.{is_refused, is_colon}
 use Rattle.rr_text.specs.Lines.{text_lines, are_whole_lines, IsWholeLine, line_kind, is_blank_line, is_skipped_line, is_remark_sign}
 use Rattle.rr_text.specs.Faults.{written_name, opening_fault, fault_by_kind, line_fault, later_fault, block_fault}
 use Rattle.rr_text.specs.Entries.{added_value, opened_value, continued, block_fields, opened_field, block_entry, entries, size_limit}
 use Rattle.rr_text.specs.Blocks.{blocks, until_blank, from_blank}
 use Rattle.rr_text.proofs.BlockLemmas.{blocks_front, no_blocks}
 use Rattle.rr_text.proofs.EntryLemmas.{entry_small, entries_joined}
-use Rattle.rr_text.proofs.TrimLemmas.{trim_end_blank}
+use Rattle.rr_bytes.proofs.TrimLemmas.{trim_end_blank}
 use Rattle.rr_text.specs.Fields.{Field, IsLine, IsField, AreFields}
 use Rattle.rr_text.specs.CanonicalText.{value_column, ended, opening_line, further_line, behind_blanks, value_text, field_text, canonical}
 use Rattle.rr_text.proofs.LineLemmas.{text_lines-append, are_whole_lines-append}
@@ -76,7 +80,7 @@ name_no_refused b h = grind (arith, nat_tests)
 name_no_colon : (b : ℕ) → is_name_byte b ≡ true → is_colon b ≡ false
 name_no_colon b h = grind (arith, nat_tests)
 
-name_no_blank : (b : ℕ) → is_name_byte b ≡ true → is_blank b ≡ false
+name_no_blank : (b : ℕ) → is_name_byte b ≡ true → is_blank_or_line_feed b ≡ false
 name_no_blank b h = grind (arith, nat_tests)
 
 any_blanks : (p : ℕ → Bool) → p 32 ≡ false → (n : ℕ) → list_any p (replicate n 32) ≡ false
@@ -135,14 +139,14 @@ canonical_text_lines (field ∷ others) good =
 
 -- the kinds of these lines
 
-letter_facts : (b : ℕ) → is_ascii_alphabetic b ≡ true → (is_blank b ≡ false) × (is_remark_sign b ≡ false) × ((b == 43) ≡ false)
+letter_facts : (b : ℕ) → is_ascii_alphabetic b ≡ true → (is_blank_or_line_feed b ≡ false) × (is_remark_sign b ≡ false) × ((b == 43) ≡ false)
 letter_facts b h = (grind (arith, nat_tests), grind (arith, nat_tests), grind (arith, nat_tests))
 
 letter_kind : (b : ℕ) (bs : List ℕ) → is_ascii_alphabetic b ≡ true → (line_kind (b ∷ bs) ≡ Opening) × (is_blank_line (b ∷ bs) ≡ false) × (is_skipped_line (b ∷ bs) ≡ false)
 unfolding line_kind
 letter_kind b bs h =
     let facts = letter_facts b h in
-    let blank : is_blank b ≡ false = facts.0 in
+    let blank : is_blank_or_line_feed b ≡ false = facts.0 in
     let remark : is_remark_sign b ≡ false = facts.1 in
     let plus : (b == 43) ≡ false = facts.2 in
     (rw (blank, remark, plus) refl, rw blank refl, remark)
@@ -152,40 +156,40 @@ pub opening_kind : (name first : List ℕ) → begins is_ascii_alphabetic name �
 opening_kind [] first h = cc
 opening_kind (b ∷ bs) first h = letter_kind b _ h
 
-all_blank_start_by : (b : ℕ) (bs : List ℕ) → is_blank b ≡ true → trim_start bs ≡ [] → trim_start (b ∷ bs) ≡ []
+all_blank_start_by : (b : ℕ) (bs : List ℕ) → is_blank_or_line_feed b ≡ true → trim_start is_blank_or_line_feed bs ≡ [] → trim_start is_blank_or_line_feed (b ∷ bs) ≡ []
 unfolding trim_start
 all_blank_start_by b bs h rec = rw h rec
 
-all_blank_start : (bs : List ℕ) → list_all is_blank bs ≡ true → trim_start bs ≡ []
+all_blank_start : (bs : List ℕ) → list_all is_blank_or_line_feed bs ≡ true → trim_start is_blank_or_line_feed bs ≡ []
 unfolding trim_start
 all_blank_start [] h = refl
-all_blank_start (b ∷ bs) h = all_blank_start_by b bs (and_left (is_blank b) (list_all is_blank bs) h) (all_blank_start bs (and_right (is_blank b) (list_all is_blank bs) h))
+all_blank_start (b ∷ bs) h = all_blank_start_by b bs (and_left (is_blank_or_line_feed b) (list_all is_blank_or_line_feed bs) h) (all_blank_start bs (and_right (is_blank_or_line_feed b) (list_all is_blank_or_line_feed bs) h))
 
-all_blank_trim : (bs : List ℕ) → list_all is_blank bs ≡ true → trim bs ≡ []
+all_blank_trim : (bs : List ℕ) → list_all is_blank_or_line_feed bs ≡ true → trim is_blank_or_line_feed bs ≡ []
 unfolding trim_end
-all_blank_trim bs h = ap trim_end (all_blank_start bs h)
+all_blank_trim bs h = ap (trim_end is_blank_or_line_feed) (all_blank_start bs h)
 
-solid_by : (t : Bool) (b : ℕ) (bs : List ℕ) → list_all is_blank (b ∷ bs) ≡ t → trim (b ∷ bs) ≡ b ∷ bs → list_all is_blank (b ∷ bs) ≡ false
-solid_by true b bs h trimmed = let none : trim (b ∷ bs) ≡ [] = all_blank_trim (b ∷ bs) h in cc
+solid_by : (t : Bool) (b : ℕ) (bs : List ℕ) → list_all is_blank_or_line_feed (b ∷ bs) ≡ t → trim is_blank_or_line_feed (b ∷ bs) ≡ b ∷ bs → list_all is_blank_or_line_feed (b ∷ bs) ≡ false
+solid_by true b bs h trimmed = let none : trim is_blank_or_line_feed (b ∷ bs) ≡ [] = all_blank_trim (b ∷ bs) h in cc
 solid_by false b bs h trimmed = h
 
 -- a trimmed line that is not empty has a byte that is not blank
-solid : (b : ℕ) (bs : List ℕ) → trim (b ∷ bs) ≡ b ∷ bs → list_all is_blank (b ∷ bs) ≡ false
-solid b bs trimmed = solid_by (list_all is_blank (b ∷ bs)) b bs refl trimmed
+solid : (b : ℕ) (bs : List ℕ) → trim is_blank_or_line_feed (b ∷ bs) ≡ b ∷ bs → list_all is_blank_or_line_feed (b ∷ bs) ≡ false
+solid b bs trimmed = solid_by (list_all is_blank_or_line_feed (b ∷ bs)) b bs refl trimmed
 
-all_left_by : (t : Bool) (b : ℕ) (bs ys : List ℕ) → is_blank b ≡ t → list_all is_blank (b ∷ bs) ≡ false → (list_all is_blank bs ≡ false → list_all is_blank (bs ++ ys) ≡ false) → list_all is_blank ((b ∷ bs) ++ ys) ≡ false
-all_left_by true b bs ys h all rec = let rest : list_all is_blank bs ≡ false = rw h at all in rw h (rec rest)
+all_left_by : (t : Bool) (b : ℕ) (bs ys : List ℕ) → is_blank_or_line_feed b ≡ t → list_all is_blank_or_line_feed (b ∷ bs) ≡ false → (list_all is_blank_or_line_feed bs ≡ false → list_all is_blank_or_line_feed (bs ++ ys) ≡ false) → list_all is_blank_or_line_feed ((b ∷ bs) ++ ys) ≡ false
+all_left_by true b bs ys h all rec = let rest : list_all is_blank_or_line_feed bs ≡ false = rw h at all in rw h (rec rest)
 all_left_by false b bs ys h all rec = rw h refl
 
-all_left : (xs ys : List ℕ) → list_all is_blank xs ≡ false → list_all is_blank (xs ++ ys) ≡ false
+all_left : (xs ys : List ℕ) → list_all is_blank_or_line_feed xs ≡ false → list_all is_blank_or_line_feed (xs ++ ys) ≡ false
 all_left [] ys h = cc
-all_left (b ∷ bs) ys h = all_left_by (is_blank b) b bs ys refl h (all_left bs ys)
+all_left (b ∷ bs) ys h = all_left_by (is_blank_or_line_feed b) b bs ys refl h (all_left bs ys)
 
-all_right : (n : ℕ) (ys : List ℕ) → list_all is_blank ys ≡ false → list_all is_blank (replicate n 32 ++ ys) ≡ false
+all_right : (n : ℕ) (ys : List ℕ) → list_all is_blank_or_line_feed ys ≡ false → list_all is_blank_or_line_feed (replicate n 32 ++ ys) ≡ false
 all_right zero ys h = h
 all_right (suc n) ys h = all_right n ys h
 
-space_kind : (bs : List ℕ) → list_all is_blank (32 ∷ bs) ≡ false → (line_kind (32 ∷ bs) ≡ Continuation) × (is_blank_line (32 ∷ bs) ≡ false)
+space_kind : (bs : List ℕ) → list_all is_blank_or_line_feed (32 ∷ bs) ≡ false → (line_kind (32 ∷ bs) ≡ Continuation) × (is_blank_line (32 ∷ bs) ≡ false)
 unfolding line_kind
 space_kind bs h = (rw h refl, h)
 
@@ -196,14 +200,14 @@ further_kind (b ∷ bs) good = space_kind ((replicate 15 32 ++ b ∷ bs) ++ 10 �
 
 -- what these lines give
 
-solid_before : (b : ℕ) (bs : List ℕ) → is_blank b ≡ false → before_trimmed b bs ≡ b ∷ bs
+solid_before : (b : ℕ) (bs : List ℕ) → is_blank_or_line_feed b ≡ false → before_trimmed is_blank_or_line_feed b bs ≡ b ∷ bs
 solid_before b [] h = rw h refl
 solid_before b (c ∷ cs) h = refl
 
-solid_end : (bs : List ℕ) → list_any is_blank bs ≡ false → trim_end bs ≡ bs
+solid_end : (bs : List ℕ) → list_any is_blank_or_line_feed bs ≡ false → trim_end is_blank_or_line_feed bs ≡ bs
 unfolding trim_end
 solid_end [] h = refl
-solid_end (b ∷ bs) h = ap (before_trimmed b) (solid_end bs (or_right (is_blank b) _ h)) ∙ solid_before b bs (or_left (is_blank b) (list_any is_blank bs) h)
+solid_end (b ∷ bs) h = ap (before_trimmed is_blank_or_line_feed b) (solid_end bs (or_right (is_blank_or_line_feed b) _ h)) ∙ solid_before b bs (or_left (is_blank_or_line_feed b) (list_any is_blank_or_line_feed bs) h)
 
 place_by : (b : ℕ) (bs rest : List ℕ) → is_colon b ≡ false → position_or_len is_colon (bs ++ 58 ∷ rest) ≡ length bs → position_or_len is_colon ((b ∷ bs) ++ 58 ∷ rest) ≡ length (b ∷ bs)
 place_by b bs rest h rec = rw h (omega (arith, rec))
@@ -224,31 +228,31 @@ any_colon : (name rest : List ℕ) → list_any is_colon (name ++ 58 ∷ rest) �
 any_colon [] rest = refl
 any_colon (b ∷ bs) rest = rw (any_colon bs rest) (or_true (is_colon b))
 
-start_blanks : (n : ℕ) (bs : List ℕ) → trim_start (replicate n 32 ++ bs) ≡ trim_start bs
+start_blanks : (n : ℕ) (bs : List ℕ) → trim_start is_blank_or_line_feed (replicate n 32 ++ bs) ≡ trim_start is_blank_or_line_feed bs
 unfolding trim_start
 start_blanks zero bs = refl
 start_blanks (suc n) bs = start_blanks n bs
 
-feed_by : (t : Bool) (b : ℕ) (bs : List ℕ) → is_blank b ≡ t → trim_end (trim_start (bs ++ 10 ∷ [])) ≡ trim_end (trim_start bs) → trim_end (trim_start ((b ∷ bs) ++ 10 ∷ [])) ≡ trim_end (trim_start (b ∷ bs))
+feed_by : (t : Bool) (b : ℕ) (bs : List ℕ) → is_blank_or_line_feed b ≡ t → trim_end is_blank_or_line_feed (trim_start is_blank_or_line_feed (bs ++ 10 ∷ [])) ≡ trim_end is_blank_or_line_feed (trim_start is_blank_or_line_feed bs) → trim_end is_blank_or_line_feed (trim_start is_blank_or_line_feed ((b ∷ bs) ++ 10 ∷ [])) ≡ trim_end is_blank_or_line_feed (trim_start is_blank_or_line_feed (b ∷ bs))
 unfolding trim_start
 feed_by true b bs h rec = rw h rec
-feed_by false b bs h rec = rw h (trim_end_blank 10 (b ∷ bs) refl)
+feed_by false b bs h rec = rw h (trim_end_blank is_blank_or_line_feed 10 (b ∷ bs) refl)
 
-trim-ended : (bs : List ℕ) → trim (bs ++ 10 ∷ []) ≡ trim bs
+trim-ended : (bs : List ℕ) → trim is_blank_or_line_feed (bs ++ 10 ∷ []) ≡ trim is_blank_or_line_feed bs
 unfolding trim_start trim_end
 trim-ended [] = refl
-trim-ended (b ∷ bs) = feed_by (is_blank b) b bs refl (trim-ended bs)
+trim-ended (b ∷ bs) = feed_by (is_blank_or_line_feed b) b bs refl (trim-ended bs)
 
 -- blanks before a line and the LF behind it are trimmed
-padded : (n : ℕ) (line : List ℕ) → trim line ≡ line → trim ((replicate n 32 ++ line) ++ 10 ∷ []) ≡ line
-padded n line trimmed = trim-ended (replicate n 32 ++ line) ∙ (ap trim_end (start_blanks n line) ∙ trimmed)
+padded : (n : ℕ) (line : List ℕ) → trim is_blank_or_line_feed line ≡ line → trim is_blank_or_line_feed ((replicate n 32 ++ line) ++ 10 ∷ []) ≡ line
+padded n line trimmed = trim-ended (replicate n 32 ++ line) ∙ (ap (trim_end is_blank_or_line_feed) (start_blanks n line) ∙ trimmed)
 
-pub opened_value_is : (n : ℕ) (line : List ℕ) → trim line ≡ line → trim (behind_blanks n line ++ 10 ∷ []) ≡ line
+pub opened_value_is : (n : ℕ) (line : List ℕ) → trim is_blank_or_line_feed line ≡ line → trim is_blank_or_line_feed (behind_blanks n line ++ 10 ∷ []) ≡ line
 unfolding trim_start trim_end
 opened_value_is n [] trimmed = refl
 opened_value_is n (b ∷ bs) trimmed = padded n (b ∷ bs) trimmed
 
-pub added_value_is : (line : List ℕ) → trim line ≡ line → added_value (ended (further_line line)) ≡ line
+pub added_value_is : (line : List ℕ) → trim is_blank_or_line_feed line ≡ line → added_value (ended (further_line line)) ≡ line
 unfolding trim_start trim_end
 added_value_is [] trimmed = refl
 added_value_is (b ∷ bs) trimmed = padded 15 (b ∷ bs) trimmed
@@ -264,7 +268,7 @@ pub record IsOpeningOf (name first line : List ℕ) : Type 0 where
   pub name_is : written_name line ≡ name
   pub value_is : opened_value line ≡ first
 
-opening_of : (name first : List ℕ) → list_all is_name_byte name ≡ true → trim first ≡ first → IsOpeningOf name first (ended (opening_line name first))
+opening_of : (name first : List ℕ) → list_all is_name_byte name ≡ true → trim is_blank_or_line_feed first ≡ first → IsOpeningOf name first (ended (opening_line name first))
 opening_of name first bytes trimmed =
     let n = max 1 (value_column - (length name + 1)) in
     let rest = behind_blanks n first ++ 10 ∷ [] in
@@ -274,8 +278,8 @@ opening_of name first bytes trimmed =
     let after : after_first is_colon (name ++ 58 ∷ rest) ≡ rest = ap (λ k. drop (k + 1) (name ++ 58 ∷ rest)) place ∙ drop_behind name rest in
     record {
       colon = ap (list_any is_colon) (colon_line name first) ∙ any_colon name rest;
-      name_is = ap written_name (colon_line name first) ∙ (ap trim_end before ∙ solid_end name (any_none is_blank name_no_blank name bytes));
-      value_is = ap opened_value (colon_line name first) ∙ (ap trim after ∙ opened_value_is n first trimmed);
+      name_is = ap written_name (colon_line name first) ∙ (ap (trim_end is_blank_or_line_feed) before ∙ solid_end name (any_none is_blank_or_line_feed name_no_blank name bytes));
+      value_is = ap opened_value (colon_line name first) ∙ (ap (trim is_blank_or_line_feed) after ∙ opened_value_is n first trimmed);
     }
 
 -- what canonical lines spell
@@ -310,7 +314,7 @@ further_fields [] rest good = refl
 further_fields (line ∷ others) rest good = fields_one _ (further_lines others ++ rest) (further_kind line good.0).0 ∙ further_fields others rest good.1
 
 -- the lines of one attribute before others that continue nothing
-field_by : (name : List ℕ) (lines : List (List ℕ)) (rest : List (List ℕ)) → list_all is_name_byte name ≡ true → begins is_ascii_alphabetic name ≡ true → map to_ascii_lowercase name ≡ name
+field_by : (name : List ℕ) (lines : List (List ℕ)) (rest : List (List ℕ)) → list_all is_name_byte name ≡ true → begins is_ascii_alphabetic name ≡ true → lowered name ≡ name
     → 0 < length lines → AllByRecursion IsLine lines → continued rest ≡ []
     → (continued (value_lines name lines ++ rest) ≡ []) × (block_fields (value_lines name lines ++ rest) ≡ record { name = name; lines = lines } ∷ block_fields rest)
 unfolding value_lines
@@ -321,7 +325,7 @@ field_by name (first ∷ further) rest bytes letter lower some good none =
     let opens : IsOpeningOf name first line = opening_of name first bytes good.0.trimmed in
     let make = λ (n : List ℕ) (ls : List (List ℕ)). let field : Field = record { name = n; lines = ls } in field in
     let more : continued (further_lines further ++ rest) ≡ further = further_continued further rest good.1 ∙ (ap (λ ls. further ++ ls) none ∙ append-nil further) in
-    let named : map to_ascii_lowercase (written_name line) ≡ name = ap (map to_ascii_lowercase) opens.name_is ∙ lower in
+    let named : lowered (written_name line) ≡ name = ap (lowered) opens.name_is ∙ lower in
     let field : opened_field line (continued (further_lines further ++ rest)) ≡ make name (first ∷ further) =
     ap (λ n. make n (opened_value line ∷ continued (further_lines further ++ rest))) named
     ∙ (ap (λ v. make name (v ∷ continued (further_lines further ++ rest))) opens.value_is ∙ ap (λ ls. make name (first ∷ ls)) more)
@@ -351,10 +355,10 @@ canonical_determines a b good right same = sym (canonical_fields a good) ∙ (ap
 clean_ended : (line : List ℕ) → list_any is_refused line ≡ false → list_any is_refused (ended line) ≡ false
 clean_ended line h = any_append is_refused line (10 ∷ []) h refl
 
-opening_faultless : (line name : List ℕ) → list_any is_colon line ≡ true → written_name line ≡ name → is_name name ≡ true → opening_fault line ≡ None
+opening_faultless : (line name : List ℕ) → list_any is_colon line ≡ true → written_name line ≡ name → is_attribute_name name ≡ true → opening_fault line ≡ None
 unfolding opening_fault
 opening_faultless line name colon is named =
-    let good : is_name (written_name line) ≡ true = ap is_name is ∙ named in
+    let good : is_attribute_name (written_name line) ≡ true = ap is_attribute_name is ∙ named in
     rw (colon, good) refl
 
 opening_clean : (is_first : Bool) (line : List ℕ) → line_kind line ≡ Opening → list_any is_refused line ≡ false → opening_fault line ≡ None → line_fault is_first line ≡ None
@@ -373,7 +377,7 @@ further_faultless (line ∷ others) rest good none =
     let one : line_fault false (ended (further_line line)) ≡ None = further_clean (ended (further_line line)) (further_kind line good.0).0 clean in
     rw one (further_faultless others rest good.1 none)
 
-opened_faultless : (is_first : Bool) (name first : List ℕ) → is_name name ≡ true → list_all is_name_byte name ≡ true → begins is_ascii_alphabetic name ≡ true → IsLine first
+opened_faultless : (is_first : Bool) (name first : List ℕ) → is_attribute_name name ≡ true → list_all is_name_byte name ≡ true → begins is_ascii_alphabetic name ≡ true → IsLine first
     → line_fault is_first (ended (opening_line name first)) ≡ None
 opened_faultless is_first name first named bytes letter good =
     let line = ended (opening_line name first) in
@@ -382,7 +386,7 @@ opened_faultless is_first name first named bytes letter good =
     (any_opening is_refused name first refl refl (any_none is_refused name_no_refused name bytes) (not_false _ good.clean))
     in opening_clean is_first line (opening_kind name first letter).0 clean (opening_faultless line name opens.colon opens.name_is named)
 
-value_faultless : (name : List ℕ) (lines rest : List (List ℕ)) → is_name name ≡ true → list_all is_name_byte name ≡ true → begins is_ascii_alphabetic name ≡ true → AllByRecursion IsLine lines
+value_faultless : (name : List ℕ) (lines rest : List (List ℕ)) → is_attribute_name name ≡ true → list_all is_name_byte name ≡ true → begins is_ascii_alphabetic name ≡ true → AllByRecursion IsLine lines
     → later_fault rest ≡ None → later_fault (value_lines name lines ++ rest) ≡ None
 unfolding value_lines later_fault
 value_faultless name [] rest named bytes letter good none = none
@@ -396,7 +400,7 @@ canonical_later [] good = refl
 canonical_later (field ∷ others) good =
     value_faultless field.name field.lines (canonical_lines others) good.0.named (name_bytes field good.0) (name_begins field good.0) good.0.good (canonical_later others good.1)
 
-first_faultless : (name : List ℕ) (lines rest : List (List ℕ)) → is_name name ≡ true → list_all is_name_byte name ≡ true → begins is_ascii_alphabetic name ≡ true → 0 < length lines → AllByRecursion IsLine lines
+first_faultless : (name : List ℕ) (lines rest : List (List ℕ)) → is_attribute_name name ≡ true → list_all is_name_byte name ≡ true → begins is_ascii_alphabetic name ≡ true → 0 < length lines → AllByRecursion IsLine lines
     → later_fault rest ≡ None → block_fault (value_lines name lines ++ rest) ≡ None
 unfolding value_lines block_fault
 first_faultless name [] rest named bytes letter some good none = absurd (omega arith)

@@ -10,7 +10,11 @@ use Rattle.rr_text.specs.declared.fault.TextFault.{TextFault}
 use Rattle.rr_text.specs.declared.fault.TextFault.TheVariants.{BadByte, FirstContinues, NoColon, BadName}
 use Rattle.rr_text.specs.declared.line.LineKind.{LineKind}
 use Rattle.rr_text.specs.declared.line.LineKind.TheVariants.{Blank, Skipped, Continuation, Opening}
-use Rattle.rr_text.specs.Bytes.{is_line_feed, is_colon, is_blank, is_refused, is_name, is_name_byte, begins, trim, trim_start, trim_end, before_trimmed}
+use Rattle.rr_bytes.specs.Blanks.{is_blank_or_line_feed, is_line_feed}
+use Rattle.rr_bytes.specs.LetterCase.{lowered}
+use Rattle.rr_bytes.specs.NameBytes.{begins, is_attribute_name, is_name_byte}
+use Rattle.rr_bytes.specs.Trims.{before_trimmed, trim, trim_end, trim_start}
+use Rattle.rr_text.specs.Bytes.{is_colon, is_refused}
 use Rattle.rr_text.specs.Lines.{text_lines, line_kind, is_blank_line, is_skipped_line, is_continuation_sign}
 use Rattle.rr_text.specs.Blocks.{starts_block}
 use Rattle.rr_text.specs.Faults.{written_name, opening_fault, fault_by_kind, line_fault, later_fault, block_fault}
@@ -57,15 +61,15 @@ last_drop zero bs h = h
 last_drop (suc n) [] h = h
 last_drop (suc n) (b ∷ bs) h = last_drop n bs (last_tail b bs h)
 
-start_by : (P : List ℕ → Type 0) (t : Bool) (b : ℕ) (bs : List ℕ) → is_blank b ≡ t → P (b ∷ bs) → P (trim_start bs) → P (trim_start (b ∷ bs))
+start_by : (P : List ℕ → Type 0) (t : Bool) (b : ℕ) (bs : List ℕ) → is_blank_or_line_feed b ≡ t → P (b ∷ bs) → P (trim_start is_blank_or_line_feed bs) → P (trim_start is_blank_or_line_feed (b ∷ bs))
 unfolding trim_start
 start_by P true b bs h whole rec = rw h rec
 start_by P false b bs h whole rec = rw h whole
 
-last_start : (bs : List ℕ) → only_last bs ≡ true → only_last (trim_start bs) ≡ true
+last_start : (bs : List ℕ) → only_last bs ≡ true → only_last (trim_start is_blank_or_line_feed bs) ≡ true
 unfolding trim_start
 last_start [] h = h
-last_start (b ∷ bs) h = start_by (λ l. only_last l ≡ true) (is_blank b) b bs refl h (last_start bs (last_tail b bs h))
+last_start (b ∷ bs) h = start_by (λ l. only_last l ≡ true) (is_blank_or_line_feed b) b bs refl h (last_start bs (last_tail b bs h))
 
 pub or_left : (a b : Bool) → (a || b) ≡ false → a ≡ false
 or_left true b h = h
@@ -86,26 +90,26 @@ any_drop p zero bs h = h
 any_drop p (suc n) [] h = h
 any_drop p (suc n) (b ∷ bs) h = any_drop p n bs (any_tail p b bs h)
 
-any_start : (p : ℕ → Bool) (bs : List ℕ) → list_any p bs ≡ false → list_any p (trim_start bs) ≡ false
+any_start : (p : ℕ → Bool) (bs : List ℕ) → list_any p bs ≡ false → list_any p (trim_start is_blank_or_line_feed bs) ≡ false
 unfolding trim_start
 any_start p [] h = h
-any_start p (b ∷ bs) h = start_by (λ l. list_any p l ≡ false) (is_blank b) b bs refl h (any_start p bs (any_tail p b bs h))
+any_start p (b ∷ bs) h = start_by (λ l. list_any p l ≡ false) (is_blank_or_line_feed b) b bs refl h (any_start p bs (any_tail p b bs h))
 
-any_before_by : (p : ℕ → Bool) (t : Bool) (b : ℕ) → is_blank b ≡ t → p b ≡ false → list_any p (before_trimmed b []) ≡ false
+any_before_by : (p : ℕ → Bool) (t : Bool) (b : ℕ) → is_blank_or_line_feed b ≡ t → p b ≡ false → list_any p (before_trimmed is_blank_or_line_feed b []) ≡ false
 any_before_by p true b h e = rw h refl
 any_before_by p false b h e = rw (h, e) refl
 
-any_before : (p : ℕ → Bool) (b : ℕ) (rest : List ℕ) → p b ≡ false → list_any p rest ≡ false → list_any p (before_trimmed b rest) ≡ false
-any_before p b [] h e = any_before_by p (is_blank b) b refl h
+any_before : (p : ℕ → Bool) (b : ℕ) (rest : List ℕ) → p b ≡ false → list_any p rest ≡ false → list_any p (before_trimmed is_blank_or_line_feed b rest) ≡ false
+any_before p b [] h e = any_before_by p (is_blank_or_line_feed b) b refl h
 any_before p b (c ∷ cs) h e = any_cons p b (c ∷ cs) h e
 
-any_end : (p : ℕ → Bool) (bs : List ℕ) → list_any p bs ≡ false → list_any p (trim_end bs) ≡ false
+any_end : (p : ℕ → Bool) (bs : List ℕ) → list_any p bs ≡ false → list_any p (trim_end is_blank_or_line_feed bs) ≡ false
 unfolding trim_end
 any_end p [] h = h
-any_end p (b ∷ bs) h = any_before p b (trim_end bs) (or_left (p b) (list_any p bs) h) (any_end p bs (any_tail p b bs h))
+any_end p (b ∷ bs) h = any_before p b (trim_end is_blank_or_line_feed bs) (or_left (p b) (list_any p bs) h) (any_end p bs (any_tail p b bs h))
 
 -- an LF at the end is a blank there
-feed_by : (t : Bool) (b : ℕ) → is_blank b ≡ t → list_any is_line_feed (before_trimmed b []) ≡ false
+feed_by : (t : Bool) (b : ℕ) → is_blank_or_line_feed b ≡ t → list_any is_line_feed (before_trimmed is_blank_or_line_feed b []) ≡ false
 feed_by true b h = rw h refl
 feed_by false b h = rw h (grind (arith, nat_tests))
 
@@ -113,70 +117,70 @@ pub not_false : (a : Bool) → not a ≡ true → a ≡ false
 not_false true h = cc
 not_false false h = refl
 
-unbroken_end : (bs : List ℕ) → only_last bs ≡ true → list_any is_line_feed (trim_end bs) ≡ false
+unbroken_end : (bs : List ℕ) → only_last bs ≡ true → list_any is_line_feed (trim_end is_blank_or_line_feed bs) ≡ false
 unfolding trim_end only_last
 unbroken_end [] h = refl
-unbroken_end (b ∷ []) h = feed_by (is_blank b) b refl
+unbroken_end (b ∷ []) h = feed_by (is_blank_or_line_feed b) b refl
 unbroken_end (b ∷ c ∷ cs) h =
-    any_before is_line_feed b (trim_end (c ∷ cs)) (not_false _ (and_left _ _ h)) (unbroken_end (c ∷ cs) (and_right _ _ h))
+    any_before is_line_feed b (trim_end is_blank_or_line_feed (c ∷ cs)) (not_false _ (and_left _ _ h)) (unbroken_end (c ∷ cs) (and_right _ _ h))
 
-begins_start_by : (t : Bool) (b : ℕ) (bs : List ℕ) → is_blank b ≡ t → begins is_blank (trim_start bs) ≡ false → begins is_blank (trim_start (b ∷ bs)) ≡ false
+begins_start_by : (t : Bool) (b : ℕ) (bs : List ℕ) → is_blank_or_line_feed b ≡ t → begins is_blank_or_line_feed (trim_start is_blank_or_line_feed bs) ≡ false → begins is_blank_or_line_feed (trim_start is_blank_or_line_feed (b ∷ bs)) ≡ false
 unfolding trim_start
 begins_start_by true b bs h rec = rw h rec
 begins_start_by false b bs h rec = rw h h
 
-begins_start : (bs : List ℕ) → begins is_blank (trim_start bs) ≡ false
+begins_start : (bs : List ℕ) → begins is_blank_or_line_feed (trim_start is_blank_or_line_feed bs) ≡ false
 unfolding trim_start
 begins_start [] = refl
-begins_start (b ∷ bs) = begins_start_by (is_blank b) b bs refl (begins_start bs)
+begins_start (b ∷ bs) = begins_start_by (is_blank_or_line_feed b) b bs refl (begins_start bs)
 
-start_same : (bs : List ℕ) → begins is_blank bs ≡ false → trim_start bs ≡ bs
+start_same : (bs : List ℕ) → begins is_blank_or_line_feed bs ≡ false → trim_start is_blank_or_line_feed bs ≡ bs
 unfolding trim_start
 start_same [] h = refl
 start_same (b ∷ bs) h = rw h refl
 
-begins_before : (b : ℕ) (rest : List ℕ) → is_blank b ≡ false → begins is_blank (before_trimmed b rest) ≡ false
+begins_before : (b : ℕ) (rest : List ℕ) → is_blank_or_line_feed b ≡ false → begins is_blank_or_line_feed (before_trimmed is_blank_or_line_feed b rest) ≡ false
 begins_before b [] h = rw (h, h) refl
 begins_before b (c ∷ cs) h = h
 
-begins_end : (bs : List ℕ) → begins is_blank bs ≡ false → begins is_blank (trim_end bs) ≡ false
+begins_end : (bs : List ℕ) → begins is_blank_or_line_feed bs ≡ false → begins is_blank_or_line_feed (trim_end is_blank_or_line_feed bs) ≡ false
 unfolding trim_end
 begins_end [] h = h
-begins_end (b ∷ bs) h = begins_before b (trim_end bs) h
+begins_end (b ∷ bs) h = begins_before b (trim_end is_blank_or_line_feed bs) h
 
-end_before_by : (t : Bool) (b : ℕ) → is_blank b ≡ t → trim_end (before_trimmed b []) ≡ before_trimmed b []
+end_before_by : (t : Bool) (b : ℕ) → is_blank_or_line_feed b ≡ t → trim_end is_blank_or_line_feed (before_trimmed is_blank_or_line_feed b []) ≡ before_trimmed is_blank_or_line_feed b []
 unfolding trim_end
 end_before_by true b h = rw h refl
 end_before_by false b h = rw h (rw h refl)
 
-end_before : (b : ℕ) (rest : List ℕ) → trim_end rest ≡ rest → trim_end (before_trimmed b rest) ≡ before_trimmed b rest
+end_before : (b : ℕ) (rest : List ℕ) → trim_end is_blank_or_line_feed rest ≡ rest → trim_end is_blank_or_line_feed (before_trimmed is_blank_or_line_feed b rest) ≡ before_trimmed is_blank_or_line_feed b rest
 unfolding trim_end
-end_before b [] h = end_before_by (is_blank b) b refl
-end_before b (c ∷ cs) h = ap (before_trimmed b) h
+end_before b [] h = end_before_by (is_blank_or_line_feed b) b refl
+end_before b (c ∷ cs) h = ap (before_trimmed is_blank_or_line_feed b) h
 
-end_end : (bs : List ℕ) → trim_end (trim_end bs) ≡ trim_end bs
+end_end : (bs : List ℕ) → trim_end is_blank_or_line_feed (trim_end is_blank_or_line_feed bs) ≡ trim_end is_blank_or_line_feed bs
 unfolding trim_end
 end_end [] = refl
-end_end (b ∷ bs) = end_before b (trim_end bs) (end_end bs)
+end_end (b ∷ bs) = end_before b (trim_end is_blank_or_line_feed bs) (end_end bs)
 
 -- a trimmed text stays as it is
-pub trim-trim : (bs : List ℕ) → trim (trim bs) ≡ trim bs
+pub trim-trim : (bs : List ℕ) → trim is_blank_or_line_feed (trim is_blank_or_line_feed bs) ≡ trim is_blank_or_line_feed bs
 trim-trim bs =
-    let begins_so = begins_end (trim_start bs) (begins_start bs) in
-    ap trim_end (start_same (trim bs) begins_so) ∙ end_end (trim_start bs)
+    let begins_so = begins_end (trim_start is_blank_or_line_feed bs) (begins_start bs) in
+    ap (trim_end is_blank_or_line_feed) (start_same (trim is_blank_or_line_feed bs) begins_so) ∙ end_end (trim_start is_blank_or_line_feed bs)
 
 pub false_not : (a : Bool) → a ≡ false → not a ≡ true
 false_not true h = cc
 false_not false h = refl
 
-value_line : (bs : List ℕ) → only_last bs ≡ true → list_any is_refused bs ≡ false → IsLine (trim bs)
+value_line : (bs : List ℕ) → only_last bs ≡ true → list_any is_refused bs ≡ false → IsLine (trim is_blank_or_line_feed bs)
 value_line bs last clean = record {
   trimmed = trim-trim bs;
-  unbroken = false_not _ (unbroken_end (trim_start bs) (last_start bs last));
-  clean = false_not _ (any_end is_refused (trim_start bs) (any_start is_refused bs clean));
+  unbroken = false_not _ (unbroken_end (trim_start is_blank_or_line_feed bs) (last_start bs last));
+  clean = false_not _ (any_end is_refused (trim_start is_blank_or_line_feed bs) (any_start is_refused bs clean));
 }
 
-lower_begins : (name : List ℕ) → begins is_ascii_alphabetic name ≡ true → begins is_ascii_alphabetic (map to_ascii_lowercase name) ≡ true
+lower_begins : (name : List ℕ) → begins is_ascii_alphabetic name ≡ true → begins is_ascii_alphabetic (lowered name) ≡ true
 lower_begins [] h = h
 lower_begins (b ∷ bs) h = grind (arith, nat_tests)
 
@@ -186,17 +190,17 @@ lower_byte b h = grind (arith, nat_tests)
 pub and_both : (a b : Bool) → a ≡ true → b ≡ true → (a && b) ≡ true
 and_both a b h e = rw (h, e) refl
 
-lower_all : (name : List ℕ) → list_all is_name_byte name ≡ true → list_all is_name_byte (map to_ascii_lowercase name) ≡ true
+lower_all : (name : List ℕ) → list_all is_name_byte name ≡ true → list_all is_name_byte (lowered name) ≡ true
 lower_all [] h = h
 lower_all (b ∷ bs) h = and_both _ _ (lower_byte b (and_left _ _ h)) (lower_all bs (and_right _ _ h))
 
-lower_name : (name : List ℕ) → is_name name ≡ true → is_name (map to_ascii_lowercase name) ≡ true
+lower_name : (name : List ℕ) → is_attribute_name name ≡ true → is_attribute_name (lowered name) ≡ true
 lower_name name h =
     let front = and_left (begins is_ascii_alphabetic name && list_all is_name_byte name) (nat_le (length name) 64) h in
     and_both _ _ (and_both _ _ (lower_begins name (and_left _ _ front)) (lower_all name (and_right (begins is_ascii_alphabetic name) _ front)))
     (ap (λ n. nat_le n 64) (length-map name to_ascii_lowercase) ∙ and_right (begins is_ascii_alphabetic name && list_all is_name_byte name) _ h)
 
-lower_lower : (name : List ℕ) → map to_ascii_lowercase (map to_ascii_lowercase name) ≡ map to_ascii_lowercase name
+lower_lower : (name : List ℕ) → lowered (lowered name) ≡ lowered name
 lower_lower [] = refl
 lower_lower (b ∷ bs) = rw (lowercase-lowercase b, lower_lower bs) refl
 
@@ -220,12 +224,12 @@ good_continuation line is h =
     let by : fault_by_kind false line Continuation ≡ None = ap (fault_by_kind false line) (sym is) ∙ h in
     (clean_by (list_any is_refused line) line None refl by).0
 
-good_opening : (line : List ℕ) → line_kind line ≡ Opening → line_fault false line ≡ None → (list_any is_refused line ≡ false) × (is_name (written_name line) ≡ true)
+good_opening : (line : List ℕ) → line_kind line ≡ Opening → line_fault false line ≡ None → (list_any is_refused line ≡ false) × (is_attribute_name (written_name line) ≡ true)
 unfolding line_fault opening_fault
 good_opening line is h =
     let by : fault_by_kind false line Opening ≡ None = ap (fault_by_kind false line) (sym is) ∙ h in
     let clean = clean_by (list_any is_refused line) line (opening_fault line) refl by in
-    (clean.0, named_by (list_any is_colon line) (is_name (written_name line)) clean.1)
+    (clean.0, named_by (list_any is_colon line) (is_attribute_name (written_name line)) clean.1)
 
 continued_by_good : (kind : LineKind) (line : List ℕ) (others : List (List ℕ)) → line_kind line ≡ kind → IsGood line → AllByRecursion IsLine (continued others) → AllByRecursion IsLine (continued (line ∷ others))
 unfolding continued

@@ -1,7 +1,7 @@
 -- The blocks of a text: its runs of lines between blank ones (RFC 2622, 2).
-use Rattle.std.specs.Prelude.{ℕ, Bool, true, false, List, [], ◌∷◌, filter, map, if◌then◌else◌}
-use Rattle.std.specs.List.{slice_split}
-use Rattle.rr_text.specs.Lines.{is_blank_line, is_skipped_line, is_paragraph_line}
+use Rattle.std.specs.Prelude.{ℕ, Bool, true, false, ◌-◌, List, [], ◌∷◌, length, drop, filter, map, if◌then◌else◌}
+use Rattle.std.specs.List.{concat, slice_split}
+use Rattle.rr_text.specs.Lines.{text_lines, is_blank_line, is_skipped_line, is_paragraph_line}
 
 -- a run of lines less the skipped ones before its first other line (profile)
 unfoldable pub from_unskipped : List (List ℕ) → List (List ℕ)
@@ -27,6 +27,15 @@ until_blank (line ∷ others) = if is_blank_line line then [] else line ∷ unti
 unfoldable pub from_blank : List (List ℕ) → List (List ℕ)
 from_blank [] = []
 from_blank (line ∷ others) = if is_blank_line line then line ∷ others else from_blank others
+
+-- the lines from the first one on that is neither blank nor skipped
+unfoldable pub from_block : List (List ℕ) → List (List ℕ)
+from_block [] = []
+from_block (line ∷ others) = if is_paragraph_line line then line ∷ others else from_block others
+
+-- the place behind the first block from a place on: that of the blank line that ends it, and else the end of the text (RFC 2622, 2)
+unfoldable pub place_behind : ℕ → List ℕ → ℕ
+place_behind from text = length text - length (concat (from_blank (from_block (text_lines (drop from text)))))
 
 -- the first line is neither blank nor skipped
 abbrev pub starts_block : List (List ℕ) → Bool

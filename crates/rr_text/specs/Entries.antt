@@ -6,7 +6,10 @@ use Rattle.rr_text.specs.declared.fault.TextFault.{TextFault}
 use Rattle.rr_text.specs.declared.fault.TextFault.TheVariants.{TooLarge}
 use Rattle.rr_text.specs.declared.line.LineKind.{LineKind}
 use Rattle.rr_text.specs.declared.line.LineKind.TheVariants.{Blank, Skipped, Continuation, Opening}
-use Rattle.rr_text.specs.Bytes.{is_colon, trim}
+use Rattle.rr_bytes.specs.Blanks.{is_blank_or_line_feed}
+use Rattle.rr_bytes.specs.LetterCase.{lowered}
+use Rattle.rr_bytes.specs.Trims.{trim}
+use Rattle.rr_text.specs.Bytes.{is_colon}
 use Rattle.rr_text.specs.Lines.{text_lines, line_kind}
 use Rattle.rr_text.specs.Blocks.{blocks}
 use Rattle.rr_text.specs.Faults.{written_name, block_fault}
@@ -14,11 +17,11 @@ use Rattle.rr_text.specs.Fields.{Field}
 
 -- the line of a value that a line opens with: what stands behind its first colon (RFC 2622, 2)
 abbrev pub opened_value : List ℕ → List ℕ
-opened_value line = trim (after_first is_colon line)
+opened_value line = trim is_blank_or_line_feed (after_first is_colon line)
 
 -- the line that a continuation adds to a value: all but its first byte (RFC 2622, 2)
 abbrev pub added_value : List ℕ → List ℕ
-added_value line = trim (drop 1 line)
+added_value line = trim is_blank_or_line_feed (drop 1 line)
 
 -- the lines that continue a value, by the kind of the first line after it
 abbrev pub continued_by : List ℕ → LineKind → List (List ℕ) → List (List ℕ)
@@ -41,7 +44,7 @@ added_lines line Opening = []
 
 -- the attribute that a line opens, its name in lower case, with the lines that continue its value (RFC 2622, 2)
 abbrev pub opened_field : List ℕ → List (List ℕ) → Field
-opened_field line more = record { name = map to_ascii_lowercase (written_name line); lines = opened_value line ∷ more }
+opened_field line more = record { name = lowered (written_name line); lines = opened_value line ∷ more }
 
 -- the attributes from a line on, by its kind
 abbrev pub opened_by : List ℕ → LineKind → List (List ℕ) → List Field → List Field

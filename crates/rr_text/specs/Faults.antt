@@ -6,18 +6,21 @@ use Rattle.rr_text.specs.declared.fault.TextFault.{TextFault}
 use Rattle.rr_text.specs.declared.fault.TextFault.TheVariants.{BadByte, FirstContinues, NoColon, BadName}
 use Rattle.rr_text.specs.declared.line.LineKind.{LineKind}
 use Rattle.rr_text.specs.declared.line.LineKind.TheVariants.{Blank, Skipped, Continuation, Opening}
-use Rattle.rr_text.specs.Bytes.{is_refused, is_colon, is_name, trim_end}
+use Rattle.rr_bytes.specs.Blanks.{is_blank_or_line_feed}
+use Rattle.rr_bytes.specs.NameBytes.{is_attribute_name}
+use Rattle.rr_bytes.specs.Trims.{trim_end}
+use Rattle.rr_text.specs.Bytes.{is_refused, is_colon}
 use Rattle.rr_text.specs.Lines.{line_kind}
 
 -- the name that a line opens with: what stands before its first colon, less the blanks behind it (RFC 2622, 2; the blanks: profile)
 abbrev pub written_name : List ℕ → List ℕ
-written_name line = trim_end (before_first is_colon line)
+written_name line = trim_end is_blank_or_line_feed (before_first is_colon line)
 
 -- a line that opens an attribute has a colon and a good name before it (RFC 2622, 2)
 unfoldable pub opening_fault : List ℕ → Option TextFault
 opening_fault line =
     if not (list_any is_colon line) then Some NoColon
-    else (if not (is_name (written_name line)) then Some BadName else None)
+    else (if not (is_attribute_name (written_name line)) then Some BadName else None)
 
 -- a block does not begin with a continuation (RFC 2622, 2)
 abbrev pub continuation_fault : Bool → Option TextFault

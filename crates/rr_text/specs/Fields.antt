@@ -4,7 +4,11 @@ use Rattle.std.specs.List.{list_any, AllByRecursion}
 use Rattle.std.specs.Str.{bytes_eq}
 use Rattle.std.specs.Cmp.Lexicographic.{pointwise}
 use Rattle.std.specs.Char.{to_ascii_lowercase}
-use Rattle.rr_text.specs.Bytes.{is_name, is_refused, is_line_feed, trim}
+use Rattle.rr_bytes.specs.Blanks.{is_blank_or_line_feed, is_line_feed}
+use Rattle.rr_bytes.specs.LetterCase.{lowered}
+use Rattle.rr_bytes.specs.NameBytes.{is_attribute_name}
+use Rattle.rr_bytes.specs.Trims.{trim}
+use Rattle.rr_text.specs.Bytes.{is_refused}
 
 -- an attribute: its name, and its value as a list of lines
 pub record Field : Type 0 where
@@ -13,14 +17,14 @@ pub record Field : Type 0 where
 
 -- a line of a value has no blanks round it, no LF and no refused byte
 pub record IsLine (line : List ℕ) : Type 0 where
-  pub trimmed : trim line ≡ line
+  pub trimmed : trim is_blank_or_line_feed line ≡ line
   pub unbroken : not (list_any is_line_feed line) ≡ true
   pub clean : not (list_any is_refused line) ≡ true
 
 -- an attribute's name is a name in lower case, and its value has at least one line
 pub record IsField (field : Field) : Type 0 where
-  pub named : is_name field.name ≡ true
-  pub lower : map to_ascii_lowercase field.name ≡ field.name
+  pub named : is_attribute_name field.name ≡ true
+  pub lower : lowered field.name ≡ field.name
   pub some : 0 < length field.lines
   pub good : AllByRecursion IsLine field.lines
 

@@ -3,7 +3,8 @@ use Rattle.std.specs.Prelude.{ℕ, Bool, true, false, not, ◌==◌, ◌≡◌, 
 use Rattle.std.specs.List.{list_all, onto_first}
 use Rattle.rr_text.specs.declared.line.LineKind.{LineKind}
 use Rattle.rr_text.specs.declared.line.LineKind.TheVariants.{Blank, Skipped, Continuation, Opening}
-use Rattle.rr_text.specs.Bytes.{is_blank, is_line_feed, begins}
+use Rattle.rr_bytes.specs.Blanks.{is_blank_or_line_feed, is_line_feed}
+use Rattle.rr_bytes.specs.NameBytes.{begins}
 
 -- a line runs to the next LF and keeps it; the last line may have none (RFC 2622, 2)
 unfoldable pub text_lines : List ℕ → List (List ℕ)
@@ -12,7 +13,7 @@ text_lines (b ∷ bs) = if is_line_feed b then (b ∷ []) ∷ text_lines bs else
 
 -- a line of blanks alone (RFC 2622, 2)
 abbrev pub is_blank_line : List ℕ → Bool
-is_blank_line line = list_all is_blank line
+is_blank_line line = list_all is_blank_or_line_feed line
 
 -- the bytes that begin a remark, `#` and `%` (profile)
 abbrev pub is_remark_sign : ℕ → Bool
@@ -24,7 +25,7 @@ is_skipped_line line = begins is_remark_sign line
 
 -- a further line of a value begins with a blank or `+` (RFC 2622, 2)
 abbrev pub is_continuation_sign : ℕ → Bool
-is_continuation_sign b = is_blank b || (b == 43)
+is_continuation_sign b = is_blank_or_line_feed b || (b == 43)
 
 -- the first kind that fits: blank, skipped, continuation, and else a line that opens an attribute (RFC 2622, 2)
 unfoldable pub line_kind : List ℕ → LineKind

@@ -2,7 +2,7 @@
 
 ghost use Rattle.std.specs.Prelude.{◌≡◌, ◌<◌, ◌≤◌, ◌∷◌, ◌++◌, ◌⊎◌, ℕ, List, [], length, drop, true, IfSome, IfNone};
 ghost use Rattle.rr_text.specs.Lines.{text_lines};
-ghost use Rattle.rr_text.specs.Blocks.{blocks, until_blank, from_blank, starts_block};
+ghost use Rattle.rr_text.specs.Blocks.{blocks, until_blank, from_blank, from_block, place_behind, starts_block};
 
 use crate::line::{is_blank_only, is_of_paragraph, split_line};
 
@@ -10,6 +10,7 @@ use crate::line::{is_blank_only, is_of_paragraph, split_line};
 fn skip_to_block(text: &[u8]) -> &[u8]
     ensures after { (front : List ℕ) × (text.now ≡ front ++ result.now) }
     ensures same { blocks (text_lines result.now) ≡ blocks (text_lines text.now) }
+    ensures lines { text_lines result.now ≡ from_block (text_lines text.now) }
     ensures starts { (result.now ≡ []) ⊎ (starts_block (text_lines result.now) ≡ true) }
 {
     let mut rest = text;
@@ -45,6 +46,8 @@ fn split_block(text: &[u8]) -> (&[u8], &[u8])
 pub(crate) fn take_block(text: &[u8], from: usize) -> Option<(&[u8], usize)>
     requires { from ≤ length text.now }
     ensures none { IfNone result (blocks (text_lines (drop from text.now)) ≡ []) }
+    ensures end { IfNone result (length text.now ≡ place_behind from text.now) }
+    ensures behind { IfSome result (λ taken. taken.1 ≡ place_behind from text.now) }
     ensures found { IfSome result (λ taken. (from < taken.1) × (taken.1 ≤ length text.now)
         × (starts_block (text_lines taken.0.now) ≡ true)
         × (blocks (text_lines (drop from text.now))

@@ -1,9 +1,7 @@
 //! Blocks read as paragraphs.
 
 ghost use Rattle.std.specs.Prelude.{◌≡◌, ◌≢◌, ◌<◌, ◌≤◌, ◌++◌, ◌∷◌, IfOk, IfErr, OnOk, None, Ok, Err, length, map, true};
-ghost use Rattle.std.specs.List.{before_first, after_first};
-ghost use Rattle.std.specs.Char.{to_ascii_lowercase};
-ghost use Rattle.rr_text.specs.Bytes.{is_colon};
+ghost use Rattle.rr_bytes.specs.LetterCase.{lowered};
 ghost use Rattle.rr_text.specs.Lines.{text_lines};
 ghost use Rattle.rr_text.specs.Blocks.{starts_block};
 ghost use Rattle.rr_text.specs.Faults as faults;
@@ -12,40 +10,20 @@ ghost use Rattle.rr_text.specs.Entries as entries;
 
 use crate::attribute::Attribute;
 use crate::fault::TextFault;
-use crate::inspect::{block_fault, colon_place};
+use crate::inspect::block_fault;
 use crate::line::{LineKind, split_line};
 use crate::paragraph::Paragraph;
 use crate::text::Text;
-use crate::trim::{trim, trim_end};
+use rr_bytes::{ByteSet, cut_around, to_lower, trim, trim_end};
 use std::alloc::{AllocError, Global};
 
 /// The most bytes that a paragraph has.
 const SIZE_LIMIT: usize = 65_536;
 
-/// What stands before and behind the first colon of a line.
-#[tactic(auto, using(crate::proofs::FaultLemmas::found_at, crate::proofs::FaultLemmas::none_at))]
-fn split_colon(line: &[u8]) -> (&[u8], &[u8])
-    ensures name { result.0.now ≡ before_first is_colon line.now }
-    ensures value { result.1.now ≡ after_first is_colon line.now }
-{
-    match colon_place(line) {
-        Some(place) => {
-            let (name, _) = line.split_at(place);
-            let (_, value) = line.split_at(place + 1);
-            (name, value)
-        }
-        None => line.split_at(line.len()),
-    }
-}
-
 fn lower_name(alloc: Global, name: &[u8]) -> Result<Text, AllocError>
-    ensures { IfOk result (λ text. text ≡ map to_ascii_lowercase name.now) }
+    ensures { IfOk result (λ text. text ≡ lowered name.now) }
 {
-    let lower = name
-        .iter()
-        .map(|byte| byte.to_ascii_lowercase())
-        .collect(alloc)?;
-    Ok(Text::from_vec(lower))
+    Ok(Text::from_vec(to_lower(alloc, name)?))
 }
 
 /// The line that a continuation adds to a value.
@@ -54,7 +32,7 @@ fn added_value(alloc: Global, line: &[u8]) -> Result<Text, AllocError>
     ensures { IfOk result (λ text. text ≡ entries.added_value line.now) }
 {
     match line.split_first() {
-        Some((_, rest)) => Text::from_slice(alloc, trim(rest)),
+        Some((_, rest)) => Text::from_slice(alloc, trim(rest, ByteSet::BlanksAndLineFeeds)),
         None => Text::from_slice(alloc, line),
     }
 }
@@ -112,9 +90,9 @@ fn read_attribute<'t>(
     ensures rest { IfOk result (λ read. entries.block_fields (text_lines read.1.now) ≡ entries.block_fields (text_lines after.now)) }
     ensures shorter { IfOk result (λ read. length read.1.now ≤ length after.now) }
 {
-    let (name, value) = split_colon(line);
-    let name = lower_name(alloc, trim_end(name))?;
-    let first = Text::from_slice(alloc, trim(value))?;
+    let (name, value) = cut_around(line, b':');
+    let name = lower_name(alloc, trim_end(name, ByteSet::BlanksAndLineFeeds))?;
+    let first = Text::from_slice(alloc, trim(value, ByteSet::BlanksAndLineFeeds))?;
     let (lines, rest) = value_lines(alloc, first, after)?;
     Ok((Attribute::new(name, lines), rest))
 }

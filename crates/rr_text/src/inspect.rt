@@ -1,65 +1,23 @@
 //! What is wrong with lines and blocks.
 
 ghost use Rattle.std.specs.Prelude.{◌≡◌, Some, None};
-ghost use Rattle.std.specs.List.{list_all, position};
-ghost use Rattle.std.specs.Char.{is_ascii_alphabetic};
-ghost use Rattle.rr_text.specs.Bytes as bytes;
 ghost use Rattle.rr_text.specs.Lines.{text_lines};
 ghost use Rattle.rr_text.specs.Faults as faults;
 
 use crate::fault::TextFault;
 use crate::line::{LineKind, has_refused_byte, split_line};
-use crate::trim::trim_end;
-
-/// The place of the first colon of a line.
-#[inline]
-pub(crate) fn colon_place(line: &[u8]) -> Option<usize>
-    ensures { result ≡ position bytes.is_colon line.now }
-{
-    line.iter().position(|byte| *byte == b':')
-}
-
-#[inline]
-fn is_name_byte(byte: u8) -> bool
-    ensures { result ≡ bytes.is_name_byte byte }
-{
-    byte.is_ascii_alphanumeric() || byte == b'-' || byte == b'_'
-}
-
-#[inline]
-fn begins_with_letter(name: &[u8]) -> bool
-    ensures { result ≡ bytes.begins is_ascii_alphabetic name.now }
-{
-    match name {
-        [first, ..] => first.is_ascii_alphabetic(),
-        [] => false,
-    }
-}
-
-#[inline]
-fn has_name_bytes(name: &[u8]) -> bool
-    ensures { result ≡ list_all bytes.is_name_byte name.now }
-{
-    name.iter().all(|byte| is_name_byte(*byte))
-}
-
-/// Whether a text is the name of an attribute, in either case.
-fn is_name(name: &[u8]) -> bool
-    ensures { result ≡ bytes.is_name name.now }
-{
-    begins_with_letter(name) && has_name_bytes(name) && name.len() <= 64
-}
+use rr_bytes::{ByteSet, is_attribute_name, place_of, trim_end};
 
 /// The fault of a line that opens an attribute and has no refused byte.
 #[tactic(auto, using(crate::proofs::FaultLemmas::not_found, crate::proofs::FaultLemmas::found_at), unfolding(crate::specs::Faults::opening_fault))]
 fn opening_fault(line: &[u8]) -> Option<TextFault>
     ensures { result ≡ faults.opening_fault line.now }
 {
-    match colon_place(line) {
+    match place_of(line, b':') {
         None => Some(TextFault::NoColon),
         Some(place) => {
             let (before, _) = line.split_at(place);
-            if is_name(trim_end(before)) {
+            if is_attribute_name(trim_end(before, ByteSet::BlanksAndLineFeeds)) {
                 None
             } else {
                 Some(TextFault::BadName)

@@ -14,7 +14,6 @@ pub mod reader;
 #[cfg(test)]
 mod tests;
 pub mod text;
-mod trim;
 pub mod value;
 pub mod whole;
 

@@ -2,10 +2,13 @@
 
 ghost use Rattle.std.specs.Prelude.{◌≡◌, ◌<◌, ◌∷◌, ◌++◌, ◌⊎◌, [], length, true};
 ghost use Rattle.std.specs.List.{list_any, list_all, position};
-ghost use Rattle.rr_text.specs.Bytes.{is_blank, is_refused, is_line_feed, begins};
+ghost use Rattle.rr_bytes.specs.Blanks.{is_line_feed};
+ghost use Rattle.rr_bytes.specs.NameBytes.{begins};
+ghost use Rattle.rr_text.specs.Bytes.{is_refused};
 ghost use Rattle.rr_text.specs.Lines.{is_blank_line, is_skipped_line, is_paragraph_line, is_continuation_sign, line_kind, opens_attribute, text_lines, are_whole_lines};
 
 use memchr::memchr;
+use rr_bytes::ByteSet;
 
 /// What kind of line a line is (RFC 2622, 2).
 #[derive(Clone, Copy, Debug, PartialEq, Eq)]
@@ -48,20 +51,12 @@ impl LineKind {
     }
 }
 
-/// Whether a byte is a space, a tab, a CR or an LF.
-#[inline]
-pub(crate) fn is_blank_byte(byte: u8) -> bool
-    ensures { result ≡ is_blank byte }
-{
-    (byte == b' ') | (byte == b'\t') | (byte == b'\r') | (byte == b'\n')
-}
-
 /// Whether a byte may stand in skipped lines alone.
 #[inline]
 fn is_refused_byte(byte: u8) -> bool
     ensures { result ≡ is_refused byte }
 {
-    byte.is_ascii_control() & !is_blank_byte(byte)
+    byte.is_ascii_control() & !ByteSet::BlanksAndLineFeeds.has(byte)
 }
 
 /// Whether a line is one of blanks alone, which ends a paragraph.
@@ -69,7 +64,8 @@ fn is_refused_byte(byte: u8) -> bool
 pub(crate) fn is_blank_only(line: &[u8]) -> bool
     ensures { result ≡ is_blank_line line.now }
 {
-    line.iter().all(|byte| is_blank_byte(*byte))
+    line.iter()
+        .all(|byte| ByteSet::BlanksAndLineFeeds.has(*byte))
 }
 
 #[inline]
@@ -87,7 +83,7 @@ fn begins_continuation(line: &[u8]) -> bool
     ensures { result ≡ begins is_continuation_sign line.now }
 {
     match line {
-        [first, ..] => is_blank_byte(*first) || *first == b'+',
+        [first, ..] => ByteSet::BlanksAndLineFeeds.has(*first) || *first == b'+',
         [] => false,
     }
 }

@@ -1,38 +1,20 @@
 //! What values say.
 
 ghost use Rattle.std.specs.Prelude.{◌≡◌, IfOk, map};
-ghost use Rattle.std.specs.List.{before_first, join_with_byte, position};
-ghost use Rattle.rr_text.specs.Bytes.{is_hash};
+ghost use Rattle.std.specs.List.{join_with_byte};
 ghost use Rattle.rr_text.specs.Meanings as meanings;
 
 use crate::attribute::Attribute;
 use crate::text::Text;
-use crate::trim::trim;
+use rr_bytes::{ByteSet, cut_before, trim};
 use std::alloc::{AllocError, Global};
-
-#[inline]
-fn hash_place(line: &[u8]) -> Option<usize>
-    ensures { result ≡ position is_hash line.now }
-{
-    line.iter().position(|byte| *byte == b'#')
-}
-
-/// What stands before the comment of a line.
-#[tactic(auto, using(crate::proofs::FaultLemmas::found_at, crate::proofs::FaultLemmas::none_at))]
-fn before_comment(line: &[u8]) -> &[u8]
-    ensures { result.now ≡ before_first is_hash line.now }
-{
-    match hash_place(line) {
-        Some(place) => line.split_at(place).0,
-        None => line,
-    }
-}
 
 /// A line less its comment.
 fn uncommented(line: &[u8]) -> &[u8]
     ensures { result.now ≡ meanings.uncommented line.now }
 {
-    trim(before_comment(line))
+    let (text, _) = cut_before(line, b'#');
+    trim(text, ByteSet::BlanksAndLineFeeds)
 }
 
 /// Lines less their comments, joined by one space.
@@ -58,5 +40,5 @@ pub fn meaning(alloc: Global, attribute: &Attribute) -> Result<Text, AllocError>
     ensures { IfOk result (λ text. text ≡ meanings.value_meaning attribute.now.lines) }
 {
     let joined = join_uncommented(alloc, attribute.lines())?;
-    Text::from_slice(alloc, trim(joined.as_slice()))
+    Text::from_slice(alloc, trim(joined.as_slice(), ByteSet::BlanksAndLineFeeds))
 }

@@ -2,7 +2,7 @@ use Rattle.std.proofs.Common.{◌⊎◌, List, [], Contains, inl, inr, sym, subs
 use Rattle.std.proofs.lemmas.Result.{err_from_is_err_and}
 use Rattle.std.proofs.lemmas.List.Elements.{Contains-get_or}
 use Rattle.rr_graph.specs.Chain.{IsReached, MoreThan}
-use Rattle.rr_graph.specs.Listing.{Lists}
+use Rattle.rr_graph.specs.ListingParts.{Lists}
 use Rattle.rr_graph.proofs.Listings.{MoreThan-listed, MoreThan-weaker}
 use Rattle.rr_graph.proofs.Reached.{IsReached-edge, IsReached-start, IsSearching-all, IsSearching-more, IsSearching-none}
 use Rattle.rr_graph.proofs.reach.Goals as goal

@@ -6,9 +6,10 @@ ghost use Rattle.std.specs.Option.{option_copied};
 ghost use Rattle.rr_number.specs.Parents.{front_of, parent_of};
 ghost use Rattle.rr_number.specs.SetNames.{components, is_as_number};
 
-use super::SetName;
+use super::{SetName, is_as_number};
 use crate::AsNumber;
-use crate::digits::cut;
+use crate::name_text::NameText;
+use rr_bytes::cut_at;
 use std::alloc::{AllocError, Global};
 
 /// What all components of a set's name but the last name (RFC 2622, 5; RFC 2725, 9).
@@ -27,7 +28,7 @@ impl SetName {
     pub fn parent(&self, alloc: Global) -> Result<Option<Parent>, AllocError>
         ensures { IfOk result (λ parent. parent ≡ parent_of self.now) }
     {
-        let Some(front) = front(&self.bytes) else {
+        let Some(front) = front(self.as_bytes()) else {
             return Ok(None);
         };
         if let Some(number) = AsNumber::read(front) {
@@ -37,7 +38,8 @@ impl SetName {
             return Ok(Some(Parent::Bare));
         }
         let bytes = Vec::from_slice(alloc, front)?;
-        Ok(Some(Parent::Set(SetName { bytes })))
+        let text = NameText::from_vec(bytes);
+        Ok(Some(Parent::Set(SetName { text })))
     }
 }
 
@@ -46,7 +48,7 @@ fn front(bytes: &[u8]) -> Option<&[u8]>
     ensures { option_copied result ≡ front_of bytes.now }
 {
     let mut last = bytes;
-    'components: while let Some((_, after)) = cut(last, b':') {
+    'components: while let Some((_, after)) = cut_at(last, b':') {
         last = after;
     }
     if last.len() == bytes.len() {
@@ -62,10 +64,4 @@ fn has_as_numbers_alone(bytes: &[u8]) -> bool
     bytes
         .split(|b| *b == b':')
         .all(|component| is_as_number(component))
-}
-
-fn is_as_number(component: &[u8]) -> bool
-    ensures { result ≡ is_as_number component.now }
-{
-    AsNumber::read(component).is_some()
 }

@@ -1,6 +1,6 @@
 use Rattle.std.proofs.Common.{List, subst}
 use Rattle.std.proofs.lemmas.List.{take_all}
-use Rattle.rr_graph.specs.Reversed.{IsBackward, edges_at}
+use Rattle.rr_graph.specs.ReversedParts.{IsBackward, edges_at}
 use Rattle.rr_graph.proofs.Backwards.{IsBackward-more}
 use Rattle.rr_graph.proofs.backward.reversed.Goals as goal
 

@@ -1,5 +1,5 @@
 use Rattle.std.proofs.Common.{take}
-use Rattle.rr_graph.specs.Reversed.{IsBackward, edges_at}
+use Rattle.rr_graph.specs.ReversedParts.{IsBackward, edges_at}
 use Rattle.rr_graph.proofs.backward.reversed.Given as goal
 
 abbrev pub invariant-loop-tail : goal.invariant-loop-tail

@@ -1,5 +1,5 @@
 use Rattle.std.proofs.lemmas.Result.{IfOk-weaker, on_ok_weaker}
-use Rattle.rr_graph.specs.Reversed.{IsCarriedPair, LeadsBack, edges_at}
+use Rattle.rr_graph.specs.ReversedParts.{IsCarriedPair, LeadsBack, edges_at}
 use Rattle.rr_graph.specs.Chain.{IsReached}
 use Rattle.rr_graph.proofs.CarriedBack.{IsCarriedPair-reached}
 use Rattle.rr_graph.proofs.Listings.{MoreThan-weaker}

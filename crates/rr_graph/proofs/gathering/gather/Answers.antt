@@ -1,7 +1,7 @@
 use Rattle.std.proofs.Common.{◌↔◌, List, [], Contains, inl, inr, refl, sym, subst}
 use Rattle.std.proofs.lemmas.Result.{err_from_is_err_and}
 use Rattle.rr_graph.specs.Carried.{IsFoundPair, IsNamed}
-use Rattle.rr_graph.specs.Reversed.{IsCarriedPair}
+use Rattle.rr_graph.specs.ReversedParts.{IsCarriedPair}
 use Rattle.rr_graph.proofs.CarriedBack.{IsFoundPair-carried}
 use Rattle.rr_graph.proofs.Lists.{Contains-head}
 use Rattle.rr_graph.proofs.Listings.{MoreThan-weaker}

@@ -1,6 +1,6 @@
 use Rattle.std.proofs.Common.{◌↔◌, ◌++◌, List, Contains, ap, map, ◌∙◌, subst}
 use Rattle.std.proofs.lemmas.List.{take_all}
-use Rattle.rr_graph.specs.Reversed.{IsOwnPair}
+use Rattle.rr_graph.specs.ReversedParts.{IsOwnPair}
 use Rattle.rr_graph.proofs.OwnPairs.{IsOwnPair-more}
 use Rattle.rr_graph.proofs.pairs.own_pairs.Goals as goal
 

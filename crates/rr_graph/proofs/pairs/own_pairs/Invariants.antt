@@ -1,5 +1,5 @@
 use Rattle.std.proofs.Common.{◌↔◌, Contains, take}
-use Rattle.rr_graph.specs.Reversed.{IsOwnPair}
+use Rattle.rr_graph.specs.ReversedParts.{IsOwnPair}
 use Rattle.rr_graph.proofs.pairs.own_pairs.Given as goal
 
 abbrev pub invariant-loop-node : goal.invariant-loop-node

@@ -1,5 +1,5 @@
 use Rattle.std.proofs.Common.{refl}
-use Rattle.rr_text.specs.Bytes.{trim_start, trim_end}
+use Rattle.rr_bytes.specs.Trims.{trim_start, trim_end}
 use Rattle.rr_object.proofs.object.public.Goals as goal
 
 -- the line has no blanks round it, no LF and no refused byte

@@ -1,7 +1,7 @@
 use Rattle.std.proofs.Common.{◌≡◌, ◌+◌, ◌<◌, ◌^◌, length}
 use Rattle.std.specs.FinMap.{empty}
 use Rattle.std.specs.Vec.Iter.{into_iter_items, into_iter_len}
-use Rattle.rr_registry.specs.Books.{book_of}
+use Rattle.rr_book.specs.Books.{book_of}
 use Rattle.rr_registry.specs.Loading.{clash, gathered, IsApart}
 use Rattle.rr_registry.proofs.load.gather.Given as goal
 

@@ -2,7 +2,7 @@ use Rattle.std.proofs.Common.{◌≡◌, ◌++◌, ◌||◌, ℕ, List, false, s
 use Rattle.std.specs.Prelude.{find, is_none}
 use Rattle.std.specs.List.{list_any}
 use Rattle.rr_auth.specs.Registries.{is_mntner_of}
-use Rattle.rr_registry.proofs.Names.{any_routes}
+use Rattle.rr_book.proofs.Names.{any_routes}
 use Rattle.rr_registry.proofs.load.some_unknown_in_routes.Goals as goal
 
 pub returns-else-some_unknown_in_lower : goal.returns-else-some_unknown_in_lower

@@ -5,7 +5,8 @@ use Rattle.std.specs.Option.{option_copied}
 use Rattle.rr_object.specs.Objects.{Obj}
 use Rattle.rr_object.specs.declared.key.Key.TheVariants.{AsSet}
 use Rattle.rr_sets.specs.Lists.{IsReferrer, lent}
-use Rattle.rr_sets.specs.SetObjects.{number_listed, number_of_key, takes}
+use Rattle.rr_sets.specs.KeyParts.{number_of_key}
+use Rattle.rr_sets.specs.SetObjects.{number_listed, takes}
 use Rattle.rr_sets.proofs.Numbers.{numbers_of_set}
 use Rattle.rr_sets.proofs.direct.registered_numbers.Goals as goal
 

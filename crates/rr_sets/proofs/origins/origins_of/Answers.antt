@@ -5,8 +5,8 @@ use Rattle.rr_graph.proofs.Lists.{Contains-nil, filter_map_more-None, filter_map
 use Rattle.rr_number.specs.Prefixes.{PrefixParts}
 use Rattle.rr_object.specs.Objects.{Obj}
 use Rattle.rr_sets.specs.Lists.{IsRoute, ListsOnce}
-use Rattle.rr_sets.specs.Origins.{prefixes_at}
-use Rattle.rr_sets.specs.RouteObjects.{route_of_key}
+use Rattle.rr_sets.specs.OriginParts.{prefixes_at}
+use Rattle.rr_sets.specs.KeyParts.{route_of_key}
 use Rattle.rr_sets.specs.declared.origins.Origins.{Origins}
 use Rattle.rr_sets.proofs.OriginLists.{gathered_more, routes_of_all}
 use Rattle.rr_sets.proofs.origins.origins_of.Goals as goal

@@ -3,7 +3,7 @@ use Rattle.rr_graph.specs.declared.labels.Edge.{Edge}
 use Rattle.rr_graph.proofs.Lists.{filter_map_more-None, filter_map_more-Some}
 use Rattle.rr_number.specs.declared.operator.Operator.{Operator}
 use Rattle.rr_object.specs.declared.member.MemberSet.{MemberSet}
-use Rattle.rr_sets.specs.References.{reference_of}
+use Rattle.rr_sets.specs.MemberParts.{reference_of}
 use Rattle.rr_sets.proofs.references.references_listed.Goals as goal
 use Rattle.rr_sets.proofs.references.references_listed.Goals.{in-Set+in_ok-copy_of+in_ok-push, in_default}
 

@@ -1,6 +1,6 @@
 use Rattle.std.proofs.Common.{◌≡◌, take}
 use Rattle.std.specs.List.{filter_map}
-use Rattle.rr_sets.specs.References.{reference_of}
+use Rattle.rr_sets.specs.MemberParts.{reference_of}
 use Rattle.rr_sets.proofs.references.references_listed.Given as goal
 
 abbrev pub invariant-loop-member : goal.invariant-loop-member

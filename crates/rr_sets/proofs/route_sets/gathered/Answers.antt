@@ -1,5 +1,5 @@
 use Rattle.std.proofs.lemmas.Result.{IfOk-weaker, on_ok_weaker}
-use Rattle.rr_sets.specs.Origins.{prefixes_at}
+use Rattle.rr_sets.specs.OriginParts.{prefixes_at}
 use Rattle.rr_sets.proofs.SameRanges.{same_ranges, same_too_many}
 use Rattle.rr_sets.proofs.route_sets.gathered.Goals as goal
 

@@ -1,7 +1,7 @@
 use Rattle.std.proofs.Common.{◌++◌, ◌∙◌, [], ◌∷◌, ℕ, List, ap, sym}
 use Rattle.std.specs.Option.{option_copied}
 use Rattle.rr_graph.proofs.Lists.{filter_map_more-None, filter_map_more-Some}
-use Rattle.rr_sets.specs.References.{missing_name}
+use Rattle.rr_sets.specs.MemberParts.{missing_name}
 use Rattle.rr_sets.proofs.route_sets.missing_names.Goals as goal
 use Rattle.rr_sets.proofs.route_sets.missing_names.Goals.{in-Some+in_ok-copy+in_ok-push, in_default}
 

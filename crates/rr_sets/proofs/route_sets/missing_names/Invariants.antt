@@ -1,6 +1,6 @@
 use Rattle.std.proofs.Common.{◌≡◌, take}
 use Rattle.std.specs.List.{filter_map}
-use Rattle.rr_sets.specs.References.{missing_name}
+use Rattle.rr_sets.specs.MemberParts.{missing_name}
 use Rattle.rr_sets.proofs.route_sets.missing_names.Given as goal
 
 abbrev pub invariant-loop-set : goal.invariant-loop-set

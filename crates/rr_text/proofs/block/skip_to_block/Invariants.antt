@@ -1,12 +1,13 @@
 use Rattle.std.proofs.Common.{◌≡◌, ◌++◌, List, ℕ, length}
 use Rattle.rr_text.specs.Lines.{text_lines}
-use Rattle.rr_text.specs.Blocks.{blocks}
+use Rattle.rr_text.specs.Blocks.{blocks, from_block}
 use Rattle.rr_text.proofs.block.skip_to_block.Given as goal
 
 abbrev pub invariant-lines : goal.invariant-lines
 invariant-lines l = record {
   after : (front : List ℕ) × (l.text ≡ front ++ l.rest);
   same : blocks (text_lines l.rest) ≡ blocks (text_lines l.text);
+  lines : from_block (text_lines l.rest) ≡ from_block (text_lines l.text);
 }
 
 abbrev pub decreases-lines : goal.decreases-lines

@@ -1,5 +1,5 @@
 use Rattle.std.proofs.Common.{refl}
-use Rattle.rr_text.specs.Bytes.{trim_start, trim_end}
+use Rattle.rr_bytes.specs.Trims.{trim_end, trim_start}
 use Rattle.rr_text.proofs.tests.paragraphs_are_copied_and_changed.Goals as goal
 
 pub with_values-requires : goal.with_values-requires

@@ -2,7 +2,7 @@ use Rattle.std.proofs.Common.{◌≡◌, ◌∙◌, ◌++◌, [], ◌∷◌, Lis
 use Rattle.std.specs.BTreeMap.{is_at}
 use Rattle.std.proofs.lemmas.Grind.{common_steps}
 use Rattle.std.proofs.lemmas.List.{append-nil}
-use Rattle.rr_graph.specs.Reversed.{AddsBackward, edges_at}
+use Rattle.rr_graph.specs.ReversedParts.{AddsBackward, edges_at}
 use Rattle.rr_graph.specs.declared.labels.Edge.{Edge}
 use Rattle.rr_graph.proofs.Backwards.{AddsBackward-more, AddsBackward-none}
 use Rattle.rr_graph.proofs.backward.Backward.add_all.Goals as goal

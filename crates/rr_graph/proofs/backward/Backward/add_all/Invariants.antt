@@ -1,5 +1,5 @@
 use Rattle.std.proofs.Common.{List, ◌≡◌, ◌++◌, length}
-use Rattle.rr_graph.specs.Reversed.{AddsBackward, edges_at}
+use Rattle.rr_graph.specs.ReversedParts.{AddsBackward, edges_at}
 use Rattle.rr_graph.specs.declared.labels.Edge.{Edge}
 use Rattle.rr_graph.proofs.backward.Backward.add_all.Given as goal
 

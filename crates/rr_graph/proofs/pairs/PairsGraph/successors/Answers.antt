@@ -2,7 +2,7 @@ use Rattle.std.proofs.Common.{◌≡◌, ◌↔◌, List, Contains, Option, Some
 use Rattle.std.specs.List.{filter_map}
 use Rattle.std.specs.Option.{option_map}
 use Rattle.std.proofs.lemmas.Result.{IfOk-weaker}
-use Rattle.rr_graph.specs.Reversed.{LeadsBack, edges_at}
+use Rattle.rr_graph.specs.ReversedParts.{LeadsBack, edges_at}
 use Rattle.rr_graph.specs.declared.labels.Edge.{Edge}
 use Rattle.rr_graph.proofs.Lists.{Contains-filter_map}
 use Rattle.rr_graph.proofs.pairs.PairsGraph.successors.Goals as goal

@@ -2,7 +2,7 @@ use Rattle.std.proofs.Common.{◌≡◌, ◌⊎◌, ◌++◌, [], ◌∷◌, Lis
 use Rattle.std.proofs.lemmas.List.{append-nil}
 use Rattle.std.proofs.lemmas.List.Elements.{Contains-append_left, Contains-append_right, Contains-push}
 use Rattle.std.proofs.lemmas.Result.{err_from_is_err_and}
-use Rattle.rr_graph.specs.Listing.{Lists}
+use Rattle.rr_graph.specs.ListingParts.{Lists}
 use Rattle.rr_graph.proofs.Listings.{Lists-more, Lists-none, MoreThan-weaker}
 use Rattle.rr_graph.proofs.walk.Found.add_all.Goals as goal
 

@@ -2,7 +2,7 @@ use Rattle.std.proofs.Common.{List, ◌≡◌, ◌++◌, length}
 use Rattle.std.specs.BTreeSet.{BTreeSet}
 use Rattle.std.specs.declared.cmp.Ordering.{Ordering}
 use Rattle.std.proofs.Common.{ℕ}
-use Rattle.rr_graph.specs.Listing.{IsListing, Lists}
+use Rattle.rr_graph.specs.ListingParts.{IsListing, Lists}
 use Rattle.rr_graph.proofs.walk.Found.add_all.Given as goal
 
 -- The nodes taken from the end so far are added.

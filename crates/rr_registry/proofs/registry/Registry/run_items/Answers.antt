@@ -14,7 +14,7 @@ loop-submitted-preserved c =
     let room : vec_len c.push_reserved.new.self + into_iter_len c.next.new.self ≡ vec_capacity c.push_reserved.new.self =
     omega (arith, before.3, steps.1, c.push_reserved.ensures.len, c.push_reserved.ensures.capacity) in (
       rw c.push_reserved.ensures.items
-          (run_more _ c.loop-submitted.self _ c.loop-submitted.yielded item c.loop-submitted.outcomes.items c.apply.result before.0 c.apply.ensures),
+          (run_more _ c.loop-submitted.self _ c.loop-submitted.yielded item c.loop-submitted.outcomes.items c.decide.result before.0 c.decide.ensures),
       append_assoc c.loop-submitted.yielded (item ∷ []) rest ∙ ap (λ xs. c.loop-submitted.yielded ++ xs) (sym steps.0) ∙ before.1,
       left,
       room,

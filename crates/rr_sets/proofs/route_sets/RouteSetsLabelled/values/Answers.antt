@@ -1,5 +1,5 @@
 use Rattle.std.proofs.lemmas.Result.{IfOk-weaker}
-use Rattle.rr_sets.specs.Origins.{prefixes_at}
+use Rattle.rr_sets.specs.OriginParts.{prefixes_at}
 use Rattle.rr_sets.proofs.RangeLists.{ranges_by_number}
 use Rattle.rr_sets.proofs.route_sets.RouteSetsLabelled.values.Goals as goal
 

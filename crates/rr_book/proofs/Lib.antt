@@ -1,0 +1,8 @@
+pub mod Crossing
+pub mod KeysUnderSets
+pub mod Names
+pub mod Order
+pub mod Origins
+pub mod Places
+pub mod ReferrerLists
+pub mod SetLists

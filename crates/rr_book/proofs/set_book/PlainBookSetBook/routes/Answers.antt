@@ -1,0 +1,13 @@
+use Rattle.std.proofs.Common.{◌∙◌, ap}
+use Rattle.std.specs.List.{filter}
+use Rattle.std.proofs.lemmas.Result.{IfOk-weaker}
+use Rattle.rr_object.specs.declared.class.Class.TheVariants.{Route}
+use Rattle.rr_book.specs.SetLists.{is_of_class}
+use Rattle.rr_book.proofs.SetLists.{lists_routes}
+use Rattle.rr_book.proofs.set_book.PlainBookSetBook.routes.Goals as goal
+
+pub returns : goal.returns
+returns c =
+    IfOk-weaker c.objects_of_class.result _ _
+    (λ found is. lists_routes c.args.self.now c.sound.ensures found.items (is ∙ ap (filter (is_of_class Route)) c.objects.ensures))
+    c.objects_of_class.ensures

@@ -1,0 +1,4 @@
+pub mod Books
+pub mod Classes
+pub mod Referrers
+pub mod SetLists

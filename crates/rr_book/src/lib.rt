@@ -1,0 +1,12 @@
+//! The book of a registry in memory: objects in the order of their keys, what an item is judged by, and the lists that
+//! expansions of sets ask for.
+#![tactic(auto)]
+
+mod closest;
+mod keys;
+pub mod lists;
+mod plain_book;
+mod referrers;
+mod set_book;
+
+pub use plain_book::PlainBook;

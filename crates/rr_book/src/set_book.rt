@@ -1,0 +1,49 @@
+//! The lists that expansions of sets ask for: of a class by one pass over the objects, of referrers by the keys under the set.
+
+ghost use Rattle.std.specs.Prelude.{◌≡◌, IfOk, filter};
+ghost use Rattle.rr_book.specs.SetLists.{is_of_class};
+ghost use Rattle.rr_sets.specs.Lists.{lent};
+
+use crate::plain_book::PlainBook;
+use rr_auth::Book;
+use rr_number::SetName;
+use rr_object::{Class, Object};
+use rr_sets::SetBook;
+use std::alloc::{AllocError, Global};
+
+impl SetBook for PlainBook {
+    fn aut_nums(&self, alloc: Global) -> Result<Vec<&Object>, AllocError> {
+        self.sound();
+        objects_of_class(alloc, self.objects(), Class::AutNum)
+    }
+
+    fn routes(&self, alloc: Global) -> Result<Vec<&Object>, AllocError> {
+        self.sound();
+        objects_of_class(alloc, self.objects(), Class::Route)
+    }
+
+    fn referrers(&self, alloc: Global, name: &SetName) -> Result<Vec<&Object>, AllocError> {
+        self.sound();
+        self.objects_that_name(alloc, name)
+    }
+}
+
+/// The objects of the class.
+fn objects_of_class<'a>(
+    alloc: Global,
+    objects: &'a [Object],
+    class: Class,
+) -> Result<Vec<&'a Object>, AllocError>
+    ensures { IfOk result (λ found. lent found.items ≡ filter (is_of_class class) objects.now) }
+{
+    objects
+        .iter()
+        .filter(|object| is_of_class(object, class))
+        .collect(alloc)
+}
+
+fn is_of_class(object: &Object, class: Class) -> bool
+    ensures { result ≡ is_of_class class object.now }
+{
+    object.key().class() == class
+}

@@ -1,0 +1,4 @@
+pub mod CutLemmas
+pub mod LetterCaseLemmas
+pub mod PlaceLemmas
+pub mod TrimLemmas

@@ -1,0 +1,16 @@
+-- Letter case.
+use Rattle.std.specs.Prelude.{ℕ, Bool, List, map}
+use Rattle.std.specs.Char.{to_ascii_lowercase, to_ascii_uppercase}
+use Rattle.std.specs.Str.{bytes_eq}
+
+-- Names are kept and printed with their letters in upper case (RFC 2622, 2; profile).
+abbrev pub upper : List ℕ → List ℕ
+upper text = map to_ascii_uppercase text
+
+-- The names of attributes are kept and printed with their letters in lower case (profile).
+abbrev pub lowered : List ℕ → List ℕ
+lowered text = map to_ascii_lowercase text
+
+-- A text is this word; letter case is ignored (RFC 2622, 2).
+unfoldable pub is_keyword : List ℕ → List ℕ → Bool
+is_keyword word text = bytes_eq (lowered text) (lowered word)

@@ -1,0 +1,30 @@
+//! Sets of bytes that stand between or round what counts of a text.
+
+ghost use Rattle.std.specs.Prelude.{◌≡◌};
+ghost use Rattle.rr_bytes.specs.ByteSets.{is_in};
+
+/// A set of bytes that stand between or round what counts of a text (RFC 2622, 2; CR: profile).
+#[derive(Clone, Copy, Debug, PartialEq, Eq)]
+pub enum ByteSet {
+    /// Spaces, tabs and CRs: the blanks inside a line, between words.
+    Blanks,
+    /// These and LFs: the blanks round a line.
+    BlanksAndLineFeeds,
+    /// Blanks and commas, between the items of a list.
+    BlanksAndCommas,
+}
+
+impl ByteSet {
+    /// Whether the byte is one of the set.
+    #[inline]
+    pub fn has(self, byte: u8) -> bool
+        ensures { result ≡ is_in self byte }
+    {
+        let is_blank = (byte == b' ') | (byte == b'\t') | (byte == b'\r');
+        match self {
+            ByteSet::Blanks => is_blank,
+            ByteSet::BlanksAndLineFeeds => is_blank | (byte == b'\n'),
+            ByteSet::BlanksAndCommas => is_blank | (byte == b','),
+        }
+    }
+}

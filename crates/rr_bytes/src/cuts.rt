@@ -1,0 +1,61 @@
+//! Texts cut at a byte.
+
+ghost use Rattle.std.specs.Prelude.{◌≡◌, ◌==◌, ◌≤◌, length, position};
+ghost use Rattle.std.specs.List.{after_first, before_first, position_or_len};
+ghost use Rattle.std.specs.Option.{option_map};
+ghost use Rattle.rr_bytes.specs.Cuts.{cut_at, from_first};
+
+/// The place of the first such byte of the text, if it has one.
+#[inline]
+pub fn place_of(text: &[u8], byte: u8) -> Option<usize>
+    ensures { result ≡ position (λ b. b == byte) text.now }
+{
+    text.iter().position(|b| *b == byte)
+}
+
+/// What stands before and after the first such byte of the text, if it has one.
+#[inline]
+#[tactic(auto, unfolding(crate::specs::Cuts::cut_at))]
+pub fn cut_at(text: &[u8], byte: u8) -> Option<(&[u8], &[u8])>
+    ensures { option_map (λ parts. (parts.0.now, parts.1.now)) result ≡ cut_at byte text.now }
+{
+    let place = place_of(text, byte)?;
+    let (before, _) = text.split_at(place);
+    let (_, after) = text.split_at(place + 1);
+    Some((before, after))
+}
+
+/// What stands before the first such byte of the text, and the rest, which begins with it; all of the text and nothing
+/// where it has none.
+#[inline]
+pub fn cut_before(text: &[u8], byte: u8) -> (&[u8], &[u8])
+    ensures front { result.0.now ≡ before_first (λ b. b == byte) text.now }
+    ensures back { result.1.now ≡ from_first byte text.now }
+{
+    text.split_at(end_of_front(text, byte))
+}
+
+/// What stands before and after the first such byte of the text; all of the text and nothing where it has none.
+#[inline]
+pub fn cut_around(text: &[u8], byte: u8) -> (&[u8], &[u8])
+    ensures front { result.0.now ≡ before_first (λ b. b == byte) text.now }
+    ensures back { result.1.now ≡ after_first (λ b. b == byte) text.now }
+{
+    let place = end_of_front(text, byte);
+    let (front, back) = text.split_at(place);
+    if back.is_empty() {
+        return (front, back);
+    }
+    let (_, after) = text.split_at(place + 1);
+    (front, after)
+}
+
+/// The place of the first such byte of the text, or the text's length where it has none.
+#[inline]
+#[tactic(auto, using(crate::proofs::PlaceLemmas::place_is, crate::proofs::PlaceLemmas::position_within))]
+fn end_of_front(text: &[u8], byte: u8) -> usize
+    ensures place { result ≡ position_or_len (λ b. b == byte) text.now }
+    ensures within { result ≤ length text.now }
+{
+    place_of(text, byte).unwrap_or(text.len())
+}

@@ -1,0 +1,29 @@
+//! Letter case, which words ignore (RFC 2622, 2).
+
+ghost use Rattle.std.specs.Prelude.{◌≡◌, IfOk};
+ghost use Rattle.std.specs.Str.{bytes_eq};
+ghost use Rattle.rr_bytes.specs.LetterCase.{is_keyword, lowered, upper};
+
+use std::alloc::{AllocError, Global};
+
+/// Whether the text is the word, but for the case of letters (RFC 2622, 2).
+pub fn is_keyword(text: &[u8], word: &[u8]) -> bool
+    ensures value { result ≡ is_keyword word.now text.now }
+    ensures upper { result ≡ bytes_eq (upper text.now) (upper word.now) }
+{
+    text.eq_ignore_ascii_case(word)
+}
+
+/// The text with its letters in upper case; the error is want of memory.
+pub fn to_upper(alloc: Global, text: &[u8]) -> Result<Vec<u8>, AllocError>
+    ensures { IfOk result (λ bytes. bytes.items ≡ upper text.now) }
+{
+    text.iter().map(|b| b.to_ascii_uppercase()).collect(alloc)
+}
+
+/// The text with its letters in lower case; the error is want of memory.
+pub fn to_lower(alloc: Global, text: &[u8]) -> Result<Vec<u8>, AllocError>
+    ensures { IfOk result (λ bytes. bytes.items ≡ lowered text.now) }
+{
+    text.iter().map(|b| b.to_ascii_lowercase()).collect(alloc)
+}

@@ -1,0 +1,17 @@
+//! Bytes, and texts as their bytes: blanks and the line feed, texts less the blanks round them, texts cut at a byte and into
+//! parts, letter case, and what names are made of. Each notion has one definition and one body for all crates.
+#![tactic(auto)]
+
+mod byte_set;
+mod cuts;
+mod letter_case;
+mod names;
+mod parts;
+mod trims;
+
+pub use byte_set::ByteSet;
+pub use cuts::{cut_around, cut_at, cut_before, place_of};
+pub use letter_case::{is_keyword, to_lower, to_upper};
+pub use names::{is_attribute_name, is_name};
+pub use parts::parts_between;
+pub use trims::{trim, trim_end, trim_start};

@@ -1,0 +1,44 @@
+//! Texts less the blanks round them.
+
+ghost use Rattle.std.specs.Prelude.{◌≡◌};
+ghost use Rattle.rr_bytes.specs.ByteSets.{is_in};
+ghost use Rattle.rr_bytes.specs.Trims as trims;
+
+use crate::byte_set::ByteSet;
+
+/// The text less the bytes of the set before it.
+#[tactic(auto, using(crate::proofs::TrimLemmas::trim_start_blank, crate::proofs::TrimLemmas::trim_start_kept, crate::proofs::TrimLemmas::trim_start_none))]
+pub fn trim_start(text: &[u8], blanks: ByteSet) -> &[u8]
+    ensures { result.now ≡ trims.trim_start (is_in blanks) text.now }
+{
+    let mut rest = text;
+    'bytes: while let Some((first, after)) = rest.split_first() {
+        if !blanks.has(*first) {
+            break 'bytes;
+        }
+        rest = after;
+    }
+    rest
+}
+
+/// The text less the bytes of the set behind it.
+#[tactic(auto, using(crate::proofs::TrimLemmas::trim_end_blank, crate::proofs::TrimLemmas::trim_end_kept, crate::proofs::TrimLemmas::trim_end_none))]
+pub fn trim_end(text: &[u8], blanks: ByteSet) -> &[u8]
+    ensures { result.now ≡ trims.trim_end (is_in blanks) text.now }
+{
+    let mut rest = text;
+    'bytes: while let Some((last, before)) = rest.split_last() {
+        if !blanks.has(*last) {
+            break 'bytes;
+        }
+        rest = before;
+    }
+    rest
+}
+
+/// The text less the bytes of the set round it.
+pub fn trim(text: &[u8], blanks: ByteSet) -> &[u8]
+    ensures { result.now ≡ trims.trim (is_in blanks) text.now }
+{
+    trim_end(trim_start(text, blanks), blanks)
+}

@@ -1,3 +1,0 @@
-pub mod OpeningTexts
-pub mod OpeningObjects
-pub mod OpeningRegistry

@@ -1,0 +1,52 @@
+//! Spans as texts: two ends with a dash between them.
+
+ghost use Rattle.std.specs.Prelude.{◌≡◌, ◌+◌, ◌++◌, ◌≤◌, List, Option, length, ℕ};
+ghost use Rattle.rr_number.specs.EndsTexts.{ends_between, ends_text};
+
+use crate::short_text::ShortText;
+use crate::span::Span;
+
+/// How the ends of a kind of spans are spelled and printed.
+pub(crate) trait End {
+    // the number that the text spells, if it does
+    ghost end_of: { List ℕ → Option ℕ };
+
+    // the number as it is printed
+    ghost end_text: { ℕ → List ℕ };
+
+    /// The number that the whole text spells, if it does.
+    fn read_end(text: &[u8]) -> Option<u32>
+        ensures { result ≡ end_of text.now };
+
+    /// Appends the number's text, at most 15 bytes.
+    fn push_end(number: u32, text: &mut ShortText)
+        requires { length text.old + 15 ≤ 40 }
+        ensures value { text.new ≡ text.old ++ end_text number }
+        ensures short { length text.new ≤ length text.old + 15 };
+}
+
+/// The span between the ends that two texts spell, if they do and the first is not above the last.
+#[inline]
+#[tactic(auto, unfolding(crate::specs::EndsTexts::ends_between))]
+pub(crate) fn read_between<E: End>(first: &[u8], last: &[u8]) -> Option<Span>
+    ensures { result ≡ ends_between E.end_of first.now last.now }
+{
+    let first = E::read_end(first)?;
+    let last = E::read_end(last)?;
+    if first <= last {
+        Some(Span::new(first, last))
+    } else {
+        None
+    }
+}
+
+/// The span's ends with ` - ` between them.
+pub(crate) fn ends_text<E: End>(span: Span) -> ShortText
+    ensures { result ≡ ends_text E.end_text span }
+{
+    let mut text = ShortText::new();
+    E::push_end(span.first(), &mut text);
+    text.push_str(" - ");
+    E::push_end(span.last(), &mut text);
+    text
+}

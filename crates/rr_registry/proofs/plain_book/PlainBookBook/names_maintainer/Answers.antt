@@ -1,7 +1,0 @@
-use Rattle.rr_registry.proofs.Order.{told}
-use Rattle.rr_registry.proofs.plain_book.PlainBookBook.names_maintainer.Goals as goal
-
-pub returns : goal.returns
-returns c =
-    let objects = told _ _ c.deref.result.now c.self.view_is c.self.invariant.book.ordered c.deref.ensures.value in
-    rw (← objects) c.some_names.ensures

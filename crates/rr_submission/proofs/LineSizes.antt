@@ -1,0 +1,83 @@
+-- How long the parts of a line are.
+use Rattle.std.proofs.Common.{◌≡◌, ℕ, ◌≤◌, length, List, lit≤, arith}
+use Rattle.std.proofs.lemmas.Bool.{and_parts, leb-true}
+use Rattle.rr_number.specs.Names.{IsUpperName, is_name}
+use Rattle.rr_number.specs.SetNames.{IsSetText, is_set_name}
+use Rattle.rr_object.specs.Classes.{class_name}
+use Rattle.rr_object.specs.Codes.{code_name}
+use Rattle.rr_object.specs.declared.class.Class.{Class}
+use Rattle.rr_object.specs.declared.class.Class.TheVariants.{Mntner, AsBlock, AutNum, Inetnum, Route, AsSet, RouteSet}
+use Rattle.rr_object.specs.declared.code.Code.{Code}
+use Rattle.rr_object.specs.declared.code.Code.TheVariants.{E01, E02, E03, E04, E05, E06, E07, E10, E11, E12, E13, E14, E15, E16, E17, E18, E90, E91, E92}
+use Rattle.rr_registry.specs.declared.outcome.Outcome.{Outcome}
+use Rattle.rr_registry.specs.declared.outcome.Outcome.TheVariants.{Added, Changed, Same, Deleted, Refused}
+use Rattle.rr_submission.specs.declared.ending.Ending.{Ending}
+use Rattle.rr_submission.specs.declared.ending.Ending.TheVariants.{Complete, ReadFault, Memory, Stopped}
+use Rattle.rr_submission.specs.Endings.{before_count, behind_count}
+use Rattle.rr_submission.specs.Reports.{outcome_word, refusal_code}
+
+pub name_short : (name : List ℕ) → IsUpperName name → length name ≤ 255
+unfolding is_name
+name_short name h =
+    let size : length name ≤ 80 = leb-true _ _ (and_parts _ _ h.spelled).0 in
+    omega arith
+
+pub set_name_short : (name : List ℕ) → IsSetText name → length name ≤ 255
+unfolding is_set_name
+set_name_short name h = leb-true _ _ (and_parts _ _ h.spelled).0
+
+pub class_name_short : (class : Class) → length (class_name class) ≤ 9
+class_name_short Mntner = lit≤ tt
+class_name_short AsBlock = lit≤ tt
+class_name_short AutNum = lit≤ tt
+class_name_short Inetnum = lit≤ tt
+class_name_short Route = lit≤ tt
+class_name_short AsSet = lit≤ tt
+class_name_short RouteSet = lit≤ tt
+
+code_name_short : (code : Code) → length (code_name code) ≤ 3
+code_name_short E01 = lit≤ tt
+code_name_short E02 = lit≤ tt
+code_name_short E03 = lit≤ tt
+code_name_short E04 = lit≤ tt
+code_name_short E05 = lit≤ tt
+code_name_short E06 = lit≤ tt
+code_name_short E07 = lit≤ tt
+code_name_short E10 = lit≤ tt
+code_name_short E11 = lit≤ tt
+code_name_short E12 = lit≤ tt
+code_name_short E13 = lit≤ tt
+code_name_short E14 = lit≤ tt
+code_name_short E15 = lit≤ tt
+code_name_short E16 = lit≤ tt
+code_name_short E17 = lit≤ tt
+code_name_short E18 = lit≤ tt
+code_name_short E90 = lit≤ tt
+code_name_short E91 = lit≤ tt
+code_name_short E92 = lit≤ tt
+
+pub outcome_word_short : (outcome : Outcome) → length (outcome_word outcome) ≤ 9
+outcome_word_short Added = lit≤ tt
+outcome_word_short Changed = lit≤ tt
+outcome_word_short Same = lit≤ tt
+outcome_word_short Deleted = lit≤ tt
+outcome_word_short (Refused code) = lit≤ tt
+
+pub refusal_code_short : (outcome : Outcome) → length (refusal_code outcome) ≤ 3
+refusal_code_short Added = lit≤ tt
+refusal_code_short Changed = lit≤ tt
+refusal_code_short Same = lit≤ tt
+refusal_code_short Deleted = lit≤ tt
+refusal_code_short (Refused code) = code_name_short code
+
+pub before_count_short : (ending : Ending) → length (before_count ending) ≤ 19
+before_count_short Complete = lit≤ tt
+before_count_short ReadFault = lit≤ tt
+before_count_short Memory = lit≤ tt
+before_count_short Stopped = lit≤ tt
+
+pub behind_count_short : (ending : Ending) → length (behind_count ending) ≤ 7
+behind_count_short Complete = lit≤ tt
+behind_count_short ReadFault = lit≤ tt
+behind_count_short Memory = lit≤ tt
+behind_count_short Stopped = lit≤ tt

@@ -1,0 +1,9 @@
+pub mod Requests
+pub mod SubmissionItems
+pub mod Refusals
+pub mod Endings
+pub mod Reports
+pub mod Ledgers
+pub mod Served
+pub mod Submissions
+pub mod SubmissionTexts

@@ -1,0 +1,58 @@
+-- What a paragraph of a submission asks (profile).
+use Rattle.std.specs.Prelude.{◌≡◌, ℕ, Bool, true, false, List, Some, None, Result, Ok, Err, IfSome, ◌⊎◌}
+use Rattle.rr_text.specs.Fields.{Field}
+use Rattle.rr_text.specs.declared.fault.TextFault.{TextFault}
+use Rattle.rr_text.specs.declared.fault.TextFault.TheVariants.{TooLarge, BadByte, FirstContinues, NoColon, BadName, Memory}
+use Rattle.rr_object.specs.declared.code.Code.{Code}
+use Rattle.rr_object.specs.declared.code.Code.TheVariants.{E01, E07, E90}
+use Rattle.rr_object.specs.declared.fault.ObjectFault.{ObjectFault}
+use Rattle.rr_object.specs.declared.key.Key.{Key}
+use Rattle.rr_object.specs.Faults.{code_of}
+use Rattle.rr_object.specs.KeySpellings.{key_of}
+use Rattle.rr_object.specs.Objects.{Obj}
+use Rattle.rr_object.specs.Readings.{object_of}
+use Rattle.rr_auth.specs.declared.item.Item.{Item}
+use Rattle.rr_auth.specs.declared.item.Item.TheVariants.{Submit, Delete}
+use Rattle.rr_submission.specs.declared.request.Request.{Request}
+use Rattle.rr_submission.specs.SubmissionTexts.{own_fields, asks_deletion}
+
+-- the code of a paragraph that could not be read as text
+abbrev pub text_code : TextFault → Code
+text_code TooLarge = E07
+text_code BadByte = E01
+text_code FirstContinues = E01
+text_code NoColon = E01
+text_code BadName = E01
+text_code Memory = E90
+
+-- refused before its class and key were read: the report shows no key
+abbrev pub unread : Code → Request
+unread code = record { key = None; action = Err code }
+
+-- an object is submitted, or refused with the code of its first fault
+abbrev pub submission : Result Obj ObjectFault → Result Item Code
+submission (Ok object) = Ok (Submit object)
+submission (Err fault) = Err (code_of fault)
+
+-- what is asked about the object of a key: its deletion, or that it be as the paragraph says
+abbrev pub action_of : List ℕ → List Field → Key → Bool → Result Item Code
+action_of source own key true = Ok (Delete key)
+action_of source own key false = submission (object_of own source)
+
+-- what is asked where the key was read or not
+abbrev pub request_of_key : List ℕ → List Field → Bool → Result Key ObjectFault → Request
+request_of_key source own deletes (Err fault) = unread (code_of fault)
+request_of_key source own deletes (Ok key) = record { key = Some key; action = action_of source own key deletes }
+
+-- what a paragraph asks of a registry of this source: its attributes `password` and `delete` are no part of the object
+unfoldable pub request_of : List ℕ → List Field → Request
+request_of source fields = request_of_key source (own_fields fields) (asks_deletion fields) (key_of (own_fields fields))
+
+-- memory was refused: the item is refused, and a key that it shows is that of its paragraph
+pub record LacksMemory (fields : List Field) (request : Request) : Type 0 where
+  pub refused : request.action ≡ Err E90
+  pub shown : IfSome request.key (λ key. key_of (own_fields fields) ≡ Ok key)
+
+-- a reading of what a paragraph asks, which may want memory
+abbrev pub IsRequest : List ℕ → List Field → Request → Type 0
+IsRequest source fields request = (request ≡ request_of source fields) ⊎ LacksMemory fields request

@@ -1,0 +1,106 @@
+-- The items of the entries of a text decided one by one, each with its line (profile).
+use Rattle.std.specs.Prelude.{◌≡◌, ℕ, ◌+◌, List, [], ◌∷◌, ◌++◌, length, map, Result, Ok, Err, if◌then◌else◌}
+use Rattle.rr_io.specs.Told.{Told}
+use Rattle.rr_io.specs.Sending.{Takes, TakesFront, TakesSome}
+use Rattle.rr_text.specs.Fields.{Field}
+use Rattle.rr_text.specs.declared.fault.TextFault.{TextFault}
+use Rattle.rr_object.specs.declared.code.Code.{Code}
+use Rattle.rr_auth.specs.declared.item.Item.{Item}
+use Rattle.rr_auth.specs.Registries.{Reg}
+use Rattle.rr_registry.specs.declared.outcome.Outcome.{Outcome}
+use Rattle.rr_registry.specs.Runs.{Decides, Run}
+use Rattle.rr_submission.specs.declared.ledger.Ledger.{Ghosts}
+use Rattle.rr_submission.specs.declared.stop.Stop.{Stop}
+use Rattle.rr_submission.specs.declared.stop.Stop.TheVariants.{Unwritten, Halted}
+use Rattle.rr_submission.specs.declared.submission.Done.{Done}
+use Rattle.rr_submission.specs.SubmissionItems.{AreItems, Asked, submitted}
+use Rattle.rr_submission.specs.Refusals.{is_refusal, refusals}
+use Rattle.rr_submission.specs.Reports.{item_line, lines_from, stop_lines}
+use Rattle.rr_submission.specs.declared.request.Request.{Request}
+
+-- each item was decided, and its line was written
+pub record ServesAll (source : List ℕ) (entries : List (Result (List Field) TextFault)) (old new : Reg) (before after : Told) (done : Done) : Type 0 where
+  pub items : List Asked
+  pub outcomes : List Outcome
+  pub are_items : AreItems source [] entries items
+  pub runs : Run old (map submitted items) outcomes new
+  pub writes : Takes before after (lines_from 1 items outcomes)
+  pub counted : done.items ≡ length items
+  pub refused : done.refused ≡ refusals outcomes
+
+-- the line of an item could not be written: it was the last to be decided, the items told before it had been decided and their
+-- lines written whole, and the later ones were not decided
+pub record ServesSome (source : List ℕ) (entries : List (Result (List Field) TextFault)) (old new : Reg) (before after : Told) (count : ℕ) : Type 0 where
+  pub told : List Asked
+  pub last : Asked
+  pub later : List Asked
+  pub outcomes : List Outcome
+  pub outcome : Outcome
+  pub between : Told
+  pub are_items : AreItems source [] entries (told ++ last ∷ later)
+  pub runs : Run old (map submitted (told ++ last ∷ [])) (outcomes ++ outcome ∷ []) new
+  pub writes : Takes before between (lines_from 1 told outcomes)
+  pub cut : TakesFront between after (item_line count last.request.key outcome)
+  pub counted : count ≡ length told + 1
+
+-- the ledger came to a halt at what was asked: only an item brings it to that
+abbrev pub HaltsAt : {L : Type 0} → Ghosts L → L → List (List ℕ) → Result Item Code → L → Type 0
+HaltsAt g old secrets (Ok item) new = g.Halts old secrets item new
+HaltsAt g old secrets (Err code) new = ⊥
+
+-- the ledger came to a halt at an item: the items told before it had been decided and their lines written whole, it has its line
+-- with the code E91 and the last line behind that, as far as they could be written, and the later ones were not decided
+pub record ServesHalted {L : Type 0} (g : Ghosts L) (source : List ℕ) (entries : List (Result (List Field) TextFault)) (old new : L) (before after : Told) (count : ℕ) : Type 0 where
+  pub told : List Asked
+  pub last : Asked
+  pub later : List Asked
+  pub outcomes : List Outcome
+  pub middle : L
+  pub between : Told
+  pub are_items : AreItems source [] entries (told ++ last ∷ later)
+  pub runs : Run (g.registry old) (map submitted told) outcomes (g.registry middle)
+  pub ready : g.Ready middle
+  pub halts : HaltsAt g middle last.secrets last.request.action new
+  pub writes : Takes before between (lines_from 1 told outcomes)
+  pub ends : TakesSome between after (stop_lines count last.request.key)
+  pub counted : count ≡ length told
+
+-- all of the items, with what is counted; those up to the one whose line could not be written, with their number; or those before
+-- the one at which the ledger came to a halt
+abbrev pub Serves : {L : Type 0} → Ghosts L → List ℕ → List (Result (List Field) TextFault) → L → L → Told → Told → Result Done Stop → Type 0
+Serves g source entries old new before after (Ok done) = ServesAll source entries (g.registry old) (g.registry new) before after done
+Serves g source entries old new before after (Err (Unwritten count)) = ServesSome source entries (g.registry old) (g.registry new) before after count
+Serves g source entries old new before after (Err (Halted count)) = ServesHalted g source entries old new before after count
+
+-- a fact that holds unless the ledger came to a halt
+abbrev pub UnlessHalted : {T : Type 0} → Result T Stop → Type 0 → Type 0
+UnlessHalted (Ok done) fact = fact
+UnlessHalted (Err (Unwritten count)) fact = fact
+UnlessHalted (Err (Halted count)) fact = Unit {0}
+
+-- an item was decided and counted, and its line was written
+pub record IsServed (secrets : List (List ℕ)) (request : Request) (done : Done) (old new : Reg) (before after : Told) (counted : Done) : Type 0 where
+  pub outcome : Outcome
+  pub decides : Decides old secrets request.action outcome new
+  pub items : counted.items ≡ done.items + 1
+  pub refused : counted.refused ≡ done.refused + (if is_refusal outcome then 1 else 0)
+  pub writes : Takes before after (item_line counted.items request.key outcome)
+
+-- an item was decided, and its line could not be written
+pub record IsUntold (secrets : List (List ℕ)) (request : Request) (done : Done) (old new : Reg) (before after : Told) (count : ℕ) : Type 0 where
+  pub outcome : Outcome
+  pub decides : Decides old secrets request.action outcome new
+  pub items : count ≡ done.items + 1
+  pub writes : TakesFront before after (item_line count request.key outcome)
+
+-- the ledger came to a halt at an item, which is not counted
+pub record HasHalted {L : Type 0} (g : Ghosts L) (secrets : List (List ℕ)) (request : Request) (done : Done) (old new : L) (before after : Told) (count : ℕ) : Type 0 where
+  pub halts : HaltsAt g old secrets request.action new
+  pub items : count ≡ done.items
+  pub writes : TakesSome before after (stop_lines count request.key)
+
+-- an item was decided, and its line was written or not, or the ledger came to a halt
+abbrev pub ServesOne : {L : Type 0} → Ghosts L → List (List ℕ) → Request → Done → L → L → Told → Told → Result Done Stop → Type 0
+ServesOne g secrets request done old new before after (Ok counted) = IsServed secrets request done (g.registry old) (g.registry new) before after counted
+ServesOne g secrets request done old new before after (Err (Unwritten count)) = IsUntold secrets request done (g.registry old) (g.registry new) before after count
+ServesOne g secrets request done old new before after (Err (Halted count)) = HasHalted g secrets request done old new before after count

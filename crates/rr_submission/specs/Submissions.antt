@@ -1,0 +1,134 @@
+-- What a submission does: to the ledger and its registry, and to its reader and its writer (profile).
+use Rattle.std.specs.Prelude.{◌≡◌, ◌≢◌, ℕ, List, [], length, map, Result, Ok, Err, ◌⊎◌}
+use Rattle.rr_io.specs.Told.{Told}
+use Rattle.rr_io.specs.Receiving.{Gives, Reads}
+use Rattle.rr_io.specs.Sending.{Takes, TakesFront, TakesSome}
+use Rattle.rr_io.specs.declared.receiving.ReadEnd.{ReadEnd}
+use Rattle.rr_io.specs.declared.receiving.ReadEnd.TheVariants.{Whole, Broken, Endless}
+use Rattle.rr_text.specs.Entries.{entries}
+use Rattle.rr_text.specs.WholePart.{whole_entries}
+use Rattle.rr_text.specs.Fields.{Field}
+use Rattle.rr_text.specs.declared.fault.TextFault.{TextFault}
+use Rattle.rr_auth.specs.Registries.{Reg}
+use Rattle.rr_registry.specs.declared.outcome.Outcome.{Outcome}
+use Rattle.rr_registry.specs.Runs.{Run}
+use Rattle.rr_submission.specs.declared.ending.Ending.TheVariants.{Complete, ReadFault, Memory}
+use Rattle.rr_submission.specs.declared.submission.Done.{Done}
+use Rattle.rr_submission.specs.declared.submission.DeskFault.{DeskFault}
+use Rattle.rr_submission.specs.declared.submission.DeskFault.TheVariants as fault
+use Rattle.rr_submission.specs.declared.ledger.Ledger.{Ghosts}
+use Rattle.rr_submission.specs.declared.stop.Stop.{Stop}
+use Rattle.rr_submission.specs.declared.stop.Stop.TheVariants.{Unwritten, Halted}
+use Rattle.rr_submission.specs.SubmissionItems.{AreItems, Asked, submitted}
+use Rattle.rr_submission.specs.Refusals.{refusals}
+use Rattle.rr_submission.specs.Endings.{last_line}
+use Rattle.rr_submission.specs.Reports.{lines_from, report}
+use Rattle.rr_submission.specs.Served.{ServesSome, ServesHalted}
+
+-- the entries that count of a text: all where it ended, and after a read fault those that a blank line closes
+abbrev pub entries_read : ReadEnd → List ℕ → List (Result (List Field) TextFault)
+entries_read Whole text = entries text
+entries_read Broken text = whole_entries text
+entries_read Endless text = whole_entries text
+
+-- a reader and a writer, and a registry, before and after
+pub record Sides : Type 0 where
+  pub source_before : Told
+  pub source_after : Told
+  pub sink_before : Told
+  pub sink_after : Told
+  pub before : Reg
+  pub after : Reg
+
+-- the text was read to its end, each item was decided, and the whole report was written
+pub record IsDone (source : List ℕ) (sides : Sides) (done : Done) : Type 0 where
+  pub text : List ℕ
+  pub items : List Asked
+  pub outcomes : List Outcome
+  pub reads : Reads sides.source_before sides.source_after text Whole
+  pub are_items : AreItems source [] (entries text) items
+  pub runs : Run sides.before (map submitted items) outcomes sides.after
+  pub writes : Takes sides.sink_before sides.sink_after (report Complete items outcomes)
+  pub counted : done.items ≡ length items
+  pub refused : done.refused ≡ refusals outcomes
+
+-- a read failed or there were too many: the items before that were decided and their lines written whole, and the last line was
+-- written or cut short
+pub record IsReadFault (source : List ℕ) (sides : Sides) (count : ℕ) : Type 0 where
+  pub text : List ℕ
+  pub end : ReadEnd
+  pub items : List Asked
+  pub outcomes : List Outcome
+  pub between : Told
+  pub reads : Reads sides.source_before sides.source_after text end
+  pub unended : end ≢ Whole
+  pub are_items : AreItems source [] (whole_entries text) items
+  pub runs : Run sides.before (map submitted items) outcomes sides.after
+  pub writes : Takes sides.sink_before between (lines_from 1 items outcomes)
+  pub ends : TakesSome between sides.sink_after (last_line ReadFault (length items))
+  pub counted : count ≡ length items
+
+-- a write failed in the line of an item, whether or not a read had failed: the items up to that one were decided and no others
+pub record IsLineFault (source : List ℕ) (sides : Sides) (count : ℕ) : Type 0 where
+  pub text : List ℕ
+  pub end : ReadEnd
+  pub reads : Reads sides.source_before sides.source_after text end
+  pub serves : ServesSome source (entries_read end text) sides.before sides.after sides.sink_before sides.sink_after count
+
+-- the text was read to its end, and a write failed in the last line: all items were decided and their lines written whole
+pub record IsLastLineFault (source : List ℕ) (sides : Sides) (count : ℕ) : Type 0 where
+  pub text : List ℕ
+  pub items : List Asked
+  pub outcomes : List Outcome
+  pub between : Told
+  pub reads : Reads sides.source_before sides.source_after text Whole
+  pub are_items : AreItems source [] (entries text) items
+  pub runs : Run sides.before (map submitted items) outcomes sides.after
+  pub writes : Takes sides.sink_before between (lines_from 1 items outcomes)
+  pub cut : TakesFront between sides.sink_after (last_line Complete (length items))
+  pub counted : count ≡ length items
+
+-- a write failed, in the line of an item or in the last line
+abbrev pub IsWriteFault : List ℕ → Sides → ℕ → Type 0
+IsWriteFault source sides count = IsLineFault source sides count ⊎ IsLastLineFault source sides count
+
+-- the ledger came to a halt at an item, whether or not a read had failed: the items before it were decided and no others
+pub record IsStoreFault {L : Type 0} (g : Ghosts L) (source : List ℕ) (sides : Sides) (old new : L) (count : ℕ) : Type 0 where
+  pub text : List ℕ
+  pub end : ReadEnd
+  pub reads : Reads sides.source_before sides.source_after text end
+  pub serves : ServesHalted g source (entries_read end text) old new sides.sink_before sides.sink_after count
+
+-- memory was refused before the first item: nothing was decided
+pub record IsUnread (sides : Sides) : Type 0 where
+  pub text : List ℕ
+  pub gives : Gives sides.source_before sides.source_after text
+  pub same : sides.after ≡ sides.before
+  pub writes : TakesSome sides.sink_before sides.sink_after (last_line Memory 0)
+
+-- what a submission that failed did, by its fault; a ledger that is ready does not say that it is stopped
+abbrev pub FailsBy : {L : Type 0} → Ghosts L → List ℕ → Sides → L → L → DeskFault → Type 0
+FailsBy g source sides old new (fault.ReadFault items) = IsReadFault source sides items
+FailsBy g source sides old new (fault.WriteFault items) = IsWriteFault source sides items
+FailsBy g source sides old new (fault.StoreFault items) = IsStoreFault g source sides old new items
+FailsBy g source sides old new fault.Memory = IsUnread sides
+FailsBy g source sides old new fault.Stopped = ⊥
+
+-- what a submission to a ledger with a registry of this source does, by its answer
+abbrev pub Submits : {L : Type 0} → Ghosts L → List ℕ → Sides → L → L → Result Done DeskFault → Type 0
+Submits g source sides old new (Ok done) = IsDone source sides done
+Submits g source sides old new (Err cause) = FailsBy g source sides old new cause
+
+-- a fact that holds unless the ledger came to a halt
+abbrev pub UnlessStoreFault : Result Done DeskFault → Type 0 → Type 0
+UnlessStoreFault (Ok done) fact = fact
+UnlessStoreFault (Err (fault.ReadFault items)) fact = fact
+UnlessStoreFault (Err (fault.WriteFault items)) fact = fact
+UnlessStoreFault (Err (fault.StoreFault items)) fact = Unit {0}
+UnlessStoreFault (Err fault.Memory) fact = fact
+UnlessStoreFault (Err fault.Stopped) fact = fact
+
+-- the fault of a submission whose items could not all be served
+abbrev pub fault_of : Stop → DeskFault
+fault_of (Unwritten items) = fault.WriteFault items
+fault_of (Halted items) = fault.StoreFault items

@@ -1,0 +1,65 @@
+//! The last line of a report.
+
+ghost use Rattle.std.specs.Prelude.{◌≡◌};
+ghost use Rattle.rr_io.specs.Sending.{Writes};
+ghost use Rattle.rr_submission.specs.Endings.{before_count, behind_count, last_line};
+
+use crate::report_line::ReportLine;
+use rr_io::{Sink, write_all};
+use std::io;
+
+/// How a submission ended.
+#[derive(Clone, Copy, Debug, PartialEq, Eq)]
+pub enum Ending {
+    /// With the end of its text.
+    Complete,
+    /// With a failed read, or with more reads than are made.
+    ReadFault,
+    /// With want of memory, before its first item.
+    Memory,
+    /// With a halt of the ledger at an item, whose line has the code E91.
+    Stopped,
+}
+
+impl Ending {
+    fn before_count(self) -> &'static str
+        ensures { result.now ≡ before_count self }
+    {
+        match self {
+            Ending::Complete => "% items ",
+            Ending::ReadFault => "% read fault after ",
+            Ending::Memory => "% memory after ",
+            Ending::Stopped => "% stopped after ",
+        }
+    }
+
+    fn behind_count(self) -> &'static str
+        ensures { result.now ≡ behind_count self }
+    {
+        match self {
+            Ending::Complete => "\n",
+            Ending::ReadFault | Ending::Memory | Ending::Stopped => " items\n",
+        }
+    }
+}
+
+/// Writes the last line of a report on this many items, whole in the first call of the writer. After a fault the writer has
+/// taken a front of it.
+pub fn write_last_line<W: Sink>(writer: &mut W, ending: Ending, items: u64) -> io::Result<()>
+    ensures writes { Writes (W.told writer.old) (W.told writer.new) (last_line ending items) result }
+    ensures aside { W.aside writer.new ≡ W.aside writer.old }
+{
+    write_all(writer, last_line(ending, items).as_bytes())
+}
+
+/// The last line.
+#[tactic(auto, unfolding(crate::specs::Endings::last_line), using(crate::proofs::LineSizes::before_count_short, crate::proofs::LineSizes::behind_count_short))]
+fn last_line(ending: Ending, items: u64) -> ReportLine
+    ensures { result ≡ last_line ending items }
+{
+    let mut line = ReportLine::new();
+    line.push(ending.before_count().as_bytes());
+    line.push_number(items);
+    line.push(ending.behind_count().as_bytes());
+    line
+}

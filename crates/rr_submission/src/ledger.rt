@@ -1,0 +1,46 @@
+//! Ledgers: what keeps a registry and decides items.
+
+ghost use Rattle.std.specs.Prelude.{◌≡◌, ℕ, List, IfOk, OnOk, OnErr};
+ghost use Rattle.rr_auth.specs.Registries.{Reg};
+ghost use Rattle.rr_auth.specs.declared.item.Item.{Item};
+ghost use Rattle.rr_registry.specs.Runs.{IsStep};
+
+use rr_auth::{Item, Secrets};
+use rr_registry::{Outcome, Registry};
+use std::alloc::Global;
+
+/// A ledger came to a halt at an item: it decides no more.
+#[derive(Clone, Copy, Debug, PartialEq, Eq)]
+pub struct Halted;
+
+/// What keeps a registry and decides items one by one, each for good before the next.
+pub trait Ledger {
+    // The registry that it keeps.
+    ghost registry: { Self → Reg };
+
+    // It has not come to a halt.
+    ghost Ready: { Self → Type 0 };
+
+    // What a halt leaves: of the ledger before it, the secrets, the item, and the ledger after it.
+    ghost Halts: { Self → List (List ℕ) → Item → Self → Type 0 };
+
+    /// Decides an item that was given with these secrets.
+    fn decide(&mut self, alloc: Global, secrets: &Secrets, item: Item) -> Result<Outcome, Halted>
+        requires { Ready self.old }
+        ensures decides { IfOk result (λ outcome. IsStep (registry self.old) secrets.now item outcome (registry self.new)) }
+        ensures ready { OnOk result (Ready self.new) }
+        ensures halts { OnErr result (Halts self.old secrets.now item self.new) };
+}
+
+/// A registry in memory decides each item by itself, and never comes to a halt.
+impl Ledger for Registry {
+    ghost registry = { λ kept. kept };
+
+    ghost Ready = { λ kept. Unit {0} };
+
+    ghost Halts = { λ before secrets item after. ⊥ };
+
+    fn decide(&mut self, alloc: Global, secrets: &Secrets, item: Item) -> Result<Outcome, Halted> {
+        Ok(self.apply(alloc, secrets, item))
+    }
+}

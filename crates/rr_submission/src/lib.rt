@@ -1,0 +1,22 @@
+//! Submissions: the items of a text, what decides them, and the report on them.
+#![tactic(auto)]
+
+mod ending;
+mod items;
+mod ledger;
+mod line;
+mod report_line;
+mod request;
+mod secret;
+mod serving;
+mod stop;
+mod submission;
+mod submission_text;
+
+pub use ending::{Ending, write_last_line};
+pub use items::next_item;
+pub use ledger::{Halted, Ledger};
+pub use line::write_item_line;
+pub use request::Request;
+pub use serving::submit;
+pub use submission::{DeskFault, Done};

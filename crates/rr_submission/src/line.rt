@@ -1,0 +1,105 @@
+//! The lines of a report on items.
+
+ghost use Rattle.std.specs.Prelude.{◌≡◌, ◌+◌, ◌≤◌, ◌++◌, length};
+ghost use Rattle.rr_io.specs.Sending.{Writes};
+ghost use Rattle.rr_object.specs.Keys.{class_of};
+ghost use Rattle.rr_object.specs.KeyTexts.{key_text};
+ghost use Rattle.rr_submission.specs.Reports.{class_part, item_line, number_part, outcome_part, outcome_word, refusal_code, subject};
+
+use crate::report_line::ReportLine;
+use rr_io::{Sink, write_all};
+use rr_object::{Class, Key};
+use rr_registry::Outcome;
+use std::io;
+
+/// Writes the line of an item, whole in the first call of the writer. After a fault the writer has taken a front of it.
+pub fn write_item_line<W: Sink>(
+    writer: &mut W,
+    number: u64,
+    key: &Option<Key>,
+    outcome: Outcome,
+) -> io::Result<()>
+    ensures writes { Writes (W.told writer.old) (W.told writer.new) (item_line number key.now outcome) result }
+    ensures aside { W.aside writer.new ≡ W.aside writer.old }
+{
+    write_all(writer, item_line(number, key, outcome).as_bytes())
+}
+
+/// The line of an item.
+fn item_line(number: u64, key: &Option<Key>, outcome: Outcome) -> ReportLine
+    ensures { result ≡ item_line number key.now outcome }
+{
+    let mut line = ReportLine::new();
+    push_item_number(&mut line, number);
+    push_subject(&mut line, key);
+    push_outcome(&mut line, outcome);
+    line
+}
+
+fn push_item_number(line: &mut ReportLine, number: u64)
+    requires { length line.old ≤ 0 }
+    ensures value { line.new ≡ line.old ++ number_part number }
+    ensures short { length line.new ≤ 21 }
+{
+    line.push_number(number);
+    line.push(b" ");
+}
+
+/// The class and the key, or `-`.
+fn push_subject(line: &mut ReportLine, key: &Option<Key>)
+    requires { length line.old ≤ 21 }
+    ensures value { line.new ≡ line.old ++ subject key.now }
+    ensures short { length line.new ≤ 286 }
+{
+    match key {
+        None => line.push(b"-"),
+        Some(key) => {
+            push_class(line, key.class());
+            line.push_key(key);
+        }
+    }
+}
+
+#[tactic(auto, using(crate::proofs::LineSizes::class_name_short))]
+fn push_class(line: &mut ReportLine, class: Class)
+    requires { length line.old ≤ 21 }
+    ensures value { line.new ≡ line.old ++ class_part class }
+    ensures short { length line.new ≤ 31 }
+{
+    line.push(class.name().as_bytes());
+    line.push(b" ");
+}
+
+/// What stands behind the subject.
+#[tactic(auto, using(crate::proofs::LineSizes::outcome_word_short, crate::proofs::LineSizes::refusal_code_short))]
+fn push_outcome(line: &mut ReportLine, outcome: Outcome)
+    requires { length line.old ≤ 286 }
+    ensures { line.new ≡ line.old ++ outcome_part outcome }
+{
+    line.push(b": ");
+    line.push(word(outcome).as_bytes());
+    line.push(refusal_code(outcome).as_bytes());
+    line.push(b"\n");
+}
+
+fn word(outcome: Outcome) -> &'static str
+    ensures { result.now ≡ outcome_word outcome }
+{
+    match outcome {
+        Outcome::Added => "added",
+        Outcome::Changed => "changed",
+        Outcome::Same => "unchanged",
+        Outcome::Deleted => "deleted",
+        Outcome::Refused(_) => "refused ",
+    }
+}
+
+/// The code of a refusal, and of another outcome nothing.
+fn refusal_code(outcome: Outcome) -> &'static str
+    ensures { result.now ≡ refusal_code outcome }
+{
+    match outcome {
+        Outcome::Refused(code) => code.name(),
+        _ => "",
+    }
+}

@@ -1,0 +1,87 @@
+//! What paragraphs of a submission ask.
+
+ghost use Rattle.std.specs.Prelude.{◌≡◌, ◌⊎◌, Err};
+
+use crate::submission_text::{asks_deletion, own_paragraph};
+use rr_auth::Item;
+use rr_number::Name;
+use rr_object::{Code, Key, Object, key_of};
+use rr_text::{Paragraph, TextFault};
+use std::alloc::Global;
+
+/// What a paragraph of a submission asks.
+#[derive(Drop)]
+pub struct Request {
+    /// The key of the object, if it was read.
+    pub key: Option<Key>,
+    /// What is asked, or the code of the refusal.
+    pub action: Result<Item, Code>,
+}
+
+impl Request {
+    ghost use Rattle.rr_submission.specs.Requests.{IsRequest, action_of, text_code, unread};
+
+    /// The request of a paragraph that was refused before its class and key were read.
+    pub fn unread(code: Code) -> Request
+        ensures { result ≡ unread code }
+    {
+        Request {
+            key: None,
+            action: Err(code),
+        }
+    }
+
+    /// The request of a paragraph that could not be read as text.
+    pub fn unread_text(fault: TextFault) -> Request
+        ensures { result ≡ unread (text_code fault) }
+    {
+        Request::unread(match fault {
+            TextFault::TooLarge => Code::E07,
+            TextFault::BadByte
+            | TextFault::FirstContinues
+            | TextFault::NoColon
+            | TextFault::BadName => Code::E01,
+            TextFault::Memory => Code::E90,
+        })
+    }
+
+    /// What a paragraph asks of a registry of this source. Want of memory is the refusal E90.
+    pub fn read(alloc: Global, paragraph: Paragraph, source: &Name) -> Request
+        ensures { IsRequest source.now paragraph result }
+    {
+        let deletes = asks_deletion(&paragraph);
+        let own = own_paragraph(paragraph);
+        match key_of(alloc, &own) {
+            Ok(key) => {
+                let action = Request::action(alloc, own, source, &key, deletes);
+                Request {
+                    key: Some(key),
+                    action,
+                }
+            }
+            Err(fault) => Request::unread(fault.code()),
+        }
+    }
+
+    /// What is asked about the object of a key.
+    fn action(
+        alloc: Global,
+        own: Paragraph,
+        source: &Name,
+        key: &Key,
+        deletes: bool,
+    ) -> Result<Item, Code>
+        ensures { (result ≡ action_of source.now own key.now deletes) ⊎ (result ≡ Err Code.E90) }
+    {
+        if deletes {
+            return match key.copy(alloc) {
+                Ok(key) => Ok(Item::Delete(key)),
+                Err(_) => Err(Code::E90),
+            };
+        }
+        match Object::read(alloc, own, source) {
+            Ok(object) => Ok(Item::Submit(object)),
+            Err(fault) => Err(fault.code()),
+        }
+    }
+}

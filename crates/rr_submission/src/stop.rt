@@ -1,0 +1,33 @@
+//! What keeps items from being served.
+
+ghost use Rattle.std.specs.Prelude.{◌≡◌};
+ghost use Rattle.rr_submission.specs.Submissions.{fault_of};
+
+use crate::submission::DeskFault;
+
+/// Why the serving of items stopped before the last of them.
+#[derive(Clone, Copy, Debug, PartialEq, Eq)]
+pub enum Stop {
+    /// The line of an item could not be written; that item is the last of so many that were decided.
+    Unwritten {
+        /// The items that were decided.
+        items: u64,
+    },
+    /// The ledger came to a halt at an item, behind so many that were decided.
+    Halted {
+        /// The items that were decided.
+        items: u64,
+    },
+}
+
+impl Stop {
+    /// The fault of the submission.
+    pub fn fault(self) -> DeskFault
+        ensures { result ≡ fault_of self }
+    {
+        match self {
+            Stop::Unwritten { items } => DeskFault::WriteFault { items },
+            Stop::Halted { items } => DeskFault::StoreFault { items },
+        }
+    }
+}

@@ -1,0 +1,34 @@
+//! What submissions answer.
+
+/// How many items a submission had, and how many of them were refused.
+#[derive(Clone, Copy, Debug, PartialEq, Eq)]
+pub struct Done {
+    /// The items.
+    pub items: u64,
+    /// Those that were refused.
+    pub refused: u64,
+}
+
+/// Why a submission was cut short; `items` were decided before that.
+#[derive(Clone, Copy, Debug, PartialEq, Eq)]
+pub enum DeskFault {
+    /// A read failed, or there were too many.
+    ReadFault {
+        /// The items that were decided.
+        items: u64,
+    },
+    /// A write of the report failed.
+    WriteFault {
+        /// The items that were decided.
+        items: u64,
+    },
+    /// The ledger came to a halt at an item.
+    StoreFault {
+        /// The items that were decided.
+        items: u64,
+    },
+    /// Memory ran out before the first item.
+    Memory,
+    /// The ledger had come to a halt before the submission, of which nothing was read.
+    Stopped,
+}

@@ -16,7 +16,7 @@ use Rattle.rr_object.specs.Parts.{GrantParts}
 use Rattle.rr_auth.specs.Authority.{grants, is_aut_num, lower_of, lower_passes, routes_of, routes_pass}
 use Rattle.rr_auth.specs.Passing.{name_passes, names_pass, passes}
 use Rattle.rr_auth.specs.Registries.{Reg, maintainer, names_nobody}
-use Rattle.rr_auth.proofs.Members.{all_fail, each_passes, none_passes, passing_one, same_tests}
+use Rattle.rr_auth.proofs.Members.{all_fail, each_passes, none_passes, passing_one, same_tests, some_passes}
 use Rattle.rr_confinement.specs.Holdings.{Agree, Holding, IsHeld, is_foreign, is_holder, is_mntner, names_holders}
 
 -- what is there is not nothing
@@ -29,12 +29,26 @@ pub holders_known : (h : Holding) (r : Reg) (names : List (List ℕ)) → IsHeld
 holders_known h r names held e =
     all_fail (λ n. is_none (maintainer r n)) names (λ n i. there_not_none (get r (Mntner n)) (held.registered n (each_passes (is_holder h) n names e i)))
 
--- names of holders pass alike
+-- names of holders pass alike where the holders' mntners are the same
+pub passes_where : (h : Holding) (r q : Reg) (secrets names : List (List ℕ)) → ((name : List ℕ) → is_holder h name ≡ true → get r (Mntner name) ≡ get q (Mntner name))
+    → list_all (is_holder h) names ≡ true → names_pass r secrets names ≡ names_pass q secrets names
+passes_where h r q secrets names same e =
+    same_tests (name_passes r secrets) (name_passes q secrets) names (λ n i.
+    ap (λ o. option_map_or (passes secrets) o false) (same n (each_passes (is_holder h) n names e i)))
+
+-- so they do in registries that agree on what is held
 pub passes_alike : (h : Holding) (r q : Reg) (secrets names : List (List ℕ)) → Agree h r q → list_all (is_holder h) names ≡ true
     → names_pass r secrets names ≡ names_pass q secrets names
-passes_alike h r q secrets names agree e =
-    same_tests (name_passes r secrets) (name_passes q secrets) names (λ n i.
-    ap (λ o. option_map_or (passes secrets) o false) (agree (Mntner n) (each_passes (is_holder h) n names e i)))
+passes_alike h r q secrets names agree e = passes_where h r q secrets names (λ n i. agree (Mntner n) i) e
+
+-- each holder is one
+each_holder : (h : Holding) → list_all (is_holder h) h.holders ≡ true
+each_holder h = all_pass (is_holder h) h.holders (λ n i. some_passes (bytes_eq n) n h.holders i ((bytes_eq-Decides n n).1 refl))
+
+-- an item is foreign in registries with the same mntners of the holders, or in neither
+pub foreign_alike : (h : Holding) (r q : Reg) (secrets : List (List ℕ)) → ((name : List ℕ) → is_holder h name ≡ true → get r (Mntner name) ≡ get q (Mntner name))
+    → is_foreign h r secrets ≡ is_foreign h q secrets
+foreign_alike h r q secrets same = ap not (passes_where h r q secrets h.holders same (each_holder h))
 
 -- names of holders do not pass for a foreign item
 pub holders_fail : (h : Holding) (r : Reg) (secrets names : List (List ℕ)) → is_foreign h r secrets ≡ true → list_all (is_holder h) names ≡ true

@@ -86,3 +86,29 @@ kept_after h r Change (DeleteItem k) held own = held
 kept_after h r Same (DeleteItem k) held own = held
 kept_after h r Delete (DeleteItem k) held own = let parts = and_parts _ _ own in kept_remove h k parts.0 (not-true _ parts.1) r held
 kept_after h r (Refuse code) (DeleteItem k) held own = held
+
+-- and it leaves the mntners
+maintainer_with : (r : Reg) (k : Key) (o : Obj) (name : List ℕ) → (Mntner name ≡ k → ⊥) → get (insert r k o) (Mntner name) ≡ get r (Mntner name)
+maintainer_with r k o name other =
+    get-insert keys_total r k o (Mntner name)
+    ∙ ap (λ b. cond b (Some o) (get r (Mntner name))) (false_from_ne_true (eq_by_cmp key_cmp (Mntner name) k) (λ t. other (same_key (Mntner name) k t)))
+
+maintainer_without : (r : Reg) (k : Key) (name : List ℕ) → (Mntner name ≡ k → ⊥) → get (remove r k) (Mntner name) ≡ get r (Mntner name)
+maintainer_without r k name other =
+    get-remove keys_total r k (Mntner name)
+    ∙ ap (λ b. cond b None (get r (Mntner name))) (false_from_ne_true (eq_by_cmp key_cmp (Mntner name) k) (λ t. other (same_key (Mntner name) k t)))
+
+within_no_mntner : (h : Holding) (k : Key) (name : List ℕ) → is_within h k ≡ true → Mntner name ≡ k → ⊥
+within_no_mntner h k name within e = true≢false (sym within ∙ ap (is_within h) (sym e))
+
+pub maintainer_after : (h : Holding) (r : Reg) (v : Verdict) (i : Item) (name : List ℕ) → is_own h i ≡ true → get (after v r i) (Mntner name) ≡ get r (Mntner name)
+maintainer_after h r Add (Submit o) name own = maintainer_with r o.key o name (within_no_mntner h o.key name (and_parts _ _ own).0)
+maintainer_after h r Change (Submit o) name own = maintainer_with r o.key o name (within_no_mntner h o.key name (and_parts _ _ own).0)
+maintainer_after h r Same (Submit o) name own = refl
+maintainer_after h r Delete (Submit o) name own = refl
+maintainer_after h r (Refuse code) (Submit o) name own = refl
+maintainer_after h r Add (DeleteItem k) name own = refl
+maintainer_after h r Change (DeleteItem k) name own = refl
+maintainer_after h r Same (DeleteItem k) name own = refl
+maintainer_after h r Delete (DeleteItem k) name own = maintainer_without r k name (within_no_mntner h k name (and_parts _ _ own).0)
+maintainer_after h r (Refuse code) (DeleteItem k) name own = refl

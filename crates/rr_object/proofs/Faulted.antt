@@ -8,7 +8,7 @@ use Rattle.rr_number.specs.AsNumbers.{as_number_of}
 use Rattle.rr_number.specs.AsSpans.{as_span_of}
 use Rattle.rr_number.specs.Names.{maintainer_name_of}
 use Rattle.rr_number.specs.Prefixes.{PrefixParts, prefix_of}
-use Rattle.rr_number.specs.SpanTexts.{span_of}
+use Rattle.rr_number.specs.SpanTexts.{spelled_span}
 use Rattle.rr_object.specs.declared.class.Class.{Class}
 use Rattle.rr_object.specs.declared.class.Class.TheVariants as class
 use Rattle.rr_object.specs.declared.fault.ObjectFault.TheVariants.{BadCount, BadValue, OtherSource}
@@ -50,7 +50,7 @@ unfolding key_at key_of_text
 classed class.Mntner text fields key e = made Mntner class.Mntner (λ a. refl) (maintainer_name_of text) key e
 classed class.AsBlock text fields key e = made AsBlock class.AsBlock (λ a. refl) (as_span_of text) key e
 classed class.AutNum text fields key e = made AutNum class.AutNum (λ a. refl) (as_number_of text) key e
-classed class.Inetnum text fields key e = made Inetnum class.Inetnum (λ a. refl) (span_of text) key e
+classed class.Inetnum text fields key e = made Inetnum class.Inetnum (λ a. refl) (spelled_span text) key e
 classed class.Route text fields key e = origin_step text (only (values_of (kind_name Origin) fields)) key e
 classed class.AsSet text fields key e = made AsSet class.AsSet (λ a. refl) (as_set_key_of text) key e
 classed class.RouteSet text fields key e = made RouteSet class.RouteSet (λ a. refl) (route_set_key_of text) key e

@@ -3,7 +3,9 @@ pub mod DerivedOrder
 pub mod Digits
 pub mod Faulted
 pub mod GrantSpellings
+pub mod KeyBounds
 pub mod KeysByBytes
 pub mod Listed
 pub mod Maintained
+pub mod OldNames
 pub mod Parsed

@@ -1,5 +1,5 @@
 -- The bounds of keys, and how their order goes with their bytes.
-use Rattle.std.specs.Prelude.{◌≡◌, ℕ, ◌≤◌, List, [], ◌∷◌}
+use Rattle.std.specs.Prelude.{◌≡◌, ℕ, ◌≤◌, false, List, [], ◌∷◌}
 use Rattle.std.specs.declared.cmp.Ordering.{Ordering}
 use Rattle.std.specs.Ordering.{ordering_then, nat_cmp}
 use Rattle.std.specs.Cmp.Lexicographic.{slice_cmp}
@@ -7,7 +7,9 @@ use Rattle.rr_number.specs.AsNumbers.{greatest_as_number}
 use Rattle.rr_number.specs.AsSpans.{IsAsSpan}
 use Rattle.rr_number.specs.Names.{IsUpperName}
 use Rattle.rr_number.specs.Prefixes.{PrefixParts, IsMasked}
-use Rattle.rr_number.specs.SetNames.{IsSetText}
+use Rattle.rr_number.specs.SetNames.{IsSetText, is_any_set, kind_of}
+use Rattle.rr_number.specs.declared.set_kind.SetKind.{SetKind}
+use Rattle.rr_number.specs.declared.set_kind.SetKind.TheVariants as kinds
 use Rattle.rr_number.specs.Spans.{IsSpan}
 use Rattle.rr_object.specs.declared.key.Key.{Key}
 use Rattle.rr_object.specs.declared.key.Key.TheVariants.{Mntner, AsBlock, AutNum, Inetnum, Route, AsSet, RouteSet}
@@ -20,15 +22,31 @@ pub record IsRoute (prefix : PrefixParts) (origin : ℕ) : Type 0 where
   pub masked : IsMasked prefix
   pub numbered : origin ≤ greatest_as_number
 
+-- a registered set has a name of its kind (RFC 2622, 5), which is not `AS-ANY` or `RS-ANY` (profile)
+pub record IsSetKey (kind : SetKind) (name : List ℕ) : Type 0 where
+  pub text : IsSetText name
+  pub of_kind : kind_of name ≡ kind
+  pub no_any : is_any_set name ≡ false
+
 -- the parts of a key are names, spans, prefixes and AS numbers (RFC 2622, 2; profile)
+abbrev pub HasKeyParts : Key → Type 0
+HasKeyParts (Mntner name) = IsUpperName name
+HasKeyParts (AsBlock block) = IsAsSpan block
+HasKeyParts (AutNum number) = number ≤ greatest_as_number
+HasKeyParts (Inetnum span) = IsSpan span
+HasKeyParts (Route prefix origin) = IsRoute prefix origin
+HasKeyParts (AsSet name) = IsSetText name
+HasKeyParts (RouteSet name) = IsSetText name
+
+-- a key is well formed where it has such parts, and a set's name is one of the key's class (RFC 2622, 2 and 5; profile)
 abbrev pub IsKeyValue : Key → Type 0
 IsKeyValue (Mntner name) = IsUpperName name
 IsKeyValue (AsBlock block) = IsAsSpan block
 IsKeyValue (AutNum number) = number ≤ greatest_as_number
 IsKeyValue (Inetnum span) = IsSpan span
 IsKeyValue (Route prefix origin) = IsRoute prefix origin
-IsKeyValue (AsSet name) = IsSetText name
-IsKeyValue (RouteSet name) = IsSetText name
+IsKeyValue (AsSet name) = IsSetKey kinds.AsSet name
+IsKeyValue (RouteSet name) = IsSetKey kinds.RouteSet name
 
 -- a key as numbers: the ends of a span, the parts of a route, the bytes of a name
 abbrev pub words_of : Key → List ℕ

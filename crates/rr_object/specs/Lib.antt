@@ -7,11 +7,13 @@ pub mod GrantTexts
 pub mod Grants
 pub mod Items
 pub mod KeyOrders
+pub mod KeyParts
 pub mod KeySpellings
 pub mod KeyTexts
 pub mod Keys
 pub mod Kinds
 pub mod Members
 pub mod Objects
+pub mod OldKeys
 pub mod Parts
 pub mod Readings

@@ -1,7 +1,7 @@
 //! Keys of objects.
 
 ghost use Rattle.std.specs.Prelude.{◌≡◌, IfOk};
-ghost use Rattle.rr_object.specs.KeyOrders.{IsKeyValue};
+ghost use Rattle.rr_object.specs.KeyOrders.{HasKeyParts};
 ghost use Rattle.rr_object.specs.Keys.{class_of};
 
 use crate::class::Class;
@@ -46,7 +46,7 @@ impl Key {
 
     /// Tells a caller's proof that the parts of the key are names, spans, prefixes and AS numbers; it does nothing.
     pub fn is_within_bounds(&self)
-        ensures { IsKeyValue self.now }
+        ensures { HasKeyParts self.now }
     {
         match self {
             Key::Mntner(name) => {

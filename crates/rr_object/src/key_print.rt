@@ -1,10 +1,14 @@
 //! Keys as texts.
 
 ghost use Rattle.std.specs.Prelude.{◌≡◌, ◌≤◌, ◌∷◌, ◌++◌, IfOk, OnOk};
+ghost use Rattle.std.specs.List.{list_all};
+ghost use Rattle.std.specs.Option.{option_map};
 ghost use Rattle.rr_io.specs.Sending.{Writes};
 ghost use Rattle.rr_number.specs.AsNumbers.{as_number_text};
 ghost use Rattle.rr_number.specs.Prefixes.{prefix_text};
-ghost use Rattle.rr_object.specs.KeyTexts.{eight_digits, key_bytes, key_text, length_bytes, route_bytes, span_bytes};
+ghost use Rattle.rr_object.specs.KeyTexts.{bytes_with, key_bytes, key_text, length_bytes, route_bytes, span_bytes};
+ghost use Rattle.rr_object.specs.OldKeys.{has_two_octets, numbers_among, numbers_in, old_key_bytes};
+ghost use Rattle.rr_object.specs.KeyParts.{digits_of, is_old_component};
 
 use crate::key::Key;
 use rr_io::{Sink, write_pieces};
@@ -33,15 +37,78 @@ impl Key {
     pub fn bytes(&self, alloc: Global) -> Result<Vec<u8>, AllocError>
         ensures { IfOk result (λ bytes. bytes.items ≡ key_bytes self.now) }
     {
-        match self {
-            Key::Mntner(name) => Vec::from_slice(alloc, name.as_bytes()),
-            Key::AsBlock(block) => span_bytes(alloc, block.span()),
-            Key::AutNum(number) => number_bytes(alloc, number.number()),
-            Key::Inetnum(span) => span_bytes(alloc, *span),
-            Key::Route(prefix, origin) => route_bytes(alloc, *prefix, *origin),
-            Key::AsSet(name) => Vec::from_slice(alloc, name.as_bytes()),
-            Key::RouteSet(name) => Vec::from_slice(alloc, name.as_bytes()),
+        bytes_with(alloc, Digits::Eight, self)
+    }
+
+    /// The bytes of the key in tables of version 1; `None` where an AS number in it has more than two octets, which those could
+    /// not write. The error is want of memory.
+    pub fn old_bytes(&self, alloc: Global) -> Result<Option<Vec<u8>>, AllocError>
+        ensures { IfOk result (λ old. option_map (λ bytes. bytes.items) old ≡ old_key_bytes self.now) }
+    {
+        if has_old_bytes(self) {
+            Ok(Some(bytes_with(alloc, Digits::Four, self)?))
+        } else {
+            Ok(None)
         }
+    }
+}
+
+/// How many hexadecimal digits an AS number has.
+#[derive(Clone, Copy, Debug)]
+pub(crate) enum Digits {
+    /// Four, for the lower two octets of it.
+    Four,
+    /// Eight.
+    Eight,
+}
+
+/// The bytes of a key, with so many digits for an AS number.
+fn bytes_with(alloc: Global, digits: Digits, key: &Key) -> Result<Vec<u8>, AllocError>
+    ensures { IfOk result (λ bytes. bytes.items ≡ bytes_with (digits_of digits) key.now) }
+{
+    match key {
+        Key::Mntner(name) => Vec::from_slice(alloc, name.as_bytes()),
+        Key::AsBlock(block) => span_bytes(alloc, digits, block.span()),
+        Key::AutNum(number) => number_bytes(alloc, digits, number.number()),
+        Key::Inetnum(span) => span_bytes(alloc, Digits::Eight, *span),
+        Key::Route(prefix, origin) => route_bytes(alloc, digits, *prefix, *origin),
+        Key::AsSet(name) | Key::RouteSet(name) => Vec::from_slice(alloc, name.as_bytes()),
+    }
+}
+
+/// Whether each AS number in the key has two octets.
+fn has_old_bytes(key: &Key) -> bool
+    ensures { result ≡ list_all has_two_octets (numbers_in key.now) }
+{
+    match key {
+        Key::AsBlock(block) => has_two_octets(block.first()) && has_two_octets(block.last()),
+        Key::AutNum(number) => has_two_octets(*number),
+        Key::Route(_, origin) => has_two_octets(*origin),
+        Key::AsSet(name) | Key::RouteSet(name) => numbers_have_two_octets(name.as_bytes()),
+        Key::Mntner(_) | Key::Inetnum(_) => true,
+    }
+}
+
+fn has_two_octets(number: AsNumber) -> bool
+    ensures { result ≡ has_two_octets number }
+{
+    number.number() <= u32::from(u16::MAX)
+}
+
+/// Whether each AS number among the components of a set's name has two octets.
+fn numbers_have_two_octets(name: &[u8]) -> bool
+    ensures { result ≡ list_all has_two_octets (numbers_among name.now) }
+{
+    name.split(|b| *b == b':')
+        .all(|component| is_old_component(component))
+}
+
+fn is_old_component(component: &[u8]) -> bool
+    ensures { result ≡ is_old_component component.now }
+{
+    match AsNumber::read(component) {
+        Some(number) => has_two_octets(number),
+        None => true,
     }
 }
 
@@ -55,11 +122,21 @@ fn print_route<W: Sink>(prefix: Prefix, origin: AsNumber, writer: &mut W) -> io:
     write_pieces(writer, &pieces)
 }
 
-/// Adds a number as eight hexadecimal digits in lower case.
-fn push_digits(alloc: Global, text: &mut Vec<u8>, number: u32) -> Result<(), AllocError>
-    ensures { OnOk result (text.new.items ≡ text.old.items ++ eight_digits number) }
+/// Adds a number as hexadecimal digits in lower case.
+fn push_digits(
+    alloc: Global,
+    text: &mut Vec<u8>,
+    digits: Digits,
+    number: u32,
+) -> Result<(), AllocError>
+    ensures { OnOk result (text.new.items ≡ text.old.items ++ digits_of digits number) }
 {
-    let digits = hex::encode(alloc, &number.to_be_bytes())?;
+    let octets = number.to_be_bytes();
+    let (_, low) = octets.split_at(2);
+    let digits = match digits {
+        Digits::Four => hex::encode(alloc, low)?,
+        Digits::Eight => hex::encode(alloc, &octets)?,
+    };
     text.extend_from_slice(digits.as_bytes())
 }
 
@@ -70,30 +147,35 @@ fn push_length(text: &mut Vec<u8>, length: u8) -> Result<(), AllocError>
     text.extend_from_slice(&[b'0' + length / 10, b'0' + length % 10])
 }
 
-fn number_bytes(alloc: Global, number: u32) -> Result<Vec<u8>, AllocError>
-    ensures { IfOk result (λ bytes. bytes.items ≡ eight_digits number) }
+fn number_bytes(alloc: Global, digits: Digits, number: u32) -> Result<Vec<u8>, AllocError>
+    ensures { IfOk result (λ bytes. bytes.items ≡ digits_of digits number) }
 {
     let mut bytes = Vec::new(alloc);
-    push_digits(alloc, &mut bytes, number)?;
+    push_digits(alloc, &mut bytes, digits, number)?;
     Ok(bytes)
 }
 
-fn span_bytes(alloc: Global, span: Span) -> Result<Vec<u8>, AllocError>
-    ensures { IfOk result (λ bytes. bytes.items ≡ span_bytes eight_digits span) }
+fn span_bytes(alloc: Global, digits: Digits, span: Span) -> Result<Vec<u8>, AllocError>
+    ensures { IfOk result (λ bytes. bytes.items ≡ span_bytes (digits_of digits) span) }
 {
-    let mut bytes = number_bytes(alloc, span.first())?;
+    let mut bytes = number_bytes(alloc, digits, span.first())?;
     bytes.push(b'-')?;
-    push_digits(alloc, &mut bytes, span.last())?;
+    push_digits(alloc, &mut bytes, digits, span.last())?;
     Ok(bytes)
 }
 
-fn route_bytes(alloc: Global, prefix: Prefix, origin: AsNumber) -> Result<Vec<u8>, AllocError>
-    ensures { IfOk result (λ bytes. bytes.items ≡ route_bytes eight_digits prefix origin) }
+fn route_bytes(
+    alloc: Global,
+    digits: Digits,
+    prefix: Prefix,
+    origin: AsNumber,
+) -> Result<Vec<u8>, AllocError>
+    ensures { IfOk result (λ bytes. bytes.items ≡ route_bytes (digits_of digits) prefix origin) }
 {
-    let mut bytes = number_bytes(alloc, prefix.address().to_bits())?;
+    let mut bytes = number_bytes(alloc, Digits::Eight, prefix.address().to_bits())?;
     bytes.push(b'/')?;
     push_length(&mut bytes, prefix.length())?;
     bytes.push(b'-')?;
-    push_digits(alloc, &mut bytes, origin.number())?;
+    push_digits(alloc, &mut bytes, digits, origin.number())?;
     Ok(bytes)
 }

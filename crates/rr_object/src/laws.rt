@@ -1,15 +1,17 @@
 //! What follows of an object from how it is read, and of keys from their bytes. Each function states a law and does nothing.
 
-ghost use Rattle.std.specs.Prelude.{◌≡◌, ◌<◌, List, Ok, length, ℕ};
+ghost use Rattle.std.specs.Prelude.{◌≡◌, ◌<◌, List, Ok, Some, length, ℕ};
 ghost use Rattle.rr_text.specs.Fields.{Field};
 ghost use Rattle.rr_object.specs.FirstFaults.{FirstFaultIsTold, ObjectsSayTheirParagraphs};
 ghost use Rattle.rr_object.specs.GrantTexts.{ReadGrantsAreSpelled, SpelledGrantsAreRead};
 ghost use Rattle.rr_object.specs.KeyOrders.{BytesTellKeys, IsKeyValue, class_and_bytes_cmp, key_cmp};
-ghost use Rattle.rr_object.specs.KeySpellings.{key_of};
+ghost use Rattle.rr_object.specs.KeySpellings.{key_of, key_of_text};
 ghost use Rattle.rr_object.specs.KeyTexts.{key_bytes};
 ghost use Rattle.rr_object.specs.Keys.{class_of};
 ghost use Rattle.rr_object.specs.Objects.{Obj};
+ghost use Rattle.rr_object.specs.OldKeys.{OldBytesKeepOrder, OldBytesTellKeys};
 ghost use Rattle.rr_object.specs.Readings.{obj_of, object_of};
+ghost use Rattle.rr_object.specs.declared.class.Class.{Class};
 ghost use Rattle.rr_object.specs.declared.key.Key as keys;
 
 use crate::key::Key;
@@ -62,6 +64,21 @@ pub fn any_two_keys_compare_as_their_bytes(key: &Key, other: &Key)
     key.is_within_bounds();
     other.is_within_bounds();
 }
+
+/// Two keys of a class have equal old bytes only if they are equal, and keys that have old bytes are ordered by the
+/// numbers of their classes, then by these.
+pub fn old_bytes_tell_keys_in_their_order()
+    ensures told { OldBytesTellKeys }
+    ensures order { OldBytesKeepOrder }
+{}
+
+/// The key that a text or a paragraph spells is well formed, and so is that of an object.
+pub fn keys_are_read_well_formed()
+    ensures text { (class : Class) (text : List ℕ) (key : keys.Key) → key_of_text class text ≡ Some key → IsKeyValue key }
+    ensures paragraph { (fields : List Field) (key : keys.Key) → key_of fields ≡ Ok key → IsKeyValue key }
+    ensures object { (fields : List Field) (source : List ℕ) (object : Obj) → object_of fields source ≡ Ok object
+        → IsKeyValue object.key }
+{}
 
 /// The entries of `mnt-routes` that are read of items are those that the items spell, and items that spell none are
 /// refused.

@@ -10,12 +10,13 @@ use Rattle.rr_text.specs.declared.line.LineKind.{LineKind}
 use Rattle.rr_text.specs.declared.line.LineKind.TheVariants.{Blank, Skipped, Continuation, Opening}
 use Rattle.rr_bytes.specs.Blanks.{is_line_feed}
 use Rattle.rr_bytes.specs.Trims.{trim_end, trim_start}
-use Rattle.rr_text.specs.Lines.{text_lines, are_whole_lines, IsWholeLine, is_blank_line, is_skipped_line, line_kind, opens_attribute}
+use Rattle.rr_text.specs.Lines.{text_lines, are_whole_lines, IsWholeLine, is_blank_line, is_skipped_line, line_kind}
 use Rattle.rr_text.specs.Blocks.{blocks}
 use Rattle.rr_text.specs.Fields.{Field}
+use Rattle.rr_text.specs.PrivateParts.{added_lines, opens_attribute}
 use Rattle.rr_text.proofs.BlockLemmas.{blocks_none, blocks_apart, blocks_blank, blocks_skipped}
 use Rattle.rr_text.proofs.LineLemmas.{text_lines-append}
-use Rattle.rr_text.specs.Entries.{added_value, added_lines, continued, opened_field, block_fields, block_entry, entries, size_limit, unless_fault}
+use Rattle.rr_text.specs.Entries.{added_value, continued, opened_field, block_fields, block_entry, entries, size_limit, unless_fault}
 
 pub added_empty : (line : List ℕ) → length line ≡ 0 → added_value line ≡ line
 unfolding trim_start trim_end

@@ -14,7 +14,8 @@ use Rattle.rr_text.specs.Bytes.{is_refused, is_colon}
 use Rattle.rr_text.specs.Lines.{text_lines, are_whole_lines, IsWholeLine, line_kind, is_blank_line, is_skipped_line, is_remark_sign}
 use Rattle.rr_text.specs.Faults.{written_name, opening_fault, fault_by_kind, line_fault, later_fault, block_fault}
 use Rattle.rr_text.specs.Entries.{added_value, opened_value, continued, block_fields, opened_field, block_entry, entries, size_limit}
-use Rattle.rr_text.specs.Blocks.{blocks, until_blank, from_blank}
+use Rattle.rr_text.specs.Blocks.{blocks, from_blank}
+use Rattle.rr_text.specs.PrivateParts.{until_blank}
 use Rattle.rr_text.proofs.BlockLemmas.{blocks_front, no_blocks}
 use Rattle.rr_text.proofs.EntryLemmas.{entry_small, entries_joined}
 use Rattle.rr_bytes.proofs.TrimLemmas.{trim_end_blank}

@@ -18,11 +18,6 @@ has_line (line ∷ others) = true
 unfoldable pub blocks : List (List ℕ) → List (List (List ℕ))
 blocks lines = filter has_line (map from_unskipped (slice_split is_blank_line lines))
 
--- the lines before the first blank one
-unfoldable pub until_blank : List (List ℕ) → List (List ℕ)
-until_blank [] = []
-until_blank (line ∷ others) = if is_blank_line line then [] else line ∷ until_blank others
-
 -- the lines from the first blank one on
 unfoldable pub from_blank : List (List ℕ) → List (List ℕ)
 from_blank [] = []

@@ -35,13 +35,6 @@ unfoldable pub continued : List (List ℕ) → List (List ℕ)
 continued [] = []
 continued (line ∷ others) = continued_by line (line_kind line) (continued others)
 
--- the lines that one line adds to the value before it
-abbrev pub added_lines : List ℕ → LineKind → List (List ℕ)
-added_lines line Blank = []
-added_lines line Skipped = []
-added_lines line Continuation = added_value line ∷ []
-added_lines line Opening = []
-
 -- the attribute that a line opens, its name in lower case, with the lines that continue its value (RFC 2622, 2)
 abbrev pub opened_field : List ℕ → List (List ℕ) → Field
 opened_field line more = record { name = lowered (written_name line); lines = opened_value line ∷ more }

@@ -34,13 +34,6 @@ line_kind line =
     else (if is_skipped_line line then Skipped
     else (if begins is_continuation_sign line then Continuation else Opening))
 
--- a line of the last kind alone opens an attribute
-abbrev pub opens_attribute : LineKind → Bool
-opens_attribute Blank = false
-opens_attribute Skipped = false
-opens_attribute Continuation = false
-opens_attribute Opening = true
-
 -- every line of the text ends in its LF
 unfoldable pub are_whole_lines : List ℕ → Bool
 are_whole_lines [] = true

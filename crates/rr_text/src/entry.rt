@@ -7,6 +7,7 @@ ghost use Rattle.rr_text.specs.Blocks.{starts_block};
 ghost use Rattle.rr_text.specs.Faults as faults;
 ghost use Rattle.rr_text.specs.Fields.{AreFields};
 ghost use Rattle.rr_text.specs.Entries as entries;
+ghost use Rattle.rr_text.specs.PrivateParts.{added_lines};
 
 use crate::attribute::Attribute;
 use crate::fault::TextFault;
@@ -44,7 +45,7 @@ fn push_added(
     line: &[u8],
     kind: LineKind,
 ) -> Result<(), AllocError>
-    ensures { OnOk result (lines.new.items ≡ lines.old.items ++ entries.added_lines line.now kind) }
+    ensures { OnOk result (lines.new.items ≡ lines.old.items ++ added_lines line.now kind) }
 {
     match kind {
         LineKind::Continuation => {

@@ -5,7 +5,8 @@ ghost use Rattle.std.specs.List.{list_any, list_all, position};
 ghost use Rattle.rr_bytes.specs.Blanks.{is_line_feed};
 ghost use Rattle.rr_bytes.specs.NameBytes.{begins};
 ghost use Rattle.rr_text.specs.Bytes.{is_refused};
-ghost use Rattle.rr_text.specs.Lines.{is_blank_line, is_skipped_line, is_paragraph_line, is_continuation_sign, line_kind, opens_attribute, text_lines, are_whole_lines};
+ghost use Rattle.rr_text.specs.Lines.{is_blank_line, is_skipped_line, is_paragraph_line, is_continuation_sign, line_kind, text_lines, are_whole_lines};
+ghost use Rattle.rr_text.specs.PrivateParts.{opens_attribute};
 
 use memchr::memchr;
 use rr_bytes::ByteSet;

@@ -1,0 +1,25 @@
+-- What private functions alone speak of: no rule of RPSL stands here.
+use Rattle.std.specs.Prelude.{ℕ, Bool, true, false, List, [], ◌∷◌, if◌then◌else◌}
+use Rattle.rr_text.specs.declared.line.LineKind.{LineKind}
+use Rattle.rr_text.specs.declared.line.LineKind.TheVariants.{Blank, Skipped, Continuation, Opening}
+use Rattle.rr_text.specs.Lines.{is_blank_line}
+use Rattle.rr_text.specs.Entries.{added_value}
+
+-- a line of the last kind alone opens an attribute
+abbrev pub opens_attribute : LineKind → Bool
+opens_attribute Blank = false
+opens_attribute Skipped = false
+opens_attribute Continuation = false
+opens_attribute Opening = true
+
+-- the lines before the first blank one
+unfoldable pub until_blank : List (List ℕ) → List (List ℕ)
+until_blank [] = []
+until_blank (line ∷ others) = if is_blank_line line then [] else line ∷ until_blank others
+
+-- the lines that one line adds to the value before it
+abbrev pub added_lines : List ℕ → LineKind → List (List ℕ)
+added_lines line Blank = []
+added_lines line Skipped = []
+added_lines line Continuation = added_value line ∷ []
+added_lines line Opening = []

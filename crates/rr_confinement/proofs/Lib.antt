@@ -1,4 +1,5 @@
 pub mod Agreeing
+pub mod Example
 pub mod Foreign
 pub mod Holders
 pub mod Kept

@@ -1,18 +1,10 @@
 //! The program `irrdesk`: submits standard input to a desk with the built-in settings, and prints the report.
 #![tactic(auto)]
 
-#[cfg(test)]
-mod hostile_tests;
-#[cfg(test)]
-mod loading_tests;
 mod program_fault;
 mod run;
 #[cfg(test)]
 mod run_tests;
-#[cfg(test)]
-mod stream_tests;
-#[cfg(test)]
-mod tests;
 
 use rr_io::Counted;
 use std::env;

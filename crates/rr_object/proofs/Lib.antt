@@ -1,4 +1,5 @@
 pub mod ClassMembers
+pub mod Counted
 pub mod DerivedOrder
 pub mod Digits
 pub mod Faulted

@@ -127,3 +127,8 @@ of_source object source fields (Ok o) e = ap Ok (of_test object o (is_from sourc
 pub of_any_source : (fields : List Field) (source : List ℕ) (object : Obj) → object_of fields source ≡ Ok object → obj_of fields ≡ Ok object
 unfolding object_of
 of_any_source fields source object e = of_source object source fields (obj_of fields) e
+
+-- where there is no key, there is no object
+pub keyless : (fields : List Field) (source : List ℕ) (fault : ObjectFault) → key_of fields ≡ Err fault → object_of fields source ≡ Err fault
+unfolding object_of obj_of
+keyless fields source fault e = rw e refl

@@ -1,5 +1,5 @@
 -- The object that a paragraph is, or its first fault (RFC 2622, 2 to 6; RFC 2725, 10; the order: profile).
-use Rattle.std.specs.Prelude.{ℕ, Bool, false, not, ◌==◌, ◌||◌, List, [], Option, is_none, unwrap_or, Result, Ok, Err, codes, map, count_by, if◌then◌else◌}
+use Rattle.std.specs.Prelude.{◌≡◌, ℕ, Bool, false, not, ◌==◌, ◌||◌, List, [], Option, is_none, unwrap_or, Result, Ok, Err, codes, map, count_by, if◌then◌else◌}
 use Rattle.std.specs.List.{list_any}
 use Rattle.std.specs.Option.{option_map_or, option_and_then}
 use Rattle.std.specs.Str.{bytes_eq}
@@ -176,6 +176,10 @@ is_from source fields = option_map_or (λ name. bytes_eq name source) (source_of
 unfoldable pub object_of : List Field → List ℕ → Result Obj ObjectFault
 object_of fields source =
     result_and_then (λ object. if is_from source fields then Ok object else Err OtherSource) (obj_of fields)
+
+-- an object is what a paragraph reads as in a registry of this source (profile)
+abbrev pub ReadsAs : List ℕ → List Field → Obj → Type 0
+ReadsAs source fields object = object_of fields source ≡ Ok object
 
 -- the line in place of each value of `auth` in public answers (profile)
 abbrev pub hidden : List ℕ

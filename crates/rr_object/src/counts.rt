@@ -1,76 +1,78 @@
 //! How often attributes stand in an object.
 
-ghost use Rattle.std.specs.Prelude.{◌≡◌, IfOk, map};
+ghost use Rattle.std.specs.Prelude.{◌≡◌, not, IfOk, map};
 ghost use Rattle.rr_bytes.specs.Parts.{is_filled};
-ghost use Rattle.rr_object.specs.Readings.{breaks, is_miscounted, is_miscounted_in, items_among, items_of, list_text};
+ghost use Rattle.rr_object.specs.Items.{values_of};
+ghost use Rattle.rr_object.specs.Kinds.{kind_name};
+ghost use Rattle.rr_object.specs.Readings.{breaks, is_miscounted, is_miscounted_in, items_of, items_read, list_text};
+ghost use Rattle.rr_object.specs.declared.kind.Kind.TheVariants as kinds;
 ghost use Rattle.rr_object.specs.declared.kind.Occurs.TheVariants.{Once};
 
 use crate::class::Class;
-use crate::kind::{Kind, Occurs};
-use crate::lists::{count_named, items, joined, spaced, values_of};
+use crate::kind::Kind;
+use crate::lists::{count_named, items, joined, spaced};
 use rr_text::{Paragraph, Text};
 use std::alloc::{AllocError, Global};
 
 /// Whether an attribute that an object of the class needs is missing or has no item, or one that stands once is
-/// repeated.
-#[tactic(auto, unfolding(crate::specs::Readings::is_miscounted))]
+/// repeated; the values of `source` and the items of `mnt-by` were read.
+#[tactic(auto, unfolding(crate::specs::Readings::is_miscounted, crate::specs::Readings::items_read, crate::specs::Kinds::occurs))]
 pub(crate) fn is_miscounted(
     alloc: Global,
     class: Class,
     paragraph: &Paragraph,
+    sources: &[Text],
+    maintainers: &[&[u8]],
 ) -> Result<bool, AllocError>
+    requires sources { sources.now ≡ values_of (kind_name kinds.Source) paragraph.now }
+    requires maintainers { map (λ item. item.now) maintainers.now ≡ items_read kinds.MntBy class paragraph.now }
     ensures { IfOk result (λ miscounted. miscounted ≡ is_miscounted class paragraph.now) }
 {
     Ok(
         count_named(paragraph, class.name().as_bytes()) != 1
-            || is_miscounted_in(alloc, class, Kind::MntBy, paragraph)?
-            || is_miscounted_in(alloc, class, Kind::Source, paragraph)?
-            || is_miscounted_in(alloc, class, Kind::Auth, paragraph)?,
+            || is_missing(maintainers)
+            || breaks_once(alloc, paragraph, sources)?
+            || lacks_auth(class, paragraph),
     )
 }
 
-fn is_miscounted_in(
-    alloc: Global,
-    class: Class,
-    kind: Kind,
-    paragraph: &Paragraph,
-) -> Result<bool, AllocError>
-    ensures { IfOk result (λ miscounted. miscounted ≡ is_miscounted_in class kind paragraph.now) }
+fn is_missing(listed: &[&[u8]]) -> bool
+    ensures { result ≡ not (is_filled (map (λ item. item.now) listed.now)) }
 {
-    match kind.occurs(class) {
-        Occurs::Once => breaks_once(alloc, kind, paragraph),
-        Occurs::WithItems => Ok(!has_item(alloc, kind, paragraph)?),
-        Occurs::Freely | Occurs::AsText => Ok(false),
-    }
+    listed.is_empty()
 }
 
-fn breaks_once(alloc: Global, kind: Kind, paragraph: &Paragraph) -> Result<bool, AllocError>
-    ensures { IfOk result (λ breaking. breaking ≡ breaks Once kind paragraph.now) }
+/// Whether the `source` stands more or less often than once, or has no item; its values were read.
+fn breaks_once(alloc: Global, paragraph: &Paragraph, sources: &[Text]) -> Result<bool, AllocError>
+    requires { sources.now ≡ values_of (kind_name kinds.Source) paragraph.now }
+    ensures { IfOk result (λ breaking. breaking ≡ breaks Once kinds.Source paragraph.now) }
 {
-    if count_named(paragraph, kind.name().as_bytes()) == 1 {
-        Ok(!has_item(alloc, kind, paragraph)?)
+    if count_named(paragraph, Kind::Source.name().as_bytes()) == 1 {
+        Ok(!has_item(alloc, paragraph, sources)?)
     } else {
         Ok(true)
     }
 }
 
 #[tactic(auto, unfolding(crate::specs::Readings::items_of))]
-fn has_item(alloc: Global, kind: Kind, paragraph: &Paragraph) -> Result<bool, AllocError>
-    ensures { IfOk result (λ has. has ≡ is_filled (items_of kind paragraph.now)) }
+fn has_item(alloc: Global, paragraph: &Paragraph, sources: &[Text]) -> Result<bool, AllocError>
+    requires { sources.now ≡ values_of (kind_name kinds.Source) paragraph.now }
+    ensures { IfOk result (λ has. has ≡ is_filled (items_of kinds.Source paragraph.now)) }
 {
-    let values = values_of(alloc, paragraph, kind.name().as_bytes())?;
-    has_item_among(alloc, kind, &values)
-}
-
-fn has_item_among(alloc: Global, kind: Kind, values: &[Text]) -> Result<bool, AllocError>
-    ensures { IfOk result (λ has. has ≡ is_filled (items_among kind values.now)) }
-{
-    if kind == Kind::Auth {
-        return Ok(!values.is_empty());
-    }
-    let text = list_text(alloc, kind, values)?;
+    let text = joined(alloc, sources)?;
     let listed = items(alloc, &text)?;
     Ok(!listed.is_empty())
+}
+
+/// Whether an object of the class needs an `auth` and has none.
+#[tactic(auto, using(crate::proofs::Counted::no_auth), unfolding(crate::specs::Kinds::occurs))]
+fn lacks_auth(class: Class, paragraph: &Paragraph) -> bool
+    ensures { result ≡ is_miscounted_in class kinds.Auth paragraph.now }
+{
+    match class {
+        Class::Mntner => count_named(paragraph, Kind::Auth.name().as_bytes()) == 0,
+        _ => false,
+    }
 }
 
 /// The text in which the items of an attribute's values stand.

@@ -1,7 +1,9 @@
 //! Objects of the registry.
 
-ghost use Rattle.std.specs.Prelude.{◌≡◌, ◌≢◌, Err, IfErr, IfOk, Ok};
-ghost use Rattle.rr_object.specs.Readings.{obj_of, object_of, public_of};
+ghost use Rattle.std.specs.Prelude.{◌≡◌, ◌≢◌, Err, IfErr, IfOk, Ok, Some};
+ghost use Rattle.rr_object.specs.KeyOrders.{IsKeyValue};
+ghost use Rattle.rr_object.specs.KeySpellings.{key_of};
+ghost use Rattle.rr_object.specs.Readings.{obj_of, object_of, public_of, source_of};
 ghost use Rattle.rr_object.specs.declared.fault.ObjectFault.TheVariants.{Memory};
 
 use crate::auth::Auth;
@@ -10,10 +12,12 @@ use crate::counts::is_miscounted;
 use crate::fault::ObjectFault;
 use crate::grant::Grant;
 use crate::key::Key;
+use crate::kind::Kind;
+use crate::lists::{items, values_of};
 use crate::member::Member;
 use crate::paragraph_key::key_of;
 use crate::reading::{
-    Authority, Membership, has_bad_text, is_from, read_authority, read_membership,
+    Authority, Membership, read_authority, read_membership, read_source, text_read,
 };
 use rr_number::{Name, SetName};
 use rr_text::Paragraph;
@@ -50,15 +54,30 @@ impl Model for Object {
 impl Object {
     /// The object that a paragraph is in the registry of this source, whose letter case is ignored. The fault is the first that fits, in
     /// the order of `ObjectFault`, or want of memory.
-    #[tactic(auto, unfolding(crate::specs::Readings::object_of))]
+    #[tactic(auto, using(crate::proofs::Parsed::keyless))]
     pub fn read(alloc: Global, paragraph: Paragraph, source: &Name) -> Result<Object, ObjectFault>
         ensures ok { IfOk result (λ object. object_of paragraph source.now ≡ Ok object) }
         ensures fault { IfErr result (λ fault. fault ≢ Memory → object_of paragraph source.now ≡ Err fault) }
     {
-        let from_here = is_from(alloc, source, &paragraph)?;
-        let object = read_of_any_source(alloc, paragraph)?;
-        if from_here {
-            Ok(object)
+        let key = key_of(alloc, &paragraph)?;
+        Object::read_with_key(alloc, key, paragraph, source)
+    }
+
+    /// The same of a paragraph whose key was read: the faults of the class and the key are behind it.
+    #[tactic(auto, unfolding(crate::specs::Readings::object_of))]
+    pub fn read_with_key(
+        alloc: Global,
+        key: Key,
+        paragraph: Paragraph,
+        source: &Name,
+    ) -> Result<Object, ObjectFault>
+        requires { key_of paragraph ≡ Ok key }
+        ensures ok { IfOk result (λ object. object_of paragraph source.now ≡ Ok object) }
+        ensures fault { IfErr result (λ fault. fault ≢ Memory → object_of paragraph source.now ≡ Err fault) }
+    {
+        let read = read_of_any_source(alloc, key, paragraph)?;
+        if read.source.as_bytes() == source.as_bytes() {
+            Ok(read.object)
         } else {
             Err(ObjectFault::OtherSource)
         }
@@ -71,13 +90,23 @@ impl Object {
         let _paragraph = &self.paragraph;
     }
 
+    /// Tells a caller's proof that the key is well formed, that of a set one of its kind; it does nothing.
+    #[tactic(auto, using(crate::proofs::KeyBounds::obj_key_formed))]
+    pub fn key_is_well_formed(&self)
+        ensures { IsKeyValue self.now.key }
+    {
+        self.is_read_from_its_paragraph();
+    }
+
     /// An equal object; the error is want of memory.
+    #[tactic(auto, using(crate::proofs::Parsed::kept_its_key))]
     pub fn copy(&self, alloc: Global) -> Result<Object, AllocError>
         ensures { IfOk result (λ copy. copy ≡ self.now) }
     {
+        let key = self.key.copy(alloc)?;
         let paragraph = self.paragraph.copy(alloc)?;
-        match read_of_any_source(alloc, paragraph) {
-            Ok(object) => Ok(object),
+        match read_of_any_source(alloc, key, paragraph) {
+            Ok(read) => Ok(read.object),
             Err(_) => Err(AllocError),
         }
     }
@@ -146,23 +175,33 @@ impl Object {
     }
 }
 
-/// The object that a paragraph is in a registry of any source.
-#[tactic(auto, using(crate::proofs::Parsed::obj_read, crate::proofs::Parsed::miscounted, crate::proofs::Parsed::bad_text, crate::proofs::Parsed::bad_authority, crate::proofs::Parsed::bad_membership), unfolding(crate::specs::Readings::obj_of))]
-fn read_of_any_source(alloc: Global, paragraph: Paragraph) -> Result<Object, ObjectFault>
-    ensures ok { IfOk result (λ object. obj_of paragraph ≡ Ok object) }
+/// What a paragraph is in a registry of any source, and the source that it names.
+#[derive(Debug, Drop)]
+struct Sourced {
+    object: Object,
+    source: Name,
+}
+
+/// The object that a paragraph of this key is in a registry of any source, and the source that it names.
+#[tactic(auto, using(crate::proofs::Parsed::obj_read, crate::proofs::Parsed::miscounted, crate::proofs::Parsed::bad_text, crate::proofs::Parsed::bad_authority, crate::proofs::Parsed::bad_membership))]
+fn read_of_any_source(alloc: Global, key: Key, paragraph: Paragraph) -> Result<Sourced, ObjectFault>
+    requires { key_of paragraph ≡ Ok key }
+    ensures ok { IfOk result (λ read. obj_of paragraph ≡ Ok read.object) }
+    ensures source { IfOk result (λ read. source_of paragraph ≡ Some read.source) }
     ensures fault { IfErr result (λ fault. fault ≢ Memory → obj_of paragraph ≡ Err fault) }
 {
-    let key = key_of(alloc, &paragraph)?;
     let class = key.class();
-    if is_miscounted(alloc, class, &paragraph)? {
+    let sources = values_of(alloc, &paragraph, Kind::Source.name().as_bytes())?;
+    let maintained = text_read(alloc, class, Kind::MntBy, &paragraph)?;
+    let maintainers = items(alloc, &maintained)?;
+    if is_miscounted(alloc, class, &paragraph, &sources, &maintainers)? {
         return Err(ObjectFault::BadCount);
     }
-    if has_bad_text(alloc, &paragraph)? {
-        return Err(ObjectFault::BadValue);
-    }
-    let authority = read_authority(alloc, class, &paragraph)?;
+    let source = read_source(alloc, &paragraph, &sources)?;
+    let authority = read_authority(alloc, class, &paragraph, &maintainers)?;
     let membership = read_membership(alloc, class, &paragraph)?;
-    Ok(joined(key, paragraph, authority, membership))
+    let object = joined(key, paragraph, authority, membership);
+    Ok(Sourced { object, source })
 }
 
 /// The object of what was read.

@@ -6,8 +6,9 @@ ghost use Rattle.std.specs.Option.{option_and_then};
 ghost use Rattle.rr_number.specs.Names.{name_of};
 ghost use Rattle.rr_object.specs.Auths.{auth_item};
 ghost use Rattle.rr_object.specs.Grants.{grants_of, is_any};
-ghost use Rattle.rr_object.specs.Items.{are_good, items, meant, only};
-ghost use Rattle.rr_object.specs.Readings.{by_ref_of, has_bad_authority, has_bad_membership, has_bad_text, is_from, is_kept_out, items_read, maintainers_of, member_item, source_of};
+ghost use Rattle.rr_object.specs.Items.{are_good, items, meant, only, values_of};
+ghost use Rattle.rr_object.specs.Readings.{by_ref_of, has_bad_authority, has_bad_membership, has_bad_text, is_kept_out, items_read, maintainers_of, member_item, source_of};
+ghost use Rattle.rr_object.specs.Kinds.{kind_name};
 ghost use Rattle.rr_object.specs.Members.{referrer_item, set_item};
 ghost use Rattle.rr_object.specs.declared.fault.ObjectFault.TheVariants.{BadValue, Memory};
 ghost use Rattle.rr_object.specs.declared.kind.Kind.TheVariants as kinds;
@@ -45,15 +46,25 @@ pub(crate) struct Membership {
     pub(crate) member_of: Vec<SetName>,
 }
 
-/// Whether an attribute has a name that is kept out, or the source is no name.
+/// The source that a paragraph names. It is a fault that it names none, and that an attribute has a name that is kept out.
 #[tactic(auto, unfolding(crate::specs::Readings::has_bad_text))]
-pub(crate) fn has_bad_text(alloc: Global, paragraph: &Paragraph) -> Result<bool, AllocError>
-    ensures { IfOk result (λ bad. bad ≡ has_bad_text paragraph.now) }
+pub(crate) fn read_source(
+    alloc: Global,
+    paragraph: &Paragraph,
+    sources: &[Text],
+) -> Result<Name, ObjectFault>
+    requires { sources.now ≡ values_of (kind_name kinds.Source) paragraph.now }
+    ensures good { IfOk result (λ _. has_bad_text paragraph.now ≡ false) }
+    ensures source { IfOk result (λ source. source_of paragraph.now ≡ Some source) }
+    ensures bad { IfErr result (λ fault. fault ≢ Memory → (fault ≡ BadValue) × (has_bad_text paragraph.now ≡ true)) }
 {
     if has_kept_out(paragraph.attributes()) {
-        return Ok(true);
+        return Err(ObjectFault::BadValue);
     }
-    Ok(source_of(alloc, paragraph)?.is_none())
+    match source_among(alloc, sources)? {
+        Some(source) => Ok(source),
+        None => Err(ObjectFault::BadValue),
+    }
 }
 
 fn has_kept_out(attributes: &[Attribute]) -> bool
@@ -68,27 +79,6 @@ fn is_kept_out(attribute: &Attribute) -> bool
     attribute.name() == b"password".as_slice() || attribute.name() == b"delete".as_slice()
 }
 
-/// Whether the source of a paragraph is this one; letter case is ignored.
-pub(crate) fn is_from(
-    alloc: Global,
-    source: &Name,
-    paragraph: &Paragraph,
-) -> Result<bool, AllocError>
-    ensures { IfOk result (λ same. same ≡ is_from source.now paragraph.now) }
-{
-    match source_of(alloc, paragraph)? {
-        Some(name) => Ok(name.as_bytes() == source.as_bytes()),
-        None => Ok(false),
-    }
-}
-
-fn source_of(alloc: Global, paragraph: &Paragraph) -> Result<Option<Name>, AllocError>
-    ensures { IfOk result (λ source. source ≡ source_of paragraph.now) }
-{
-    let values = values_of(alloc, paragraph, Kind::Source.name().as_bytes())?;
-    source_among(alloc, &values)
-}
-
 fn source_among(alloc: Global, values: &[Text]) -> Result<Option<Name>, AllocError>
     ensures { IfOk result (λ source. source ≡ option_and_then name_of (only values.now)) }
 {
@@ -98,13 +88,15 @@ fn source_among(alloc: Global, values: &[Text]) -> Result<Option<Name>, AllocErr
     }
 }
 
-/// What an object of the class says of whose secrets decide.
+/// What an object of the class says of whose secrets decide, from the items of its `mnt-by`.
 #[tactic(auto, unfolding(crate::specs::Readings::has_bad_authority))]
 pub(crate) fn read_authority(
     alloc: Global,
     class: Class,
     paragraph: &Paragraph,
+    maintainers: &[&[u8]],
 ) -> Result<Authority, ObjectFault>
+    requires { map (λ item. item.now) maintainers.now ≡ items_read kinds.MntBy class paragraph.now }
     ensures good { IfOk result (λ _. has_bad_authority class paragraph.now ≡ false) }
     ensures maintainers { IfOk result (λ said. said.maintainers.items ≡ maintainers_of kinds.MntBy class paragraph.now) }
     ensures lower { IfOk result (λ said. said.lower.items ≡ maintainers_of kinds.MntLower class paragraph.now) }
@@ -112,7 +104,7 @@ pub(crate) fn read_authority(
     ensures auths { IfOk result (λ said. said.auths.items ≡ meant auth_item (items_read kinds.Auth class paragraph.now)) }
     ensures bad { IfErr result (λ fault. fault ≢ Memory → (fault ≡ BadValue) × (has_bad_authority class paragraph.now ≡ true)) }
 {
-    let maintainers = read_listed::<Maintainers>(alloc, class, Kind::MntBy, paragraph)?;
+    let maintainers = read_items::<Maintainers>(alloc, maintainers)?;
     let lower = read_listed::<Maintainers>(alloc, class, Kind::MntLower, paragraph)?;
     let routes = read_routes(alloc, class, paragraph)?;
     let auths = read_auths(alloc, class, paragraph)?;
@@ -149,7 +141,7 @@ pub(crate) fn read_membership(
 
 /// The text in which the items of an attribute stand, empty where the class does not read it.
 #[tactic(auto, unfolding(crate::specs::Readings::items_read, crate::specs::Readings::items_of, crate::specs::Items::items), using(crate::proofs::Listed::items_among_list))]
-fn text_read(
+pub(crate) fn text_read(
     alloc: Global,
     class: Class,
     kind: Kind,

@@ -138,7 +138,7 @@ fn take_in(gathered: &mut Vec<Object>, n: u64, object: Object) -> Result<(), Loa
     ensures ok { OnOk result (IsTakenIn gathered.old.items n object gathered.new.items) }
     ensures err { IfErr result (λ fault. (fault ≡ LoadFault.Memory) ⊎ (clash_of (book_of gathered.old.items) n object ≡ Some fault)) }
 {
-    object.key().is_within_bounds();
+    object.key_is_well_formed();
     if lists::find_key(gathered, object.key()).is_some() {
         return Err(LoadFault::Duplicate(n));
     }

@@ -81,7 +81,7 @@ impl Registry {
         match judge(alloc, &self.book, secrets, &item) {
             Ok(verdict) => match item {
                 Item::Submit(object) => {
-                    object.key().is_within_bounds();
+                    object.key_is_well_formed();
                     self.submit(alloc, verdict, object)
                 }
                 Item::Delete(key) => self.delete(verdict, &key),

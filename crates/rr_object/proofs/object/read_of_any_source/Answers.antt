@@ -1,0 +1,18 @@
+use Rattle.std.proofs.Common.{sym, ◌∙◌}
+use Rattle.rr_object.proofs.Parsed.{obj_read}
+use Rattle.rr_object.proofs.object.read_of_any_source.Goals as goal
+
+pub joined-object-requires : goal.joined-object-requires
+joined-object-requires c =
+    obj_read c.args.paragraph c.args.key _ _ _ _ _ _ _ c.requires
+    (rw (← c.class-class.ensures) (sym c.in_ok-is_miscounted.ensures ∙ c.if-branch.false))
+    c.in_ok-source.ensures.good
+    (rw (← c.class-class.ensures) c.in_ok-authority.ensures.good)
+    (rw (← c.class-class.ensures) c.in_ok-membership.ensures.good)
+    (rw (← c.class-class.ensures) c.in_ok-authority.ensures.maintainers)
+    (rw (← c.class-class.ensures) c.in_ok-authority.ensures.lower)
+    (rw (← c.class-class.ensures) c.in_ok-authority.ensures.routes)
+    (rw (← c.class-class.ensures) c.in_ok-authority.ensures.auths)
+    (rw (← c.class-class.ensures) c.in_ok-membership.ensures.members)
+    (rw (← c.class-class.ensures) c.in_ok-membership.ensures.by_ref)
+    (rw (← c.class-class.ensures) c.in_ok-membership.ensures.member_of)

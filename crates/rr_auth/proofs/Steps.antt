@@ -14,8 +14,7 @@ use Rattle.rr_auth.specs.declared.verdict.Verdict.{Verdict}
 use Rattle.rr_auth.specs.declared.verdict.Verdict.TheVariants.{Add, Change, Same, Delete, Refuse}
 use Rattle.rr_auth.specs.Registries.{Reg, Sound, seen_by}
 use Rattle.rr_auth.specs.Laws.{IsItem}
-use Rattle.rr_object.proofs.KeyBounds.{object_key_formed}
-use Rattle.rr_auth.specs.Sources.{IsReadIn, IsRegistryOf}
+use Rattle.rr_auth.specs.Sources.{IsReadIn, IsReadObject, IsRegistryOf}
 use Rattle.rr_auth.specs.Verdicts.{deletion, is_met_by, place, submission, verdict, after, step}
 use Rattle.rr_auth.specs.Conditions.{names_unknown, unauthorised, is_uncovered, cover_refuses, lacks_origin, origin_refuses, crosses_some, is_in_use}
 use Rattle.rr_auth.proofs.Keeping.{after_insert, still_there, sound_added, sound_changed, sound_removed}
@@ -80,12 +79,12 @@ verdicts_are_met r z (DeleteItem k) = deletion_met r z k (get r k)
 
 -- an item that is read is well formed
 pub read_item : (source : List ℕ) (i : Item) → IsReadIn source i → IsItem i
-read_item source (Submit o) h = object_key_formed o.paragraph source o h
-read_item source (DeleteItem k) h = h
+read_item source (Submit o) h = h.formed
+read_item source (DeleteItem k) h = tt
 
-read_added : (source : List ℕ) (r : Reg) (o : Obj) → IsRegistryOf source r → object_of o.paragraph source ≡ Ok o
+read_added : (source : List ℕ) (r : Reg) (o : Obj) → IsRegistryOf source r → IsReadObject source o
     → (k : Key) (x : Obj) → get (insert r o.key o) k ≡ Some x → object_of x.paragraph source ≡ Ok x
-read_added source r o s h = after_insert (λ k x. object_of x.paragraph source ≡ Ok x) r o.key o h s.read
+read_added source r o s h = after_insert (λ k x. object_of x.paragraph source ≡ Ok x) r o.key o h.read s.read
 
 read_after : (source : List ℕ) (r : Reg) (v : Verdict) (i : Item) → IsRegistryOf source r → IsReadIn source i
     → (k : Key) (x : Obj) → get (after v r i) k ≡ Some x → object_of x.paragraph source ≡ Ok x

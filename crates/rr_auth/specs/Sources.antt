@@ -2,6 +2,7 @@
 use Rattle.std.specs.Prelude.{◌≡◌, ℕ, List, Some, Ok}
 use Rattle.std.specs.FinMap.{get}
 use Rattle.rr_object.specs.declared.key.Key.{Key}
+use Rattle.rr_object.specs.KeyOrders.{IsKeyValue}
 use Rattle.rr_object.specs.Objects.{Obj}
 use Rattle.rr_object.specs.Readings.{object_of}
 use Rattle.rr_auth.specs.declared.item.Item.{Item}
@@ -14,7 +15,12 @@ pub record IsRegistryOf (source : List ℕ) (r : Reg) : Type 0 where
   pub sound : Sound r
   pub read : (k : Key) (o : Obj) → get r k ≡ Some o → object_of o.paragraph source ≡ Ok o
 
--- An item as it is read in a source: an object is what its paragraph reads as there.
+-- An object as it is read in a source: what its paragraph reads as, with a well-formed key.
+pub record IsReadObject (source : List ℕ) (o : Obj) : Type 0 where
+  pub formed : IsKeyValue o.key
+  pub read : object_of o.paragraph source ≡ Ok o
+
+-- An item as it is read in a source.
 abbrev pub IsReadIn : List ℕ → Item → Type 0
-IsReadIn source (Submit o) = object_of o.paragraph source ≡ Ok o
-IsReadIn source (Delete k) = Unit {0}
+IsReadIn source (Submit o) = IsReadObject source o
+IsReadIn source (Delete k) = IsKeyValue k

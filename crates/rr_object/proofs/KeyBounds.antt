@@ -3,16 +3,18 @@ use Rattle.std.proofs.Common.{◌≡◌, ℕ, ◌+◌, ◌<◌, ◌≤◌, ◌^�
 use Rattle.std.proofs.lemmas.Bool.{and_parts}
 use Rattle.std.proofs.lemmas.Option.{cond_some, option_and_then_some}
 use Rattle.std.specs.Option.{option_map, option_and_then}
+use Rattle.rr_bytes.specs.LetterCase.{upper}
 use Rattle.rr_text.specs.Fields.{Field}
 use Rattle.rr_text.specs.Meanings.{value_meaning}
 use Rattle.rr_number.specs.Addresses.{IsAddress}
 use Rattle.rr_number.specs.AsNumbers.{as_number_of, greatest_as_number}
 use Rattle.rr_number.specs.AsSpans.{IsAsSpan, IsAsSpanText, as_span_of}
-use Rattle.rr_number.specs.Names.{IsUpperName, is_maintainer_name, maintainer_name_of, name_of, upper}
+use Rattle.rr_number.specs.Names.{IsUpperName, is_maintainer_name, maintainer_name_of, name_of}
 use Rattle.rr_number.specs.Prefixes.{IsMasked, IsPrefix, PrefixParts, prefix_of}
 use Rattle.rr_number.specs.SetNames.{IsSetText, is_any_set, is_set_name, kind_of, set_name_of, set_text}
 use Rattle.rr_number.specs.Spans.{Ends, IsSpan}
-use Rattle.rr_number.specs.SpanTexts.{IsAddressPair, IsPrefixSpan, span_of}
+use Rattle.rr_number.specs.EndsTexts.{IsEndsText}
+use Rattle.rr_number.specs.SpanTexts.{IsPrefixSpan, spelled_span}
 use Rattle.rr_number.specs.declared.set_kind.SetKind.{SetKind}
 use Rattle.rr_number.specs.declared.set_kind.SetKind.TheVariants as kinds
 use Rattle.rr_number.proofs.AsNumberLemmas.{as_number_of-bound}
@@ -21,7 +23,7 @@ use Rattle.rr_number.proofs.NameLemmas.{name_of-kept}
 use Rattle.rr_number.proofs.PrefixLemmas.{prefix_of-spelled}
 use Rattle.rr_number.proofs.PrefixSpans.{IsMasked-masked, IsSpan-prefix}
 use Rattle.rr_number.proofs.SetNameLemmas.{IsSetText-set_text}
-use Rattle.rr_number.proofs.SpanTextLemmas.{span_of-spelled}
+use Rattle.rr_number.proofs.SpanTextLemmas.{spelled_span-spelled}
 use Rattle.rr_object.specs.declared.class.Class.{Class}
 use Rattle.rr_object.specs.declared.class.Class.TheVariants as class
 use Rattle.rr_object.specs.declared.fault.ObjectFault.TheVariants.{BadKey}
@@ -82,11 +84,11 @@ prefix_formed text p e = spelled_masked text p (prefix_of-spelled text p e)
 prefix_span_formed : (text : List ℕ) (s : Ends) → IsPrefixSpan text s → IsSpan s
 prefix_span_formed text s is = subst IsSpan (sym is.value) (IsSpan-prefix is.prefix (spelled_masked text is.prefix is.spelled))
 
-pair_formed : (text : List ℕ) (s : Ends) → IsAddressPair text s → IsSpan s
+pair_formed : (text : List ℕ) (s : Ends) → IsEndsText IsAddress text s → IsSpan s
 pair_formed text s is = record { ordered = is.ordered; fits = address_fits is.last_text s.last is.last }
 
-span_formed : (text : List ℕ) (s : Ends) → span_of text ≡ Some s → IsSpan s
-span_formed text s e = ⊎_elim (pair_formed text s) (prefix_span_formed text s) (span_of-spelled text s e)
+span_formed : (text : List ℕ) (s : Ends) → spelled_span text ≡ Some s → IsSpan s
+span_formed text s e = ⊎_elim (pair_formed text s) (prefix_span_formed text s) (spelled_span-spelled text s e)
 
 set_formed : (text name : List ℕ) → set_name_of text ≡ Some name → IsSetText name
 set_formed text name e =
@@ -153,7 +155,7 @@ unfolding key_of_text
 text_key_formed class.Mntner text key e = made_formed Mntner (maintainer_name_of text) key (maintainer_formed text) e
 text_key_formed class.AsBlock text key e = made_formed AsBlock (as_span_of text) key (block_formed text) e
 text_key_formed class.AutNum text key e = made_formed AutNum (as_number_of text) key (as_number_of-bound text) e
-text_key_formed class.Inetnum text key e = made_formed Inetnum (span_of text) key (span_formed text) e
+text_key_formed class.Inetnum text key e = made_formed Inetnum (spelled_span text) key (span_formed text) e
 text_key_formed class.Route text key e = route_words_formed (words text) key e
 text_key_formed class.AsSet text key e = made_formed AsSet (as_set_key_of text) key (as_set_formed text) e
 text_key_formed class.RouteSet text key e = made_formed RouteSet (route_set_key_of text) key (route_set_formed text) e

@@ -6,7 +6,7 @@ mod closest;
 mod keys;
 pub mod lists;
 mod plain_book;
-mod referrers;
+mod set_index;
 mod set_book;
 
 pub use plain_book::PlainBook;

@@ -14,6 +14,6 @@ fn main(rt: HostRuntime) -> ExitCode {
     let mut input = Counted::new(rt.stdin());
     let mut output = Counted::new(rt.stdout());
     let mut errors = Counted::new(rt.stderr());
-    let words = env::args(&rt);
-    ExitCode::from(run::run(rt.alloc(), words, &mut input, &mut output, &mut errors))
+    let arguments = env::args(&rt);
+    ExitCode::from(run::run(rt.alloc(), arguments, &mut input, &mut output, &mut errors))
 }

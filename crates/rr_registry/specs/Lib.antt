@@ -1,3 +1,4 @@
 pub mod Loading
+pub mod Private
 pub mod RunLaws
 pub mod Runs

@@ -1,8 +1,9 @@
 //! Registries, and what items do to them.
 
-ghost use Rattle.std.specs.Prelude.{◌≡◌, ◌≢◌, ◌⊎◌};
+ghost use Rattle.std.specs.Prelude.{◌≡◌, ◌⊎◌, true};
 ghost use Rattle.std.specs.FinMap.{empty, insert, remove, values};
-ghost use Rattle.rr_auth.specs.declared.verdict.Verdict.TheVariants.{Add, Change, Same, Delete};
+ghost use Rattle.rr_auth.specs.declared.verdict.Verdict.TheVariants.{Add, Change, Delete};
+ghost use Rattle.rr_auth.specs.Verdicts.{is_met_by};
 ghost use Rattle.rr_registry.specs.Runs.{IsCarriedOut, IsStep, IsWant};
 
 use crate::outcome::Outcome;
@@ -73,7 +74,7 @@ impl Registry {
 
     /// Does with the item what its verdict says, over this registry and these secrets (RFC 2725, 9; profile). Where
     /// memory is wanting the item is refused with E90 and nothing changes.
-    #[tactic(auto, using(rr_auth::proofs::Keeping::sound_added, rr_auth::proofs::Keeping::sound_changed, rr_auth::proofs::Keeping::sound_removed))]
+    #[tactic(auto, using(rr_auth::proofs::Keeping::sound_added, rr_auth::proofs::Keeping::sound_changed, rr_auth::proofs::Keeping::sound_removed, rr_auth::proofs::Steps::verdicts_are_met))]
     pub fn apply(&mut self, alloc: Global, secrets: &Secrets, item: Item) -> Outcome
         ensures { IsStep self.old secrets.now item result self.new }
     {
@@ -94,7 +95,7 @@ impl Registry {
     fn submit(&mut self, alloc: Global, judged: Verdict, object: Object) -> Outcome
         requires added { judged ≡ Add → Sound (insert self.old object.key object) }
         requires changed { judged ≡ Change → Sound (insert self.old object.key object) }
-        requires fits { judged ≢ Delete }
+        requires possible { is_met_by (Item.Submit object) judged ≡ true }
         ensures { IsCarriedOut self.old judged (Item.Submit object) result self.new }
     {
         match judged {
@@ -120,7 +121,7 @@ impl Registry {
     /// Carries out the verdict on a deletion.
     fn delete(&mut self, judged: Verdict, key: &Key) -> Outcome
         requires deleted { judged ≡ Delete → Sound (remove self.old key.now) }
-        requires fits { (judged ≢ Add) × (judged ≢ Change) × (judged ≢ Same) }
+        requires possible { is_met_by (Item.Delete key.now) judged ≡ true }
         ensures { IsCarriedOut self.old judged (Item.Delete key.now) result self.new }
     {
         match judged {

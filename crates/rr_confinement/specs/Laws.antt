@@ -11,11 +11,15 @@ pub record IsLeft (h : Holding) (before then : Reg) : Type 0 where
   pub agree : Agree h before then
   pub held : IsHeld h then
 
+-- Whoever holds a prefix, and has no secret among these, keeps what is held.
+abbrev pub LeavesOthers : Reg → List (List ℕ) → Reg → Type 0
+LeavesOthers before secrets then =
+    (h : Holding) → IsHeld h before → is_foreign h before secrets ≡ true → IsLeft h before then
+
 -- An item that nobody among the holders sent leaves what they hold.
 abbrev pub ForeignItemsLeave : Type 0
 ForeignItemsLeave =
-    (h : Holding) (r : Reg) (secrets : List (List ℕ)) (i : Item) → Sound r → IsHeld h r → IsItem i
-    → is_foreign h r secrets ≡ true → IsLeft h r (step r secrets i)
+    (r : Reg) (secrets : List (List ℕ)) (i : Item) → Sound r → IsItem i → LeavesOthers r secrets (step r secrets i)
 
 -- In two registries an item has one verdict, they agree after it on what is held, and the prefix is held in both.
 pub record IsAlike (h : Holding) (r q : Reg) (secrets : List (List ℕ)) (i : Item) : Type 0 where

@@ -1,6 +1,6 @@
 -- A run beside the run of the holders' own items: both keep what is held, and agree on it.
 use Rattle.std.proofs.Common.{◌≡◌, ℕ, Bool, true, false, not, ◌||◌, inl, inr, List, [], ◌∷◌, Ok, Err, refl, sym, ap, subst, ◌∙◌}
-use Rattle.std.specs.Prelude.{Result, filter, if◌then◌else◌}
+use Rattle.std.specs.Prelude.{Result, IfOk, OnOk, filter, if◌then◌else◌}
 use Rattle.std.specs.FinMap.{get}
 use Rattle.std.specs.List.{list_all}
 use Rattle.std.proofs.lemmas.Bool.{and_parts}
@@ -17,9 +17,10 @@ use Rattle.rr_confinement.proofs.Foreign.{foreign_items_leave}
 use Rattle.rr_confinement.proofs.Holders.{foreign_alike}
 use Rattle.rr_confinement.proofs.Kept.{maintainer_after}
 use Rattle.rr_confinement.proofs.Own.{own_items_are_alike}
-use Rattle.rr_registry.specs.Confined.{IsConfined, are_foreign_or_own, is_own_action, own_outcomes, own_submitted}
-use Rattle.rr_registry.specs.RunLaws.{AreFormed, IsFormed}
-use Rattle.rr_registry.specs.Runs.{Decides, Run, outcome_of}
+use Rattle.rr_registry.specs.Confined.{Confines, IsConfined, are_foreign_or_own, is_own_action, own_outcomes, own_submitted}
+use Rattle.rr_auth.specs.Laws.{IsItem}
+use Rattle.rr_registry.specs.RunLaws.{AreFormed}
+use Rattle.rr_registry.specs.Runs.{Decides, IsStep, Run, outcome_of}
 use Rattle.rr_registry.specs.declared.outcome.Outcome.{Outcome}
 use Rattle.rr_registry.specs.declared.run.Submitted.{Submitted}
 
@@ -52,7 +53,7 @@ foreign_here h begun r q secrets b e = foreign_alike h r begun secrets b.maintai
 
 -- what is foreign leaves both beside each other
 after_foreign : (h : Holding) (begun r s q : Reg) (secrets : List (List ℕ)) (action : Result Item Code) (outcome : Outcome)
-    → Beside h begun r q → IsFormed action → is_foreign h begun secrets ≡ true → Decides r secrets action outcome s → Beside h begun s q
+    → Beside h begun r q → IfOk action IsItem → is_foreign h begun secrets ≡ true → Decides r secrets action outcome s → Beside h begun s q
 after_foreign h begun r s q secrets (Ok item) outcome b formed foreign (inl done) =
     let left = foreign_items_leave h r secrets item b.sound b.held formed (foreign_here h begun r q secrets b foreign) in
     beside_same h begun (step r secrets item) s q (beside_left h begun r (step r secrets item) q b (stays_sound r secrets item b.sound formed) left) done.effect
@@ -61,7 +62,7 @@ after_foreign h begun r s q secrets (Err code) outcome b formed foreign d = besi
 
 -- and what is held as it was
 left_by_foreign : (h : Holding) (begun r s q : Reg) (secrets : List (List ℕ)) (action : Result Item Code) (outcome : Outcome)
-    → Beside h begun r q → IsFormed action → is_foreign h begun secrets ≡ true → Decides r secrets action outcome s → Agree h r s
+    → Beside h begun r q → IfOk action IsItem → is_foreign h begun secrets ≡ true → Decides r secrets action outcome s → Agree h r s
 left_by_foreign h begun r s q secrets (Ok item) outcome b formed foreign (inl done) =
     let left = foreign_items_leave h r secrets item b.sound b.held formed (foreign_here h begun r q secrets b foreign) in
     subst (λ t. Agree h r t) (sym done.effect) left.agree
@@ -74,7 +75,7 @@ record DecidesAlike (h : Holding) (begun s q : Reg) (secrets : List (List ℕ)) 
   decides : Decides q secrets action outcome other
   beside : Beside h begun s other
 
-beside_own : (h : Holding) (begun r q : Reg) (secrets : List (List ℕ)) (item : Item) → Beside h begun r q → IsFormed (Ok item) → is_own h item ≡ true
+beside_own : (h : Holding) (begun r q : Reg) (secrets : List (List ℕ)) (item : Item) → Beside h begun r q → IsItem item → is_own h item ≡ true
     → IsAlike h r q secrets item → Beside h begun (step r secrets item) (step q secrets item)
 beside_own h begun r q secrets item b formed own alike = record {
   sound = stays_sound r secrets item b.sound formed;
@@ -86,7 +87,7 @@ beside_own h begun r q secrets item b formed own alike = record {
 }
 
 after_own : (h : Holding) (begun r s q : Reg) (secrets : List (List ℕ)) (action : Result Item Code) (outcome : Outcome)
-    → Beside h begun r q → IsFormed action → is_own_action h action ≡ true → Decides r secrets action outcome s → DecidesAlike h begun s q secrets action outcome
+    → Beside h begun r q → IfOk action IsItem → is_own_action h action ≡ true → Decides r secrets action outcome s → DecidesAlike h begun s q secrets action outcome
 after_own h begun r s q secrets (Ok item) outcome b formed own (inl done) =
     let alike = own_items_are_alike h r q secrets item b.sound b.sound_too b.held b.held_too b.agree formed own in
     record {
@@ -181,3 +182,17 @@ runs_confine r s submitted outcomes sound formed run h held listed =
     let beside : Beside h r r r = record { sound = sound; sound_too = sound; held = held; held_too = held; agree = λ k e. refl; maintainers = λ name e. refl } in
     let c = confined_from h r r r submitted outcomes s beside formed listed run in
     record { alone = c.alone; run = c.run; agree = c.agree; held = c.held; held_alone = c.held_alone; undisturbed = c.undisturbed }
+
+-- a step of a foreign item leaves what is held
+pub step_leaves_others : (r : Reg) (secrets : List (List ℕ)) (item : Item) (outcome : Outcome) (s : Reg) → Sound r → IsItem item → IsStep r secrets item outcome s
+    → (h : Holding) → IsHeld h r → is_foreign h r secrets ≡ true → IsLeft h r s
+step_leaves_others r secrets item outcome s sound formed (inl done) h held foreign =
+    subst (λ t. IsLeft h r t) (sym done.effect) (foreign_items_leave h r secrets item sound held formed foreign)
+step_leaves_others r secrets item outcome s sound formed (inr want) h held foreign =
+    subst (λ t. IsLeft h r t) (sym want.effect) (record { agree = λ k e. refl; held = held })
+
+-- what a run that was done confines
+pub confined_result : {V E : Type 0} (r s : Reg) (submitted : List Submitted) (outcomes_of : V → List Outcome) (result : Result V E) → Sound r → OnOk result (AreFormed submitted)
+    → IfOk result (λ v. Run r submitted (outcomes_of v) s) → IfOk result (λ v. Confines r submitted (outcomes_of v) s)
+confined_result r s submitted outcomes_of (Ok v) sound formed run = λ h held listed. runs_confine r s submitted (outcomes_of v) sound formed run h held listed
+confined_result r s submitted outcomes_of (Err e) sound formed run = tt

@@ -180,10 +180,10 @@ clash_same : (bs cs : List Obj) (n : ℕ) (os : List Obj) → ((p : Obj → Bool
 clash_same bs cs n [] h = refl
 clash_same bs cs n (o ∷ os) h =
     let rest = clash_same (bs ++ o ∷ []) (cs ++ o ∷ []) (n + 1) os
-        (λ p. list_any-append p bs _ ∙ (ap (λ b. b || list_any p (o ∷ [])) (h p) ∙ sym (list_any-append p cs _))) in
+    (λ p. list_any-append p bs _ ∙ (ap (λ b. b || list_any p (o ∷ [])) (h p) ∙ sym (list_any-append p cs _))) in
     λ i. option_or
-        (if h (λ x. eq_by_cmp key_cmp o.key x.key) i then Some (Duplicate n)
-        else (if h (λ x. keys_cross x.key o.key) i then Some (Overlap n) else None)) (rest i)
+    (if h (λ x. eq_by_cmp key_cmp o.key x.key) i then Some (Duplicate n)
+    else (if h (λ x. keys_cross x.key o.key) i then Some (Overlap n) else None)) (rest i)
 
 or_back : (a b : Bool) → (b || (a || false)) ≡ (a || b)
 or_back true true = refl

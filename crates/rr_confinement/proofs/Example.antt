@@ -14,7 +14,9 @@ use Rattle.rr_object.specs.Objects.{Obj, names_of}
 use Rattle.rr_auth.specs.Registries.{Reg, Sound, keys_cross, maintainer, names_nobody}
 use Rattle.rr_auth.proofs.KeyLaws.{keys_total, same_key}
 use Rattle.rr_auth.proofs.Members.{IsIn, all_fail, each_passes}
-use Rattle.rr_number.specs.Names.{IsUpperName, is_name, upper as upper_of}
+use Rattle.rr_bytes.specs.LetterCase.{upper as upper_of}
+use Rattle.rr_bytes.specs.NameBytes.{is_name}
+use Rattle.rr_number.specs.Names.{IsUpperName}
 use Rattle.rr_confinement.specs.Example.{a_mnt, b_mnt, root_mnt, example_holding, example_objects, example_registry}
 use Rattle.rr_confinement.specs.Holdings.{Holding, IsHeld, has_number, is_held, is_holder, names_holders, space_of}
 
@@ -112,19 +114,40 @@ upper : (name : List ℕ) → is_name name ≡ true → upper_of name ≡ name �
 upper name e f = record { spelled = e; upper_case = f }
 
 all_formed : AllFormed example_objects
+unfolding is_name
 all_formed = (
   upper a_mnt refl refl,
-  (upper b_mnt refl refl,
-  (upper root_mnt refl refl,
-  (record { ordered = lit≤ tt; bound = lit≤ tt },
-  (record { ordered = lit≤ tt; bound = lit≤ tt },
-  (lit≤ tt,
-  (lit≤ tt,
-  (record { ordered = lit≤ tt; fits = lit< tt },
-  (record { ordered = lit≤ tt; fits = lit< tt },
-  (record { ordered = lit≤ tt; fits = lit< tt },
-  (record { masked = record { short = lit≤ tt; fits = lit< tt; aligned = refl }; numbered = lit≤ tt },
-  tt))))))))))
+  (
+    upper b_mnt refl refl,
+    (
+      upper root_mnt refl refl,
+      (
+        record { ordered = lit≤ tt; bound = lit≤ tt },
+        (
+          record { ordered = lit≤ tt; bound = lit≤ tt },
+          (
+            lit≤ tt,
+            (
+              lit≤ tt,
+              (
+                record { ordered = lit≤ tt; fits = lit< tt },
+                (
+                  record { ordered = lit≤ tt; fits = lit< tt },
+                  (
+                    record { ordered = lit≤ tt; fits = lit< tt },
+                    (
+                      record { masked = record { short = lit≤ tt; fits = lit< tt; aligned = refl }; numbered = lit≤ tt },
+                      tt,
+                    ),
+                  ),
+                ),
+              ),
+            ),
+          ),
+        ),
+      ),
+    ),
+  ),
 )
 
 -- what is found in the list stands in the registry

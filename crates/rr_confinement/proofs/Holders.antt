@@ -1,5 +1,5 @@
 -- Names of holders: they are known, pass alike in registries that agree on what is held, and pass for no foreign item.
-use Rattle.std.proofs.Common.{◌≡◌, ℕ, true, false, ◌&&◌, ◌||◌, List, [], ◌∷◌, ◌++◌, refl, sym, ap, ◌∙◌}
+use Rattle.std.proofs.Common.{◌≡◌, ℕ, true, false, not, ◌&&◌, ◌||◌, List, [], ◌∷◌, ◌++◌, refl, sym, ap, ◌∙◌}
 use Rattle.std.specs.Prelude.{Option, None, Some, ◌==◌, is_none, is_some, length, map, filter, if◌then◌else◌}
 use Rattle.std.specs.List.{list_all}
 use Rattle.std.specs.Option.{option_map_or}
@@ -16,7 +16,7 @@ use Rattle.rr_object.specs.Parts.{GrantParts}
 use Rattle.rr_auth.specs.Authority.{grants, is_aut_num, lower_of, lower_passes, routes_of, routes_pass}
 use Rattle.rr_auth.specs.Passing.{name_passes, names_pass, passes}
 use Rattle.rr_auth.specs.Registries.{Reg, maintainer, names_nobody}
-use Rattle.rr_auth.proofs.Members.{all_fail, each_passes, none_passes, passing_one, same_tests, some_passes}
+use Rattle.rr_auth.proofs.Members.{all_fail, all_pass, each_passes, none_passes, passing_one, same_tests, some_passes}
 use Rattle.rr_confinement.specs.Holdings.{Agree, Holding, IsHeld, is_foreign, is_holder, is_mntner, names_holders}
 
 -- what is there is not nothing

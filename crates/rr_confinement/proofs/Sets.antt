@@ -11,7 +11,7 @@ use Rattle.rr_number.specs.SetNames.{components, is_as_number}
 use Rattle.rr_number.specs.declared.set_name.parent.Parent.{Parent}
 use Rattle.rr_number.specs.declared.set_name.parent.Parent.TheVariants.{Number, Set, Bare}
 use Rattle.rr_number.proofs.Components.{components-alone, lacks-upper, some_component}
-use Rattle.rr_number.proofs.CutsLemmas.{lacks, lacks-append, lacks-digits}
+use Rattle.rr_bytes.proofs.CutLemmas.{lacks, lacks-append, lacks-digits}
 use Rattle.rr_number.proofs.AsNumberLemmas.{as_number_of-spelled}
 use Rattle.rr_number.proofs.ParentLemmas.{front_parts}
 use Rattle.rr_object.specs.declared.key.Key.{Key}

@@ -1,2 +1,3 @@
+pub mod Confined
 pub mod Gathering
 pub mod Running

@@ -68,3 +68,8 @@ run_stays_of_source source r s [] (o ∷ os) of read run = absurd run
 run_stays_of_source source r s (i ∷ is) [] of read run = absurd run
 run_stays_of_source source r s (i ∷ is) (o ∷ os) of read run =
     run_stays_of_source source run.0 s is os (decided_of_source source r run.0 i.secrets i.action o of read.0 run.1) read.1 run.2
+
+-- one more well formed item
+pub formed_more : (submitted : List Submitted) (more : Submitted) → AreFormed submitted → IfOk more.action IsItem → AreFormed (submitted ++ more ∷ [])
+formed_more [] more formed last = (last, tt)
+formed_more (i ∷ is) more formed last = (formed.0, formed_more is more formed.1 last)

@@ -1,3 +1,4 @@
+pub mod Confined
 pub mod Loading
 pub mod Private
 pub mod RunLaws

@@ -1,5 +1,6 @@
 //! Laws of runs, for readers and for the proofs of other crates. Nothing calls these functions.
 
+ghost use Rattle.rr_registry.specs.Confined.{RunsConfine};
 ghost use Rattle.rr_registry.specs.RunLaws.{RunsJoin, RunsPart, RunsStayOfSource, RunsStaySound};
 
 /// A run of a list and then a run of another are one run of both lists.
@@ -24,4 +25,10 @@ pub fn runs_stay_sound()
 #[tactic(auto, using(crate::proofs::Running::run_stays_of_source))]
 pub fn runs_stay_of_their_source()
     ensures { RunsStayOfSource }
+{}
+
+/// A run from a sound registry answers the holders of a prefix as if nobody else had submitted anything, and leaves what
+/// they hold to them.
+pub fn runs_confine_what_is_foreign()
+    ensures { RunsConfine }
 {}

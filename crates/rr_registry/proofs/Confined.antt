@@ -1,8 +1,7 @@
 -- A run beside the run of the holders' own items: both keep what is held, and agree on it.
 use Rattle.std.proofs.Common.{◌≡◌, ℕ, Bool, true, false, not, ◌||◌, inl, inr, List, [], ◌∷◌, Ok, Err, refl, sym, ap, subst, ◌∙◌}
-use Rattle.std.specs.Prelude.{Result, IfOk, OnOk, filter, if◌then◌else◌}
+use Rattle.std.specs.Prelude.{Result, IfOk, OnOk, if◌then◌else◌}
 use Rattle.std.specs.FinMap.{get}
-use Rattle.std.specs.List.{list_all}
 use Rattle.std.proofs.lemmas.Bool.{and_parts}
 use Rattle.rr_object.specs.declared.code.Code.{Code}
 use Rattle.rr_object.specs.declared.key.Key.TheVariants.{Mntner}

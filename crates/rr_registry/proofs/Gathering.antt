@@ -20,7 +20,7 @@ use Rattle.rr_auth.proofs.KeyLaws.{keys_total}
 use Rattle.rr_auth.proofs.Crossing.{keys_cross_back, crosses_itself}
 use Rattle.rr_auth.proofs.Members.{IsIn, found_in, none_passes}
 use Rattle.rr_auth.proofs.Keeping.{after_insert}
-use Rattle.rr_book.specs.Books.{book_of, is_in_order, put_in, IsBook}
+use Rattle.rr_book.specs.Books.{book_of, put_in, IsBook}
 use Rattle.rr_registry.specs.Loading.{gathered, clash, clash_of, is_crossed_by_some, is_key_of_some, load_fault, unnamed}
 use Rattle.rr_registry.specs.Private.{IsApart, IsTakenIn, IsGathered}
 use Rattle.rr_registry.specs.declared.load.LoadFault.{LoadFault}

@@ -1,5 +1,5 @@
 -- What a run does to what the holders of a prefix hold.
-use Rattle.std.specs.Prelude.{◌≡◌, ℕ, Bool, true, not, ◌||◌, List, [], ◌∷◌, filter, Result, Ok, Err, if◌then◌else◌}
+use Rattle.std.specs.Prelude.{◌≡◌, Bool, true, not, ◌||◌, List, [], ◌∷◌, filter, Result, Ok, Err, if◌then◌else◌}
 use Rattle.std.specs.List.{list_all}
 use Rattle.rr_object.specs.declared.code.Code.{Code}
 use Rattle.rr_auth.specs.declared.item.Item.{Item}
@@ -32,18 +32,18 @@ own_outcomes h r (s ∷ ss) (o ∷ os) =
 
 -- What the holders submitted, with the outcomes that it had, is by itself a run from where the run began, and both runs end
 -- agreeing on what is held, with the prefix held; and where all was foreign, what is held is what it was.
-pub record IsConfined (h : Holding) (before : Reg) (submitted : List Submitted) (outcomes : List Outcome) (then : Reg) : Type 0 where
+pub record IsConfined (h : Holding) (before : Reg) (submitted : List Submitted) (outcomes : List Outcome) (ended : Reg) : Type 0 where
   pub alone : Reg
   pub run : Run before (own_submitted h before submitted) (own_outcomes h before submitted outcomes) alone
-  pub agree : Agree h then alone
-  pub held : IsHeld h then
+  pub agree : Agree h ended alone
+  pub held : IsHeld h ended
   pub held_alone : IsHeld h alone
-  pub undisturbed : own_submitted h before submitted ≡ [] → Agree h before then
+  pub undisturbed : own_submitted h before submitted ≡ [] → Agree h before ended
 
 -- Whoever holds a prefix, where each of what is submitted is foreign or theirs.
 abbrev pub Confines : Reg → List Submitted → List Outcome → Reg → Type 0
-Confines before submitted outcomes then =
-    (h : Holding) → IsHeld h before → are_foreign_or_own h before submitted ≡ true → IsConfined h before submitted outcomes then
+Confines before submitted outcomes ended =
+    (h : Holding) → IsHeld h before → are_foreign_or_own h before submitted ≡ true → IsConfined h before submitted outcomes ended
 
 -- So does each run from a sound registry.
 abbrev pub RunsConfine : Type 0

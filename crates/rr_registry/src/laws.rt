@@ -22,7 +22,6 @@ pub fn runs_stay_sound()
 {}
 
 /// A run from a registry of a source ends at one, where all items are read in that source.
-#[tactic(auto, using(crate::proofs::Running::run_stays_of_source))]
 pub fn runs_stay_of_their_source()
     ensures { RunsStayOfSource }
 {}

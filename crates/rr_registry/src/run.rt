@@ -40,11 +40,7 @@ impl Registry {
     }
 
     /// Decides in turn what was submitted.
-    fn run_each(
-        &mut self,
-        alloc: Global,
-        items: Vec<Submitted>,
-    ) -> Result<Vec<Outcome>, AllocError>
+    fn run_each(&mut self, alloc: Global, items: Vec<Submitted>) -> Result<Vec<Outcome>, AllocError>
         ensures run { IfOk result (λ outcomes. Run self.old items.items outcomes.items self.new) }
         ensures formed { OnOk result (AreFormed items.items) }
         ensures err { OnErr result (self.new ≡ self.old) }

@@ -80,7 +80,7 @@ verdicts_are_met r z (DeleteItem k) = deletion_met r z k (get r k)
 -- an item that is read is well formed
 pub read_item : (source : List ℕ) (i : Item) → IsReadIn source i → IsItem i
 read_item source (Submit o) h = h.formed
-read_item source (DeleteItem k) h = h
+read_item source (DeleteItem k) h = tt
 
 read_added : (source : List ℕ) (r : Reg) (o : Obj) → IsRegistryOf source r → IsReadObject source o
     → (k : Key) (x : Obj) → get (insert r o.key o) k ≡ Some x → object_of x.paragraph source ≡ Ok x

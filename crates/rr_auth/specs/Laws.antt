@@ -21,10 +21,10 @@ use Rattle.rr_auth.specs.Registries.{Reg, Sound}
 use Rattle.rr_auth.specs.Sources.{IsReadIn, IsRegistryOf}
 use Rattle.rr_auth.specs.Verdicts.{is_met_by, verdict, step}
 
--- The key that an item is about is well formed.
+-- The key of an object that is submitted is well formed.
 abbrev pub IsItem : Item → Type 0
 IsItem (Submit o) = IsKeyValue o.key
-IsItem (Delete k) = IsKeyValue k
+IsItem (Delete k) = Unit {0}
 
 -- An item that is refused leaves the registry as it was.
 abbrev pub RefusalLeaves : Type 0

@@ -6,7 +6,7 @@ use Rattle.rr_object.specs.declared.key.Key.{Key}
 use Rattle.rr_object.specs.declared.key.Key.TheVariants.{Mntner, AsBlock, AutNum, Inetnum, Route, AsSet, RouteSet}
 use Rattle.rr_auth.specs.Registries.{keys_cross}
 use Rattle.rr_auth.proofs.Crossing.{keys_cross_back}
-use Rattle.rr_book.specs.Classes.{is_span}
+use Rattle.rr_book.specs.Private.{is_span}
 
 crosses_none : (k l : Key) → is_span k ≡ false → keys_cross k l ≡ false
 crosses_none (Mntner n) l e = refl

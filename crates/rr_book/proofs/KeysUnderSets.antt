@@ -26,8 +26,9 @@ use Rattle.rr_object.specs.Objects.{Obj}
 use Rattle.rr_book.proofs.Order.{book_others, book_put, empty_is_book, get_of_book, others_are_book, put_is_book}
 use Rattle.rr_book.proofs.Places.{T_parts, is_Less}
 use Rattle.rr_book.specs.Books.{IsBook, book_of, entry, put_in}
-use Rattle.rr_book.specs.Referrers.{IsIndexed, is_meant, stands_under}
+use Rattle.rr_book.specs.SetIndexes.{IsIndexed, stands_under}
 use Rattle.rr_book.specs.SetLists.{names_set}
+use Rattle.rr_book.specs.Private.{is_meant}
 
 abbrev Sets : Type 0
 Sets = BTreeMap (List ℕ) (BTreeSet Key)

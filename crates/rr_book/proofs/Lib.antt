@@ -4,5 +4,5 @@ pub mod Names
 pub mod Order
 pub mod Origins
 pub mod Places
-pub mod ReferrerLists
+pub mod IndexedObjects
 pub mod SetLists

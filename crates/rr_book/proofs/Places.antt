@@ -16,7 +16,8 @@ use Rattle.std.specs.FinMap.Entries.{by_order}
 use Rattle.rr_object.specs.declared.key.Key.{Key}
 use Rattle.rr_object.specs.Objects.{Obj}
 use Rattle.rr_object.specs.KeyOrders.{key_cmp}
-use Rattle.rr_book.specs.Books.{entry, is_in_order, put_in, place_of, stands_at}
+use Rattle.rr_book.specs.Books.{entry, is_in_order, put_in}
+use Rattle.rr_book.specs.Private.{place_of, stands_at}
 
 -- one place further
 later_stands : (k : Key) (x : Obj) (xs : List Obj) (n : ℕ) → stands_at k (x ∷ xs) (1 + n) ≡ stands_at k xs n

@@ -1,8 +1,5 @@
 -- A registry as a list of objects in the order of their keys.
-use Rattle.std.specs.Prelude.{◌≡◌, ℕ, Bool, true, false, not, List, [], ◌∷◌, map, slice_get}
-use Rattle.std.specs.List.{position_or_len}
-use Rattle.std.specs.Option.{option_map_or}
-use Rattle.std.specs.Ordering.{eq_by_cmp, is_gt}
+use Rattle.std.specs.Prelude.{◌≡◌, Bool, true, List, [], ◌∷◌, map}
 use Rattle.std.specs.FinMap.{from_sorted, is_sorted}
 use Rattle.std.specs.FinMap.Entries.{by_order}
 use Rattle.rr_object.specs.declared.key.Key.{Key}
@@ -31,11 +28,3 @@ pub record IsBook (os : List Obj) : Type 0 where
 abbrev pub put_in : Obj → List Obj → List Obj
 put_in o [] = o ∷ []
 put_in o (x ∷ xs) = by_order (key_cmp o.key x.key) (o ∷ (x ∷ xs)) (o ∷ xs) (x ∷ put_in o xs)
-
--- The first place whose key is not below the key.
-abbrev pub place_of : Key → List Obj → ℕ
-place_of k os = position_or_len (λ o. not (is_gt (key_cmp k o.key))) os
-
--- The object at a place has the key.
-abbrev pub stands_at : Key → List Obj → ℕ → Bool
-stands_at k os i = option_map_or (λ x. eq_by_cmp key_cmp k x.key) (slice_get os i) false

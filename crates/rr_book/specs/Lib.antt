@@ -1,4 +1,4 @@
 pub mod Books
-pub mod Classes
-pub mod Referrers
+pub mod Private
+pub mod SetIndexes
 pub mod SetLists

@@ -4,7 +4,7 @@ ghost use Rattle.std.specs.Prelude.{◌≡◌};
 ghost use Rattle.std.specs.List.{list_all};
 ghost use Rattle.std.specs.Option.{option_copied};
 ghost use Rattle.rr_auth.specs.Closest.{closest_of, is_closest, is_no_closer, block_span, inetnum_span, prefix_of_closest, route_prefix, route_span};
-ghost use Rattle.rr_book.specs.Classes.{span_in};
+ghost use Rattle.rr_book.specs.Private.{span_in};
 
 use rr_number::{Prefix, Span};
 use rr_object::{Class, Key, Object};

@@ -6,7 +6,7 @@ mod closest;
 mod keys;
 pub mod lists;
 mod plain_book;
-mod referrers;
 mod set_book;
+mod set_index;
 
 pub use plain_book::PlainBook;

@@ -9,8 +9,8 @@ ghost use Rattle.rr_object.specs.Objects.{names_of};
 ghost use Rattle.rr_object.specs.KeyOrders.{key_cmp};
 ghost use Rattle.rr_auth.specs.Registries.{is_mntner_of, keys_cross, names_another};
 ghost use Rattle.rr_auth.specs.Closest.{origin_at, origins_among, same_prefix};
-ghost use Rattle.rr_book.specs.Classes.{is_span};
-ghost use Rattle.rr_book.specs.Books.{is_in_order, place_of, put_in, stands_at};
+ghost use Rattle.rr_book.specs.Books.{is_in_order, put_in};
+ghost use Rattle.rr_book.specs.Private.{is_span, place_of, stands_at};
 
 use crate::keys::{compare, is_same};
 use rr_number::{AsNumber, Name, Prefix};

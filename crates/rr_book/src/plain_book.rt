@@ -7,7 +7,7 @@ ghost use Rattle.rr_sets.specs.Lists.{IsReferrer, ListsOnce};
 
 use crate::closest::{closest, closest_routes};
 use crate::lists;
-use crate::referrers::{Referrers, objects_of, sets_named};
+use crate::set_index::{SetIndex, objects_of, sets_named};
 use rr_auth::Book;
 use rr_number::{AsNumber, Name, Prefix, SetName, Span};
 use rr_object::{Class, Key, Object};
@@ -19,7 +19,7 @@ use std::marker::Model;
 #[derive(Drop)]
 pub struct PlainBook {
     objects: Vec<Object>,
-    referrers: Referrers,
+    referrers: SetIndex,
 }
 
 impl Model for PlainBook {
@@ -33,7 +33,7 @@ impl Model for PlainBook {
     ghost coded = { map.code (key.the_row).coded (object.the_row).coded };
 
     ghost use Rattle.rr_book.specs.Books.{book_of};
-    ghost use Rattle.rr_book.specs.Referrers.{IsIndexed};
+    ghost use Rattle.rr_book.specs.SetIndexes.{IsIndexed};
 
     ghost view = { λ b. book_of b.objects.items };
 
@@ -50,7 +50,7 @@ impl PlainBook {
     {
         PlainBook {
             objects: Vec::new(alloc),
-            referrers: Referrers::new(alloc),
+            referrers: SetIndex::new(alloc),
         }
     }
 
@@ -59,7 +59,7 @@ impl PlainBook {
         requires { IsBook objects.items }
         ensures { IfOk result (λ book. book ≡ book_of objects.items) }
     {
-        let referrers = Referrers::of(alloc, &objects)?;
+        let referrers = SetIndex::of(alloc, &objects)?;
         Ok(PlainBook { objects, referrers })
     }
 

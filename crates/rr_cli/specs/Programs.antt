@@ -68,7 +68,7 @@ pub record IsCutShort (streams : Streams) (status : ℕ) : Type 0 where
 abbrev pub SubmitsTo : Streams → ℕ → Type 0
 SubmitsTo streams status = IsFinished streams status ⊎ IsCutShort streams status
 
--- what the program does, by the fault of its words: with none the opening fails for want of memory, or the submission is made (profile)
+-- what the program does, by the fault of its arguments: with none the opening fails for want of memory, or the submission is made (profile)
 abbrev pub RunsProgram : Option ProgramFault → Streams → ℕ → Type 0
 RunsProgram (Some fault) streams status = IsUnbegun fault streams status
 RunsProgram None streams status = IsUnbegun OpeningMemory streams status ⊎ SubmitsTo streams status

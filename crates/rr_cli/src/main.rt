@@ -1,18 +1,10 @@
 //! The program `irrdesk`: submits standard input to a desk with the built-in settings, and prints the report.
 #![tactic(auto)]
 
-#[cfg(test)]
-mod hostile_tests;
-#[cfg(test)]
-mod loading_tests;
 mod program_fault;
 mod run;
 #[cfg(test)]
 mod run_tests;
-#[cfg(test)]
-mod stream_tests;
-#[cfg(test)]
-mod tests;
 
 use rr_io::Counted;
 use std::env;
@@ -22,6 +14,6 @@ fn main(rt: HostRuntime) -> ExitCode {
     let mut input = Counted::new(rt.stdin());
     let mut output = Counted::new(rt.stdout());
     let mut errors = Counted::new(rt.stderr());
-    let words = env::args(&rt);
-    ExitCode::from(run::run(rt.alloc(), words, &mut input, &mut output, &mut errors))
+    let arguments = env::args(&rt);
+    ExitCode::from(run::run(rt.alloc(), arguments, &mut input, &mut output, &mut errors))
 }

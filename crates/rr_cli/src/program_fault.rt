@@ -2,7 +2,7 @@
 
 ghost use Rattle.std.specs.Prelude.{◌≡◌};
 ghost use Rattle.rr_io.specs.Sending.{TakesSome, Writes};
-ghost use Rattle.rr_cli.specs.ProgramFaults.{fault_line, fault_status, message, told_count, unreadable, words_fault};
+ghost use Rattle.rr_cli.specs.ProgramFaults.{fault_line, fault_status, message, told_count, unreadable, arguments_fault};
 ghost use Rattle.std.specs.IoError.{error_kind};
 
 use itoa::Buffer;
@@ -12,8 +12,8 @@ use std::env::Args;
 use std::io;
 use std::io::ErrorKind;
 
-/// The status at words that the program does not take.
-const WRONG_WORDS: u8 = 2;
+/// The status at arguments that the program does not take.
+const WRONG_ARGUMENTS: u8 = 2;
 
 /// The status at any other fault.
 const FAILED: u8 = 5;
@@ -21,12 +21,12 @@ const FAILED: u8 = 5;
 /// Why the program fails.
 #[derive(Clone, Copy, Debug, PartialEq, Eq)]
 pub enum ProgramFault {
-    /// There are words behind the program's name.
-    WordsGiven,
-    /// A word is no text.
-    WordsNotText,
-    /// Memory ran out over the words.
-    WordsMemory,
+    /// There are arguments behind the program's name.
+    ArgumentsGiven,
+    /// An argument is no text.
+    ArgumentsNotText,
+    /// Memory ran out over the arguments.
+    ArgumentsMemory,
     /// Memory ran out over the opening objects.
     OpeningMemory,
     /// The submission was cut short.
@@ -34,39 +34,39 @@ pub enum ProgramFault {
 }
 
 impl ProgramFault {
-    /// The fault of the words that the program is started with, the first of which is its name; `None` where there is no
+    /// The fault of the arguments that the program is started with, the first of which is its name; `None` where there is no
     /// other.
-    pub fn of_words(words: io::Result<Args>) -> Option<ProgramFault>
-        ensures { result ≡ words_fault words }
+    pub fn of_arguments(arguments: io::Result<Args>) -> Option<ProgramFault>
+        ensures { result ≡ arguments_fault arguments }
     {
-        match words {
-            Ok(words) => {
-                if words.len() > 1 {
-                    Some(ProgramFault::WordsGiven)
+        match arguments {
+            Ok(arguments) => {
+                if arguments.len() > 1 {
+                    Some(ProgramFault::ArgumentsGiven)
                 } else {
                     None
                 }
             }
-            Err(error) => Some(ProgramFault::of_unreadable_words(error.kind())),
+            Err(error) => Some(ProgramFault::of_unreadable(error.kind())),
         }
     }
 
-    fn of_unreadable_words(kind: ErrorKind) -> ProgramFault
+    fn of_unreadable(kind: ErrorKind) -> ProgramFault
         ensures { result ≡ unreadable kind }
     {
         match kind {
-            ErrorKind::OutOfMemory => ProgramFault::WordsMemory,
-            _ => ProgramFault::WordsNotText,
+            ErrorKind::OutOfMemory => ProgramFault::ArgumentsMemory,
+            _ => ProgramFault::ArgumentsNotText,
         }
     }
 
-    /// The program's status: 2 where the words are wrong, and else 5 (profile).
+    /// The program's status: 2 where the arguments are wrong, and else 5 (profile).
     pub fn status(self) -> u8
         ensures { result ≡ fault_status self }
     {
         match self {
-            ProgramFault::WordsGiven | ProgramFault::WordsNotText => WRONG_WORDS,
-            ProgramFault::WordsMemory | ProgramFault::OpeningMemory => FAILED,
+            ProgramFault::ArgumentsGiven | ProgramFault::ArgumentsNotText => WRONG_ARGUMENTS,
+            ProgramFault::ArgumentsMemory | ProgramFault::OpeningMemory => FAILED,
             ProgramFault::Submission(_) => FAILED,
         }
     }
@@ -102,11 +102,11 @@ impl ProgramFault {
         ensures { result.now ≡ message self }
     {
         match self {
-            ProgramFault::WordsGiven => {
-                "the program takes no words; it reads a submission on standard input"
+            ProgramFault::ArgumentsGiven => {
+                "the program takes no arguments; it reads a submission on standard input"
             }
-            ProgramFault::WordsNotText => "the words cannot be read: invalid data",
-            ProgramFault::WordsMemory => "the words cannot be read: out of memory",
+            ProgramFault::ArgumentsNotText => "the arguments cannot be read: invalid data",
+            ProgramFault::ArgumentsMemory => "the arguments cannot be read: out of memory",
             ProgramFault::OpeningMemory => {
                 "the opening objects cannot be registered: out of memory"
             }

@@ -1,9 +1,9 @@
-//! A run of the program, over its words and its three streams.
+//! A run of the program, over its arguments and its three streams.
 
 ghost use Rattle.std.specs.Prelude.{◌≡◌};
 ghost use Rattle.rr_text.specs.Entries.{entries};
 ghost use Rattle.rr_desk.specs.Opening.{IsOpened, built_in_source, opening_text};
-ghost use Rattle.rr_cli.specs.ProgramFaults.{words_fault};
+ghost use Rattle.rr_cli.specs.ProgramFaults.{arguments_fault};
 ghost use Rattle.rr_cli.specs.Programs.{RunsProgram, SubmitsTo, done_status};
 
 use crate::program_fault::ProgramFault;
@@ -17,16 +17,16 @@ use std::io;
 const REFUSED: u8 = 1;
 
 /// Submits `input` to a desk with the opening objects, and writes the report to `output`; a fault has its line on `errors`.
-/// The status is 0 where each item was accepted, 1 where one was refused, 2 where the words are wrong, and 5 at another
+/// The status is 0 where each item was accepted, 1 where one was refused, 2 where the arguments are wrong, and 5 at another
 /// fault (profile).
 pub fn run<R: Source, W: Sink, E: Sink>(
     alloc: Global,
-    words: io::Result<Args>,
+    arguments: io::Result<Args>,
     input: &mut R,
     output: &mut W,
     errors: &mut E,
 ) -> u8
-    ensures runs { RunsProgram (words_fault words) (record {
+    ensures runs { RunsProgram (arguments_fault arguments) (record {
       input_before = R.told input.old;
       input_after = R.told input.new;
       output_before = W.told output.old;
@@ -38,7 +38,7 @@ pub fn run<R: Source, W: Sink, E: Sink>(
     ensures output_aside { W.aside output.new ≡ W.aside output.old }
     ensures errors_aside { E.aside errors.new ≡ E.aside errors.old }
 {
-    match ProgramFault::of_words(words) {
+    match ProgramFault::of_arguments(arguments) {
         Some(fault) => fault.tell(errors),
         None => match PlainDesk::new(alloc) {
             Ok(desk) => submit(alloc, desk, input, output, errors),

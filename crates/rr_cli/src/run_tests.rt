@@ -9,13 +9,13 @@ const INETNUM: &str = "inetnum: 10.0.0.0/8\nmnt-by: ROOT-MNT\nsource: TEST\n";
 
 /// What a run says of so many bytes of a text, behind which each read fails: the report, the line of a fault, and the status.
 fn told(alloc: Global, text: &str, left: usize) -> Result<(Vec<u8>, Vec<u8>, u8), Fail> {
-    let words: Vec<String> = Vec::new(alloc);
+    let arguments: Vec<String> = Vec::new(alloc);
     let mut input = Cut::new(Counted::new(text.as_bytes()), 7, left);
     let mut output = Counted::new(Vec::new(alloc));
     let mut errors = Counted::new(Vec::new(alloc));
     let status = run(
         alloc,
-        Ok(words.into_iter()),
+        Ok(arguments.into_iter()),
         &mut input,
         &mut output,
         &mut errors,

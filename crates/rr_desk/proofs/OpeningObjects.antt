@@ -27,7 +27,7 @@ use Rattle.rr_object.specs.Items.{items, words}
 use Rattle.rr_object.specs.Auths.{salted_digest_of, auth_of_words}
 use Rattle.rr_object.specs.Grants.{entries_behind}
 use Rattle.rr_desk.specs.Opening.{AreObjects, are_readable, built_in_source, opening_text}
-use Rattle.rr_desk.proofs.OpeningTexts.{opening_entries, root_fields, numbers_fields, addresses_fields}
+use Rattle.rr_desk.proofs.OpeningTexts.{opening_entries, root_fields, numbers_fields, four_octets_fields, addresses_fields}
 
 -- the keys of the opening objects
 abbrev pub root_key : Key
@@ -35,6 +35,9 @@ root_key = Mntner (codes "ROOT-MNT")
 
 abbrev pub numbers_key : Key
 numbers_key = AsBlock (record { first = 0; last = 65535 })
+
+abbrev pub four_octets_key : Key
+four_octets_key = AsBlock (record { first = 65536; last = 4294967295 })
 
 abbrev pub addresses_key : Key
 addresses_key = Inetnum (record { first = 0; last = 4294967295 })
@@ -45,6 +48,9 @@ root_object = obj_at root_key root_fields
 
 abbrev pub numbers_object : Obj
 numbers_object = obj_at numbers_key numbers_fields
+
+abbrev pub four_octets_object : Obj
+four_octets_object = obj_at four_octets_key four_octets_fields
 
 abbrev pub addresses_object : Obj
 addresses_object = obj_at addresses_key addresses_fields
@@ -58,42 +64,20 @@ numbers_read : object_of numbers_fields built_in_source ≡ Ok numbers_object
 unfolding object_of obj_of key_of key_at key_of_text as_span_of ends_between dashed_of cut_at as_number_of number_of is_miscounted items_of items_read occurs items is_name is_reserved value_meaning trim_end trim_start has_bad_value has_bad_text has_bad_authority has_bad_membership entries_behind
 numbers_read = refl
 
+four_octets_read : object_of four_octets_fields built_in_source ≡ Ok four_octets_object
+unfolding object_of obj_of key_of key_at key_of_text as_span_of ends_between dashed_of cut_at as_number_of number_of is_miscounted items_of items_read occurs items is_name is_reserved value_meaning trim_end trim_start has_bad_value has_bad_text has_bad_authority has_bad_membership entries_behind
+four_octets_read = refl
+
 addresses_read : object_of addresses_fields built_in_source ≡ Ok addresses_object
 unfolding object_of obj_of key_of key_at key_of_text spelled_span ends_between dashed_of cut_at address_of joined_of number_of is_miscounted items_of items_read occurs items is_name is_reserved value_meaning trim_end trim_start has_bad_value has_bad_text has_bad_authority has_bad_membership entries_behind
 addresses_read = refl
 
--- each names the root maintainer alone
-root_named : names_of root_object ≡ codes "ROOT-MNT" ∷ []
-unfolding obj_at items_of items_read occurs items is_name is_reserved value_meaning trim_end trim_start entries_behind words is_keyword salted_digest_of auth_of_words decode_pairs
-root_named = refl
-
-numbers_named : names_of numbers_object ≡ codes "ROOT-MNT" ∷ []
-unfolding obj_at items_of items_read occurs items is_name is_reserved value_meaning trim_end trim_start entries_behind
-numbers_named = refl
-
-addresses_named : names_of addresses_object ≡ codes "ROOT-MNT" ∷ []
-unfolding obj_at items_of items_read occurs items is_name is_reserved value_meaning trim_end trim_start entries_behind
-addresses_named = refl
-
--- each stands under its key
-root_keyed : root_object.key ≡ root_key
-unfolding obj_at
-root_keyed = refl
-
-numbers_keyed : numbers_object.key ≡ numbers_key
-unfolding obj_at
-numbers_keyed = refl
-
-addresses_keyed : addresses_object.key ≡ addresses_key
-unfolding obj_at
-addresses_keyed = refl
-
 -- the opening objects in order
 abbrev pub opening_objects : List Obj
-opening_objects = root_object ∷ (numbers_object ∷ (addresses_object ∷ []))
+opening_objects = root_object ∷ (numbers_object ∷ (four_octets_object ∷ (addresses_object ∷ [])))
 
 pub are_opening_objects : AreObjects built_in_source (entries opening_text) opening_objects
-are_opening_objects = rw (opening_entries, root_read, numbers_read, addresses_read)
+are_opening_objects = rw (opening_entries, root_read, numbers_read, four_octets_read, addresses_read)
 
 pub opening_is_readable : are_readable built_in_source (entries opening_text) ≡ true
 opening_is_readable = ap (list_all is_some) are_opening_objects

@@ -21,10 +21,17 @@ root_text =
     ++ codes "mnt-by:         ROOT-MNT\n"
     ++ codes "source:         TEST\n"
 
--- the block of all AS numbers, of the root maintainer (profile)
+-- the block of all AS numbers of two octets, of the root maintainer (profile)
 abbrev pub numbers_text : List ℕ
 numbers_text =
     codes "as-block:       AS0 - AS65535\n"
+    ++ codes "mnt-by:         ROOT-MNT\n"
+    ++ codes "source:         TEST\n"
+
+-- the block of the other AS numbers of four octets, of the root maintainer (RFC 6793; profile)
+abbrev pub four_octets_text : List ℕ
+four_octets_text =
+    codes "as-block:       AS65536 - AS4294967295\n"
     ++ codes "mnt-by:         ROOT-MNT\n"
     ++ codes "source:         TEST\n"
 
@@ -35,9 +42,10 @@ addresses_text =
     ++ codes "mnt-by:         ROOT-MNT\n"
     ++ codes "source:         TEST\n"
 
--- the opening text: these three paragraphs with an empty line between them (profile)
+-- the opening text: these four paragraphs with an empty line between them (profile)
 unfoldable pub opening_text : List ℕ
-opening_text = root_text ++ codes "\n" ++ numbers_text ++ codes "\n" ++ addresses_text
+opening_text =
+    root_text ++ codes "\n" ++ numbers_text ++ codes "\n" ++ four_octets_text ++ codes "\n" ++ addresses_text
 
 -- the object of a source that an entry of a text is, if it is one
 abbrev pub object_at : List ℕ → Result (List Field) TextFault → Option Obj

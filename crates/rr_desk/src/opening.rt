@@ -12,8 +12,8 @@ use std::alloc::{AllocError, Global};
 /// The registry that the opening objects stand in (profile).
 const SOURCE: &str = "TEST";
 
-/// The opening objects: the root maintainer, whose secret is `bc`, and the blocks of all AS numbers and of all addresses
-/// (profile).
+/// The opening objects: the root maintainer, whose secret is `bc`, the blocks of AS numbers of two and of four octets, and
+/// that of all addresses (profile).
 const TEXT: &str = "\
 mntner:         ROOT-MNT
 auth:           SHA256-PW a:ba7816bf8f01cfea414140de5dae2223b00361a396177a9cb410ff61f20015ad
@@ -21,6 +21,10 @@ mnt-by:         ROOT-MNT
 source:         TEST
 
 as-block:       AS0 - AS65535
+mnt-by:         ROOT-MNT
+source:         TEST
+
+as-block:       AS65536 - AS4294967295
 mnt-by:         ROOT-MNT
 source:         TEST
 

@@ -1,12 +1,15 @@
 -- Objects that are put in one after the other, and when the whole is sound.
-use Rattle.std.proofs.Common.{◌≡◌, ℕ, suc, ◌+◌, ◌≤◌, length, Bool, true, false, cond, not, ◌||◌, ◌⊎◌, inl, inr, List, [], ◌∷◌, refl, sym, ap, subst, ◌∙◌, arith}
+use Rattle.std.proofs.Common.{◌≡◌, ℕ, suc, ◌+◌, ◌≤◌, length, Bool, true, false, cond, not, ◌||◌, ◌⊎◌, inl, inr, List, [], ◌∷◌, ◌++◌, refl, sym, ap, subst, ◌∙◌, arith}
 use Rattle.std.specs.Prelude.{Option, None, Some, is_some, is_none, find, position, nat_lt, if◌then◌else◌}
 use Rattle.std.specs.List.{list_any, position_or_len}
 use Rattle.std.proofs.lemmas.Bool.{true≢false, lt-ltb, le-ltb, ltb-false}
 use Rattle.std.specs.Option.{option_copied, option_map, option_or}
 use Rattle.std.specs.Borrow.{Bor}
-use Rattle.std.specs.Ordering.{eq_by_cmp}
-use Rattle.std.specs.FinMap.{contains_key, empty, get, insert, values, get-insert, get-empty}
+use Rattle.std.specs.Ordering.{eq_by_cmp, is_eq}
+use Rattle.std.specs.declared.cmp.Ordering.TheVariants.{Less, Equal, Greater}
+use Rattle.std.specs.FinMap.Entries.{by_order}
+use Rattle.std.proofs.lemmas.List.Folds.{list_any-append}
+use Rattle.std.specs.FinMap.{empty, get, insert, values, get-insert, get-empty}
 use Rattle.rr_object.specs.declared.key.Key.{Key}
 use Rattle.rr_object.specs.declared.key.Key.TheVariants.{Mntner}
 use Rattle.rr_object.specs.Objects.{Obj, names_of}
@@ -18,7 +21,8 @@ use Rattle.rr_auth.proofs.Crossing.{keys_cross_back, crosses_itself}
 use Rattle.rr_auth.proofs.Members.{IsIn, found_in, none_passes}
 use Rattle.rr_auth.proofs.Keeping.{after_insert}
 use Rattle.rr_book.specs.Books.{book_of, is_in_order, put_in, IsBook}
-use Rattle.rr_registry.specs.Loading.{gathered, clash, clash_of, load_fault, unnamed, IsApart, IsTakenIn, IsGathered}
+use Rattle.rr_registry.specs.Loading.{gathered, clash, clash_of, is_crossed_by_some, is_key_of_some, load_fault, unnamed}
+use Rattle.rr_registry.specs.Private.{IsApart, IsTakenIn, IsGathered}
 use Rattle.rr_registry.specs.declared.load.LoadFault.{LoadFault}
 use Rattle.rr_registry.specs.declared.load.LoadFault.TheVariants.{Duplicate, Overlap, Unnamed}
 use Rattle.rr_book.proofs.Order.{book_put, by_name, empty_book, get_of_book, in_order_put, values_of_book}
@@ -150,34 +154,75 @@ pub first_unnamed_is : (os : List Obj)
     ≡ option_map (λ i. Unnamed (i + 1)) (position (λ o. list_any (λ n. is_none (find (λ x. is_mntner_of n x.key) os)) (names_of o)) os)
 first_unnamed_is os = ap (option_map (λ i. Unnamed (i + 1))) (same_position _ _ (λ o. all_known os (names_of o)) os)
 
--- a key that is found stands in the registry
-stands : (os : List Obj) (k : Key) → is_in_order os ≡ true → contains_key (book_of os) k ≡ is_some (find (λ x. eq_by_cmp key_cmp k x.key) os)
-stands os k e = ap is_some (get_of_book os k e)
+-- what is found passes, and what passes is found
+found_any : (p : Obj → Bool) (os : List Obj) → is_some (find p os) ≡ list_any p os
+found_any p [] = refl
+found_any p (x ∷ xs) = some_cond (p x) x (find p xs) ∙ ap (λ b. p x || b) (found_any p xs)
 
-crossed : (os : List Obj) (k : Key) → is_in_order os ≡ true → crosses_some (book_of os) k ≡ list_any (λ x. keys_cross x.key k) os
-crossed os k e = ap (list_any (λ x. keys_cross x.key k)) (values_of_book os e)
+-- an object that is put into a list that does not have its key is one more of them
+or_front : (a b c : Bool) → (a || (b || c)) ≡ (b || (a || c))
+or_front true true c = refl
+or_front true false c = refl
+or_front false b c = refl
 
-pub is_duplicate : (os : List Obj) (n : ℕ) (o : Obj) → IsApart os → is_some (find (λ x. eq_by_cmp key_cmp o.key x.key) os) ≡ true
-    → clash_of (book_of os) n o ≡ Some (Duplicate n)
-is_duplicate os n o a e =
-    ap (λ b. if b then Some (Duplicate n) else (if crosses_some (book_of os) o.key then Some (Overlap n) else None)) (stands os o.key a.ordered ∙ e)
+any_put : (p : Obj → Bool) (o : Obj) (os : List Obj) → is_key_of_some o.key os ≡ false → list_any p (put_in o os) ≡ (p o || list_any p os)
+any_put p o [] e = refl
+any_put p o (x ∷ xs) e =
+    elim (key_cmp o.key x.key) as (λ r. (is_eq r || is_key_of_some o.key xs) ≡ false
+    → list_any p (by_order r (o ∷ x ∷ xs) (o ∷ xs) (x ∷ put_in o xs)) ≡ (p o || (p x || list_any p xs))) [
+      | Less ↦ λ f. refl
+      | Equal ↦ λ f. absurd (true≢false f)
+      | Greater ↦ λ f. ap (λ b. p x || b) (any_put p o xs f) ∙ or_front (p x) (p o) (list_any p xs)
+    ] e
 
-pub is_overlap : (os : List Obj) (n : ℕ) (o : Obj) → IsApart os → is_some (find (λ x. eq_by_cmp key_cmp o.key x.key) os) ≡ false
-    → list_any (λ x. keys_cross x.key o.key) os ≡ true → clash_of (book_of os) n o ≡ Some (Overlap n)
-is_overlap os n o a e f =
-    ap (λ b. if b then Some (Duplicate n) else (if crosses_some (book_of os) o.key then Some (Overlap n) else None)) (stands os o.key a.ordered ∙ e)
-    ∙ ap (λ b. if b then Some (Overlap n) else None) (crossed os o.key a.ordered ∙ f)
+-- of the objects before one it does not matter in which order they stand
+clash_same : (bs cs : List Obj) (n : ℕ) (os : List Obj) → ((p : Obj → Bool) → list_any p bs ≡ list_any p cs) → clash bs n os ≡ clash cs n os
+clash_same bs cs n [] h = refl
+clash_same bs cs n (o ∷ os) h =
+    let rest = clash_same (bs ++ o ∷ []) (cs ++ o ∷ []) (n + 1) os
+    (λ p. list_any-append p bs _ ∙ (ap (λ b. b || list_any p (o ∷ [])) (h p) ∙ sym (list_any-append p cs _))) in
+    λ i. option_or
+    (if h (λ x. eq_by_cmp key_cmp o.key x.key) i then Some (Duplicate n)
+    else (if h (λ x. keys_cross x.key o.key) i then Some (Overlap n) else None)) (rest i)
+
+or_back : (a b : Bool) → (b || (a || false)) ≡ (a || b)
+or_back true true = refl
+or_back true false = refl
+or_back false true = refl
+or_back false false = refl
+
+-- behind an object that was put among those before it, the faults are those of the ones that are left
+pub clash_next : (before grown : List Obj) (n : ℕ) (o : Obj) (os : List Obj) → IsTakenIn before n o grown → clash before n (o ∷ os) ≡ clash grown (n + 1) os
+clash_next before grown n o os t =
+    ap (λ f. option_or f (clash (before ++ o ∷ []) (n + 1) os)) t.free
+    ∙ clash_same (before ++ o ∷ []) grown (n + 1) os
+    (λ p. list_any-append p before _ ∙ (or_back (p o) (list_any p before) ∙ sym (t.joined p)))
+
+pub is_duplicate : (os : List Obj) (n : ℕ) (o : Obj) → is_some (find (λ x. eq_by_cmp key_cmp o.key x.key) os) ≡ true
+    → clash_of os n o ≡ Some (Duplicate n)
+is_duplicate os n o e =
+    ap (λ b. if b then Some (Duplicate n) else (if is_crossed_by_some o.key os then Some (Overlap n) else None)) (sym (found_any _ os) ∙ e)
+
+pub is_overlap : (os : List Obj) (n : ℕ) (o : Obj) → is_some (find (λ x. eq_by_cmp key_cmp o.key x.key) os) ≡ false
+    → list_any (λ x. keys_cross x.key o.key) os ≡ true → clash_of os n o ≡ Some (Overlap n)
+is_overlap os n o e f =
+    ap (λ b. if b then Some (Duplicate n) else (if is_crossed_by_some o.key os then Some (Overlap n) else None)) (sym (found_any _ os) ∙ e)
+    ∙ ap (λ b. if b then Some (Overlap n) else None) f
 
 pub taken_in : (os : List Obj) (n : ℕ) (o : Obj) (grown : List Obj) → IsApart os → IsKeyValue o.key
     → is_some (find (λ x. eq_by_cmp key_cmp o.key x.key) os) ≡ false → list_any (λ x. keys_cross x.key o.key) os ≡ false
     → grown ≡ put_in o os → IsTakenIn os n o grown
-taken_in os n o grown a formed e f same = record {
-  free =
-      ap (λ b. if b then Some (Duplicate n) else (if crosses_some (book_of os) o.key then Some (Overlap n) else None)) (stands os o.key a.ordered ∙ e)
-      ∙ ap (λ b. if b then Some (Overlap n) else None) (crossed os o.key a.ordered ∙ f);
-  apart = subst IsApart (sym same) (put_apart o os a formed (crossed os o.key a.ordered ∙ f));
-  put = ap book_of same ∙ book_put o os a.ordered;
-}
+taken_in os n o grown a formed e f same =
+    let new : is_key_of_some o.key os ≡ false = sym (found_any (λ x. eq_by_cmp key_cmp o.key x.key) os) ∙ e in
+    let apart : crosses_some (book_of os) o.key ≡ false = ap (list_any (λ x. keys_cross x.key o.key)) (values_of_book os a.ordered) ∙ f in
+    record {
+      free =
+          ap (λ b. if b then Some (Duplicate n) else (if is_crossed_by_some o.key os then Some (Overlap n) else None)) new
+          ∙ ap (λ b. if b then Some (Overlap n) else None) f;
+      apart = subst IsApart (sym same) (put_apart o os a formed apart);
+      put = ap book_of same ∙ book_put o os a.ordered;
+      joined = λ p. ap (list_any p) same ∙ any_put p o os new;
+    }
 
 -- whether there is a value behind a reference
 pub copied_some : {A : Type 0} (o : Option (Bor A)) → is_some (option_copied o) ≡ is_some o
@@ -200,13 +245,13 @@ none_apart = record {
 -- where gathering begins
 pub record IsStart (os xs fs : List Obj) : Type 0 where
   pub apart : IsApart fs
-  pub same_clash : clash (book_of fs) 1 xs ≡ clash empty 1 os
+  pub same_clash : clash fs 1 xs ≡ clash [] 1 os
   pub same_whole : gathered (book_of fs) xs ≡ gathered empty os
 
 pub start : (os xs fs : List Obj) → fs ≡ [] → xs ≡ os → IsStart os xs fs
 start os xs fs e f = record {
   apart = subst IsApart (sym e) none_apart;
-  same_clash = ap (λ r. clash r 1 xs) (ap book_of e ∙ empty_book) ∙ ap (clash empty 1) f;
+  same_clash = ap (λ fs. clash fs 1 xs) e ∙ ap (clash [] 1) f;
   same_whole = ap (λ r. gathered r xs) (ap book_of e ∙ empty_book) ∙ ap (gathered empty) f;
 }
 
@@ -221,5 +266,5 @@ found_fault os u e = first_unnamed_is os ∙ ap (option_map (λ i. Unnamed (i + 
 pub fault_after : (os fs : List Obj) (f : Option LoadFault) → IsGathered os fs → unnamed (gathered empty os) os ≡ f → load_fault os ≡ f
 fault_after os fs f g e = ap (λ c. option_or c (unnamed (gathered empty os) os)) g.free ∙ e
 
-pub clash_is_fault : (os : List Obj) (f : LoadFault) → clash empty 1 os ≡ Some f → load_fault os ≡ Some f
+pub clash_is_fault : (os : List Obj) (f : LoadFault) → clash [] 1 os ≡ Some f → load_fault os ≡ Some f
 clash_is_fault os f e = ap (λ c. option_or c (unnamed (gathered empty os) os)) e

@@ -1,3 +1,3 @@
-pub mod Fitting
+pub mod Confined
 pub mod Gathering
 pub mod Running

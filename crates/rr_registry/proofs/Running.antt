@@ -1,11 +1,13 @@
 -- Runs one after the other, and what they keep.
 use Rattle.std.proofs.Common.{List, [], ◌∷◌, ◌++◌, ℕ, ap, refl, sym, subst, inl, inr, Ok, Err}
-use Rattle.std.specs.Prelude.{Result}
+use Rattle.std.specs.Prelude.{Result, IfOk}
 use Rattle.rr_object.specs.declared.code.Code.{Code}
 use Rattle.rr_auth.specs.declared.item.Item.{Item}
 use Rattle.rr_auth.specs.Registries.{Reg, Sound}
-use Rattle.rr_auth.proofs.Steps.{stays_sound}
-use Rattle.rr_registry.specs.RunLaws.{AreFormed, IsFormed, IsSplit}
+use Rattle.rr_auth.specs.Laws.{IsItem}
+use Rattle.rr_auth.specs.Sources.{IsReadIn, IsRegistryOf}
+use Rattle.rr_auth.proofs.Steps.{stays_of_source, stays_sound}
+use Rattle.rr_registry.specs.RunLaws.{AreFormed, AreReadIn, IsSplit}
 use Rattle.rr_registry.specs.Runs.{Decides, Run}
 use Rattle.rr_registry.specs.declared.outcome.Outcome.{Outcome}
 use Rattle.rr_registry.specs.declared.run.Submitted.{Submitted}
@@ -39,7 +41,7 @@ run_more r s t items submitted outcomes outcome a b = run_append r s t items (su
 
 -- what is decided leaves a sound registry sound
 decided_sound : (r s : Reg) (secrets : List (List ℕ)) (action : Result Item Code) (outcome : Outcome)
-    → Sound r → IsFormed action → Decides r secrets action outcome s → Sound s
+    → Sound r → IfOk action IsItem → Decides r secrets action outcome s → Sound s
 decided_sound r s secrets (Ok item) outcome sound formed (inl done) = subst Sound (sym done.effect) (stays_sound r secrets item sound formed)
 decided_sound r s secrets (Ok item) outcome sound formed (inr want) = subst Sound (sym want.effect) sound
 decided_sound r s secrets (Err code) outcome sound formed d = subst Sound (sym d.1) sound
@@ -51,3 +53,23 @@ run_stays_sound r s [] (o ∷ os) sound formed run = absurd run
 run_stays_sound r s (i ∷ is) [] sound formed run = absurd run
 run_stays_sound r s (i ∷ is) (o ∷ os) sound formed run =
     run_stays_sound run.0 s is os (decided_sound r run.0 i.secrets i.action o sound formed.0 run.1) formed.1 run.2
+
+decided_of_source : (source : List ℕ) (r s : Reg) (secrets : List (List ℕ)) (action : Result Item Code) (outcome : Outcome)
+    → IsRegistryOf source r → IfOk action (IsReadIn source) → Decides r secrets action outcome s → IsRegistryOf source s
+decided_of_source source r s secrets (Ok item) outcome of read (inl done) =
+    subst (IsRegistryOf source) (sym done.effect) (stays_of_source source r secrets item of read)
+decided_of_source source r s secrets (Ok item) outcome of read (inr want) = subst (IsRegistryOf source) (sym want.effect) of
+decided_of_source source r s secrets (Err code) outcome of read d = subst (IsRegistryOf source) (sym d.1) of
+
+pub run_stays_of_source : (source : List ℕ) (r s : Reg) (submitted : List Submitted) (outcomes : List Outcome)
+    → IsRegistryOf source r → AreReadIn source submitted → Run r submitted outcomes s → IsRegistryOf source s
+run_stays_of_source source r s [] [] of read run = subst (IsRegistryOf source) (sym run) of
+run_stays_of_source source r s [] (o ∷ os) of read run = absurd run
+run_stays_of_source source r s (i ∷ is) [] of read run = absurd run
+run_stays_of_source source r s (i ∷ is) (o ∷ os) of read run =
+    run_stays_of_source source run.0 s is os (decided_of_source source r run.0 i.secrets i.action o of read.0 run.1) read.1 run.2
+
+-- one more well formed item
+pub formed_more : (submitted : List Submitted) (more : Submitted) → AreFormed submitted → IfOk more.action IsItem → AreFormed (submitted ++ more ∷ [])
+formed_more [] more formed last = (last, tt)
+formed_more (i ∷ is) more formed last = (formed.0, formed_more is more formed.1 last)

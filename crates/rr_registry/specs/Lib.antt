@@ -1,3 +1,5 @@
+pub mod Confined
 pub mod Loading
+pub mod Private
 pub mod RunLaws
 pub mod Runs

@@ -1,9 +1,8 @@
 -- How runs fit together, and what they keep.
-use Rattle.std.specs.Prelude.{◌≡◌, List, [], ◌∷◌, ◌++◌, Result, Ok, Err}
-use Rattle.rr_object.specs.declared.code.Code.{Code}
-use Rattle.rr_auth.specs.declared.item.Item.{Item}
+use Rattle.std.specs.Prelude.{◌≡◌, ℕ, List, [], ◌∷◌, ◌++◌, IfOk}
 use Rattle.rr_auth.specs.Laws.{IsItem}
 use Rattle.rr_auth.specs.Registries.{Reg, Sound}
+use Rattle.rr_auth.specs.Sources.{IsReadIn, IsRegistryOf}
 use Rattle.rr_registry.specs.Runs.{Run}
 use Rattle.rr_registry.specs.declared.outcome.Outcome.{Outcome}
 use Rattle.rr_registry.specs.declared.run.Submitted.{Submitted}
@@ -29,18 +28,24 @@ RunsPart =
     (r t : Reg) (first later : List Submitted) (outcomes : List Outcome)
     → Run r (first ++ later) outcomes t → IsSplit r t first later outcomes
 
--- An item that was submitted is about a well formed key.
-abbrev pub IsFormed : Result Item Code → Type 0
-IsFormed (Ok item) = IsItem item
-IsFormed (Err code) = Unit {0}
-
--- So is each item of a list.
+-- Each item of a list is about a well formed key.
 abbrev pub AreFormed : List Submitted → Type 0
 AreFormed [] = Unit {0}
-AreFormed (submitted ∷ later) = IsFormed submitted.action × AreFormed later
+AreFormed (submitted ∷ later) = IfOk submitted.action IsItem × AreFormed later
 
 -- A run from a sound registry ends at a sound one, whatever is submitted.
 abbrev pub RunsStaySound : Type 0
 RunsStaySound =
     (r s : Reg) (submitted : List Submitted) (outcomes : List Outcome)
     → Sound r → AreFormed submitted → Run r submitted outcomes s → Sound s
+
+-- Each item of a list is as it is read in a source.
+abbrev pub AreReadIn : List ℕ → List Submitted → Type 0
+AreReadIn source [] = Unit {0}
+AreReadIn source (submitted ∷ later) = IfOk submitted.action (IsReadIn source) × AreReadIn source later
+
+-- A run from a registry of a source ends at one, whatever is submitted that is read in that source.
+abbrev pub RunsStayOfSource : Type 0
+RunsStayOfSource =
+    (source : List ℕ) (r s : Reg) (submitted : List Submitted) (outcomes : List Outcome)
+    → IsRegistryOf source r → AreReadIn source submitted → Run r submitted outcomes s → IsRegistryOf source s

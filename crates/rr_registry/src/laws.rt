@@ -1,6 +1,7 @@
 //! Laws of runs, for readers and for the proofs of other crates. Nothing calls these functions.
 
-ghost use Rattle.rr_registry.specs.RunLaws.{RunsJoin, RunsPart, RunsStaySound};
+ghost use Rattle.rr_registry.specs.Confined.{RunsConfine};
+ghost use Rattle.rr_registry.specs.RunLaws.{RunsJoin, RunsPart, RunsStayOfSource, RunsStaySound};
 
 /// A run of a list and then a run of another are one run of both lists.
 #[tactic(auto, using(crate::proofs::Running::run_append))]
@@ -18,4 +19,16 @@ pub fn runs_part()
 #[tactic(auto, using(crate::proofs::Running::run_stays_sound))]
 pub fn runs_stay_sound()
     ensures { RunsStaySound }
+{}
+
+/// A run from a registry of a source ends at one, where all items are read in that source.
+#[tactic(auto, using(crate::proofs::Running::run_stays_of_source))]
+pub fn runs_stay_of_their_source()
+    ensures { RunsStayOfSource }
+{}
+
+/// A run from a sound registry answers the holders of a prefix as if nobody else had submitted anything, and leaves what
+/// they hold to them.
+pub fn runs_confine_what_is_foreign()
+    ensures { RunsConfine }
 {}

@@ -12,6 +12,3 @@ pub use outcome::Outcome;
 pub use registry::Registry;
 pub use rr_book::PlainBook;
 pub use run::Submitted;
-
-#[cfg(test)]
-mod expansion_tests;

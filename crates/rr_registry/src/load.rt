@@ -1,12 +1,11 @@
 //! Lists of objects taken as registries.
 
-ghost use Rattle.std.specs.Prelude.{◌≡◌, ◌⊎◌, ◌++◌, ◌<◌, Some, IfErr, IfSome, MatchResult, OnOk, find, is_none, length, map, position};
+ghost use Rattle.std.specs.Prelude.{◌≡◌, ◌⊎◌, [], ◌++◌, ◌<◌, Some, IfErr, IfSome, MatchResult, OnOk, find, is_none, length, map, position};
 ghost use Rattle.std.specs.List.{list_any};
-ghost use Rattle.std.specs.FinMap.{empty};
 ghost use Rattle.rr_object.specs.Objects.{names_of};
 ghost use Rattle.rr_auth.specs.Registries.{is_mntner_of};
-ghost use Rattle.rr_book.specs.Books.{book_of};
-ghost use Rattle.rr_registry.specs.Loading.{clash, clash_of, IsApart, IsGathered, IsTakenIn};
+ghost use Rattle.rr_registry.specs.Loading.{clash, clash_of};
+ghost use Rattle.rr_registry.specs.Private.{IsApart, IsGathered, IsTakenIn};
 
 use crate::registry::Registry;
 use rr_book::{PlainBook, lists};
@@ -117,10 +116,11 @@ fn some_unknown(objects: &[Object], names: &[Name]) -> bool
 }
 
 /// The objects in order, or the first whose key stands twice or whose span crosses one before it.
+#[tactic(auto, using(crate::proofs::Gathering::clash_next))]
 fn gather(alloc: Global, objects: Vec<Object>) -> Result<Vec<Object>, LoadFault>
     ensures { MatchResult result
         (λ gathered. IsGathered objects.items gathered.items)
-        (λ fault. (fault ≡ LoadFault.Memory) ⊎ (clash empty 1 objects.items ≡ Some fault)) }
+        (λ fault. (fault ≡ LoadFault.Memory) ⊎ (clash [] 1 objects.items ≡ Some fault)) }
 {
     let mut gathered = Vec::new(alloc);
     let mut n = 0;
@@ -136,7 +136,7 @@ fn gather(alloc: Global, objects: Vec<Object>) -> Result<Vec<Object>, LoadFault>
 fn take_in(gathered: &mut Vec<Object>, n: u64, object: Object) -> Result<(), LoadFault>
     requires { IsApart gathered.old.items }
     ensures ok { OnOk result (IsTakenIn gathered.old.items n object gathered.new.items) }
-    ensures err { IfErr result (λ fault. (fault ≡ LoadFault.Memory) ⊎ (clash_of (book_of gathered.old.items) n object ≡ Some fault)) }
+    ensures err { IfErr result (λ fault. (fault ≡ LoadFault.Memory) ⊎ (clash_of gathered.old.items n object ≡ Some fault)) }
 {
     object.key_is_well_formed();
     if lists::find_key(gathered, object.key()).is_some() {

@@ -1,8 +1,11 @@
 //! Registries, and what items do to them.
 
-ghost use Rattle.std.specs.Prelude.{◌≡◌, ◌≢◌, ◌⊎◌};
+ghost use Rattle.std.specs.Prelude.{◌≡◌, ◌⊎◌, true};
 ghost use Rattle.std.specs.FinMap.{empty, insert, remove, values};
-ghost use Rattle.rr_auth.specs.declared.verdict.Verdict.TheVariants.{Add, Change, Same, Delete};
+ghost use Rattle.rr_auth.specs.declared.verdict.Verdict.TheVariants.{Add, Change, Delete};
+ghost use Rattle.rr_auth.specs.Verdicts.{is_met_by};
+ghost use Rattle.rr_auth.specs.Laws.{IsItem};
+ghost use Rattle.rr_confinement.specs.Laws.{LeavesOthers};
 ghost use Rattle.rr_registry.specs.Runs.{IsCarriedOut, IsStep, IsWant};
 
 use crate::outcome::Outcome;
@@ -72,9 +75,20 @@ impl Registry {
     }
 
     /// Does with the item what its verdict says, over this registry and these secrets (RFC 2725, 9; profile). Where
-    /// memory is wanting the item is refused with E90 and nothing changes.
-    #[tactic(auto, using(rr_auth::proofs::Keeping::sound_added, rr_auth::proofs::Keeping::sound_changed, rr_auth::proofs::Keeping::sound_removed))]
+    /// memory is wanting the item is refused with E90 and nothing changes. What the holders of a prefix hold stays as it
+    /// was where none of the secrets is theirs.
     pub fn apply(&mut self, alloc: Global, secrets: &Secrets, item: Item) -> Outcome
+        ensures step { IsStep self.old secrets.now item result self.new }
+        ensures leaves { LeavesOthers self.old secrets.now self.new }
+    {
+        self.sound();
+        is_well_formed(&item);
+        self.carry_out(alloc, secrets, item)
+    }
+
+    /// Does with the item what its verdict says.
+    #[tactic(auto, using(rr_auth::proofs::Keeping::sound_added, rr_auth::proofs::Keeping::sound_changed, rr_auth::proofs::Keeping::sound_removed, rr_auth::proofs::Steps::verdicts_are_met))]
+    fn carry_out(&mut self, alloc: Global, secrets: &Secrets, item: Item) -> Outcome
         ensures { IsStep self.old secrets.now item result self.new }
     {
         self.sound();
@@ -94,7 +108,7 @@ impl Registry {
     fn submit(&mut self, alloc: Global, judged: Verdict, object: Object) -> Outcome
         requires added { judged ≡ Add → Sound (insert self.old object.key object) }
         requires changed { judged ≡ Change → Sound (insert self.old object.key object) }
-        requires fits { judged ≢ Delete }
+        requires possible { is_met_by (Item.Submit object) judged ≡ true }
         ensures { IsCarriedOut self.old judged (Item.Submit object) result self.new }
     {
         match judged {
@@ -120,7 +134,7 @@ impl Registry {
     /// Carries out the verdict on a deletion.
     fn delete(&mut self, judged: Verdict, key: &Key) -> Outcome
         requires deleted { judged ≡ Delete → Sound (remove self.old key.now) }
-        requires fits { (judged ≢ Add) × (judged ≢ Change) × (judged ≢ Same) }
+        requires possible { is_met_by (Item.Delete key.now) judged ≡ true }
         ensures { IsCarriedOut self.old judged (Item.Delete key.now) result self.new }
     {
         match judged {
@@ -131,5 +145,14 @@ impl Registry {
             Verdict::Refuse(code) => Outcome::Refused(code),
             Verdict::Add | Verdict::Change | Verdict::Same => unreachable!(),
         }
+    }
+}
+
+/// Tells a caller's proof that the key of an object that is submitted is well formed; it does nothing.
+pub(crate) fn is_well_formed(item: &Item)
+    ensures { IsItem item.now }
+{
+    if let Item::Submit(object) = item {
+        object.key_is_well_formed();
     }
 }

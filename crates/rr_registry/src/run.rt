@@ -1,9 +1,9 @@
 //! Runs of what is submitted.
 
-ghost use Rattle.std.specs.Prelude.{◌≡◌, IfOk, OnErr};
+ghost use Rattle.std.specs.Prelude.{◌≡◌, IfOk, OnOk, OnErr};
 
 use crate::outcome::Outcome;
-use crate::registry::Registry;
+use crate::registry::{Registry, is_well_formed};
 use rr_auth::{Item, Secrets};
 use rr_object::Code;
 use std::alloc::{AllocError, Global};
@@ -18,16 +18,35 @@ pub struct Submitted {
 }
 
 impl Registry {
+    ghost use Rattle.rr_auth.specs.Laws.{IsItem};
+    ghost use Rattle.rr_registry.specs.Confined.{Confines};
+    ghost use Rattle.rr_registry.specs.RunLaws.{AreFormed};
     ghost use Rattle.rr_registry.specs.Runs.{Decides, Run};
 
     /// Decides in turn what was submitted and gives the outcome of each; the error is want of memory for the outcomes,
-    /// before the first item, and leaves the registry as it was.
+    /// before the first item, and leaves the registry as it was. The holders of a prefix are answered as if nobody else
+    /// had submitted anything.
     pub fn run_items(
         &mut self,
         alloc: Global,
         items: Vec<Submitted>,
     ) -> Result<Vec<Outcome>, AllocError>
         ensures run { IfOk result (λ outcomes. Run self.old items.items outcomes.items self.new) }
+        ensures confined { IfOk result (λ outcomes. Confines self.old items.items outcomes.items self.new) }
+        ensures err { OnErr result (self.new ≡ self.old) }
+    {
+        self.sound();
+        self.run_each(alloc, items)
+    }
+
+    /// Decides in turn what was submitted.
+    fn run_each(
+        &mut self,
+        alloc: Global,
+        items: Vec<Submitted>,
+    ) -> Result<Vec<Outcome>, AllocError>
+        ensures run { IfOk result (λ outcomes. Run self.old items.items outcomes.items self.new) }
+        ensures formed { OnOk result (AreFormed items.items) }
         ensures err { OnErr result (self.new ≡ self.old) }
     {
         let mut outcomes = Vec::with_capacity(alloc, items.len())?;
@@ -39,11 +58,15 @@ impl Registry {
 
     /// The outcome of what was submitted.
     fn decide(&mut self, alloc: Global, submitted: Submitted) -> Outcome
-        ensures { Decides self.old submitted.secrets submitted.action result self.new }
+        ensures decides { Decides self.old submitted.secrets submitted.action result self.new }
+        ensures formed { IfOk submitted.action IsItem }
     {
         let Submitted { secrets, action } = submitted;
         match action {
-            Ok(item) => self.apply(alloc, &secrets, item),
+            Ok(item) => {
+                is_well_formed(&item);
+                self.apply(alloc, &secrets, item)
+            }
             Err(code) => Outcome::Refused(code),
         }
     }

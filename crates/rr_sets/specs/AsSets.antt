@@ -5,10 +5,11 @@ use Rattle.std.specs.Str.{bytes_eq}
 use Rattle.std.specs.Prelude.{◌⊎◌}
 use Rattle.rr_auth.specs.Registries.{Reg}
 use Rattle.rr_graph.specs.Chain.{IsReached}
+use Rattle.rr_number.specs.AnySets.{as_any}
 use Rattle.rr_object.specs.Objects.{Obj}
 use Rattle.rr_object.specs.declared.key.Key.TheVariants.{AutNum, AsSet}
 use Rattle.rr_object.specs.declared.member.Member.{Member}
-use Rattle.rr_sets.specs.SetObjects.{set_listed, number_listed, takes, as_any}
+use Rattle.rr_sets.specs.SetObjects.{set_listed, number_listed, takes}
 
 -- A registered as-set lists the name of another set (RFC 2622, 5).
 abbrev pub ListsSet : Reg → List ℕ → List ℕ → Type 0

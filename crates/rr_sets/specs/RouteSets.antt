@@ -1,9 +1,10 @@
 -- Which ranges of prefixes a set stands for.
-use Rattle.std.specs.Prelude.{◌≡◌, ℕ, ◌⊎◌, Bool, false, ◌||◌, List, Contains, IsTrue, Option, Some, is_some, codes}
+use Rattle.std.specs.Prelude.{◌≡◌, ℕ, ◌⊎◌, Bool, false, ◌||◌, List, Contains, IsTrue, Option, Some, is_some}
 use Rattle.std.specs.FinMap.{get}
 use Rattle.std.specs.Str.{bytes_eq}
 use Rattle.rr_auth.specs.Registries.{Reg}
 use Rattle.rr_graph.specs.Carried as carried
+use Rattle.rr_number.specs.AnySets.{as_any, rs_any}
 use Rattle.rr_number.specs.Applied.{applied}
 use Rattle.rr_number.specs.Prefixes.{PrefixParts}
 use Rattle.rr_number.specs.Ranges.{RangeParts, bare}
@@ -20,11 +21,7 @@ use Rattle.rr_object.specs.declared.member.Member.TheVariants as member
 use Rattle.rr_object.specs.declared.member.MemberSet.{MemberSet}
 use Rattle.rr_object.specs.declared.member.MemberSet.TheVariants.{AutNum, Set}
 use Rattle.rr_sets.specs.AsSets.{IsDirect, ListsSet}
-use Rattle.rr_sets.specs.SetObjects.{as_any, takes}
-
--- The name of the set of every route (RFC 2622, 5).
-abbrev pub rs_any : List ℕ
-rs_any = codes "RS-ANY"
+use Rattle.rr_sets.specs.SetObjects.{takes}
 
 -- The key of a set: as-sets and route-sets are told apart by their names (RFC 2622, 5).
 abbrev pub key_of_kind : SetKind → List ℕ → Key

@@ -1,5 +1,5 @@
 -- What a registered object says of sets.
-use Rattle.std.specs.Prelude.{ℕ, Bool, ◌||◌, List, Option, None, Some, codes}
+use Rattle.std.specs.Prelude.{ℕ, Bool, ◌||◌, List, Option, None, Some}
 use Rattle.std.specs.List.{list_any}
 use Rattle.std.specs.Str.{bytes_eq}
 use Rattle.rr_object.specs.Objects.{Obj}
@@ -24,7 +24,3 @@ number_listed (member.Set (set.Set name) operator) = None
 -- (RFC 2622, 5).
 abbrev pub takes : ByRefParts → Obj → Bool
 takes by_ref object = by_ref.any || list_any (λ name. list_any (λ maintainer. bytes_eq maintainer name) object.maintainers) by_ref.names
-
--- The name of the set of every registered AS (RFC 2622, 5).
-abbrev pub as_any : List ℕ
-as_any = codes "AS-ANY"

@@ -13,7 +13,7 @@ ghost use Rattle.rr_sets.specs.AsSets.{InAsSet, IsDirect, IsMissing, IsReachedSe
 ghost use Rattle.rr_sets.specs.SetObjects.{set_listed};
 
 use crate::book::SetBook;
-use crate::direct::{as_set, direct_numbers, is_as_any};
+use crate::direct::{as_set, direct_numbers};
 use crate::members::{ExpandFault, Members};
 use rr_graph::{Graph, ReachFault, ascending, reach};
 use rr_number::{AsNumber, SetName};
@@ -160,7 +160,7 @@ fn has_as_set<B: SetBook>(alloc: Global, book: &B, name: &SetName) -> Result<boo
     ensures { IfOk result (λ known. known ≡ has_as_set (B.contents book.now) name.now) }
 {
     let registered = as_set(alloc, book, name)?.is_some();
-    Ok(registered || is_as_any(name))
+    Ok(registered || name.is_as_any())
 }
 
 /// The AS numbers that are in one of the sets itself.

@@ -4,10 +4,9 @@ ghost use Rattle.std.specs.Prelude.{◌≡◌, ◌↔◌, ◌⊎◌, ℕ, Contai
 ghost use Rattle.std.specs.FinMap.{get};
 ghost use Rattle.std.specs.List.{filter_map};
 ghost use Rattle.std.specs.Option.{option_copied};
-ghost use Rattle.std.specs.Str.{bytes_eq};
 ghost use Rattle.rr_sets.specs.AsSets.{BelongsTo, IsAnyNumber, IsDirect, ListsNumber};
 ghost use Rattle.rr_sets.specs.KeyParts.{number_of_key};
-ghost use Rattle.rr_sets.specs.SetObjects.{as_any, number_listed};
+ghost use Rattle.rr_sets.specs.SetObjects.{number_listed};
 
 use crate::book::SetBook;
 use crate::by_reference::belonging;
@@ -57,7 +56,7 @@ fn any_numbers<B: SetBook>(
     ensures { IfOk result (λ numbers. (n : ℕ) → Contains numbers.items n ↔ IsAnyNumber (B.contents book.now) name.now n) }
 {
     book.sound();
-    if is_as_any(name) {
+    if name.is_as_any() {
         numbers_of(alloc, &book.aut_nums(alloc)?)
     } else {
         Ok(Vec::new(alloc))
@@ -74,13 +73,6 @@ pub fn as_set<'a, B: SetBook>(
 {
     let key = Key::AsSet(name.copy(alloc)?);
     Ok(book.get(&key))
-}
-
-/// Whether the name is `AS-ANY`.
-pub fn is_as_any(name: &SetName) -> bool
-    ensures { result ≡ bytes_eq name.now as_any }
-{
-    name.as_bytes() == b"AS-ANY".as_slice()
 }
 
 /// The AS numbers among the members.

@@ -3,16 +3,14 @@
 ghost use Rattle.std.specs.Prelude.{◌≡◌, ◌↔◌, ◌⊎◌, Contains, IfOk, map};
 ghost use Rattle.std.specs.List.{filter_map};
 ghost use Rattle.std.specs.Option.{option_copied};
-ghost use Rattle.std.specs.Str.{bytes_eq};
 ghost use Rattle.rr_number.specs.Ranges.{RangeParts, bare};
 ghost use Rattle.rr_sets.specs.KeyParts.{range_of_key};
 ghost use Rattle.rr_sets.specs.MemberParts.{range_listed};
-ghost use Rattle.rr_sets.specs.RouteSets.{HasRange, IsAnyRange, IsByReference, IsTaken, ListsRange, has_set, key_of_kind, rs_any, registered_set};
+ghost use Rattle.rr_sets.specs.RouteSets.{HasRange, IsAnyRange, IsByReference, IsTaken, ListsRange, has_set, key_of_kind, registered_set};
 ghost use Rattle.rr_object.specs.declared.member.MemberSet.{MemberSet};
 
 use crate::book::SetBook;
 use crate::by_reference::belonging;
-use crate::direct::is_as_any;
 use crate::origins::route_of;
 use rr_number::{Prefix, Range, SetKind, SetName};
 use rr_object::{ByRef, Key, Member, Object};
@@ -68,7 +66,7 @@ fn any_ranges<B: SetBook>(alloc: Global, book: &B, name: &SetName) -> Result<Vec
     ensures { IfOk result (λ ranges. (range : RangeParts) → Contains ranges.items range ↔ IsAnyRange (B.contents book.now) name.now range) }
 {
     book.sound();
-    if is_rs_any(name) {
+    if name.is_rs_any() {
         ranges_of(alloc, &book.routes(alloc)?)
     } else {
         Ok(Vec::new(alloc))
@@ -102,14 +100,7 @@ pub fn has_set<B: SetBook>(alloc: Global, book: &B, name: &SetName) -> Result<bo
     ensures { IfOk result (λ known. known ≡ has_set (B.contents book.now) name.now) }
 {
     let registered = registered_set(alloc, book, name)?.is_some();
-    Ok(registered || is_as_any(name) || is_rs_any(name))
-}
-
-/// Whether the name is `RS-ANY`.
-fn is_rs_any(name: &SetName) -> bool
-    ensures { result ≡ bytes_eq name.now rs_any }
-{
-    name.as_bytes() == b"RS-ANY".as_slice()
+    Ok(registered || name.is_as_any() || name.is_rs_any())
 }
 
 /// The ranges among the members.

@@ -2,6 +2,7 @@ pub mod Asking
 pub mod Exits
 pub mod Giving
 pub mod Joins
+pub mod Keeping
 pub mod LineSizes
 pub mod Passing
 pub mod Progress

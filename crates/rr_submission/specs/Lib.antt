@@ -6,4 +6,5 @@ pub mod Reports
 pub mod Ledgers
 pub mod Served
 pub mod Submissions
+pub mod SubmissionLaws
 pub mod SubmissionTexts

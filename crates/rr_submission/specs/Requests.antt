@@ -1,5 +1,5 @@
 -- What a paragraph of a submission asks (profile).
-use Rattle.std.specs.Prelude.{◌≡◌, ℕ, Bool, true, false, List, Some, None, Result, Ok, Err, IfSome, ◌⊎◌}
+use Rattle.std.specs.Prelude.{◌≡◌, ℕ, Bool, true, false, List, Some, None, Result, Ok, Err, IfOk, IfSome, ◌⊎◌}
 use Rattle.rr_text.specs.Fields.{Field}
 use Rattle.rr_text.specs.declared.fault.TextFault.{TextFault}
 use Rattle.rr_text.specs.declared.fault.TextFault.TheVariants.{TooLarge, BadByte, FirstContinues, NoColon, BadName, Memory}
@@ -13,6 +13,7 @@ use Rattle.rr_object.specs.Objects.{Obj}
 use Rattle.rr_object.specs.Readings.{object_of}
 use Rattle.rr_auth.specs.declared.item.Item.{Item}
 use Rattle.rr_auth.specs.declared.item.Item.TheVariants.{Submit, Delete}
+use Rattle.rr_auth.specs.Sources.{IsReadIn}
 use Rattle.rr_submission.specs.declared.request.Request.{Request}
 use Rattle.rr_submission.specs.SubmissionTexts.{own_fields, asks_deletion}
 
@@ -56,3 +57,13 @@ pub record LacksMemory (fields : List Field) (request : Request) : Type 0 where
 -- a reading of what a paragraph asks, which may want memory
 abbrev pub IsRequest : List ℕ → List Field → Request → Type 0
 IsRequest source fields request = (request ≡ request_of source fields) ⊎ LacksMemory fields request
+
+-- the key that an item is about
+abbrev pub item_key : Item → Key
+item_key (Submit object) = object.key
+item_key (Delete key) = key
+
+-- what is asked is tied to what is shown and to the source: the key of an item is the one that is shown, and the item is as it is
+-- read in the source
+abbrev pub IsTied : List ℕ → Request → Type 0
+IsTied source request = IfOk request.action (λ item. (request.key ≡ Some (item_key item)) × IsReadIn source item)

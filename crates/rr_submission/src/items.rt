@@ -83,5 +83,5 @@ fn add_secret(alloc: Global, attribute: &Attribute, secrets: &mut Secrets) -> Re
         return Ok(());
     }
     let secret = secret_of(alloc, attribute)?;
-    secrets.add(alloc, secret.as_slice())
+    secrets.add_owned(secret)
 }

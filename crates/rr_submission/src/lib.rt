@@ -3,6 +3,7 @@
 
 mod ending;
 mod items;
+pub mod laws;
 mod ledger;
 mod line;
 mod report_line;

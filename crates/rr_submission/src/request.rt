@@ -1,6 +1,7 @@
 //! What paragraphs of a submission ask.
 
-ghost use Rattle.std.specs.Prelude.{◌≡◌, ◌⊎◌, Err};
+ghost use Rattle.std.specs.Prelude.{◌≡◌, ◌⊎◌, Err, Ok, Some};
+ghost use Rattle.rr_object.specs.KeySpellings.{key_of};
 
 use crate::submission_text::{asks_deletion, own_paragraph};
 use rr_auth::Item;
@@ -19,7 +20,7 @@ pub struct Request {
 }
 
 impl Request {
-    ghost use Rattle.rr_submission.specs.Requests.{IsRequest, action_of, text_code, unread};
+    ghost use Rattle.rr_submission.specs.Requests.{IsRequest, IsTied, action_of, text_code, unread};
 
     /// The request of a paragraph that was refused before its class and key were read.
     pub fn unread(code: Code) -> Request
@@ -47,19 +48,30 @@ impl Request {
 
     /// What a paragraph asks of a registry of this source. Want of memory is the refusal E90.
     pub fn read(alloc: Global, paragraph: Paragraph, source: &Name) -> Request
-        ensures { IsRequest source.now paragraph result }
+        ensures asked { IsRequest source.now paragraph result }
+        ensures tied { IsTied source.now result }
     {
         let deletes = asks_deletion(&paragraph);
         let own = own_paragraph(paragraph);
         match key_of(alloc, &own) {
-            Ok(key) => {
-                let action = Request::action(alloc, own, source, &key, deletes);
-                Request {
-                    key: Some(key),
-                    action,
-                }
-            }
+            Ok(key) => Request::about(alloc, own, source, key, deletes),
             Err(fault) => Request::unread(fault.code()),
+        }
+    }
+
+    /// What is asked by a paragraph of this key.
+    fn about(alloc: Global, own: Paragraph, source: &Name, key: Key, deletes: bool) -> Request
+        requires { key_of own ≡ Ok key }
+        ensures { (result ≡ record { key = Some key; action = action_of source.now own key deletes })
+            ⊎ (result ≡ record { key = Some key; action = Err Code.E90 }) }
+    {
+        let action = match key.copy(alloc) {
+            Ok(copy) => Request::action(alloc, own, source, copy, deletes),
+            Err(_) => Err(Code::E90),
+        };
+        Request {
+            key: Some(key),
+            action,
         }
     }
 
@@ -68,18 +80,16 @@ impl Request {
         alloc: Global,
         own: Paragraph,
         source: &Name,
-        key: &Key,
+        key: Key,
         deletes: bool,
     ) -> Result<Item, Code>
-        ensures { (result ≡ action_of source.now own key.now deletes) ⊎ (result ≡ Err Code.E90) }
+        requires { key_of own ≡ Ok key }
+        ensures { (result ≡ action_of source.now own key deletes) ⊎ (result ≡ Err Code.E90) }
     {
         if deletes {
-            return match key.copy(alloc) {
-                Ok(key) => Ok(Item::Delete(key)),
-                Err(_) => Err(Code::E90),
-            };
+            return Ok(Item::Delete(key));
         }
-        match Object::read(alloc, own, source) {
+        match Object::read_with_key(alloc, key, own, source) {
             Ok(object) => Ok(Item::Submit(object)),
             Err(fault) => Err(fault.code()),
         }

@@ -1,5 +1,5 @@
 use Rattle.std.proofs.lemmas.Result.{IfOk-weaker}
-use Rattle.rr_book.proofs.ReferrerLists.{lists_named, lists_none}
+use Rattle.rr_book.proofs.IndexedObjects.{lists_named, lists_none}
 use Rattle.rr_book.proofs.plain_book.PlainBook.objects_that_name.Goals as goal
 
 pub returns-in-Some : goal.returns-in-Some

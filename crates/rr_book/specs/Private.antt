@@ -1,0 +1,42 @@
+-- What the private functions of src promise each other. No public clause cites these.
+use Rattle.std.specs.Prelude.{ℕ, Bool, true, false, not, ◌&&◌, List, Option, None, slice_get}
+use Rattle.std.specs.List.{position_or_len}
+use Rattle.std.specs.Option.{option_map_or}
+use Rattle.std.specs.Ordering.{eq_by_cmp, is_gt}
+use Rattle.rr_number.specs.Spans.{Ends}
+use Rattle.rr_object.specs.declared.class.Class.{Class}
+use Rattle.rr_object.specs.declared.class.Class.TheVariants as class
+use Rattle.rr_object.specs.declared.key.Key.{Key}
+use Rattle.rr_object.specs.declared.key.Key.TheVariants as key
+use Rattle.rr_object.specs.KeyOrders.{key_cmp}
+use Rattle.rr_object.specs.Objects.{Obj}
+use Rattle.rr_auth.specs.Closest.{inetnum_span, block_span, route_span}
+use Rattle.rr_book.specs.SetLists.{names_set}
+
+-- The first place whose key is not below the key.
+abbrev pub place_of : Key → List Obj → ℕ
+place_of k os = position_or_len (λ o. not (is_gt (key_cmp k o.key))) os
+
+-- The object at a place has the key.
+abbrev pub stands_at : Key → List Obj → ℕ → Bool
+stands_at k os i = option_map_or (λ x. eq_by_cmp key_cmp k x.key) (slice_get os i) false
+
+-- The span of a key, where it is of the class.
+abbrev pub span_in : Class → Key → Option Ends
+span_in class.Mntner = λ k. None
+span_in class.AsBlock = block_span
+span_in class.AutNum = λ k. None
+span_in class.Inetnum = inetnum_span
+span_in class.Route = route_span
+span_in class.AsSet = λ k. None
+span_in class.RouteSet = λ k. None
+
+-- Keys of blocks and of inetnums are spans, and no others cross (profile).
+abbrev pub is_span : Key → Bool
+is_span (key.AsBlock s) = true
+is_span (key.Inetnum s) = true
+is_span _ = false
+
+-- Whether the key is the object's, and the object names the set in its `member-of`, which is none that is left out (profile).
+abbrev pub is_meant : Obj → (List ℕ → Bool) → List ℕ → Key → Bool
+is_meant o is_left_out name key = eq_by_cmp key_cmp o.key key && (names_set name o && not (is_left_out name))

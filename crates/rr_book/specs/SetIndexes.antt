@@ -1,0 +1,27 @@
+-- Keys of objects, under the sets that these name in their `member-of`.
+use Rattle.std.specs.Prelude.{◌≡◌, ℕ, Bool, false, List}
+use Rattle.std.specs.BTreeMap.{BTreeMap, get as keys_at}
+use Rattle.std.specs.BTreeSet.{BTreeSet, contains}
+use Rattle.std.specs.Cmp.Lexicographic.{slice_cmp}
+use Rattle.std.specs.FinMap.{get}
+use Rattle.std.specs.Option.{option_map_or}
+use Rattle.std.specs.Ordering.{nat_cmp}
+use Rattle.rr_object.specs.declared.key.Key.{Key}
+use Rattle.rr_object.specs.KeyOrders.{key_cmp}
+use Rattle.rr_object.specs.Objects.{Obj}
+use Rattle.rr_auth.specs.Registries.{Reg}
+use Rattle.rr_book.specs.Books.{IsBook, book_of}
+use Rattle.rr_book.specs.SetLists.{names_set}
+
+-- Whether the key stands under the set of the name.
+abbrev pub stands_under : BTreeMap (List ℕ) (BTreeSet Key) → List ℕ → Key → Bool
+stands_under sets name key = option_map_or (λ keys. contains key_cmp keys key) (keys_at (slice_cmp nat_cmp) sets name) false
+
+-- Under a set stand the keys of the registered objects that name it in their `member-of`, and no others (RFC 2622, 5).
+abbrev pub HasReferrers : Reg → BTreeMap (List ℕ) (BTreeSet Key) → Type 0
+HasReferrers r sets = (name : List ℕ) (key : Key) → stands_under sets name key ≡ option_map_or (names_set name) (get r key) false
+
+-- Objects in order whose registry is sound, and under each set the keys of those that name it (profile).
+pub record IsIndexed (os : List Obj) (sets : BTreeMap (List ℕ) (BTreeSet Key)) : Type 0 where
+  pub book : IsBook os
+  pub referrers : HasReferrers (book_of os) sets

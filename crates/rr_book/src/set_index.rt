@@ -1,0 +1,217 @@
+//! Which objects name which sets in their `member-of`.
+
+ghost use Rattle.std.specs.Prelude.{◌≡◌, ◌&&◌, ◌||◌, ℕ, List, true, false, find, not, IfOk, OnOk, OnErr, IsTrue};
+ghost use Rattle.std.specs.BTreeMap.{get};
+ghost use Rattle.std.specs.BTreeSet.{contains};
+ghost use Rattle.std.specs.Cmp.Lexicographic.{slice_cmp};
+ghost use Rattle.std.specs.List.{filter_map, list_any};
+ghost use Rattle.std.specs.List.Sorted.{IsStrictlySortedBy};
+ghost use Rattle.std.specs.Option.{option_copied, option_map_or};
+ghost use Rattle.std.specs.Ordering.{eq_by_cmp, nat_cmp};
+ghost use Rattle.std.specs.Str.{bytes_eq};
+ghost use Rattle.rr_object.specs.declared.key.Key.{Key};
+ghost use Rattle.rr_object.specs.KeyOrders.{key_cmp};
+ghost use Rattle.rr_sets.specs.Lists.{lent};
+ghost use Rattle.rr_book.specs.Books.{is_in_order};
+ghost use Rattle.rr_book.specs.SetIndexes.{stands_under};
+ghost use Rattle.rr_book.specs.SetLists.{names_set};
+ghost use Rattle.rr_book.specs.Private.{is_meant};
+
+use crate::lists::find_key;
+use rr_number::SetName;
+use rr_object::{Key, Object};
+use std::alloc::{AllocError, Global};
+use std::collections::{BTreeMap, BTreeSet};
+
+/// Keys of objects, under the sets that these name in their `member-of`.
+#[derive(Drop)]
+pub(crate) struct SetIndex {
+    keys: BTreeMap<SetName, BTreeSet<Key>>,
+}
+
+impl SetIndex {
+    /// No keys.
+    pub(crate) fn new(alloc: Global) -> SetIndex
+        ensures { (name : List ℕ) (key : Key) → stands_under result.keys name key ≡ false }
+    {
+        SetIndex {
+            keys: BTreeMap::new(alloc),
+        }
+    }
+
+    /// The keys of the objects, under the sets that these name.
+    pub(crate) fn of(alloc: Global, objects: &[Object]) -> Result<SetIndex, AllocError>
+        ensures { IfOk result (λ referrers. (name : List ℕ) (key : Key) → stands_under referrers.keys name key ≡
+            list_any (λ o. names_set name o && eq_by_cmp key_cmp o.key key) objects.now) }
+    {
+        let mut referrers = SetIndex::new(alloc);
+        let none = BTreeSet::new(alloc);
+        for object in objects {
+            referrers.add_each(alloc, object, &none)?;
+        }
+        Ok(referrers)
+    }
+
+    /// The keys under the set, if there are any.
+    pub(crate) fn keys(&self, name: &SetName) -> Option<&BTreeSet<Key>>
+        ensures { option_copied result ≡ get (slice_cmp nat_cmp) self.now.keys name.now }
+    {
+        self.keys.get(name)
+    }
+
+    /// Puts the object's key, which stands under none of them, under each set that it names, save the others. The error is
+    /// want of memory and changes nothing.
+    pub(crate) fn add(
+        &mut self,
+        alloc: Global,
+        object: &Object,
+        others: &BTreeSet<SetName>,
+    ) -> Result<(), AllocError>
+        requires { (name : List ℕ) (key : Key) → IsTrue (is_meant object.now (contains (slice_cmp nat_cmp) others.now) name key) → stands_under self.old.keys name key ≡ false }
+        ensures ok { OnOk result ((name : List ℕ) (key : Key) → stands_under self.new.keys name key ≡
+            (stands_under self.old.keys name key || is_meant object.now (contains (slice_cmp nat_cmp) others.now) name key)) }
+        ensures err { OnErr result ((name : List ℕ) (key : Key) → stands_under self.new.keys name key ≡ stands_under self.old.keys name key) }
+    {
+        match self.add_each(alloc, object, others) {
+            Ok(()) => Ok(()),
+            Err(refused) => {
+                self.take(object, others);
+                Err(refused)
+            }
+        }
+    }
+
+    /// Puts the object's key under each set that it names, save the others. Where memory is wanting it may stand under some
+    /// of them.
+    fn add_each(
+        &mut self,
+        alloc: Global,
+        object: &Object,
+        others: &BTreeSet<SetName>,
+    ) -> Result<(), AllocError>
+        ensures ok { OnOk result ((name : List ℕ) (key : Key) → stands_under self.new.keys name key ≡
+            (stands_under self.old.keys name key || is_meant object.now (contains (slice_cmp nat_cmp) others.now) name key)) }
+        ensures some { OnErr result ((name : List ℕ) (key : Key) → IsTrue (stands_under self.new.keys name key) →
+            IsTrue (stands_under self.old.keys name key || is_meant object.now (contains (slice_cmp nat_cmp) others.now) name key)) }
+        ensures kept { OnErr result ((name : List ℕ) (key : Key) → IsTrue (stands_under self.old.keys name key) → IsTrue (stands_under self.new.keys name key)) }
+    {
+        for name in object.member_of() {
+            if !others.contains(name) {
+                self.add_under(alloc, name, object.key())?;
+            }
+        }
+        Ok(())
+    }
+
+    /// Puts the key under the set.
+    fn add_under(&mut self, alloc: Global, name: &SetName, key: &Key) -> Result<(), AllocError>
+        ensures ok { OnOk result ((other : List ℕ) (k : Key) → stands_under self.new.keys other k ≡
+            (stands_under self.old.keys other k || (bytes_eq name.now other && eq_by_cmp key_cmp key.now k))) }
+        ensures err { OnErr result ((other : List ℕ) (k : Key) → stands_under self.new.keys other k ≡ stands_under self.old.keys other k) }
+    {
+        let key = key.copy(alloc)?;
+        match self.keys.get_mut(name) {
+            Some(keys) => {
+                keys.insert(key)?;
+            }
+            None => {
+                let mut keys = BTreeSet::new(alloc);
+                keys.insert(key)?;
+                self.keys.insert(name.copy(alloc)?, keys)?;
+            }
+        }
+        Ok(())
+    }
+
+    /// Takes the object's key from under each set that it names, save the others.
+    pub(crate) fn take(&mut self, object: &Object, others: &BTreeSet<SetName>)
+        ensures { (name : List ℕ) (key : Key) → stands_under self.new.keys name key ≡
+            (stands_under self.old.keys name key && not (is_meant object.now (contains (slice_cmp nat_cmp) others.now) name key)) }
+    {
+        for name in object.member_of() {
+            if !others.contains(name) {
+                self.take_from(name, object.key());
+            }
+        }
+    }
+
+    /// Takes the object's key from under each set that it names.
+    pub(crate) fn take_all(&mut self, object: &Object)
+        ensures { (name : List ℕ) (key : Key) → stands_under self.new.keys name key ≡
+            (stands_under self.old.keys name key && not (is_meant object.now (λ other. false) name key)) }
+    {
+        for name in object.member_of() {
+            self.take_from(name, object.key());
+        }
+    }
+
+    /// Takes the key from under the set.
+    fn take_from(&mut self, name: &SetName, key: &Key)
+        ensures { (other : List ℕ) (k : Key) → stands_under self.new.keys other k ≡
+            (stands_under self.old.keys other k && not (bytes_eq name.now other && eq_by_cmp key_cmp key.now k)) }
+    {
+        if self.take_key(name, key) {
+            self.keys.remove(name);
+        }
+    }
+
+    /// Takes the key from among those of the set, and says whether none is left.
+    fn take_key(&mut self, name: &SetName, key: &Key) -> bool
+        ensures taken { (other : List ℕ) (k : Key) → stands_under self.new.keys other k ≡
+            (stands_under self.old.keys other k && not (bytes_eq name.now other && eq_by_cmp key_cmp key.now k)) }
+        ensures empty { IsTrue result → (k : Key) → stands_under self.new.keys name.now k ≡ false }
+    {
+        match self.keys.get_mut(name) {
+            Some(keys) => {
+                keys.remove(key);
+                keys.is_empty()
+            }
+            None => false,
+        }
+    }
+}
+
+/// The sets that the object names in its `member-of`; none without an object.
+pub(crate) fn sets_named(
+    alloc: Global,
+    object: Option<&Object>,
+) -> Result<BTreeSet<SetName>, AllocError>
+    ensures { IfOk result (λ sets. (name : List ℕ) → contains (slice_cmp nat_cmp) sets name ≡
+        option_map_or (names_set name) (option_copied object.entry) false) }
+{
+    match object {
+        Some(object) => set_of(alloc, object.member_of()),
+        None => Ok(BTreeSet::new(alloc)),
+    }
+}
+
+/// The names as a set.
+fn set_of(alloc: Global, names: &[SetName]) -> Result<BTreeSet<SetName>, AllocError>
+    ensures { IfOk result (λ sets. (name : List ℕ) → contains (slice_cmp nat_cmp) sets name ≡
+        list_any (λ own. bytes_eq own name) names.now) }
+{
+    let mut sets = BTreeSet::new(alloc);
+    for name in names {
+        sets.insert(name.copy(alloc)?)?;
+    }
+    Ok(sets)
+}
+
+/// The objects of the keys, among objects in the order of their keys.
+pub(crate) fn objects_of<'a>(
+    alloc: Global,
+    objects: &'a [Object],
+    keys: &BTreeSet<Key>,
+) -> Result<Vec<&'a Object>, AllocError>
+    requires { is_in_order objects.now ≡ true }
+    ensures found { IfOk result (λ found. lent found.items ≡ filter_map (λ key. find (λ o. eq_by_cmp key_cmp key o.key) objects.now) keys.now.keys) }
+    ensures ordered { IsStrictlySortedBy ⟦<Key as Ord>⟧.cmp keys.now.keys }
+{
+    let mut found = Vec::new(alloc);
+    for key in keys {
+        if let Some(object) = find_key(objects, key) {
+            found.push(object)?;
+        }
+    }
+    Ok(found)
+}

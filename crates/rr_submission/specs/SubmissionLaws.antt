@@ -1,0 +1,15 @@
+-- What submissions keep.
+use Rattle.std.specs.Prelude.{ℕ, List, [], map, Result}
+use Rattle.rr_text.specs.Fields.{Field}
+use Rattle.rr_text.specs.declared.fault.TextFault.{TextFault}
+use Rattle.rr_auth.specs.Registries.{Reg}
+use Rattle.rr_auth.specs.Sources.{IsRegistryOf}
+use Rattle.rr_registry.specs.Runs.{Run}
+use Rattle.rr_registry.specs.declared.outcome.Outcome.{Outcome}
+use Rattle.rr_submission.specs.SubmissionItems.{AreItems, Asked, submitted}
+
+-- a run of the items of a text, read in the source of a registry, leaves a registry of that source
+abbrev pub ItemsKeepTheSource : Type 0
+ItemsKeepTheSource =
+    (source : List ℕ) (entries : List (Result (List Field) TextFault)) (items : List Asked) (r s : Reg) (outcomes : List Outcome)
+    → IsRegistryOf source r → AreItems source [] entries items → Run r (map submitted items) outcomes s → IsRegistryOf source s

@@ -1,0 +1,32 @@
+//! Tests that cross crates: worked submissions, expansions, verdicts, and streams that fail. What is expected comes from
+//! the rules, read by hand.
+#![tactic(auto)]
+
+#[cfg(test)]
+mod change_tests;
+#[cfg(test)]
+mod confinement_tests;
+#[cfg(test)]
+mod desks;
+#[cfg(test)]
+mod expansion_tests;
+#[cfg(test)]
+mod hostile_tests;
+#[cfg(test)]
+mod inetnum_tests;
+#[cfg(test)]
+mod judging_tests;
+#[cfg(test)]
+mod loading_tests;
+#[cfg(test)]
+mod number_tests;
+#[cfg(test)]
+mod reading_tests;
+#[cfg(test)]
+mod route_tests;
+#[cfg(test)]
+mod set_tests;
+#[cfg(test)]
+mod stream_tests;
+#[cfg(test)]
+mod texts;

@@ -1,0 +1,97 @@
+//! Submissions whose reader or writer fails in mid-stream.
+use rr_desk::{DeskFault, Done, PlainDesk};
+use rr_io::{Counted, Cut};
+use std::test::Fail;
+
+/// Three inetnums of the root.
+const THREE: &str = "\
+password: bc
+
+inetnum: 10.0.0.0/8
+mnt-by: ROOT-MNT
+source: TEST
+
+inetnum: 11.0.0.0/8
+mnt-by: ROOT-MNT
+source: TEST
+
+inetnum: 12.0.0.0/8
+mnt-by: ROOT-MNT
+source: TEST
+";
+
+#[test]
+fn a_failed_read_leaves_the_items_before_it(rt: HostRuntime) -> Result<(), Fail> {
+    let mut desk = PlainDesk::new(rt.alloc())?;
+    let mut reader = Cut::new(Counted::new(THREE.as_bytes()), 7, THREE.len() - 5);
+    let mut writer = Counted::new(Vec::new(rt.alloc()));
+    let done = desk.submit(rt.alloc(), &mut reader, &mut writer);
+    assert_eq!(rt; done, Err(DeskFault::ReadFault { items: 2 }));
+    let report = "\
+1 inetnum 10.0.0.0 - 10.255.255.255: added
+2 inetnum 11.0.0.0 - 11.255.255.255: added
+% read fault after 2 items
+";
+    assert_eq!(rt; writer.into_inner().as_slice(), report.as_bytes());
+    assert_eq!(rt; desk.registry().objects().len(), 6);
+    Ok(())
+}
+
+#[test]
+fn a_failed_write_leaves_the_items_told(rt: HostRuntime) -> Result<(), Fail> {
+    for (room, items, stand, refused) in [
+        (0, 1, 5, true),
+        (42, 1, 5, true),
+        (43, 2, 6, true),
+        (86, 3, 7, true),
+        (129, 3, 7, true),
+        (139, 3, 7, false),
+    ] {
+        let mut desk = PlainDesk::new(rt.alloc())?;
+        let mut reader = Counted::new(THREE.as_bytes());
+        let mut writer = Cut::new(Counted::new(Vec::new(rt.alloc())), 5, room);
+        let done = desk.submit(rt.alloc(), &mut reader, &mut writer);
+        let wanted = if refused {
+            Err(DeskFault::WriteFault { items })
+        } else {
+            Ok(Done { items, refused: 0 })
+        };
+        assert_eq!(rt; done, wanted, "with room for {room} bytes");
+        assert_eq!(rt;
+            desk.registry().objects().len(),
+            stand,
+            "with room for {room} bytes"
+        );
+    }
+    Ok(())
+}
+
+#[test]
+fn a_failed_read_and_a_failed_write_leave_the_items_told(rt: HostRuntime) -> Result<(), Fail> {
+    let report = "\
+1 inetnum 10.0.0.0 - 10.255.255.255: added
+2 inetnum 11.0.0.0 - 11.255.255.255: added
+% read fault after 2 items
+";
+    for (room, wanted, stand) in [
+        (0, DeskFault::WriteFault { items: 1 }, 5),
+        (42, DeskFault::WriteFault { items: 1 }, 5),
+        (43, DeskFault::WriteFault { items: 2 }, 6),
+        (86, DeskFault::ReadFault { items: 2 }, 6),
+        (100, DeskFault::ReadFault { items: 2 }, 6),
+    ] {
+        let mut desk = PlainDesk::new(rt.alloc())?;
+        let mut reader = Cut::new(Counted::new(THREE.as_bytes()), 7, THREE.len() - 5);
+        let mut writer = Cut::new(Counted::new(Vec::new(rt.alloc())), 5, room);
+        let done = desk.submit(rt.alloc(), &mut reader, &mut writer);
+        assert_eq!(rt; done, Err(wanted), "with room for {room} bytes");
+        assert_eq!(rt;
+            desk.registry().objects().len(),
+            stand,
+            "with room for {room} bytes"
+        );
+        let written = writer.into_inner().into_inner();
+        assert_eq!(rt; written.as_slice(), &report.as_bytes()[..room]);
+    }
+    Ok(())
+}

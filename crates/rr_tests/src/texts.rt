@@ -1,0 +1,83 @@
+//! Texts that begin worked submissions.
+
+/// Two maintainers, of the secrets `c` and `abc`.
+pub const HOLDERS: &str = "\
+password: c
+password: abc
+
+mntner: A-MNT
+auth: SHA256-PW ab:ba7816bf8f01cfea414140de5dae2223b00361a396177a9cb410ff61f20015ad
+mnt-by: A-MNT
+source: TEST
+
+mntner: B-MNT
+auth: SHA256-PW :ba7816bf8f01cfea414140de5dae2223b00361a396177a9cb410ff61f20015ad
+mnt-by: B-MNT
+source: TEST
+";
+
+/// A /8 of the root, and a /16 of A-MNT in it.
+pub const NESTED: &str = "\
+password: bc
+password: c
+
+inetnum: 10.0.0.0/8
+mnt-by: ROOT-MNT
+source: TEST
+
+inetnum: 10.1.0.0/16
+mnt-by: A-MNT
+source: TEST
+";
+
+/// A /8 of the root, AS1 of A-MNT, AS2 of B-MNT, a route of the /8 by AS2 and one of a /16 in it by AS1.
+pub const ROUTED: &str = "\
+password: bc
+password: c
+password: abc
+
+inetnum: 10.0.0.0/8
+mnt-by: ROOT-MNT
+source: TEST
+
+aut-num: AS1
+mnt-by: A-MNT
+source: TEST
+
+aut-num: AS2
+mnt-by: B-MNT
+source: TEST
+
+route: 10.0.0.0/8
+origin: AS2
+mnt-by: B-MNT
+source: TEST
+
+route: 10.1.0.0/16
+origin: AS1
+mnt-by: A-MNT
+source: TEST
+";
+
+/// A /8 of B-MNT, a /16 of A-MNT in it, AS1 of A-MNT and AS2 of B-MNT.
+pub const HELD: &str = "\
+password: bc
+password: c
+password: abc
+
+inetnum: 10.0.0.0/8
+mnt-by: B-MNT
+source: TEST
+
+inetnum: 10.1.0.0/16
+mnt-by: A-MNT
+source: TEST
+
+aut-num: AS1
+mnt-by: A-MNT
+source: TEST
+
+aut-num: AS2
+mnt-by: B-MNT
+source: TEST
+";

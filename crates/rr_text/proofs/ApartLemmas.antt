@@ -3,9 +3,9 @@ use Rattle.std.proofs.Common.{◌≡◌, ◌≢◌, ℕ, ◌+◌, ◌<◌, Bool,
 use Rattle.std.proofs.lemmas.List.{append-nil, map-append}
 use Rattle.std.proofs.lemmas.List.Folds.{list_any-append, concat-append}
 use Rattle.std.specs.List.{list_any, concat, onto_first}
-use Rattle.rr_text.specs.Bytes.{is_line_feed}
+use Rattle.rr_bytes.specs.Blanks.{is_line_feed}
 use Rattle.rr_text.specs.Lines.{text_lines, are_whole_lines, IsWholeLine, is_blank_line, is_paragraph_line}
-use Rattle.rr_text.specs.Blocks.{blocks, until_blank, from_blank, starts_block}
+use Rattle.rr_text.specs.Blocks.{blocks}
 use Rattle.rr_text.specs.Entries.{entries, block_entry}
 use Rattle.rr_text.specs.WholePart.{closes, kept_before, closed_lines, whole_part, whole_entries}
 use Rattle.rr_text.proofs.LineSoFarLemmas.{or_none, unended}

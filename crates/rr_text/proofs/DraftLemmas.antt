@@ -11,9 +11,10 @@ use Rattle.rr_text.specs.declared.line_so_far.LineEnd.{LineEnd}
 use Rattle.rr_text.specs.declared.line_so_far.LineEnd.TheVariants.{Passed, Taken, Closed}
 use Rattle.rr_text.specs.LinesSoFar.{line_so_far, line_with, line_end}
 use Rattle.rr_text.specs.DraftParts.{IsCutSo, IsKept, IsBegun, HasEntry, IsClosed, Gathers, Finishes, IsFresh, KeepsPiece, TakesLine, EndsLine}
-use Rattle.rr_text.specs.Bytes.{is_line_feed}
+use Rattle.rr_bytes.specs.Blanks.{is_line_feed}
 use Rattle.rr_text.specs.Lines.{text_lines, are_whole_lines, IsWholeLine, is_blank_line, is_skipped_line, is_paragraph_line}
-use Rattle.rr_text.specs.Blocks.{blocks, until_blank, from_blank, starts_block}
+use Rattle.rr_text.specs.Blocks.{blocks, from_blank, starts_block}
+use Rattle.rr_text.specs.PrivateParts.{until_blank}
 use Rattle.rr_text.specs.Entries.{entries, block_entry, size_limit}
 use Rattle.rr_text.specs.WholePart.{closes, closed_lines, whole_part, whole_entries}
 use Rattle.rr_text.proofs.LineLemmas.{text_lines-append, are_whole_lines-append}

@@ -6,7 +6,8 @@ use Rattle.rr_text.specs.declared.fault.TextFault.{TextFault}
 use Rattle.rr_text.specs.declared.fault.TextFault.TheVariants.{TooLarge, BadByte, FirstContinues, NoColon, BadName, Memory, Read, Endless}
 use Rattle.rr_text.specs.declared.line.LineKind.{LineKind}
 use Rattle.rr_text.specs.declared.line.LineKind.TheVariants.{Blank, Skipped, Continuation, Opening}
-use Rattle.rr_text.specs.Bytes.{is_colon, is_name, is_refused}
+use Rattle.rr_bytes.specs.NameBytes.{is_attribute_name}
+use Rattle.rr_text.specs.Bytes.{is_colon, is_refused}
 use Rattle.rr_text.specs.Lines.{line_kind}
 use Rattle.rr_text.specs.Faults.{written_name, opening_fault, fault_by_kind, line_fault, later_fault, block_fault}
 use Rattle.rr_text.specs.Fields.{Field, AreFields}
@@ -35,7 +36,7 @@ opening_by false false = refl
 
 opening_none : (line : List ℕ) → has_fault_of_reading (opening_fault line) ≡ false
 unfolding opening_fault
-opening_none line = opening_by (not (list_any is_colon line)) (not (is_name (written_name line)))
+opening_none line = opening_by (not (list_any is_colon line)) (not (is_attribute_name (written_name line)))
 
 continues_by : (t u : Bool) → has_fault_of_reading (if t then Some BadByte else (if u then Some FirstContinues else None)) ≡ false
 continues_by true u = refl

@@ -9,7 +9,7 @@ use Rattle.rr_text.specs.declared.line_so_far.LineSoFar.TheVariants.{Nothing, Bl
 use Rattle.rr_text.specs.declared.line_so_far.LineEnd.{LineEnd}
 use Rattle.rr_text.specs.declared.line_so_far.LineEnd.TheVariants.{Passed, Taken, Closed}
 use Rattle.rr_text.specs.LinesSoFar.{line_so_far, line_with, line_end}
-use Rattle.rr_text.specs.Bytes.{is_line_feed, is_blank}
+use Rattle.rr_bytes.specs.Blanks.{is_blank_or_line_feed, is_line_feed}
 use Rattle.rr_text.specs.Lines.{text_lines, are_whole_lines, is_blank_line, is_skipped_line, is_paragraph_line, is_remark_sign}
 
 pub or_none : (a b : Bool) → (a || b) ≡ false → (a ≡ false) × (b ≡ false)
@@ -65,9 +65,9 @@ whole_behind (b ∷ bs) piece some h = whole_onto b (bs ++ piece) (omega (arith,
 with_by : (t u v : Bool) (b : ℕ) (bs more : List ℕ) → is_remark_sign b ≡ t → is_blank_line (b ∷ bs) ≡ u → is_blank_line more ≡ v
     → line_with (line_so_far (b ∷ bs)) more ≡ line_so_far (b ∷ (bs ++ more))
 with_by true u v b bs more h k m = rw h refl
-with_by false true true b bs more h k m = let all : is_blank_line (b ∷ (bs ++ more)) ≡ true = list_all-append is_blank (b ∷ bs) more ∙ (ap (λ t. t && is_blank_line more) k ∙ m) in rw (h, k, all, m) refl
-with_by false true false b bs more h k m = let all : is_blank_line (b ∷ (bs ++ more)) ≡ false = list_all-append is_blank (b ∷ bs) more ∙ (ap (λ t. t && is_blank_line more) k ∙ m) in rw (h, k, all, m) refl
-with_by false false v b bs more h k m = let all : is_blank_line (b ∷ (bs ++ more)) ≡ false = list_all-append is_blank (b ∷ bs) more ∙ ap (λ t. t && is_blank_line more) k in rw (h, k, all) refl
+with_by false true true b bs more h k m = let all : is_blank_line (b ∷ (bs ++ more)) ≡ true = list_all-append is_blank_or_line_feed (b ∷ bs) more ∙ (ap (λ t. t && is_blank_line more) k ∙ m) in rw (h, k, all, m) refl
+with_by false true false b bs more h k m = let all : is_blank_line (b ∷ (bs ++ more)) ≡ false = list_all-append is_blank_or_line_feed (b ∷ bs) more ∙ (ap (λ t. t && is_blank_line more) k ∙ m) in rw (h, k, all, m) refl
+with_by false false v b bs more h k m = let all : is_blank_line (b ∷ (bs ++ more)) ≡ false = list_all-append is_blank_or_line_feed (b ∷ bs) more ∙ ap (λ t. t && is_blank_line more) k in rw (h, k, all) refl
 
 -- what is known of a front, and then of a longer one
 pub line_with-append : (line more : List ℕ) → line_with (line_so_far line) more ≡ line_so_far (line ++ more)
@@ -80,11 +80,11 @@ EndsSo started line Passed = (started ≡ false) × (is_paragraph_line line ≡ 
 EndsSo started line Taken = (is_blank_line line ≡ false) × ((started || is_paragraph_line line) ≡ true)
 EndsSo started line Closed = (started ≡ true) × (is_blank_line line ≡ true)
 
-unblank_sign : (b : ℕ) → is_remark_sign b ≡ true → is_blank b ≡ false
+unblank_sign : (b : ℕ) → is_remark_sign b ≡ true → is_blank_or_line_feed b ≡ false
 unblank_sign b h = grind (arith, nat_tests)
 
 ends_by : (t u started : Bool) (b : ℕ) (bs : List ℕ) → is_remark_sign b ≡ t → is_blank_line (b ∷ bs) ≡ u → EndsSo started (b ∷ bs) (line_end started (line_so_far (b ∷ bs)))
-ends_by true u true b bs h k = let blank : is_blank b ≡ false = unblank_sign b h in rw h (rw blank refl, refl)
+ends_by true u true b bs h k = let blank : is_blank_or_line_feed b ≡ false = unblank_sign b h in rw h (rw blank refl, refl)
 ends_by true u false b bs h k = rw h (refl, rw h (and-false (not (is_blank_line (b ∷ bs)))))
 ends_by false true true b bs h k = rw (h, k) (refl, k)
 ends_by false true false b bs h k = rw (h, k) (refl, rw k refl)

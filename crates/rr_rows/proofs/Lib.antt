@@ -1,0 +1,5 @@
+pub mod TextLemmas
+pub mod RowLemmas
+pub mod SchemaLemmas
+pub mod ChangeLemmas
+pub mod QueryLemmas

@@ -1,0 +1,3 @@
+//! The three tables in which SQLite keeps a registry.
+#![tactic(auto)]
+

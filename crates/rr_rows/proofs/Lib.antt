@@ -3,3 +3,4 @@ pub mod RowLemmas
 pub mod SchemaLemmas
 pub mod ChangeLemmas
 pub mod QueryLemmas
+pub mod StatementLemmas

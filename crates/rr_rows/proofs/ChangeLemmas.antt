@@ -1,31 +1,28 @@
 -- What an INSERT and a DELETE on one of the three tables do to its tree.
-use Rattle.std.proofs.Common.{◌≡◌, ◌≢◌, ◌⊎◌, inl, inr, ℕ, ◌+◌, ◌/◌, ◌≤◌, ℤ, Bool, true, false, not, List, [], ◌∷◌, length, map, filter, Option, Some, None, Ok, Err, Result, slice_get, refl, sym, ap, subst, ◌∙◌, IsPermutation}
+use Rattle.std.proofs.Common.{◌≡◌, ◌≢◌, ◌⊎◌, inl, inr, ℕ, ◌/◌, ◌≤◌, true, false, not, List, [], ◌∷◌, length, Some, None, Ok, Err, Result, slice_get, sym, ap, subst, ◌∙◌}
 use Rattle.std.specs.List.{AllByRecursion, list_all}
 use Rattle.std.proofs.lemmas.Bool.{and_parts, not-true}
-use Rattle.std.proofs.lemmas.Bool.{cases_eq}
 use Rattle.sqlite_value.specs.declared.value.Value.TheVariants.{Null, Int}
 use Rattle.sqlite_value.specs.Order.{Row}
-use Rattle.sqlite_trees.specs.Tree.{Trees, put_row, rowid}
-use Rattle.sqlite_sql.specs.Term.{Term, lit}
+use Rattle.sqlite_trees.specs.Tree.{Trees, put_row}
+use Rattle.sqlite_sql.specs.Term.{Term}
 use Rattle.sqlite_sql.specs.Query.{Query, IsSureAnswer}
 use Rattle.sqlite_sql.specs.Program.{overlay}
 use Rattle.sqlite_schema.specs.declared.schema.Column.{Column}
 use Rattle.sqlite_schema.specs.declared.schema.Table.{Table}
-use Rattle.sqlite_schema.specs.declared.command.Command.{Command}
 use Rattle.sqlite_schema.specs.declared.command.Command.TheVariants.{Insert, Delete}
 use Rattle.sqlite_schema.specs.declared.command.Source.TheVariants.{Values}
 use Rattle.sqlite_rules.specs.declared.error.Rowids.TheVariants.{Chosen, Given}
 use Rattle.sqlite_rules.specs.Cast.{cast_row}
 use Rattle.sqlite_rules.specs.Calls.{ids_of}
-use Rattle.sqlite_rules.specs.Edit.{Edit, edit_of, id_in, is_taken, next_rowid, with_rowid, without_all, Applies}
+use Rattle.sqlite_rules.specs.Edit.{Edit, edit_of, is_taken, next_rowid, with_rowid, without_all, Applies}
 use Rattle.sqlite.specs.Effect.{Database, value_rows}
 use Rattle.sqlite.specs.Rows.{Written, stamped}
 use Rattle.sqlite.specs.Does.{Tally, Does, AtPlace, OnRows}
-use Rattle.sqlite.specs.State.{State, mode_of, Writes, Executes}
+use Rattle.sqlite.specs.State.{State, mode_of, Executes}
 use Rattle.sqlite.specs.Listing.{understood}
 use Rattle.sqlite.proofs.Callers.{runs_as, statement_of}
 use Rattle.rr_rows.specs.Tables.{Layout, Rules, laid, table_with, stands_apart}
-use Rattle.rr_rows.specs.Contents.{AreKeyed, IsTidy}
 use Rattle.rr_rows.specs.Queries.{Means, alone}
 use Rattle.rr_rows.proofs.SchemaLemmas.{one_step_of}
 
@@ -70,9 +67,9 @@ module _ (l : Layout) (apart : list_all stands_apart l.others ≡ true) (at tree
         let trees : done.0.trees ≡ written.0 = ap (λ (it : Written). it.trees) (same_value counted.2) ∙ same_value counted.1 in
         let one : Edit = record { table = the_table; gone = []; news = new_row ∷ [] } in
         let is : edit_of before the_table [] Chosen 0 rows.0 ≡ one =
-            ap (edit_of before the_table [] Chosen 0) (rows.1.1 ∙ given) ∙ ap (λ row. record one { news = with_rowid Chosen (before tree) row ∷ [] }) fits in
+        ap (edit_of before the_table [] Chosen 0) (rows.1.1 ∙ given) ∙ ap (λ row. record one { news = with_rowid Chosen (before tree) row ∷ [] }) fits in
         let step : Applies (laid l) (mode_of old).keys before one written.0 =
-            subst (λ e. Applies (laid l) (mode_of old).keys before e written.0) is (one_step_of l apart (mode_of old).keys before written.0 (edit_of before the_table [] Chosen 0 rows.0) low written.1) in
+        subst (λ e. Applies (laid l) (mode_of old).keys before e written.0) is (one_step_of l apart (mode_of old).keys before written.0 (edit_of before the_table [] Chosen 0 rows.0) low written.1) in
         let all : new.now.trees ≡ written.0 = ap (λ (d : Database). d.trees) now ∙ trees in (
           not-true (is_taken (before tree) new_row) (and_parts (not (is_taken (before tree) new_row)) true step.fresh).0,
           record {

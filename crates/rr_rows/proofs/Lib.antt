@@ -4,3 +4,6 @@ pub mod SchemaLemmas
 pub mod ChangeLemmas
 pub mod QueryLemmas
 pub mod StatementLemmas
+pub mod NumberLemmas
+pub mod CreateLemmas
+pub mod EntryLemmas

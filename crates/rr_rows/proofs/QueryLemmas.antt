@@ -3,7 +3,6 @@ use Rattle.std.proofs.Common.{◌≡◌, ℕ, Bool, true, false, cond, List, [],
 use Rattle.std.specs.List.{list_all}
 use Rattle.std.specs.Ordering.{is_lt}
 use Rattle.std.proofs.lemmas.List.Sorted.{IsPermutation-map}
-use Rattle.sqlite_value.specs.declared.value.Value.{Value}
 use Rattle.sqlite_value.specs.declared.value.Value.TheVariants.{Null}
 use Rattle.sqlite_value.specs.Order.{Row}
 use Rattle.sqlite_trees.specs.Tree.{Trees}
@@ -12,7 +11,7 @@ use Rattle.sqlite_sql.specs.Term.{Term, Env, eval_all, holds}
 use Rattle.sqlite_sql.specs.Query.{Query, Join, inner, end, matches, output, output_cmp, IsSureAnswer}
 use Rattle.sqlite_exec.proofs.PartitionLemmas.{IsSorted-from_map}
 use Rattle.sqlite_exec.proofs.RowsLemmas.{IsSorted-map}
-use Rattle.rr_rows.specs.Queries.{select_from, rows_of}
+use Rattle.rr_rows.specs.Queries.{select_from}
 use Rattle.rr_rows.specs.Contents.{IsListing}
 
 flat_map-cond : {A B : Type 0} (p : A → Bool) (f : A → B) (xs : List A) → flat_map (λ x. cond (p x) (f x ∷ []) []) xs ≡ map f (filter p xs)
@@ -35,7 +34,7 @@ module _ (from : Join) (tests shown order : List Term) (params : Row) (trees : T
       let back = pull_back (output query) _ a.ordered (subst (λ k. IsPermutation k a.ordered) kept a.same) found refl in
       let is : rows ≡ map (eval_all shown) back.0 = a.shown ∙ ap (map (λ o. o.1)) back.2 ∙ map-map (λ o. o.1) (output query) back.0 in
       let up : IsSorted (λ x y. rank (eval_all shown x) (eval_all shown y)) back.0 =
-          λ k d low high. ap is_lt (sym (ranks _ _)) ∙ IsSorted-from_map (output_cmp query) (output query) back.0 (subst (IsSorted (output_cmp query)) back.2 a.sorted) k d low high in
+      λ k d low high. ap is_lt (sym (ranks _ _)) ∙ IsSorted-from_map (output_cmp query) (output query) back.0 (subst (IsSorted (output_cmp query)) back.2 a.sorted) k d low high in
       record {
         same = subst (IsPermutation (map (eval_all shown) found)) (sym is) (IsPermutation-map (eval_all shown) found back.0 back.1);
         sorted = subst (IsSorted rank) (sym is) (IsSorted-map rank (eval_all shown) back.0 up);

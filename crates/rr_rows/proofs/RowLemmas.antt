@@ -1,19 +1,19 @@
 -- Rows that are put in and taken out by their numbers.
-use Rattle.std.proofs.Common.{◌≡◌, ◌≢◌, ℕ, ℤ, Bool, true, false, not, ◌||◌, cond, List, [], ◌∷◌, ◌++◌, map, filter, refl, sym, ap, subst, ◌∙◌, inl, inr, Ordering, Less, Equal, Greater, IsPermutation, fold}
+use Rattle.std.proofs.Common.{◌≡◌, ◌≢◌, ℤ, Bool, true, false, not, ◌||◌, cond, List, [], ◌∷◌, map, filter, refl, sym, ap, ◌∙◌, Ordering, Less, Equal, Greater, IsPermutation}
 use Rattle.std.specs.Ordering.{is_eq, match_ordering, ordering_reverse}
 use Rattle.std.specs.List.{AllByRecursion, list_any}
 use Rattle.std.specs.FinMap.{int_cmp-IsAntisymmetric}
 use Rattle.std.proofs.lemmas.Bool.{or_parts, or_from, or_left, false_from_ne_true, both_ways}
-use Rattle.std.proofs.lemmas.List.Sorted.{IsPermutation-refl, IsPermutation-cons, IsPermutation-trans, IsPermutation-middle, IsPermutation-map}
+use Rattle.std.proofs.lemmas.List.Sorted.{IsPermutation-refl, IsPermutation-cons, IsPermutation-trans, IsPermutation-middle}
 use Rattle.sqlite_value.specs.declared.value.Value.{Value}
 use Rattle.sqlite_value.specs.declared.value.Value.TheVariants.{Null, Int, Real, Text, Blob}
-use Rattle.sqlite_value.specs.Order.{Row, column, value_cmp}
+use Rattle.sqlite_value.specs.Order.{Row, value_cmp}
 use Rattle.sqlite_value.proofs.OrderLemmas.{value_cmp_total, value_cmp-Int}
 use Rattle.sqlite_trees.specs.Tree.{rowid, put_row, has_rowid, without_rowid, IsAscending}
 use Rattle.sqlite_trees.specs.View.{is_int}
-use Rattle.sqlite_trees.proofs.ListLemmas.{all-permutation, all-filter, ascending-filter, along_permutation, filter_same, all_of}
+use Rattle.sqlite_trees.proofs.ListLemmas.{all-permutation, all-filter, ascending-filter, along_permutation, filter_same}
 use Rattle.sqlite_rules.specs.Edit.{id_in, is_taken, without_all}
-use Rattle.rr_rows.specs.Contents.{AreKeyed, contents, columns}
+use Rattle.rr_rows.specs.Contents.{AreKeyed}
 
 -- ---- equal numbers
 
@@ -144,7 +144,7 @@ are_those p (x ∷ rows) keyed =
     let later = are_those p rows rest in
     let none = none_has p x rows keyed.numbered.0 keyed.numbered.1 keyed.apart.0 in
     elim (p x) as (λ b. (list_any (λ id. has_rowid id x) (map (λ y. id_in (rowid y)) (cond b (x ∷ filter p rows) (filter p rows))) ≡ b)
-        × AllByRecursion (λ r. list_any (λ id. has_rowid id r) (map (λ y. id_in (rowid y)) (cond b (x ∷ filter p rows) (filter p rows))) ≡ p r) rows) [
+    × AllByRecursion (λ r. list_any (λ id. has_rowid id r) (map (λ y. id_in (rowid y)) (cond b (x ∷ filter p rows) (filter p rows))) ≡ p r) rows) [
       | true ↦ (or_left (has_rowid (id_in (rowid x)) x) _ (own_id x keyed.numbered.0), others rows keyed.apart.0 keyed.numbered.1 later)
       | false ↦ (none, later)
     ]

@@ -1,6 +1,6 @@
 -- No other table refers to the three, so that a change of their rows sets off no other.
-use Rattle.std.proofs.Common.{◌≡◌, ◌≢◌, ℕ, ◌<◌, ◌≤◌, Bool, true, false, not, ◌||◌, cond, List, [], ◌∷◌, ◌++◌, refl, sym, ap, subst, ◌∙◌, Option, Some, None, IfSome, codes, find, nat_lt, arith, ne_eqb, Ok, append-nil}
-use Rattle.std.specs.List.{list_all, AllByRecursion, flat_map, filter_map}
+use Rattle.std.proofs.Common.{◌≡◌, ◌≢◌, ℕ, ◌<◌, ◌≤◌, true, false, ◌||◌, cond, List, [], ◌∷◌, refl, Option, Some, None, IfSome, codes, find, nat_lt, arith, ne_eqb, Ok}
+use Rattle.std.specs.List.{list_all, flat_map, filter_map}
 use Rattle.std.specs.Option.{option_map, option_and_then}
 use Rattle.std.proofs.lemmas.Bool.{and_parts, or_parts, not-true, ltb-true}
 use Rattle.sqlite_value.specs.Order.{Row}
@@ -12,9 +12,9 @@ use Rattle.sqlite_schema.specs.Names.{same_name}
 use Rattle.sqlite_schema.specs.Rules.{ParentKey, parent_key, key_in, key_places, declared_order}
 use Rattle.sqlite_rules.specs.declared.action.Deed.{Deed}
 use Rattle.sqlite_rules.specs.Edit.{Edit, taken_by, Applies}
-use Rattle.sqlite_rules.specs.Action.{Work, works, work_by, work_for, deed_for, pairs, Writes}
+use Rattle.sqlite_rules.specs.Action.{works, work_by, work_for, Writes}
 use Rattle.sqlite.proofs.Callers.{one_step}
-use Rattle.rr_rows.specs.Tables.{Layout, laid, stands_apart, refers_elsewhere, meta, object, named}
+use Rattle.rr_rows.specs.Tables.{Layout, laid, stands_apart, refers_elsewhere}
 
 abbrev IsBeyond : Option ParentKey → Type 0
 IsBeyond key = IfSome key (λ k. 4 < k.0)

@@ -1,16 +1,15 @@
 -- What each statement does to a database with the three tables.
-use Rattle.std.proofs.Common.{◌≡◌, ◌≢◌, ◌⊎◌, inl, inr, ℕ, ◌+◌, ◌/◌, ◌≤◌, ℤ, pos, Bool, true, false, not, cond, List, [], ◌∷◌, ◌++◌, length, map, filter, flat_map, Some, None, Ok, slice_get, codes, refl, sym, ap, subst, ◌∙◌, arith, lit≤, IsPermutation, Ordering, Equal}
-use Rattle.std.specs.List.{AllByRecursion, list_all}
+use Rattle.std.proofs.Common.{◌≡◌, ◌≢◌, ◌⊎◌, inl, inr, ℕ, ◌/◌, ◌≤◌, ℤ, pos, Bool, true, false, not, cond, List, [], ◌∷◌, length, map, filter, flat_map, Some, Ok, slice_get, codes, refl, sym, ap, subst, ◌∙◌, arith, IsPermutation, Ordering, Equal}
+use Rattle.std.specs.List.{list_all}
 use Rattle.std.proofs.lemmas.Bool.{cases_eq}
-use Rattle.std.proofs.lemmas.List.Sorted.{IsPermutation-map, IsPermutation-trans}
-use Rattle.sqlite_value.specs.declared.value.Value.{Value}
+use Rattle.std.proofs.lemmas.List.Sorted.{IsPermutation-map}
 use Rattle.sqlite_value.specs.declared.value.Value.TheVariants.{Null, Int, Text, Blob}
 use Rattle.sqlite_value.specs.Order.{Row, column}
 use Rattle.sqlite_trees.specs.Tree.{Trees, rowid, put_row}
 use Rattle.sqlite_trees.proofs.ListLemmas.{map-map, filter-map, map-flat_map, flat_map-map}
-use Rattle.sqlite_sql.specs.Term.{Term, Env, lit, col, holds, eval_all}
+use Rattle.sqlite_sql.specs.Term.{Term, Env, col, holds, eval_all}
 use Rattle.sqlite_sql.specs.Ops.{unary}
-use Rattle.sqlite_sql.specs.Query.{IsSureAnswer, inner, end, matches, output, output_cmp}
+use Rattle.sqlite_sql.specs.Query.{inner, end, matches, output, output_cmp}
 use Rattle.sqlite_sql.specs.Program.{overlay}
 use Rattle.sqlite_schema.specs.declared.schema.Column.{Column}
 use Rattle.sqlite_schema.specs.declared.schema.Kind.TheVariants as kind
@@ -23,9 +22,9 @@ use Rattle.sqlite.specs.Effect.{Database, value_rows}
 use Rattle.sqlite.specs.Rows.{stamped}
 use Rattle.sqlite.specs.State.{State, Executes, Shown}
 use Rattle.sqlite.proofs.Callers.{reads_as}
-use Rattle.rr_rows.specs.Tables.{Layout, Rules, laid, table_with, stands_apart, HasTables, required}
+use Rattle.rr_rows.specs.Tables.{Layout, Rules, laid, table_with, stands_apart, HasTables}
 use Rattle.rr_rows.specs.Texts.{insert_meta, insert_object, insert_named, delete_object, delete_named, clear_meta, clear_object, clear_named, select_meta, select_object, select_named, select_naming, meta_numbers, object_numbers, named_numbers}
-use Rattle.rr_rows.specs.Queries.{Means, alone, rowids_of, rows_of, select_from, object_tests, named_tests, naming_tests, insert_into}
+use Rattle.rr_rows.specs.Queries.{Means, alone, rowids_of, rows_of, object_tests, named_tests, naming_tests}
 use Rattle.rr_rows.specs.Contents.{AreKeyed, IsTidy, Alters, Adds, Removes, IsListing, columns, contents, number, meta_values, object_values, named_values, passes, is_object_of, is_named_of, are_joined, pointed, by_one, by_two, by_three}
 use Rattle.rr_rows.proofs.TextLemmas.{insert_meta_is, insert_object_is, insert_named_is, delete_object_is, delete_named_is, clear_meta_is, clear_object_is, clear_named_is, select_meta_is, select_object_is, select_named_is, select_naming_is, meta_numbers_is, object_numbers_is, named_numbers_is}
 use Rattle.rr_rows.proofs.RowLemmas.{put_permutes, put_keyed, without_those, filter_keyed}
@@ -93,9 +92,9 @@ module _ (at tree : ℕ) (ours : IsOurs tree) (name : List ℕ) (cols : List Col
         let did = deleted l tidy.has.apart at tree (low tree ours) name cols (r l) (found l) text params old new tidy.has.is (rowids_of tree tests) (means l) count h in
         let shown = answers (inner tree end) tests (col 1 0 ∷ []) [] params (overlay old.now.trees []) (λ a b. Equal) (λ a b. refl) did.0 did.1 in
         let are : map (eval_all (col 1 0 ∷ [])) (matches (overlay old.now.trees []) tests (inner tree end) (params ∷ [])) ≡ map number (filter p rows) =
-            ap (map (eval_all (col 1 0 ∷ []))) (matches_of tree tests params (overlay old.now.trees []) ∙ ap (λ xs. map (λ row. params ∷ row ∷ []) (filter p xs)) (seen old.now.trees)) ∙ map-map _ _ (filter p rows) in
+        ap (map (eval_all (col 1 0 ∷ []))) (matches_of tree tests params (overlay old.now.trees []) ∙ ap (λ xs. map (λ row. params ∷ row ∷ []) (filter p xs)) (seen old.now.trees)) ∙ map-map _ _ (filter p rows) in
         let ids : IsPermutation (map (λ row. id_in (rowid row)) (filter p rows)) (ids_of did.0) =
-            subst (λ xs. IsPermutation xs (ids_of did.0)) (ap ids_of are ∙ map-map _ number (filter p rows)) (IsPermutation-map (λ row. id_in (rowid row)) _ _ shown.same) in
+        subst (λ xs. IsPermutation xs (ids_of did.0)) (ap ids_of are ∙ map-map _ number (filter p rows)) (IsPermutation-map (λ row. id_in (rowid row)) _ _ shown.same) in
         let keyed = keyed_at tree old.now ours tidy in
         let left : without_all rows (ids_of did.0) ≡ filter (λ row. not (p row)) rows = without_those p rows (ids_of did.0) keyed ids in
         altered l tidy.has.apart tree _ old.now new.now (Removes (passes tests params)) tidy did.2 (subst AreKeyed (sym left) (filter_keyed (λ row. not (p row)) rows keyed))
@@ -204,7 +203,7 @@ selects_naming name old new has rows h =
     let list = answers (inner 4 (inner 2 end)) naming_tests shown (col 2 1 ∷ col 2 2 ∷ []) params (overlay old.now.trees []) by_two (λ a b. refl) rows sure in
     let p : Row → Row → Bool = λ a b. list_all (holds (params ∷ a ∷ b ∷ [])) naming_tests in
     let each : (a : Row) → map (eval_all shown) (map (λ b. params ∷ a ∷ b ∷ []) (filter (p a) object)) ≡ filter (are_joined name (columns a)) (contents object) =
-        λ a. map-map _ _ (filter (p a) object) ∙ sym (filter-map (are_joined name (columns a)) columns object) in
+    λ a. map-map _ _ (filter (p a) object) ∙ sym (filter-map (are_joined name (columns a)) columns object) in
     subst (λ xs. IsListing by_two xs rows)
     (ap (map (eval_all shown)) (matches_of_pairs 4 2 naming_tests params (overlay old.now.trees [])) ∙ map-flat_map (eval_all shown) _ named ∙ ap (λ (f : Row → List Row). flat_map f named) (λ i a. each a i) ∙ sym (flat_map-map (λ first. filter (are_joined name first) (contents object)) columns named))
     list

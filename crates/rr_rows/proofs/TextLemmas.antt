@@ -1,16 +1,10 @@
 -- What each text means under a schema that has the three tables.
-use Rattle.std.proofs.Common.{◌≡◌, ℕ, pos, negsuc, List, [], ◌∷◌, codes, Bool, true, false, None, Some, refl}
-use Rattle.sqlite_value.specs.declared.value.Value.TheVariants.{Null, Int}
-use Rattle.sqlite_sql.specs.Term.{Term, lit, col, op2}
-use Rattle.sqlite_schema.specs.declared.command.Source.TheVariants.{Values}
-use Rattle.sqlite_schema.specs.declared.command.Command.{Command}
-use Rattle.sqlite_schema.specs.declared.command.Command.TheVariants.{Insert, Delete, Select, CreateTable}
-use Rattle.sqlite_schema.specs.declared.schema.Schema.{Schema}
-use Rattle.sqlite.specs.Listing.{understood, reads_listing}
-use Rattle.sqlite.proofs.Callers.{IsPlain, command_of, statement_of}
+use Rattle.std.proofs.Common.{[], ◌∷◌, codes, refl}
+use Rattle.sqlite_schema.specs.declared.command.Command.TheVariants.{Delete, Select}
+use Rattle.sqlite.specs.Listing.{understood}
 use Rattle.sqlite_tied.specs.Compute.{everything}
-use Rattle.rr_rows.specs.Tables.{Layout, laid}
-use Rattle.rr_rows.specs.Texts.{create_meta, create_object, create_named, insert_meta, insert_object, insert_named, delete_object, delete_named, clear_meta, clear_object, clear_named, select_meta, select_object, select_named, select_naming, meta_numbers, object_numbers, named_numbers}
+use Rattle.rr_rows.specs.Tables.{Layout}
+use Rattle.rr_rows.specs.Texts.{insert_meta, insert_object, insert_named, delete_object, delete_named, clear_meta, clear_object, clear_named, select_meta, select_object, select_named, select_naming, meta_numbers, object_numbers, named_numbers}
 use Rattle.rr_rows.specs.Queries.{Means, insert_into, alone, rowids_of, numbers_of, object_tests, named_tests, meta_query, object_query, named_query, naming_query}
 
 pub insert_meta_is : (l : Layout) → Means l insert_meta (insert_into 0 2)
@@ -72,4 +66,3 @@ object_numbers_is l = record { is = refl; plain = (refl, refl); unlisted = refl 
 pub named_numbers_is : (l : Layout) → Means l named_numbers (Select (alone (numbers_of 4)) (codes "rowid" ∷ []))
 unfolding understood everything
 named_numbers_is l = record { is = refl; plain = (refl, refl); unlisted = refl }
-

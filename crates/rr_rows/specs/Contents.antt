@@ -1,15 +1,14 @@
 -- The rows of the three tables, and what a statement does to them.
-use Rattle.std.specs.Prelude.{◌≡◌, ◌≢◌, ℕ, pos, true, not, Bool, List, [], ◌∷◌, ◌++◌, map, filter, IsPermutation, IsSorted, IsTrue}
+use Rattle.std.specs.Prelude.{ℤ, ◌<ℤ◌, Option, None, Some, ◌≡◌, ◌≢◌, ℕ, pos, true, not, Bool, List, [], ◌∷◌, ◌++◌, map, filter, IsPermutation, IsSorted, IsTrue}
 use Rattle.std.specs.declared.cmp.Ordering.{Ordering}
 use Rattle.std.specs.List.{AllByRecursion, list_all, flat_map}
-use Rattle.sqlite_value.specs.declared.value.Value.{Value}
 use Rattle.sqlite_value.specs.declared.value.Value.TheVariants.{Null, Int, Text, Blob}
 use Rattle.sqlite_value.specs.declared.keys.Collation.TheVariants.{Binary}
 use Rattle.sqlite_value.specs.Order.{Row, column}
 use Rattle.sqlite_value.specs.Keys.{ascending}
 use Rattle.sqlite_sql.specs.Term.{Term, holds}
 use Rattle.sqlite_sql.specs.Query.{key_cmp}
-use Rattle.sqlite_trees.specs.Tree.{Trees, rowid, IsAscending}
+use Rattle.sqlite_trees.specs.Tree.{rowid, IsAscending}
 use Rattle.sqlite_trees.specs.View.{is_int}
 use Rattle.sqlite.specs.Effect.{Database}
 use Rattle.sqlite.specs.State.{State}
@@ -118,3 +117,8 @@ by_three = key_cmp 0 (ascending Binary ∷ ascending Binary ∷ ascending Binary
 -- the number of a row, as a row
 abbrev pub number : Row → Row
 number row = rowid row ∷ []
+
+-- a number is above the last, if there is one
+abbrev pub IsPast : Option ℤ → ℤ → Type 0
+IsPast None n = Unit {0}
+IsPast (Some last) n = last <ℤ n

@@ -43,6 +43,19 @@ table_with name tree columns rules = record {
   is_counted = false;
 }
 
+-- a table has no foreign key, no rowid of its own and no default
+pub record IsPlain (table : Table) : Type 0 where
+  pub key : table.key ≡ None
+  pub references : table.references ≡ []
+  pub computed : table.computed ≡ []
+  pub places : table.stamps.places ≡ []
+  pub terms : table.stamps.terms ≡ []
+  pub formats : table.stamps.formats ≡ []
+  pub counted : table.is_counted ≡ false
+
+abbrev pub rules_of : Table → Rules
+rules_of table = record { primary = table.primary; uniques = table.uniques; orders = table.orders; checks = table.checks }
+
 -- the settings of the store: the version of its tables (profile)
 abbrev pub meta : Rules → Table
 meta = table_with (codes "meta") 0 (required (codes "name") kind.Text ∷ required (codes "value") kind.Text ∷ [])

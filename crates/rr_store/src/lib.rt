@@ -1,0 +1,6 @@
+//! A registry kept in SQLite: its objects and who they name, in tables that always hold exactly its content.
+#![tactic(auto)]
+
+mod bodies;
+mod names;
+mod statements;

@@ -13,8 +13,9 @@ use Rattle.sqlite.specs.State.{State, Writes, Executes}
 use Rattle.sqlite.proofs.Callers.{IsPlain, command_of, statement_of, runs_as}
 use Rattle.sqlite_tied.specs.Compute.{everything}
 use Rattle.rr_rows.specs.Tables.{rules_of, HasTables}
+use Rattle.rr_rows.specs.Contents.{AreKeyed, IsTidy}
 use Rattle.rr_rows.specs.Texts.{create_meta, create_object, create_named}
-use Rattle.rr_rows.specs.Made.{no_schema, meta_table, object_table, named_table, with_meta, with_object, with_named, Creates}
+use Rattle.rr_rows.specs.Made.{no_schema, meta_table, object_table, named_table, with_meta, with_object, with_named, Creates, IsBare}
 use Rattle.rr_rows.proofs.ChangeLemmas.{went}
 
 same_value : {B E : Type 0} {a b : B} → ◌≡◌ {A = Result B E} (Ok a) (Ok b) → a ≡ b
@@ -71,3 +72,25 @@ creates_named = creates with_object create_named named_table named_is
 has_named : HasTables with_named
 unfolding everything
 has_named = record { layout = record { meta = rules_of meta_table; object = rules_of object_table; named = rules_of named_table; others = []; indexes = with_named.indexes; views = [] }; is = refl; apart = refl }
+
+no_row_keyed : AreKeyed []
+no_row_keyed = record { apart = tt; numbered = tt }
+
+-- the three tables that are made have no row
+pub bare : (a b c d : Database) → Creates no_schema meta_table a b → Creates with_meta object_table b c → Creates with_object named_table c d → IsBare d
+unfolding everything
+bare a b c d first second third =
+    let meta_is : d.trees 0 ≡ [] = third.others.0 ∙ second.others.0 ∙ first.empty in
+    let object_is : d.trees 2 ≡ [] = third.others.1.0 ∙ second.empty in
+    let named_is : d.trees 4 ≡ [] = third.empty in
+    record {
+      tidy = record {
+        has = subst HasTables (sym third.schema_is) has_named;
+        meta = subst AreKeyed (sym meta_is) no_row_keyed;
+        object = subst AreKeyed (sym object_is) no_row_keyed;
+        named = subst AreKeyed (sym named_is) no_row_keyed;
+      };
+      meta = meta_is;
+      object = object_is;
+      named = named_is;
+    }

@@ -11,6 +11,7 @@ use Rattle.sqlite_schema.specs.declared.schema.Table.{Table}
 use Rattle.sqlite_schema.specs.declared.schema.Schema.{Schema}
 use Rattle.sqlite_catalog.specs.Change.{created, next_tree}
 use Rattle.sqlite.specs.Effect.{Database}
+use Rattle.rr_rows.specs.Contents.{IsTidy}
 use Rattle.rr_rows.specs.Tables.{Rules, meta, object, named}
 
 -- no table, no index and no view
@@ -49,3 +50,10 @@ pub record Creates (before : Schema) (table : Table) (old new : Database) : Type
   pub schema_is : new.schema ≡ created before table
   pub empty : new.trees (next_tree before) ≡ []
   pub others : AllByRecursion (λ t. new.trees t.tree ≡ old.trees t.tree) before.tables
+
+-- a database with the three tables, which have no row
+pub record IsBare (db : Database) : Type 0 where
+  pub tidy : IsTidy db
+  pub meta : db.trees 0 ≡ []
+  pub object : db.trees 2 ≡ []
+  pub named : db.trees 4 ≡ []

@@ -2,5 +2,8 @@
 #![tactic(auto)]
 
 mod bodies;
+mod making;
 mod names;
+mod reading;
 mod statements;
+mod writes;

@@ -42,7 +42,9 @@ fn named(alloc: Global, object: &Object) -> Result<Vec<Name>, AllocError>
 fn is_among(names: &[Name], name: &Name) -> bool
     ensures { result ≡ list_any (bytes_eq name.now) names.now }
 {
-    names.iter().any(|other| name.as_bytes() == other.as_bytes())
+    names
+        .iter()
+        .any(|other| name.as_bytes() == other.as_bytes())
 }
 
 /// The names of a list, each once.

@@ -1,11 +1,15 @@
 -- A query with no RETURNING leaves the database as it is, also where it fails.
-use Rattle.std.proofs.Common.{◌≡◌, ◌⊎◌, inl, inr, true, false, Bool, ℕ, List, [], ◌∷◌, Option, Some, None, Ok, Err, Result, IfOk, OnOk, OnErr, IsTrue, refl, sym, ap, subst, ◌∙◌, arith}
+use Rattle.std.proofs.Common.{◌≡◌, ◌⊎◌, inl, inr, true, false, Bool, ℕ, List, [], ◌∷◌, Option, Some, None, Ok, Err, Result, IfOk, IfErr, OnOk, OnErr, IsTrue, refl, sym, ap, subst, ◌∙◌, arith}
 use Rattle.std.proofs.lemmas.Bool.{cases_Bool}
 use Rattle.sqlite_value.specs.Order.{Row}
 use Rattle.sqlite_trees.specs.Tree.{Trees}
 use Rattle.sqlite.specs.declared.error.Error.{Error}
 use Rattle.sqlite_schema.specs.declared.command.Returning.{Returning}
 use Rattle.sqlite.specs.Listing.{understood}
+use Rattle.sqlite_schema.specs.declared.command.Command.{Command}
+use Rattle.sqlite_schema.specs.declared.schema.Schema.{Schema}
+use Rattle.rr_rows.specs.Tables.{Layout, HasTables}
+use Rattle.rr_rows.specs.Queries.{Means}
 use Rattle.sqlite.specs.State.{State, HasCleanDisk, IsUnchanged, Fails, Shown, ShowsRows, FailsToQuery, FailsToShow, IsNotRun, CommitsShowing, Survives}
 use Rattle.sqlite.specs.Clock.{timed}
 use Rattle.sqlite.proofs.Callers.{IsPlain, never_commits}
@@ -52,3 +56,15 @@ module _ (sql : List ℕ) (params : Row) (old new : State) where
 pub on_each : {X E : Type 0} (r : Result X E) (P : X → Type 0) (Q : Type 0) → IfOk r P → ((x : X) → P x → Q) → OnOk r Q
 on_each (Ok x) P Q h f = f x h
 on_each (Err e) P Q h f = tt
+
+pub on_err : {X E : Type 0} (r : Result X E) (P : E → Type 0) (Q : Type 0) → IfErr r P → ((e : E) → P e → Q) → OnErr r Q
+on_err (Ok x) P Q h f = tt
+on_err (Err e) P Q h f = f e h
+
+-- a text on the tables is plain under each schema that has them
+pub plain_of : (schema : Schema) (text : List ℕ) (command : Layout → Command) → ((l : Layout) → Means l text (command l)) → HasTables schema → IsPlain (understood schema text)
+plain_of schema text command means has = subst (λ s. IsPlain (understood s text)) (sym has.is) (means has.layout).plain
+
+pub each_shown : {X E : Type 0} (r : Result X E) (P : X → Type 0) (Q : Type 0) (R : X → Type 0) → IfOk r P → OnOk r Q → ((x : X) → Q → P x → R x) → IfOk r R
+each_shown (Ok x) P Q R h k f = f x k h
+each_shown (Err e) P Q R h k f = tt

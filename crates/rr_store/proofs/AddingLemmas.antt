@@ -1,13 +1,12 @@
 -- Rows of `named` that are added one after the other.
-use Rattle.std.proofs.Common.{◌≡◌, inl, ℕ, List, [], ◌∷◌, ◌++◌, IsTrue, refl, sym, ap, subst, ◌∙◌, arith, append_assoc, IsPermutation}
+use Rattle.std.proofs.Common.{inl, List, [], ◌∷◌, ◌++◌, IsTrue, refl, ◌∙◌, arith, append_assoc, IsPermutation}
 use Rattle.std.proofs.lemmas.List.Sorted.{IsPermutation-refl, IsPermutation-cons, IsPermutation-trans, IsPermutation-middle}
 use Rattle.sqlite_value.specs.Order.{Row}
 use Rattle.sqlite_trees.specs.declared.store.Store.{Ghosts}
-use Rattle.sqlite.specs.Effect.{Database}
 use Rattle.sqlite.specs.State.{State, HasCleanDisk, KeepsCommit, Survives}
 use Rattle.sqlite.specs.Held.{Held, state}
 use Rattle.sqlite.proofs.StateLemmas.{survives_then}
-use Rattle.rr_rows.specs.Contents.{IsTidy, Alters, Adds, IsStep, contents}
+use Rattle.rr_rows.specs.Contents.{IsTidy, Alters, Adds, IsStep}
 
 -- rows were added in a transaction that goes on
 pub record HasAdded {S : Type 0} (g : Ghosts S) (old new : Held S) (rows : List Row) : Type 0 where

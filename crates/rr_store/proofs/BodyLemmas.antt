@@ -1,6 +1,5 @@
 -- What statements in a row do.
-use Rattle.std.proofs.Common.{◌≡◌, ◌≢◌, ℕ, List, [], ◌∷◌, ◌++◌, map, filter, not, Ok, Err, Result, OnOk, refl, sym, ap, subst, ◌∙◌, arith, IsPermutation}
-use Rattle.sqlite_value.specs.Order.{Row}
+use Rattle.std.proofs.Common.{◌≢◌, ℕ, List, [], ◌∷◌, ◌++◌, map, filter, not, Ok, Err, Result, OnOk, sym, ap, subst, ◌∙◌, arith, IsPermutation}
 use Rattle.sqlite.specs.Effect.{Database}
 use Rattle.rr_rows.specs.Contents.{Alters, Adds, Removes, contents, is_object_of, is_named_of, object_values, named_values}
 use Rattle.rr_rows.specs.Entries.{IsPut}

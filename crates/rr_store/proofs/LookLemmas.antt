@@ -1,8 +1,7 @@
 -- A query with no RETURNING leaves the database as it is, also where it fails.
-use Rattle.std.proofs.Common.{◌≡◌, ◌⊎◌, inl, inr, true, false, Bool, ℕ, List, [], ◌∷◌, Option, Some, None, Ok, Err, Result, IfOk, IfErr, OnOk, OnErr, IsTrue, refl, sym, ap, subst, ◌∙◌, arith}
+use Rattle.std.proofs.Common.{◌≡◌, inl, inr, false, ℕ, List, Option, Some, None, Ok, Err, Result, IfOk, IfErr, OnOk, OnErr, IsTrue, sym, subst, ◌∙◌, arith}
 use Rattle.std.proofs.lemmas.Bool.{cases_Bool}
 use Rattle.sqlite_value.specs.Order.{Row}
-use Rattle.sqlite_trees.specs.Tree.{Trees}
 use Rattle.sqlite.specs.declared.error.Error.{Error}
 use Rattle.sqlite_schema.specs.declared.command.Returning.{Returning}
 use Rattle.sqlite.specs.Listing.{understood}

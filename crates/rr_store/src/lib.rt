@@ -2,8 +2,13 @@
 #![tactic(auto)]
 
 mod bodies;
+mod fault;
 mod making;
 mod names;
 mod reading;
 mod statements;
+mod store;
 mod writes;
+
+pub use fault::StoreFault;
+pub use store::Store;

@@ -1,4 +1,4 @@
-use Rattle.std.proofs.Common.{rules, ◌≡◌, w64, pos, arith, []}
+use Rattle.std.proofs.Common.{rules, ◌≡◌, w64, pos, arith}
 use Rattle.rr_rows.specs.Contents.{object_values}
 use Rattle.std.proofs.lemmas.Int.{to_z-of_z}
 use mir.Val.{to_z, of_z}

@@ -63,7 +63,7 @@ pub(crate) fn remove_rows<S: Alter>(
     ensures kept { HasCleanDisk (state S.Store tx.new.conn.now) → KeepsCommit (state S.Store tx.old.conn.now) (state S.Store tx.new.conn.now) }
     ensures survives { Survives (state S.Store tx.old.conn.now) (state S.Store tx.new.conn.now) (λ _. ⊥) }
 {
-    let _names = remove_names(tx, class, key)?;
-    let _objects = remove_object(tx, class, key)?;
+    let _unnamed = remove_names(tx, class, key)?;
+    let _removed = remove_object(tx, class, key)?;
     Ok(())
 }

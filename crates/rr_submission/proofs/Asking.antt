@@ -58,13 +58,15 @@ IsRequest-at_fault source fields own BadCount e k = inl (fault_read source field
 IsRequest-at_fault source fields own BadValue e k = inl (fault_read source fields own _ e (k (λ p. cc)))
 IsRequest-at_fault source fields own OtherSource e k = inl (fault_read source fields own _ e (k (λ p. cc)))
 
+one_key : (key other : Key) (read : Result Key ObjectFault) → read ≡ Ok key → read ≡ Ok other → key ≡ other
+one_key key other read p q = cc
+
 -- an object is what its own paragraph reads as, and stands under the key of that
 read_object : (source : List ℕ) (own : List Field) (key : Key) (object : Obj) → key_of own ≡ Ok key → object_of own source ≡ Ok object →
     (Some key ≡ Some object.key) × IsReadObject source object
 read_object source own key object k e =
     let read = of_any_source own source object e in
-    let keys : Ok {E = ObjectFault} key ≡ Ok object.key = sym k ∙ kept_its_key own object read in
-    let same : key ≡ object.key = cc in (
+    let same = one_key key object.key (key_of own) k (kept_its_key own object read) in (
       ap Some same,
       record {
         formed = object_key_formed own source object e;

@@ -7,7 +7,7 @@ use Rattle.rr_submission.specs.SubmissionTexts.{secrets_of, is_secrets_alone}
 use Rattle.rr_submission.specs.SubmissionItems.{AreItems, Asked}
 use Rattle.rr_submission.specs.SubmissionItems.AreItems.{secrets_alone, faulty, unread_for_memory}
 use Rattle.rr_submission.specs.Requests.{unread, text_code}
-use Rattle.rr_text.specs.declared.fault.TextFault.TheVariants.{TooLarge, BadByte, FirstContinues, NoColon, BadName, Memory}
+use Rattle.rr_text.specs.declared.fault.TextFault.TheVariants.{TooLarge, BadByte, FirstContinues, NoColon, BadName, Memory, Read, Endless}
 
 -- the items of the rest are those of the whole
 pub record Passes (source : List ℕ) (before after : List (List ℕ)) (whole rest : List (Result (List Field) TextFault)) : Type 0 where
@@ -31,4 +31,6 @@ AreItems-faulty source secrets BadByte whole items h e rest = rw (e (λ p. cc)) 
 AreItems-faulty source secrets FirstContinues whole items h e rest = rw (e (λ p. cc)) (faulty FirstContinues rest)
 AreItems-faulty source secrets NoColon whole items h e rest = rw (e (λ p. cc)) (faulty NoColon rest)
 AreItems-faulty source secrets BadName whole items h e rest = rw (e (λ p. cc)) (faulty BadName rest)
+AreItems-faulty source secrets Read whole items h e rest = rw (e (λ p. cc)) (faulty Read rest)
+AreItems-faulty source secrets Endless whole items h e rest = rw (e (λ p. cc)) (faulty Endless rest)
 AreItems-faulty source secrets Memory [] items h e rest = absurd (omega arith)

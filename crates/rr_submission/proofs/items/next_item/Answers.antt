@@ -18,7 +18,7 @@ pub returns-then-not-is_secrets_alone-clause-found : goal.returns-then-not-is_se
 returns-then-not-is_secrets_alone-clause-found c = λ items h.
     let found = rw c.in-Ok-Some.field-0-is at c.in-Ok-Some.ensures.found in
     let same = c.in-Ok.ensures.ok in
-    c.paragraphs.invariant.0.items_stay _ (rw (found, same) (asked _ (sym c.is_secrets_alone.ensures ∙ c.if-not-is_secrets_alone.true) c.read.ensures (rw same at h)))
+    c.paragraphs.invariant.0.items_stay _ (rw (found, same) (asked _ (sym c.is_secrets_alone.ensures ∙ c.if-not-is_secrets_alone.true) c.read.ensures.asked (rw same at h)))
 
 pub paragraphs-preserved : goal.paragraphs-preserved
 paragraphs-preserved c =

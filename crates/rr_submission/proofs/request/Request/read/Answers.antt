@@ -6,7 +6,7 @@ returns-in-Ok-clause-asked c =
     IsRequest-about _ _ _ _ _ c.own_paragraph-own.ensures c.in-Ok.ensures.ok (rw c.asks_deletion-deletes.ensures at c.about.ensures)
 
 pub returns-in-Ok-clause-tied : goal.returns-in-Ok-clause-tied
-returns-in-Ok-clause-tied c = IsTied-request _ _ _ (
+returns-in-Ok-clause-tied c = IsTied-request c.args.source.now c.args.paragraph _ (
     IsRequest-about _ _ _ _ _ c.own_paragraph-own.ensures c.in-Ok.ensures.ok (rw c.asks_deletion-deletes.ensures at c.about.ensures))
 
 pub returns-in-Err-clause-asked : goal.returns-in-Err-clause-asked

@@ -1,4 +1,5 @@
 pub mod Asking
+pub mod Confining
 pub mod Exits
 pub mod Giving
 pub mod Joins

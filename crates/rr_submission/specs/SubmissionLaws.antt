@@ -1,9 +1,10 @@
 -- What submissions keep.
-use Rattle.std.specs.Prelude.{ℕ, List, [], map, Result}
+use Rattle.std.specs.Prelude.{ℕ, List, [], ◌++◌, map, Result}
 use Rattle.rr_text.specs.Fields.{Field}
 use Rattle.rr_text.specs.declared.fault.TextFault.{TextFault}
-use Rattle.rr_auth.specs.Registries.{Reg}
+use Rattle.rr_auth.specs.Registries.{Reg, Sound}
 use Rattle.rr_auth.specs.Sources.{IsRegistryOf}
+use Rattle.rr_registry.specs.Confined.{Confines}
 use Rattle.rr_registry.specs.Runs.{Run}
 use Rattle.rr_registry.specs.declared.outcome.Outcome.{Outcome}
 use Rattle.rr_submission.specs.SubmissionItems.{AreItems, Asked, submitted}
@@ -13,3 +14,11 @@ abbrev pub ItemsKeepTheSource : Type 0
 ItemsKeepTheSource =
     (source : List ℕ) (entries : List (Result (List Field) TextFault)) (items : List Asked) (r s : Reg) (outcomes : List Outcome)
     → IsRegistryOf source r → AreItems source [] entries items → Run r (map submitted items) outcomes s → IsRegistryOf source s
+
+-- a run of the first items of a text, from a sound registry, answers the holders of a prefix as if nobody else had submitted
+-- anything, and leaves what they hold to them
+abbrev pub ItemsAreConfined : Type 0
+ItemsAreConfined =
+    (source : List ℕ) (entries : List (Result (List Field) TextFault)) (items later : List Asked) (r s : Reg) (outcomes : List Outcome)
+    → Sound r → AreItems source [] entries (items ++ later) → Run r (map submitted items) outcomes s
+    → Confines r (map submitted items) outcomes s

@@ -1,16 +1,15 @@
 -- What an object sees in the registry that it is judged in.
-use Rattle.std.proofs.Common.{◌≡◌, ℕ, true, false, cond, ◌||◌, List, [], ◌∷◌, ◌++◌, refl, sym, ap, ◌∙◌}
-use Rattle.std.specs.Prelude.{Some, is_none, map, filter, ◌&&◌}
+use Rattle.std.proofs.Common.{◌≡◌, ℕ, true, false, cond, ◌||◌, List, [], ◌∷◌, refl, sym, ap, ◌∙◌}
+use Rattle.std.specs.Prelude.{Some, map, filter, ◌&&◌}
 use Rattle.std.specs.Str.{bytes_eq}
 use Rattle.std.specs.Ordering.{eq_by_cmp}
 use Rattle.std.specs.Cmp.Lexicographic.{nat_list_eq_equiv, texts_ties}
 use Rattle.std.specs.FinMap.{get, get-insert}
-use Rattle.std.proofs.lemmas.List.Folds.{list_any-append}
 use Rattle.rr_object.specs.declared.key.Key.{Key}
 use Rattle.rr_object.specs.declared.key.Key.TheVariants.{Mntner, AsBlock, AutNum, Inetnum, Route, AsSet, RouteSet}
 use Rattle.rr_object.specs.Objects.{Obj}
 use Rattle.rr_object.specs.KeyOrders.{key_cmp}
-use Rattle.rr_auth.specs.Registries.{Reg, maintainer, names_nobody, is_mntner_of, with_mntner, seen_by}
+use Rattle.rr_auth.specs.Registries.{Reg, maintainer, is_mntner_of, with_mntner, seen_by}
 use Rattle.std.specs.List.{list_any}
 use Rattle.rr_number.specs.Prefixes.{PrefixParts}
 use Rattle.rr_auth.specs.Authority.{grants}
@@ -36,11 +35,6 @@ maintainer_with r (RouteSet m) o n = refl
 pub maintainer_seen : (r : Reg) (o : Obj) (n : List ℕ) → maintainer (seen_by (Some o) r) n ≡ cond (is_mntner_of n o.key) (Some o) (maintainer r n)
 maintainer_seen r o n = maintainer_with r o.key o n
 
--- an entry's name is looked up as the name itself
-pub names_nobody_map : (r : Reg) (es : List GrantParts) → names_nobody r (map (λ g. g.name) es) ≡ list_any (λ g. is_none (maintainer r g.name)) es
-names_nobody_map r [] = refl
-names_nobody_map r (e ∷ es) = ap (λ b. is_none (maintainer r e.name) || b) (names_nobody_map r es)
-
 -- the names of the entries that pass a test pass where some entry passes it and its name passes
 pub passes_granted : (r : Reg) (z : List (List ℕ)) (p : PrefixParts) (es : List GrantParts)
     → names_pass r z (map (λ g. g.name) (filter (grants p) es)) ≡ list_any (λ g. grants p g && name_passes r z g.name) es
@@ -51,7 +45,3 @@ passes_granted r z p (e ∷ es) =
       | true ↦ ap (λ b. name_passes r z e.name || b) (passes_granted r z p es)
       | false ↦ passes_granted r z p es
     ]
-
--- a list of names names nobody where a part of it does
-pub names_nobody_append : (r : Reg) (xs ys : List (List ℕ)) → names_nobody r (xs ++ ys) ≡ (names_nobody r xs || names_nobody r ys)
-names_nobody_append r xs ys = list_any-append _ xs ys

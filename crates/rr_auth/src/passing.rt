@@ -1,6 +1,6 @@
 //! Which maintainers pass with which secrets.
 
-ghost use Rattle.std.specs.Prelude.{◌≡◌, is_none};
+ghost use Rattle.std.specs.Prelude.{◌≡◌};
 ghost use Rattle.std.specs.List.{list_any};
 ghost use Rattle.std.specs.Option.{option_copied};
 ghost use Rattle.rr_object.specs.Objects.{names_of};
@@ -10,7 +10,7 @@ ghost use Rattle.rr_auth.specs.Registries.{is_mntner_of, maintainer, names_nobod
 use crate::book::Book;
 use crate::secrets::{Secret, Secrets};
 use rr_number::Name;
-use rr_object::{Auth, Grant, Key, Object};
+use rr_object::{Auth, Key, Object};
 use sha2::{Digest, Sha256};
 
 /// Whether the maintainer passes: some secret fits one of its lines, so that SHA-256 of the salt and then the secret is
@@ -96,31 +96,11 @@ pub fn names_pass<B: Book>(
         .any(|name| name_passes(book, own, secrets, name))
 }
 
-/// Whether some name is that of no maintainer.
-pub fn names_nobody<B: Book>(book: &B, own: Option<&Object>, names: &[Name]) -> bool
-    ensures { result ≡ names_nobody (seen_by (option_copied own.entry) (B.contents book.now)) names.now }
-{
-    names
-        .iter()
-        .any(|name| maintainer_seen(book, own, name).is_none())
-}
-
-/// Whether the name of some entry is that of no maintainer.
-fn entries_name_nobody<B: Book>(book: &B, own: Option<&Object>, entries: &[Grant]) -> bool
-    ensures { result ≡ list_any (λ g. is_none (maintainer (seen_by (option_copied own.entry) (B.contents book.now)) g.name)) entries.now }
-{
-    entries
-        .iter()
-        .any(|entry| maintainer_seen(book, own, entry.name()).is_none())
-}
-
 /// Whether the object names a maintainer that is not registered.
-#[tactic(auto, using(crate::proofs::Seen::names_nobody_append, crate::proofs::Seen::names_nobody_map))]
 pub fn object_names_nobody<B: Book>(book: &B, own: Option<&Object>, object: &Object) -> bool
     ensures { result ≡ names_nobody (seen_by (option_copied own.entry) (B.contents book.now)) (names_of object.now) }
 {
-    names_nobody(book, own, object.maintainers())
-        || names_nobody(book, own, object.lower())
-        || entries_name_nobody(book, own, object.routes())
-        || names_nobody(book, own, object.by_ref().names())
+    object
+        .maintainers_named()
+        .any(|name| maintainer_seen(book, own, name).is_none())
 }

@@ -53,7 +53,7 @@ kept_case p t k ks false true passes tied rest = rest ∙ ap (λ x. list_any (eq
 kept_case p t k ks false false passes tied rest = rest
 
 -- a span is among those that pass exactly where it is in the list and passes
-any_filter : (p : Ends → Bool) (ks : List Ends) (t : Ends) → list_any (eq_by_cmp span_cmp t) (filter p ks) ≡ (list_any (eq_by_cmp span_cmp t) ks && p t)
+pub any_filter : (p : Ends → Bool) (ks : List Ends) (t : Ends) → list_any (eq_by_cmp span_cmp t) (filter p ks) ≡ (list_any (eq_by_cmp span_cmp t) ks && p t)
 any_filter p [] t = refl
 any_filter p (k ∷ ks) t = kept_case p t k ks (p k) (eq_by_cmp span_cmp t k) refl refl (any_filter p ks t)
 
@@ -92,7 +92,7 @@ module _ {T : Type 0} where
   entries_rise [] h = tt
   entries_rise (e ∷ es) h = (below_rise e.0 es (and_first _ _ h), entries_rise es (and_second (below_all span_cmp e.0 es) _ h))
 
-  keys_rise : (m : SpanMap T) (p : Ends → Bool) → IsStrictlySortedBy span_cmp (filter p (keys m))
+  pub keys_rise : (m : SpanMap T) (p : Ends → Bool) → IsStrictlySortedBy span_cmp (filter p (keys m))
   keys_rise m p = IsStrictlySortedBy-filter span_cmp p (keys m) (entries_rise (entries m) (entries_sorted m))
 
 pub lists_rise : {T : Type 0} → ListsRise T

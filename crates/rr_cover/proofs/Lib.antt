@@ -2,4 +2,10 @@ pub mod Among
 pub mod Held
 pub mod Listed
 pub mod Nearest
+pub mod NestHeld
+pub mod NestLists
+pub mod NestModel
+pub mod NestOrder
+pub mod NestTurns
+pub mod Ordered
 pub mod Places

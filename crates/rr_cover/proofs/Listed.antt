@@ -33,10 +33,10 @@ flipped : {A : Type 0} (b : Bool) (o : Option A) → cond (not b) o None ≡ con
 flipped true o = refl
 flipped false o = refl
 
-crosses_itself : (s : Ends) → crosses s s ≡ false
+pub crosses_itself : (s : Ends) → crosses s s ≡ false
 crosses_itself s = grind (arith, nat_tests)
 
-crosses_swapped : (s t : Ends) → crosses s t ≡ crosses t s
+pub crosses_swapped : (s t : Ends) → crosses s t ≡ crosses t s
 crosses_swapped s t = grind (arith, nat_tests)
 
 tied_passes : (p : Ends → Bool) (t k : Ends) (ks : List Ends) (b : Bool) → eq_by_cmp span_cmp t k ≡ b → (list_any (eq_by_cmp span_cmp t) ks ≡ true → p t ≡ false) → (b || list_any (eq_by_cmp span_cmp t) ks) ≡ true → p k ≡ false → p t ≡ false
@@ -44,7 +44,7 @@ tied_passes p t k ks true is rest any none = ap p (tied_same t k is) ∙ none
 tied_passes p t k ks false is rest any none = rest any
 
 -- what no span of a list passes, a span that ties with one of them does not pass
-any_passes : (p : Ends → Bool) (ks : List Ends) (t : Ends) → list_any (eq_by_cmp span_cmp t) ks ≡ true → list_any p ks ≡ false → p t ≡ false
+pub any_passes : (p : Ends → Bool) (ks : List Ends) (t : Ends) → list_any (eq_by_cmp span_cmp t) ks ≡ true → list_any p ks ≡ false → p t ≡ false
 any_passes p [] t tied none = absurd (contradicted false refl tied)
 any_passes p (k ∷ ks) t tied none =
     tied_passes p t k ks (eq_by_cmp span_cmp t k) refl (λ any. any_passes p ks t any (second_none (p k) (list_any p ks) none)) tied (first_none (p k) (list_any p ks) none)

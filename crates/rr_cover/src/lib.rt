@@ -1,9 +1,14 @@
 //! Values kept by span, and the spans that cover a span or lie inside it.
 #![tactic(auto)]
 
+mod in_order;
 mod insert_fault;
 pub mod laws;
+#[cfg(test)]
+mod sequence_tests;
 mod span_list;
+mod span_nest;
 
 pub use insert_fault::InsertFault;
 pub use span_list::SpanList;
+pub use span_nest::SpanNest;

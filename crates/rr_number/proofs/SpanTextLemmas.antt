@@ -1,7 +1,6 @@
 -- Lemmas on the texts of spans of addresses.
-use Rattle.std.proofs.Common.{◌≡◌, ℕ, ◌≤◌, true, nat_le, List, [], ◌∷◌, Option, Some, None, refl, sym, ap, subst, inl, inr, arith}
+use Rattle.std.proofs.Common.{◌≡◌, ℕ, ◌≤◌, true, List, [], ◌∷◌, Option, Some, None, refl, sym, ap, inl, inr, arith}
 use Rattle.std.proofs.lemmas.Bool.Decides.{nat_tests}
-use Rattle.std.proofs.lemmas.Option.{option_and_then_some, cond_some}
 use Rattle.rr_number.specs.Addresses.{IsAddress, address_of, address_text}
 use Rattle.rr_number.specs.Dashes.{dash, dashed_of}
 use Rattle.rr_number.specs.Prefixes.{PrefixParts, IsPrefix, prefix_of, slash}

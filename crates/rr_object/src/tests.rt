@@ -250,31 +250,78 @@ fn salted_digests_are_read(rt: HostRuntime) -> Result<(), Fail> {
     Ok(())
 }
 
+/// Keys with their bytes, and with those of version 1; an empty text stands for none.
+const KEYS: [(Class, &str, &str, &str); 13] = [
+    (Class::Mntner, "a-mnt", "A-MNT", "A-MNT"),
+    (
+        Class::AsBlock,
+        "AS10 - AS20",
+        "0000000a-00000014",
+        "000a-0014",
+    ),
+    (
+        Class::AsBlock,
+        "AS0-AS65535",
+        "00000000-0000ffff",
+        "0000-ffff",
+    ),
+    (Class::AsBlock, "AS65535 - AS65536", "0000ffff-00010000", ""),
+    (Class::AutNum, "AS1", "00000001", "0001"),
+    (Class::AutNum, "AS4294967295", "ffffffff", ""),
+    (
+        Class::Inetnum,
+        "10.0.0.0/8",
+        "0a000000-0affffff",
+        "0a000000-0affffff",
+    ),
+    (
+        Class::Inetnum,
+        "10.1.0.3-10.1.0.9",
+        "0a010003-0a010009",
+        "0a010003-0a010009",
+    ),
+    (
+        Class::Route,
+        "10.0.0.0/8  as1",
+        "0a000000/08-00000001",
+        "0a000000/08-0001",
+    ),
+    (
+        Class::Route,
+        "10.0.0.0/8 AS65536",
+        "0a000000/08-00010000",
+        "",
+    ),
+    (Class::AsSet, "as01:as-x", "AS1:AS-X", "AS1:AS-X"),
+    (Class::AsSet, "as70000:as-x", "AS70000:AS-X", ""),
+    (Class::RouteSet, "RS-C", "RS-C", "RS-C"),
+];
+
 #[test]
-fn keys_have_their_texts_and_bytes(rt: HostRuntime) -> Result<(), Fail> {
-    for (class, text, bytes) in [
-        (Class::Mntner, "a-mnt", "A-MNT"),
-        (Class::AsBlock, "AS10 - AS20", "0000000a-00000014"),
-        (Class::AutNum, "AS1", "00000001"),
-        (Class::AutNum, "AS4294967295", "ffffffff"),
-        (Class::Inetnum, "10.0.0.0/8", "0a000000-0affffff"),
-        (Class::Inetnum, "10.1.0.3-10.1.0.9", "0a010003-0a010009"),
-        (Class::Route, "10.0.0.0/8  as1", "0a000000/08-00000001"),
-        (Class::AsSet, "as01:as-x", "AS1:AS-X"),
-        (Class::RouteSet, "RS-C", "RS-C"),
-    ] {
-        let key = Key::read(rt.alloc(), class, text.as_bytes())?.ok_or("no key")?;
+fn keys_have_bytes_and_old_bytes(rt: HostRuntime) -> Result<(), Fail> {
+    for (class, text, bytes, old) in &KEYS {
+        let key = Key::read(rt.alloc(), *class, text.as_bytes())?.ok_or("no key")?;
         assert_eq!(rt;
             key.bytes(rt.alloc())?.as_slice(),
             bytes.as_bytes(),
             "{text}"
         );
-        let again = key.copy(rt.alloc())?;
-        assert!(rt; again == key, "{text}");
+        let found = key.old_bytes(rt.alloc())?;
+        assert_eq!(rt; found.is_none(), old.is_empty(), "{text}");
+        let found = found.unwrap_or(Vec::new(rt.alloc()));
+        assert_eq!(rt; found.as_slice(), old.as_bytes(), "{text}");
+        assert!(rt; key.copy(rt.alloc())? == key, "{text}");
     }
+    Ok(())
+}
+
+#[test]
+fn some_texts_are_no_keys(rt: HostRuntime) -> Result<(), Fail> {
     for (class, text) in [
         (Class::Mntner, "AS-X"),
+        (Class::AutNum, "AS4294967296"),
         (Class::AsSet, "AS-ANY"),
+        (Class::RouteSet, "RS-ANY"),
         (Class::RouteSet, "AS-X"),
         (Class::Route, "10.0.0.0/8"),
         (Class::Route, "10.0.0.0/8^+ AS1"),
@@ -287,11 +334,19 @@ fn keys_have_their_texts_and_bytes(rt: HostRuntime) -> Result<(), Fail> {
             "{text}"
         );
     }
-    let paragraph = paragraph(rt.alloc(), "route: 10.0.0.5/8\norigin: AS01\n")?;
+    Ok(())
+}
+
+#[test]
+fn a_key_is_read_before_its_object(rt: HostRuntime) -> Result<(), Fail> {
+    let source = Name::read(rt.alloc(), b"TEST")?.ok_or("no name")?;
+    let text = "route: 10.0.0.5/8\norigin: AS01\nmnt-by: A-MNT\nsource: test\n";
+    let paragraph = paragraph(rt.alloc(), text)?;
     let key = key_of(rt.alloc(), &paragraph)?;
-    assert_eq!(rt;
-        key.bytes(rt.alloc())?.as_slice(),
-        b"0a000000/08-00000001".as_slice()
-    );
+    let wanted = Key::read(rt.alloc(), Class::Route, b"10.0.0.0/8 AS1")?;
+    assert!(rt; Some(key.copy(rt.alloc())?) == wanted);
+    let object = Object::read_with_key(rt.alloc(), key, paragraph, &source)?;
+    assert!(rt; Some(object.key().copy(rt.alloc())?) == wanted);
+    assert_eq!(rt; object.maintainers()[0].as_bytes(), b"A-MNT".as_slice());
     Ok(())
 }

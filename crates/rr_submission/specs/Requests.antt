@@ -2,7 +2,7 @@
 use Rattle.std.specs.Prelude.{◌≡◌, ℕ, Bool, true, false, List, Some, None, Result, Ok, Err, IfOk, IfSome, ◌⊎◌}
 use Rattle.rr_text.specs.Fields.{Field}
 use Rattle.rr_text.specs.declared.fault.TextFault.{TextFault}
-use Rattle.rr_text.specs.declared.fault.TextFault.TheVariants.{TooLarge, BadByte, FirstContinues, NoColon, BadName, Memory}
+use Rattle.rr_text.specs.declared.fault.TextFault.TheVariants.{TooLarge, BadByte, FirstContinues, NoColon, BadName, Memory, Read, Endless}
 use Rattle.rr_object.specs.declared.code.Code.{Code}
 use Rattle.rr_object.specs.declared.code.Code.TheVariants.{E01, E07, E90}
 use Rattle.rr_object.specs.declared.fault.ObjectFault.{ObjectFault}
@@ -17,7 +17,7 @@ use Rattle.rr_auth.specs.Sources.{IsReadIn}
 use Rattle.rr_submission.specs.declared.request.Request.{Request}
 use Rattle.rr_submission.specs.SubmissionTexts.{own_fields, asks_deletion}
 
--- the code of a paragraph that could not be read as text
+-- the code of a paragraph that could not be read as text; a fault of the reading itself is none of a paragraph
 abbrev pub text_code : TextFault → Code
 text_code TooLarge = E07
 text_code BadByte = E01
@@ -25,6 +25,8 @@ text_code FirstContinues = E01
 text_code NoColon = E01
 text_code BadName = E01
 text_code Memory = E90
+text_code Read = E01
+text_code Endless = E01
 
 -- refused before its class and key were read: the report shows no key
 abbrev pub unread : Code → Request

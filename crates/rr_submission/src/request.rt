@@ -41,7 +41,9 @@ impl Request {
             TextFault::BadByte
             | TextFault::FirstContinues
             | TextFault::NoColon
-            | TextFault::BadName => Code::E01,
+            | TextFault::BadName
+            | TextFault::Read
+            | TextFault::Endless => Code::E01,
             TextFault::Memory => Code::E90,
         })
     }

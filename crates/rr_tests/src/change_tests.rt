@@ -127,13 +127,19 @@ auth: SHA256-PW :ba7816bf8f01cfea414140de5dae2223b00361a396177a9cb410ff61f20015a
 mnt-by: C-MNT
 password: abc
 source: TEST
+
+mntner: E-MNT
+auth: NONE
+mnt-by: GONE-MNT
+source: TEST
 ";
     let report = "\
 1 mntner C-MNT: refused E11
 2 mntner D-MNT: refused E11
 3 mntner D-MNT: added
 4 mntner C-MNT: added
-% items 4
+5 mntner E-MNT: refused E10
+% items 5
 ";
     expect_report(&rt, &[HOLDERS, text], report)
 }

@@ -5,6 +5,8 @@
 #[cfg(test)]
 mod change_tests;
 #[cfg(test)]
+mod confinement_tests;
+#[cfg(test)]
 mod desks;
 #[cfg(test)]
 mod expansion_tests;

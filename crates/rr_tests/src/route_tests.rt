@@ -236,3 +236,50 @@ source: TEST
 ";
     expect_report(&rt, &[HOLDERS, start, text], report)
 }
+
+#[test]
+fn a_grant_counts_from_its_change_on(rt: HostRuntime) -> Result<(), Fail> {
+    let text = "\
+password: bc
+password: c
+
+aut-num: AS1
+mnt-by: A-MNT
+source: TEST
+
+inetnum: 10.0.0.0/8
+mnt-by: ROOT-MNT
+mnt-routes: A-MNT {}
+source: TEST
+
+route: 10.1.0.0/16
+origin: AS1
+mnt-by: A-MNT
+source: TEST
+
+inetnum: 10.0.0.0/8
+mnt-by: ROOT-MNT
+mnt-routes: A-MNT {}, A-MNT {10.1.0.0/16}
+source: TEST
+
+route: 10.1.0.0/16
+origin: AS1
+mnt-by: A-MNT
+source: TEST
+
+route: 10.2.0.0/16
+origin: AS1
+mnt-by: A-MNT
+source: TEST
+";
+    let report = "\
+1 aut-num AS1: added
+2 inetnum 10.0.0.0 - 10.255.255.255: added
+3 route 10.1.0.0/16 AS1: refused E13
+4 inetnum 10.0.0.0 - 10.255.255.255: changed
+5 route 10.1.0.0/16 AS1: added
+6 route 10.2.0.0/16 AS1: refused E13
+% items 6
+";
+    expect_report(&rt, &[HOLDERS, text], report)
+}

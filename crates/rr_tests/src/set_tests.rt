@@ -98,6 +98,10 @@ source: TEST
 as-set: AS2:AS-X
 mnt-by: A-MNT
 source: TEST
+
+route-set: AS-A:RS-X
+mnt-by: A-MNT
+source: TEST
 ";
     let report = "\
 1 aut-num AS1: added
@@ -105,7 +109,8 @@ source: TEST
 3 route-set AS1:RS-X:AS2: added
 4 as-set AS1:AS2:AS-X: refused E12
 5 as-set AS2:AS-X: refused E12
-% items 5
+6 -: refused E03
+% items 6
 ";
     expect_report(&rt, &[HOLDERS, text], report)
 }

@@ -33,19 +33,19 @@ fn a_failed_read_leaves_the_items_before_it(rt: HostRuntime) -> Result<(), Fail>
 % read fault after 2 items
 ";
     assert_eq!(rt; writer.into_inner().as_slice(), report.as_bytes());
-    assert_eq!(rt; desk.registry().objects().len(), 5);
+    assert_eq!(rt; desk.registry().objects().len(), 6);
     Ok(())
 }
 
 #[test]
 fn a_failed_write_leaves_the_items_told(rt: HostRuntime) -> Result<(), Fail> {
     for (room, items, stand, refused) in [
-        (0, 1, 4, true),
-        (42, 1, 4, true),
-        (43, 2, 5, true),
-        (86, 3, 6, true),
-        (129, 3, 6, true),
-        (139, 3, 6, false),
+        (0, 1, 5, true),
+        (42, 1, 5, true),
+        (43, 2, 6, true),
+        (86, 3, 7, true),
+        (129, 3, 7, true),
+        (139, 3, 7, false),
     ] {
         let mut desk = PlainDesk::new(rt.alloc())?;
         let mut reader = Counted::new(THREE.as_bytes());
@@ -74,11 +74,11 @@ fn a_failed_read_and_a_failed_write_leave_the_items_told(rt: HostRuntime) -> Res
 % read fault after 2 items
 ";
     for (room, wanted, stand) in [
-        (0, DeskFault::WriteFault { items: 1 }, 4),
-        (42, DeskFault::WriteFault { items: 1 }, 4),
-        (43, DeskFault::WriteFault { items: 2 }, 5),
-        (86, DeskFault::ReadFault { items: 2 }, 5),
-        (100, DeskFault::ReadFault { items: 2 }, 5),
+        (0, DeskFault::WriteFault { items: 1 }, 5),
+        (42, DeskFault::WriteFault { items: 1 }, 5),
+        (43, DeskFault::WriteFault { items: 2 }, 6),
+        (86, DeskFault::ReadFault { items: 2 }, 6),
+        (100, DeskFault::ReadFault { items: 2 }, 6),
     ] {
         let mut desk = PlainDesk::new(rt.alloc())?;
         let mut reader = Cut::new(Counted::new(THREE.as_bytes()), 7, THREE.len() - 5);

@@ -8,3 +8,8 @@ pub mod FieldLemmas
 pub mod MeaningLemmas
 pub mod WholeLemmas
 pub mod RoundTrip
+pub mod LineSoFarLemmas
+pub mod ApartLemmas
+pub mod DraftLemmas
+pub mod EntryFaults
+pub mod ReaderLemmas

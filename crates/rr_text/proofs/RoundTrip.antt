@@ -4,7 +4,7 @@ use Rattle.std.proofs.lemmas.Bool.Decides.{nat_tests}
 use Rattle.std.proofs.lemmas.List.{drop_at, take_at, append-nil}
 use Rattle.std.proofs.lemmas.List.Folds.{list_any-append}
 use Rattle.std.specs.List.{list_any, list_all, flat_map, AllByRecursion, onto_first, before_first, after_first, position_or_len}
-use Rattle.std.specs.Char.{to_ascii_lowercase, is_ascii_alphabetic}
+use Rattle.std.specs.Char.{is_ascii_alphabetic}
 use Rattle.rr_text.specs.declared.line.LineKind.TheVariants.{Continuation, Opening}
 use Rattle.rr_bytes.specs.Blanks.{is_blank_or_line_feed, is_line_feed}
 use Rattle.rr_bytes.specs.LetterCase.{lowered}

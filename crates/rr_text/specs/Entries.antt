@@ -1,7 +1,6 @@
 -- What a text spells: one entry for each block, a paragraph or a fault (RFC 2622, 2).
 use Rattle.std.specs.Prelude.{ℕ, length, drop, nat_lt, List, [], ◌∷◌, Option, Some, None, Result, Ok, Err, map, if◌then◌else◌}
 use Rattle.std.specs.List.{after_first, concat}
-use Rattle.std.specs.Char.{to_ascii_lowercase}
 use Rattle.rr_text.specs.declared.fault.TextFault.{TextFault}
 use Rattle.rr_text.specs.declared.fault.TextFault.TheVariants.{TooLarge}
 use Rattle.rr_text.specs.declared.line.LineKind.{LineKind}

@@ -1,9 +1,8 @@
 -- An attribute as plain data, and what is true of each (RFC 2622, 2).
-use Rattle.std.specs.Prelude.{ℕ, Bool, true, not, ◌&&◌, ◌≡◌, ◌<◌, length, List, [], ◌∷◌, map, if◌then◌else◌}
+use Rattle.std.specs.Prelude.{ℕ, Bool, true, not, ◌&&◌, ◌≡◌, ◌<◌, length, List, [], ◌∷◌, if◌then◌else◌}
 use Rattle.std.specs.List.{list_any, AllByRecursion}
 use Rattle.std.specs.Str.{bytes_eq}
 use Rattle.std.specs.Cmp.Lexicographic.{pointwise}
-use Rattle.std.specs.Char.{to_ascii_lowercase}
 use Rattle.rr_bytes.specs.Blanks.{is_blank_or_line_feed, is_line_feed}
 use Rattle.rr_bytes.specs.LetterCase.{lowered}
 use Rattle.rr_bytes.specs.NameBytes.{is_attribute_name}

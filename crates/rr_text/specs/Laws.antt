@@ -4,6 +4,7 @@ use Rattle.rr_text.specs.Lines.{are_whole_lines, IsWholeLine, is_blank_line, is_
 use Rattle.rr_text.specs.Fields.{Field, AreFields, fields_eq}
 use Rattle.rr_text.specs.Entries.{entries, size_limit}
 use Rattle.rr_text.specs.CanonicalText.{canonical}
+use Rattle.rr_text.specs.WholePart.{whole_part, whole_entries}
 
 -- two paragraphs with the same canonical text are the same
 abbrev pub CanonicalDetermines : Type 0
@@ -30,3 +31,8 @@ CanonicalLeads = (fields : List Field) (rest : List ℕ) → 0 < length fields �
 -- a skipped line that is no part of a block spells nothing
 abbrev pub SkippedLinePassed : Type 0
 SkippedLinePassed = (line rest : List ℕ) → IsWholeLine line → is_skipped_line line ≡ true → entries (line ++ rest) ≡ entries rest
+
+-- a text that ends with the last blank line whose LF was read keeps its entries apart from what follows, which may break off
+abbrev pub ClosedTextJoins : Type 0
+ClosedTextJoins = (front back : List ℕ) → whole_part front ≡ front
+    → (entries (front ++ back) ≡ entries front ++ entries back) × (whole_entries (front ++ back) ≡ entries front ++ whole_entries back)

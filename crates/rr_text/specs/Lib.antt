@@ -10,6 +10,10 @@ pub mod Meanings
 pub mod CanonicalText
 pub mod WholePart
 pub mod Laws
+pub mod LinesSoFar
+pub mod DraftParts
+pub mod ReaderParts
+pub mod ParagraphReaders
 pub use Rattle.rr_io.specs.Told
 pub use Rattle.rr_io.specs.Receiving
 pub use Rattle.rr_io.specs.Sending

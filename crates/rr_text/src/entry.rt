@@ -1,6 +1,6 @@
 //! Blocks read as paragraphs.
 
-ghost use Rattle.std.specs.Prelude.{◌≡◌, ◌≢◌, ◌<◌, ◌≤◌, ◌++◌, ◌∷◌, IfOk, IfErr, OnOk, None, Ok, Err, length, map, true};
+ghost use Rattle.std.specs.Prelude.{◌≡◌, ◌≢◌, ◌<◌, ◌≤◌, ◌++◌, ◌∷◌, IfOk, IfErr, OnOk, None, Ok, Err, length, true};
 ghost use Rattle.rr_bytes.specs.LetterCase.{lowered};
 ghost use Rattle.rr_text.specs.Lines.{text_lines};
 ghost use Rattle.rr_text.specs.Blocks.{starts_block};
@@ -19,7 +19,7 @@ use rr_bytes::{ByteSet, cut_around, to_lower, trim, trim_end};
 use std::alloc::{AllocError, Global};
 
 /// The most bytes that a paragraph has.
-const SIZE_LIMIT: usize = 65_536;
+pub(crate) const SIZE_LIMIT: usize = 65_536;
 
 fn lower_name(alloc: Global, name: &[u8]) -> Result<Text, AllocError>
     ensures { IfOk result (λ text. text ≡ lowered name.now) }

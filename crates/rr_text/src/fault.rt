@@ -6,7 +6,7 @@ ghost use Rattle.rr_text.specs.declared.fault.TextFault.TheVariants.{Memory};
 use std::alloc::AllocError;
 use thiserror::Error;
 
-/// Why a paragraph of a text cannot be read.
+/// Why a paragraph of a text, or the text itself, cannot be read.
 #[derive(Clone, Copy, Debug, PartialEq, Eq, Error)]
 pub enum TextFault {
     /// It has more than 65,536 bytes.
@@ -27,6 +27,12 @@ pub enum TextFault {
     /// Memory ran out.
     #[error("out of memory")]
     Memory,
+    /// A read of the text failed. It is no fault of a paragraph: a reader of paragraphs has it.
+    #[error("a read failed")]
+    Read,
+    /// The text had no end within 16,777,216 reads. It is no fault of a paragraph: a reader of paragraphs has it.
+    #[error("the text has no end")]
+    Endless,
 }
 
 impl From<AllocError> for TextFault {

@@ -31,3 +31,8 @@ pub fn canonical_text_leads()
 pub fn skipped_line_is_passed()
     ensures { laws.SkippedLinePassed }
 {}
+
+/// A text that ends with the LF of a blank line keeps its entries apart from what follows it.
+pub fn closed_text_joins()
+    ensures { laws.ClosedTextJoins }
+{}

@@ -4,13 +4,19 @@
 pub mod attribute;
 mod block;
 pub mod canonical;
+mod draft;
 mod entry;
 pub mod fault;
 mod inspect;
 pub mod laws;
 mod line;
+mod line_so_far;
 pub mod paragraph;
+pub mod paragraph_reader;
+pub mod paragraphs;
 pub mod reader;
+#[cfg(test)]
+mod reader_tests;
 #[cfg(test)]
 mod tests;
 pub mod text;
@@ -21,6 +27,8 @@ pub use attribute::Attribute;
 pub use canonical::{print, read_canonical};
 pub use fault::TextFault;
 pub use paragraph::Paragraph;
+pub use paragraph_reader::ParagraphReader;
+pub use paragraphs::{Paragraphs, ReaderState};
 pub use reader::{next_paragraph, skip_paragraph};
 pub use rr_io::{Counted, Cut, Sink, Source};
 pub use text::Text;

@@ -1,7 +1,7 @@
 //! The lines of a text.
 
 ghost use Rattle.std.specs.Prelude.{◌≡◌, ◌<◌, ◌∷◌, ◌++◌, ◌⊎◌, [], length, true};
-ghost use Rattle.std.specs.List.{list_any, list_all, position};
+ghost use Rattle.std.specs.List.{list_any, position};
 ghost use Rattle.rr_bytes.specs.Blanks.{is_line_feed};
 ghost use Rattle.rr_bytes.specs.NameBytes.{begins};
 ghost use Rattle.rr_text.specs.Bytes.{is_refused};
@@ -69,8 +69,9 @@ pub(crate) fn is_blank_only(line: &[u8]) -> bool
         .all(|byte| ByteSet::BlanksAndLineFeeds.has(*byte))
 }
 
+/// Whether a line begins with `#` or `%`.
 #[inline]
-fn begins_skipped(line: &[u8]) -> bool
+pub(crate) fn begins_skipped(line: &[u8]) -> bool
     ensures { result ≡ is_skipped_line line.now }
 {
     match line {

@@ -10,7 +10,7 @@ use std::test::Fail;
 const DIGEST: &str = "ba7816bf8f01cfea414140de5dae2223b00361a396177a9cb410ff61f20015ad";
 
 /// A text with CR LF at each line end but the last, folded values and a skipped line.
-fn folded(alloc: Global) -> Result<String, Fail> {
+pub(crate) fn folded(alloc: Global) -> Result<String, Fail> {
     let digest = DIGEST;
     let text = format!(in alloc;
         "Mntner: A-MNT\r\ndescr: first # note\r\n\tsecond\r\n+\r\n% skipped\r\n+third\r\nauth: SHA256-PW\r\n ab:{digest}\r\nmnt-by: A-MNT\r\nsource: test"
@@ -18,7 +18,7 @@ fn folded(alloc: Global) -> Result<String, Fail> {
     Ok(text)
 }
 
-fn canonical(alloc: Global) -> Result<String, Fail> {
+pub(crate) fn canonical(alloc: Global) -> Result<String, Fail> {
     let digest = DIGEST;
     let text = format!(in alloc;
         "mntner:         A-MNT\ndescr:          first # note\n                second\n+\n                third\nauth:           SHA256-PW\n                ab:{digest}\nmnt-by:         A-MNT\nsource:         test\n"
@@ -37,7 +37,7 @@ fn fault_of(alloc: Global, text: &[u8]) -> Option<TextFault> {
 }
 
 #[test]
-fn folded_text_is_read_and_printed(rt: HostRuntime) -> Result<(), Fail> {
+pub(crate) fn folded_text_is_read_and_printed(rt: HostRuntime) -> Result<(), Fail> {
     let alloc = rt.alloc();
     let text = folded(alloc)?;
     let (paragraph, after) = first(alloc, text.as_bytes())?;
@@ -72,7 +72,7 @@ fn meaning_leaves_comments_out(rt: HostRuntime) -> Result<(), Fail> {
 }
 
 #[test]
-fn canonical_text_is_read_again(rt: HostRuntime) -> Result<(), Fail> {
+pub(crate) fn canonical_text_is_read_again(rt: HostRuntime) -> Result<(), Fail> {
     let alloc = rt.alloc();
     let text = canonical(alloc)?;
     let read = read_canonical(alloc, text.as_bytes())?.ok_or("canonical")?;
@@ -110,7 +110,7 @@ fn paragraphs_are_copied_and_changed(rt: HostRuntime) -> Result<(), Fail> {
 }
 
 /// A paragraph with this many bytes more than it takes to reach 65,536, one of them this.
-fn sized(alloc: Global, more: usize, byte: u8) -> Result<Vec<u8>, Fail> {
+pub(crate) fn sized(alloc: Global, more: usize, byte: u8) -> Result<Vec<u8>, Fail> {
     let mut text = b"descr: ".to_vec(alloc)?;
     text.push(byte)?;
     for _ in 0..1524 {

@@ -1,0 +1,55 @@
+use Rattle.std.proofs.Common.{ap, sym, ◌∙◌}
+use Rattle.std.specs.Option.{option_or}
+use Rattle.rr_cover.specs.SpanNests.{is_ahead, at_span, standing}
+use Rattle.rr_cover.proofs.NestTurns.{fits_first, fits_between, low_of, high_of, only_none, turned_first, turned_first_twice}
+use Rattle.rr_cover.proofs.span_nest.changes.lift_before.Goals as goal
+
+pub fork-requires-then-height-clause-fits : goal.fork-requires-then-height-clause-fits
+fork-requires-then-height-clause-fits g c =
+    let front = c.in-Some.front.value in
+    let opened = c.in-Some.ensures.some in
+    fits_first c.args.node.value.span c.args.node.value.value c.args.before c.args.after front.span front.value c.in-Some.outer c.in-Some.inner c.in-Some.inner c.fork-back.result c.requires.fits opened (record { all = c.fork-back.ensures.all }) opened.fits.behind
+
+pub returns-then-height-clause-all : goal.returns-then-height-clause-all
+returns-then-height-clause-all g c = λ s.
+    turned_first _ _ _ (at_span c.args.node.value.span c.args.node.value.value s) (standing c.args.after s) _ _ _ (c.in-Some.ensures.some.all s) (c.fork-back.ensures.all s) (c.fork-then-height.ensures.all s)
+
+pub fork-requires-in_default-open-clause-fits : goal.fork-requires-in_default-open-clause-fits
+fork-requires-in_default-open-clause-fits g c =
+    let front = c.in-Some.front.value in
+    let opened = c.in-Some.ensures.some in
+    let none = c.in_default-open.ensures.none in
+    fits_first c.args.node.value.span c.args.node.value.value c.args.before c.args.after front.span front.value c.in-Some.outer c.in-Some.inner c.in-Some.inner c.fork-back-in_default-open.result c.requires.fits opened (record {
+      all = λ s.
+          c.fork-back-in_default-open.ensures.all s
+          ∙ ap (λ x. option_or x (option_or (at_span c.args.node.value.span c.args.node.value.value s) (standing c.args.after s))) (sym (none s));
+    }) opened.fits.behind
+
+pub returns-in_default-open-clause-all : goal.returns-in_default-open-clause-all
+returns-in_default-open-clause-all g c = λ s.
+    let none = c.in_default-open.ensures.none in
+    turned_first _ _ _ (at_span c.args.node.value.span c.args.node.value.value s) (standing c.args.after s) _ _ _ (c.in-Some.ensures.some.all s) (c.fork-back-in_default-open.ensures.all s
+    ∙ ap (λ x. option_or x (option_or (at_span c.args.node.value.span c.args.node.value.value s) (standing c.args.after s))) (sym (none s))) (c.fork-in_default-open.ensures.all s)
+
+pub fork-back-requires-2-clause-fits : goal.fork-back-requires-2-clause-fits
+fork-back-requires-2-clause-fits g c =
+    let span = c.args.node.value.span in
+    let front = c.in-Some.front.value in
+    let top = c.in-Some-open.top.value in
+    record {
+      ordered = c.requires.fits.ordered;
+      ahead = high_of c.in-Some.inner top.span top.value c.in-Some-open.low c.in-Some-open.high c.in-Some-open.ensures.some (λ u. is_ahead u span) (high_of c.args.before front.span front.value c.in-Some.outer c.in-Some.inner c.in-Some.ensures.some (λ u. is_ahead u span) c.requires.fits.ahead);
+      behind = c.requires.fits.behind;
+    }
+
+pub fork-requires-2-clause-fits : goal.fork-requires-2-clause-fits
+fork-requires-2-clause-fits g c =
+    let node = c.args.node.value in
+    let front = c.in-Some.front.value in
+    let top = c.in-Some-open.top.value in
+    let opened = c.in-Some.ensures.some in
+    fits_between front.span front.value node.span node.value c.in-Some.outer c.in-Some-open.low c.in-Some-open.high c.args.after c.fork-front.result c.fork-back-2.result c.in-Some.inner top.span top.value c.in-Some-open.ensures.some (record { all = c.fork-front.ensures.all }) (record { all = c.fork-back-2.ensures.all }) opened.fits.ahead opened.fits.behind (high_of c.args.before front.span front.value c.in-Some.outer c.in-Some.inner opened (λ u. is_ahead u node.span) c.requires.fits.ahead) c.requires.fits.behind
+
+pub returns-clause-all : goal.returns-clause-all
+returns-clause-all g c = λ s.
+    turned_first_twice _ _ _ _ _ (at_span c.args.node.value.span c.args.node.value.value s) (standing c.args.after s) _ _ _ _ _ (c.in-Some.ensures.some.all s) (c.in-Some-open.ensures.some.all s) (c.fork-front.ensures.all s) (c.fork-back-2.ensures.all s) (c.fork-2.ensures.all s)

@@ -1,0 +1,61 @@
+-- What the parts of a search tree of spans answer and leave. No public contract cites these.
+use Rattle.std.specs.Prelude.{◌≡◌, ℕ, ◌+◌, ◌<◌, ◌≤◌, Bool, true, false, ◌&&◌, nat_lt, nat_le, Some, is_some}
+use Rattle.std.specs.Option.{option_or}
+use Rattle.rr_number.specs.Spans.{Ends, crosses}
+use Rattle.rr_cover.specs.SpanNests.{is_ahead, at_span, standing, Fits, IsNest}
+use Rattle.rr_cover.specs.declared.span_nest.Nest.{Nest}
+use Rattle.rr_cover.specs.declared.span_nest.Nest.TheVariants.{Empty, Fork'}
+
+-- How many nodes a tree has.
+abbrev pub count : {T : Type 0} → Nest T → ℕ
+count Empty = 0
+count (Fork' p span value height least greatest before after) = count before + count after + 1
+
+-- The last span in order of those that begin below a number and reach another one, with its value.
+pub record IsLastReaching {T : Type 0} (nest : Nest T) (below to : ℕ) (t : Ends) (value : T) : Type 0 where
+  pub held : standing nest t ≡ Some value
+  pub begins : t.first < below
+  pub reaches : to ≤ t.last
+  pub last :
+      (u : Ends) → is_some (standing nest u) ≡ true → u.first < below → to ≤ u.last
+      → is_ahead t u ≡ false
+
+-- No span that begins below a number reaches another one.
+pub record NoneReaches {T : Type 0} (nest : Nest T) (below to : ℕ) : Type 0 where
+  pub none : (u : Ends) → is_some (standing nest u) ≡ true → u.first < below → u.last < to
+
+-- A span begins before another and ends within it.
+abbrev pub ends_in : Ends → Ends → Bool
+ends_in t s = nat_lt t.first s.first && (nat_le s.first t.last && nat_lt t.last s.last)
+
+-- A span begins within another and ends behind it.
+abbrev pub begins_in : Ends → Ends → Bool
+begins_in t s = nat_lt s.first t.first && (nat_le t.first s.last && nat_lt s.last t.last)
+
+-- Some span held crosses a span.
+pub record SomeCrosses {T : Type 0} (nest : Nest T) (s : Ends) : Type 0 where
+  pub span : Ends
+  pub held : is_some (standing nest span) ≡ true
+  pub crossing : crosses span s ≡ true
+
+-- No span held crosses a span.
+pub record NoneCrosses {T : Type 0} (nest : Nest T) (s : Ends) : Type 0 where
+  pub none : (t : Ends) → is_some (standing nest t) ≡ true → crosses t s ≡ false
+
+-- A tree taken apart at its root.
+pub record IsOpened {T : Type 0} (nest : Nest T) (span : Ends) (value : T) (before after : Nest T) : Type 0 where
+  pub fits : Fits span before after
+  pub low : IsNest before
+  pub high : IsNest after
+  pub all :
+      (s : Ends)
+      → standing nest s
+      ≡ option_or (standing before s) (option_or (at_span span value s) (standing after s))
+  pub fewer_before : count before < count nest
+  pub fewer_after : count after < count nest
+
+-- The spans of one tree stand ahead of those of another.
+pub record Precedes {T : Type 0} (left right : Nest T) : Type 0 where
+  pub ahead :
+      (s t : Ends) → is_some (standing left s) ≡ true → is_some (standing right t) ≡ true
+      → is_ahead s t ≡ true

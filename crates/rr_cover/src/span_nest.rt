@@ -1,0 +1,164 @@
+//! Spans that nest or lie apart, in a balanced search tree.
+
+ghost use Rattle.std.specs.Prelude.{◌≡◌, ◌↔◌, true, IfOk, IfErr, IfSome, IfNone, OnOk, OnErr};
+ghost use Rattle.std.specs.Option.{option_copied};
+ghost use Rattle.std.specs.FinMap as span_map;
+ghost use Rattle.rr_cover.specs.InsertFaults.{value_of};
+ghost use Rattle.rr_cover.specs.SpanMaps.{crosses_some, covering, inside, NoneCross, IsClosest, NoneCovers};
+ghost use Rattle.rr_cover.specs.declared.insert_fault.InsertFault.TheVariants.{Overlap};
+
+mod changes;
+mod lists;
+mod reading;
+
+use crate::in_order::put_in_order;
+use crate::insert_fault::InsertFault;
+use changes::{set, take};
+use lists::{push_covering, push_inside};
+use reading::{crosses_any, find, smallest_cover};
+use rr_number::Span;
+use std::alloc::{AllocError, Global};
+use std::marker::Model;
+
+/// Values kept by span, no two spans crossing: a height-balanced search tree of all spans, in order of first number
+/// ascending, then last number descending. Each call goes down some of its levels, at most some 30 for a million
+/// spans, however they nest.
+#[derive(Drop)]
+pub struct SpanNest<T> {
+    root: Nest<T>,
+    alloc: Global,
+}
+
+/// A search tree of spans.
+#[derive(Drop)]
+#[cycle(nest)]
+enum Nest<T> {
+    Empty,
+    Fork(Box<Node<T>>),
+}
+
+/// A span with its value, and the trees of the spans that stand ahead of it and behind it.
+#[derive(Drop)]
+#[cycle(nest)]
+struct Node<T> {
+    span: Span,
+    value: T,
+    /// How many levels the tree has from here on.
+    height: u8,
+    /// The least last number from here on.
+    least: u32,
+    /// The greatest last number from here on.
+    greatest: u32,
+    before: Nest<T>,
+    after: Nest<T>,
+}
+
+impl<T> Model for SpanNest<T> {
+    ghost use Rattle.std.specs.FinMap as span_map;
+    ghost use Rattle.rr_number.specs.Spans.{ends_code};
+    ghost use Rattle.rr_cover.specs.SpanMaps.{SpanMap};
+
+    ghost Value = { SpanMap T };
+
+    ghost coded = { span_map.code ends_code T.code };
+
+    ghost use Rattle.rr_cover.specs.SpanNests.{nested, IsSound};
+
+    ghost view = { λ a. nested a.root };
+
+    ghost invariant = { λ a. IsSound a.root };
+}
+
+impl<T> SpanNest<T> {
+    /// A nest of no span.
+    pub fn new(alloc: Global) -> Self
+        ensures { result ≡ span_map.empty }
+    {
+        SpanNest {
+            root: Nest::Empty,
+            alloc,
+        }
+    }
+
+    /// Tells a caller's proof that no two spans of the nest cross.
+    pub fn apart(&self)
+        ensures { NoneCross self.now }
+    {
+        let _root = &self.root;
+    }
+
+    /// The value that stands at the span.
+    pub fn get(&self, span: Span) -> Option<&T>
+        ensures { option_copied result ≡ span_map.get self.now span }
+    {
+        find(&self.root, span)
+    }
+
+    /// Whether the span crosses one that is held.
+    pub fn crosses(&self, span: Span) -> bool
+        ensures { result ≡ crosses_some self.now span }
+    {
+        crosses_any(&self.root, span)
+    }
+
+    /// The smallest span held that covers the span, with its value; an equal one counts (RFC 2725, 9).
+    pub fn closest(&self, span: Span) -> Option<(Span, &T)>
+        ensures found { IfSome result (λ p. IsClosest self.now span p.0 p.1.now) }
+        ensures none { IfNone result (NoneCovers self.now span) }
+    {
+        span.ordered();
+        smallest_cover(&self.root, span)
+    }
+
+    /// The spans held that cover the span, in order of first, then last number.
+    pub fn covering(&self, alloc: Global, span: Span) -> Result<Vec<Span>, AllocError>
+        ensures { IfOk result (λ spans. spans.items ≡ covering self.now span) }
+    {
+        let mut spans = Vec::new(alloc);
+        push_covering(&self.root, span, &mut spans)?;
+        put_in_order(&mut spans);
+        Ok(spans)
+    }
+
+    /// The spans held that lie inside the span, in order of first, then last number.
+    pub fn inside(&self, alloc: Global, span: Span) -> Result<Vec<Span>, AllocError>
+        ensures { IfOk result (λ spans. spans.items ≡ inside self.now span) }
+    {
+        let mut spans = Vec::new(alloc);
+        push_inside(&self.root, span, &mut spans)?;
+        put_in_order(&mut spans);
+        Ok(spans)
+    }
+}
+
+impl<T: Drop> SpanNest<T> {
+    /// Puts the value at the span, and gives back the value that stood there. A span that crosses one that is
+    /// held is refused, and so is any where memory is; then nothing changes and the value comes back.
+    pub fn insert(&mut self, span: Span, value: T) -> Result<Option<T>, InsertFault<T>>
+        ensures stood { IfOk result (λ old. old ≡ span_map.get self.old span) }
+        ensures ok { OnOk result (self.new ≡ span_map.insert self.old span value) }
+        ensures overlap { (result ≡ Err (Overlap value)) ↔ (crosses_some self.old span ≡ true) }
+        ensures err { OnErr result (self.new ≡ self.old) }
+        ensures back { IfErr result (λ fault. value_of fault ≡ value) }
+    {
+        if self.crosses(span) {
+            return Err(InsertFault::Overlap(value));
+        }
+        let alloc = self.alloc;
+        match set(&mut self.root, alloc, span, value) {
+            Ok(old) => Ok(old),
+            Err(value) => Err(InsertFault::Memory(value)),
+        }
+    }
+
+    /// Takes the value out that stands at the span. The spans inside it stay.
+    pub fn remove(&mut self, span: Span) -> Option<T>
+        ensures value { result ≡ span_map.get self.old span }
+        ensures rest { self.new ≡ span_map.remove self.old span }
+    {
+        take(&mut self.root, span)
+    }
+}
+
+#[cfg(test)]
+mod tests;

@@ -1,0 +1,362 @@
+//! Changing a search tree and keeping it balanced.
+
+ghost use Rattle.std.specs.Prelude.{◌≡◌, nat_le, None, Some, is_some, IfOk, IfErr, IfSome, IfNone, OnOk, OnErr, if◌then◌else◌};
+ghost use Rattle.std.specs.Option.{option_or};
+ghost use Rattle.std.specs.Ordering.{eq_by_cmp};
+ghost use Rattle.rr_number.specs.Spans.{Ends, IsSpan, span_cmp};
+ghost use Rattle.rr_cover.specs.SpanNests.{at_span, is_ahead, standing, Only, Fits, IsLeast, IsGreatest, IsNest};
+ghost use Rattle.rr_cover.specs.NestParts.{IsOpened, Precedes};
+
+use super::reading::{is_ahead, is_same};
+use super::{Nest, Node};
+use rr_number::Span;
+use std::alloc::Global;
+use std::mem;
+
+/// How many levels the tree has.
+fn height<T>(nest: &Nest<T>) -> u8 {
+    match nest {
+        Nest::Empty => 0,
+        Nest::Fork(node) => node.height,
+    }
+}
+
+/// A number that no last number of the tree is below.
+fn least<T>(nest: &Nest<T>) -> u32
+    requires { IsNest nest.now }
+    ensures { Only (λ s. nat_le result s.last) nest.now }
+{
+    match nest {
+        Nest::Empty => u32::MAX,
+        Nest::Fork(node) => node.least,
+    }
+}
+
+/// A number that no last number of the tree is above.
+fn greatest<T>(nest: &Nest<T>) -> u32
+    requires { IsNest nest.now }
+    ensures { Only (λ s. nat_le s.last result) nest.now }
+{
+    match nest {
+        Nest::Empty => 0,
+        Nest::Fork(node) => node.greatest,
+    }
+}
+
+/// The root of the tree and its two sides, cut off from it.
+fn open<T: Drop>(nest: Nest<T>) -> Option<(Box<Node<T>>, Nest<T>, Nest<T>)>
+    requires { IsNest nest }
+    ensures some { IfSome result (λ p. IsOpened nest p.0.value.span p.0.value.value p.1 p.2) }
+    ensures none { IfNone result ((s : Ends) → standing nest s ≡ None) }
+{
+    match nest {
+        Nest::Empty => None,
+        Nest::Fork(mut node) => {
+            let before = mem::replace(&mut node.before, Nest::Empty);
+            let after = mem::replace(&mut node.after, Nest::Empty);
+            Some((node, before, after))
+        }
+    }
+}
+
+/// The node over two sides, with what it knows of them.
+fn hang<T: Drop>(
+    mut node: Box<Node<T>>,
+    height: u8,
+    ends: (u32, u32),
+    before: Nest<T>,
+    after: Nest<T>,
+) -> Nest<T>
+    requires fits { Fits node.value.span before after }
+    requires least { IsLeast ends.0 node.value.span before after }
+    requires greatest { IsGreatest ends.1 node.value.span before after }
+    requires nests { IsNest before × IsNest after }
+    ensures all { (s : Ends) → standing result s
+        ≡ option_or (standing before s) (option_or (at_span node.value.span node.value.value s) (standing after s)) }
+    ensures nest { IsNest result }
+{
+    node.height = height;
+    node.least = ends.0;
+    node.greatest = ends.1;
+    node.before = before;
+    node.after = after;
+    Nest::Fork(node)
+}
+
+/// The node over two sides.
+fn fork<T: Drop>(node: Box<Node<T>>, before: Nest<T>, after: Nest<T>) -> Nest<T>
+    requires fits { Fits node.value.span before after }
+    requires nests { IsNest before × IsNest after }
+    ensures all { (s : Ends) → standing result s
+        ≡ option_or (standing before s) (option_or (at_span node.value.span node.value.value s) (standing after s)) }
+    ensures nest { IsNest result }
+{
+    let height = height(&before).max(height(&after)).saturating_add(1);
+    let last = node.span.last();
+    let least = least(&before).min(last).min(least(&after));
+    let greatest = greatest(&before).max(last).max(greatest(&after));
+    hang(node, height, (least, greatest), before, after)
+}
+
+/// The node over two sides, turned where one side is two levels higher than the other.
+fn balance<T: Drop>(node: Box<Node<T>>, before: Nest<T>, after: Nest<T>) -> Nest<T>
+    requires fits { Fits node.value.span before after }
+    requires nests { IsNest before × IsNest after }
+    ensures all { (s : Ends) → standing result s
+        ≡ option_or (standing before s) (option_or (at_span node.value.span node.value.value s) (standing after s)) }
+    ensures nest { IsNest result }
+{
+    let (front, back) = (height(&before), height(&after));
+    if front > back.saturating_add(1) {
+        lift_before(node, before, after)
+    } else if back > front.saturating_add(1) {
+        lift_after(node, before, after)
+    } else {
+        fork(node, before, after)
+    }
+}
+
+/// The node over two sides, the front one raised a level.
+fn lift_before<T: Drop>(node: Box<Node<T>>, before: Nest<T>, after: Nest<T>) -> Nest<T>
+    requires fits { Fits node.value.span before after }
+    requires nests { IsNest before × IsNest after }
+    ensures all { (s : Ends) → standing result s
+        ≡ option_or (standing before s) (option_or (at_span node.value.span node.value.value s) (standing after s)) }
+    ensures nest { IsNest result }
+{
+    let Some((front, outer, inner)) = open(before) else {
+        return fork(node, Nest::Empty, after);
+    };
+    if height(&outer) >= height(&inner) {
+        let back = fork(node, inner, after);
+        return fork(front, outer, back);
+    }
+    let Some((top, low, high)) = open(inner) else {
+        let back = fork(node, Nest::Empty, after);
+        return fork(front, outer, back);
+    };
+    let front = fork(front, outer, low);
+    let back = fork(node, high, after);
+    fork(top, front, back)
+}
+
+/// The node over two sides, the back one raised a level.
+fn lift_after<T: Drop>(node: Box<Node<T>>, before: Nest<T>, after: Nest<T>) -> Nest<T>
+    requires fits { Fits node.value.span before after }
+    requires nests { IsNest before × IsNest after }
+    ensures all { (s : Ends) → standing result s
+        ≡ option_or (standing before s) (option_or (at_span node.value.span node.value.value s) (standing after s)) }
+    ensures nest { IsNest result }
+{
+    let Some((back, inner, outer)) = open(after) else {
+        return fork(node, before, Nest::Empty);
+    };
+    if height(&outer) >= height(&inner) {
+        let front = fork(node, before, inner);
+        return fork(back, front, outer);
+    }
+    let Some((top, low, high)) = open(inner) else {
+        let front = fork(node, before, Nest::Empty);
+        return fork(back, front, outer);
+    };
+    let front = fork(node, before, low);
+    let back = fork(back, high, outer);
+    fork(top, front, back)
+}
+
+/// The tree with a node whose span it does not hold.
+fn put<T: Drop>(nest: Nest<T>, node: Box<Node<T>>) -> Nest<T>
+    requires order { IsNest nest }
+    requires ends { IsSpan node.value.span }
+    requires missing { standing nest node.value.span ≡ None }
+    ensures all { (s : Ends) → standing result s
+        ≡ (if eq_by_cmp span_cmp s node.value.span then Some node.value.value else standing nest s) }
+    ensures nest { IsNest result }
+{
+    let Some((root, before, after)) = open(nest) else {
+        return fork(node, Nest::Empty, Nest::Empty);
+    };
+    if is_ahead(node.span, root.span) {
+        let before = put(before, node);
+        balance(root, before, after)
+    } else {
+        let after = put(after, node);
+        balance(root, before, after)
+    }
+}
+
+/// The first node of a tree that is taken apart at its root, and the tree without it.
+fn split_first<T: Drop>(
+    root: Box<Node<T>>,
+    before: Nest<T>,
+    after: Nest<T>,
+) -> (Box<Node<T>>, Nest<T>)
+    requires fits { Fits root.value.span before after }
+    requires nests { IsNest before × IsNest after }
+    ensures ends { IsSpan result.0.value.span }
+    ensures all { (s : Ends)
+        → option_or (at_span result.0.value.span result.0.value.value s) (standing result.1 s)
+        ≡ option_or (standing before s) (option_or (at_span root.value.span root.value.value s) (standing after s)) }
+    ensures behind { Only (λ s. is_ahead result.0.value.span s) result.1 }
+    ensures nest { IsNest result.1 }
+{
+    let Some((next, low, high)) = open(before) else {
+        return (root, after);
+    };
+    let (first, rest) = split_first(next, low, high);
+    let rest = balance(root, rest, after);
+    (first, rest)
+}
+
+/// Two trees as one.
+fn join<T: Drop>(before: Nest<T>, after: Nest<T>) -> Nest<T>
+    requires order { Precedes before after }
+    requires nests { IsNest before × IsNest after }
+    ensures all { (s : Ends) → standing result s ≡ option_or (standing before s) (standing after s) }
+    ensures nest { IsNest result }
+{
+    let Some((root, low, high)) = open(after) else {
+        return before;
+    };
+    let (first, rest) = split_first(root, low, high);
+    balance(first, before, rest)
+}
+
+/// The value of a node.
+fn into_value<T: Drop>(node: Node<T>) -> T
+    ensures { result ≡ node.value }
+{
+    let Node { value, .. } = node;
+    value
+}
+
+/// The tree without a span, and the value that stood there.
+fn take_out<T: Drop>(nest: Nest<T>, span: Span) -> (Option<T>, Nest<T>)
+    requires { IsNest nest }
+    ensures value { result.0 ≡ standing nest span }
+    ensures all { (s : Ends) → standing result.1 s
+        ≡ (if eq_by_cmp span_cmp s span then None else standing nest s) }
+    ensures nest { IsNest result.1 }
+{
+    let Some((root, before, after)) = open(nest) else {
+        return (None, Nest::Empty);
+    };
+    if is_same(span, root.span) {
+        let rest = join(before, after);
+        return (Some(into_value(Box::into_inner(root))), rest);
+    }
+    if is_ahead(span, root.span) {
+        let (value, before) = take_out(before, span);
+        (value, balance(root, before, after))
+    } else {
+        let (value, after) = take_out(after, span);
+        (value, balance(root, before, after))
+    }
+}
+
+/// Puts a value in the place of the one that stands at the span; where none stands there it comes back.
+fn replace<T: Drop>(nest: &mut Nest<T>, span: Span, value: T) -> Result<T, T>
+    requires { IsNest nest.old }
+    ensures ok { IfOk result (λ old. standing nest.old span ≡ Some old) }
+    ensures all { OnOk result ((s : Ends) → standing nest.new s
+        ≡ (if eq_by_cmp span_cmp s span then Some value else standing nest.old s)) }
+    ensures err { OnErr result ((nest.new ≡ nest.old) × (standing nest.old span ≡ None)) }
+    ensures back { IfErr result (λ given. given ≡ value) }
+    ensures kept { (s : Ends) → is_some (standing nest.new s) ≡ is_some (standing nest.old s) }
+    ensures nest { IsNest nest.new }
+{
+    match nest {
+        Nest::Empty => Err(value),
+        Nest::Fork(node) => {
+            if is_same(span, node.span) {
+                Ok(mem::replace(&mut node.value, value))
+            } else if is_ahead(span, node.span) {
+                replace(&mut node.before, span, value)
+            } else {
+                replace(&mut node.after, span, value)
+            }
+        }
+    }
+}
+
+/// Puts a value at a span that is not held. Where memory is refused, nothing changes and the value comes back.
+fn add<T: Drop>(nest: &mut Nest<T>, alloc: Global, span: Span, value: T) -> Result<(), T>
+    requires order { IsNest nest.old }
+    requires missing { standing nest.old span ≡ None }
+    ensures all { OnOk result ((s : Ends) → standing nest.new s
+        ≡ (if eq_by_cmp span_cmp s span then Some value else standing nest.old s)) }
+    ensures err { OnErr result (nest.new ≡ nest.old) }
+    ensures back { IfErr result (λ given. given ≡ value) }
+    ensures nest { IsNest nest.new }
+{
+    span.ordered();
+    let node = Node {
+        span,
+        value,
+        height: 1,
+        least: span.last(),
+        greatest: span.last(),
+        before: Nest::Empty,
+        after: Nest::Empty,
+    };
+    match Box::new(alloc, node) {
+        Ok(node) => {
+            place(nest, node);
+            Ok(())
+        }
+        Err(refused) => Err(into_value(refused.value)),
+    }
+}
+
+/// Hangs a node in whose span is not held.
+fn place<T: Drop>(nest: &mut Nest<T>, node: Box<Node<T>>)
+    requires order { IsNest nest.old }
+    requires ends { IsSpan node.value.span }
+    requires missing { standing nest.old node.value.span ≡ None }
+    ensures all { (s : Ends) → standing nest.new s
+        ≡ (if eq_by_cmp span_cmp s node.value.span then Some node.value.value else standing nest.old s) }
+    ensures nest { IsNest nest.new }
+{
+    let whole = mem::replace(nest, Nest::Empty);
+    *nest = put(whole, node);
+}
+
+/// Puts the value at the span, and gives back the one that stood there. Where memory is refused, nothing changes and
+/// the value comes back.
+pub(super) fn set<T: Drop>(
+    nest: &mut Nest<T>,
+    alloc: Global,
+    span: Span,
+    value: T,
+) -> Result<Option<T>, T>
+    requires { IsNest nest.old }
+    ensures stood { IfOk result (λ old. old ≡ standing nest.old span) }
+    ensures all { OnOk result ((s : Ends) → standing nest.new s
+        ≡ (if eq_by_cmp span_cmp s span then Some value else standing nest.old s)) }
+    ensures err { OnErr result (nest.new ≡ nest.old) }
+    ensures back { IfErr result (λ given. given ≡ value) }
+    ensures nest { IsNest nest.new }
+{
+    let value = match replace(nest, span, value) {
+        Ok(old) => return Ok(Some(old)),
+        Err(value) => value,
+    };
+    match add(nest, alloc, span, value) {
+        Ok(()) => Ok(None),
+        Err(value) => Err(value),
+    }
+}
+
+/// Takes out the value that stands at the span.
+pub(super) fn take<T: Drop>(nest: &mut Nest<T>, span: Span) -> Option<T>
+    requires { IsNest nest.old }
+    ensures value { result ≡ standing nest.old span }
+    ensures all { (s : Ends) → standing nest.new s
+        ≡ (if eq_by_cmp span_cmp s span then None else standing nest.old s) }
+    ensures nest { IsNest nest.new }
+{
+    let whole = mem::replace(nest, Nest::Empty);
+    let (value, rest) = take_out(whole, span);
+    *nest = rest;
+    value
+}

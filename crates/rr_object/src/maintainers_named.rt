@@ -1,0 +1,68 @@
+//! The maintainers that an object names.
+
+ghost use Rattle.std.specs.Prelude.{◌≡◌};
+ghost use Rattle.std.specs.Iterator.{YieldsFirstRef, item_count};
+ghost use Rattle.rr_object.specs.Objects.{names_of};
+
+use crate::grant::Grant;
+use crate::object::Object;
+use rr_number::Name;
+use std::marker::Model;
+
+/// The maintainers in `mnt-by`, `mnt-lower`, `mnt-routes` and `mbrs-by-ref` of an object, in this order and without `ANY`; one
+/// that is named twice comes twice.
+#[derive(Debug, Drop)]
+pub struct MaintainersNamed<'a> {
+    maintainers: &'a [Name],
+    lower: &'a [Name],
+    routes: &'a [Grant],
+    referrers: &'a [Name],
+}
+
+impl<'a> Model for MaintainersNamed<'a> {
+    ghost use Rattle.std.specs.Prelude.{ℕ, List, ◌++◌, map};
+
+    ghost Value = { List (List ℕ) };
+
+    ghost view = { λ s. ((s.maintainers.now ++ s.lower.now) ++ map (λ grant. grant.name) s.routes.now) ++ s.referrers.now };
+}
+
+impl Object {
+    /// The maintainers that the object names.
+    pub fn maintainers_named(&self) -> MaintainersNamed<'_>
+        ensures { result ≡ names_of self.now }
+    {
+        MaintainersNamed {
+            maintainers: self.maintainers(),
+            lower: self.lower(),
+            routes: self.routes(),
+            referrers: self.by_ref().names(),
+        }
+    }
+}
+
+impl<'a> Iterator for MaintainersNamed<'a> {
+    type Item = &'a Name;
+
+    ghost next_gives = { YieldsFirstRef (λ names. names) };
+
+    ghost remaining = { item_count (λ names. names) };
+
+    fn next(&mut self) -> Option<&'a Name> {
+        if let Some((first, others)) = self.maintainers.split_first() {
+            self.maintainers = others;
+            return Some(first);
+        }
+        if let Some((first, others)) = self.lower.split_first() {
+            self.lower = others;
+            return Some(first);
+        }
+        if let Some((first, others)) = self.routes.split_first() {
+            self.routes = others;
+            return Some(first.name());
+        }
+        let (first, others) = self.referrers.split_first()?;
+        self.referrers = others;
+        Some(first)
+    }
+}

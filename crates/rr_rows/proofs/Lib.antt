@@ -1,0 +1,9 @@
+pub mod TextLemmas
+pub mod RowLemmas
+pub mod SchemaLemmas
+pub mod ChangeLemmas
+pub mod QueryLemmas
+pub mod StatementLemmas
+pub mod NumberLemmas
+pub mod CreateLemmas
+pub mod EntryLemmas

@@ -1,0 +1,19 @@
+use Rattle.std.proofs.Common.{rules, ◌≡◌, ◌+◌, ◌<◌, ◌++◌, ◌∷◌, [], Some, length, take, sym, ap, ◌∙◌, subst₂, arith, w64}
+use Rattle.std.proofs.lemmas.List.{take_more}
+use Rattle.std.proofs.lemmas.Int.{to_z-of_z}
+use mir.Val.{to_z, of_z}
+use Rattle.rr_rows.specs.Contents.{IsPast}
+use Rattle.rr_rows.proofs.NumberLemmas.{IsRun, run_more}
+use Rattle.rr_rows.proofs.numbers.are_numbered.Goals as goal
+
+pub loop-row-preserved : goal.loop-row-preserved
+loop-row-preserved c =
+    let n = c.in_ok-number.number in
+    let rows = c.args.rows.now in
+    let at = c.loop-row.row-index in
+    let row = c.row-item.result in
+    let same : to_z w64 (of_z w64 n) ≡ n = to_z-of_z w64 n (search rules) in
+    let within : at < length rows = omega arith in
+    let grown : take (at + 1) rows ≡ take at rows ++ row ∷ [] = take_more rows at row within ∙ ap (λ r. take at rows ++ r ∷ []) (sym c.row-item.is) in
+    let past : IsPast c.loop-row.last n = rw same at (c.is_past.ensures c.if-not-is_past.false) in
+    subst₂ (λ m xs. IsRun (Some m) xs) (sym same) (sym grown) (run_more c.loop-row.last (take at rows) row n c.loop-row.invariant c.in_ok-number.ensures.ok.1 past)

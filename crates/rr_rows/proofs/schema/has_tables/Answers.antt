@@ -1,0 +1,15 @@
+use Rattle.std.proofs.Common.{rules, ◌≡◌, ◌∷◌, drop, true, ap, sym, ◌∙◌}
+use Rattle.std.specs.List.{list_all}
+use Rattle.rr_rows.specs.Tables.{stands_apart}
+use Rattle.rr_rows.proofs.NumberLemmas.{has_them, first_three, rest_is}
+use Rattle.rr_rows.proofs.schema.has_tables.Goals as goal
+
+pub returns-in-len3-up : goal.returns-in-len3-up
+returns-in-len3-up c ours =
+    let tables = c.args.schema.now.tables in
+    let first = c.first-item.result in
+    let second = c.second-item.result in
+    let third = c.third-item.result in
+    let all : tables ≡ first ∷ second ∷ third ∷ drop 3 tables = first_three tables first second third (search rules) (search rules) (search rules) (search rules) in
+    let apart : list_all stands_apart (drop 3 tables) ≡ true = ap (list_all stands_apart) (sym (rest_is tables)) ∙ search (rules, c.are_ours.ensures.apart ours) in
+    has_them c.args.schema.now first second third (drop 3 tables) all (c.are_ours.ensures.meta ours) (c.are_ours.ensures.object ours) (c.are_ours.ensures.named ours) apart

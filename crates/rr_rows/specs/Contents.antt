@@ -1,0 +1,124 @@
+-- The rows of the three tables, and what a statement does to them.
+use Rattle.std.specs.Prelude.{ℤ, ◌<ℤ◌, Option, None, Some, ◌≡◌, ◌≢◌, ℕ, pos, true, not, Bool, List, [], ◌∷◌, ◌++◌, map, filter, IsPermutation, IsSorted, IsTrue}
+use Rattle.std.specs.declared.cmp.Ordering.{Ordering}
+use Rattle.std.specs.List.{AllByRecursion, list_all, flat_map}
+use Rattle.sqlite_value.specs.declared.value.Value.TheVariants.{Null, Int, Text, Blob}
+use Rattle.sqlite_value.specs.declared.keys.Collation.TheVariants.{Binary}
+use Rattle.sqlite_value.specs.Order.{Row, column}
+use Rattle.sqlite_value.specs.Keys.{ascending}
+use Rattle.sqlite_sql.specs.Term.{Term, holds}
+use Rattle.sqlite_sql.specs.Query.{key_cmp}
+use Rattle.sqlite_trees.specs.Tree.{rowid, IsAscending}
+use Rattle.sqlite_trees.specs.View.{is_int}
+use Rattle.sqlite.specs.Effect.{Database}
+use Rattle.sqlite.specs.State.{State}
+use Rattle.rr_rows.specs.Tables.{HasTables}
+use Rattle.rr_rows.specs.Queries.{object_tests, named_tests, naming_tests}
+
+-- each row has a number, and no two the same
+pub record AreKeyed (rows : List Row) : Type 0 where
+  pub apart : IsAscending (λ a b. rowid a ≢ rowid b) rows
+  pub numbered : AllByRecursion (λ r. is_int (rowid r) ≡ true) rows
+
+-- the columns of a row, which is NULL where there is none
+abbrev pub columns : Row → Row
+columns row = column row 1 ∷ column row 2 ∷ column row 3 ∷ []
+
+-- what the rows of a table hold, without their numbers
+abbrev pub contents : List Row → List Row
+contents = map columns
+
+-- the trees of the three tables
+abbrev pub meta_tree : ℕ
+meta_tree = 0
+
+abbrev pub object_tree : ℕ
+object_tree = 2
+
+abbrev pub named_tree : ℕ
+named_tree = 4
+
+-- a database with the three tables, whose rows have numbers of their own
+pub record IsTidy (db : Database) : Type 0 where
+  pub has : HasTables db.schema
+  pub meta : AreKeyed (db.trees 0)
+  pub object : AreKeyed (db.trees 2)
+  pub named : AreKeyed (db.trees 4)
+
+-- the rows of one of the three tables change so, and the two others stay
+pub record Alters (old new : Database) (tree : ℕ) (Change : List Row → List Row → Type 0) : Type 0 where
+  pub tidy : IsTidy new
+  pub change : Change (contents (old.trees tree)) (contents (new.trees tree))
+  pub meta : 0 ≢ tree → new.trees 0 ≡ old.trees 0
+  pub object : 2 ≢ tree → new.trees 2 ≡ old.trees 2
+  pub named : 4 ≢ tree → new.trees 4 ≡ old.trees 4
+
+-- these rows are added
+abbrev pub Adds : List Row → List Row → List Row → Type 0
+Adds rows old new = IsPermutation (rows ++ old) new
+
+-- the rows that pass the test are taken out
+abbrev pub Removes : (Row → Bool) → List Row → List Row → Type 0
+Removes test old new = new ≡ filter (λ row. not (test row)) old
+
+-- a statement ran in the transaction, which goes on
+pub record IsStep (old new : State) : Type 0 where
+  pub is_open : IsTrue new.is_open
+  pub mode : new.in_transaction ≡ old.in_transaction
+  pub committed : new.committed ≡ old.committed
+
+-- these rows, in an order
+pub record IsListing (rank : Row → Row → Ordering) (rows answer : List Row) : Type 0 where
+  pub same : IsPermutation rows answer
+  pub sorted : IsSorted rank answer
+
+-- a setting and its value, as a row of `meta`, which has no third column
+abbrev pub meta_values : List ℕ → List ℕ → Row
+meta_values name value = Text name ∷ Text value ∷ Null ∷ []
+
+-- a class, a key and a text, as a row of `object`
+abbrev pub object_values : ℕ → List ℕ → List ℕ → Row
+object_values class key body = Int (pos class) ∷ Text key ∷ Blob body ∷ []
+
+-- a maintainer, a class and a key, as a row of `named`
+abbrev pub named_values : List ℕ → ℕ → List ℕ → Row
+named_values name class key = Text name ∷ Int (pos class) ∷ Text key ∷ []
+
+-- what a row holds passes the tests of WHERE under these parameters
+abbrev pub passes : List Term → Row → Row → Bool
+passes tests params row = list_all (holds (params ∷ (Null ∷ row) ∷ [])) tests
+
+-- a row of `object` has the class and the key, as SQL compares them
+abbrev pub is_object_of : ℕ → List ℕ → Row → Bool
+is_object_of class key = passes object_tests (Int (pos class) ∷ Text key ∷ [])
+
+-- and a row of `named`
+abbrev pub is_named_of : ℕ → List ℕ → Row → Bool
+is_named_of class key = passes named_tests (Int (pos class) ∷ Text key ∷ [])
+
+-- a row of `named` and one of `object` are of one object, and the first is of the maintainer
+abbrev pub are_joined : List ℕ → Row → Row → Bool
+are_joined name first second = list_all (holds ((Text name ∷ []) ∷ (Null ∷ first) ∷ (Null ∷ second) ∷ [])) naming_tests
+
+-- the rows of `object` to which those of `named` point that are of the maintainer
+abbrev pub pointed : List ℕ → List Row → List Row → List Row
+pointed name named object = flat_map (λ first. filter (are_joined name first) object) named
+
+-- rows in the order of their first columns
+abbrev pub by_one : Row → Row → Ordering
+by_one = key_cmp 0 (ascending Binary ∷ [])
+
+abbrev pub by_two : Row → Row → Ordering
+by_two = key_cmp 0 (ascending Binary ∷ ascending Binary ∷ [])
+
+abbrev pub by_three : Row → Row → Ordering
+by_three = key_cmp 0 (ascending Binary ∷ ascending Binary ∷ ascending Binary ∷ [])
+
+-- the number of a row, as a row
+abbrev pub number : Row → Row
+number row = rowid row ∷ []
+
+-- a number is above the last, if there is one
+abbrev pub IsPast : Option ℤ → ℤ → Type 0
+IsPast None n = Unit {0}
+IsPast (Some last) n = last <ℤ n

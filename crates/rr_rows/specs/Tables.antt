@@ -1,0 +1,96 @@
+-- The three tables of a registry, and the schemas that have them.
+use Rattle.std.specs.Prelude.{◌≡◌, ℕ, Bool, true, false, not, ◌&&◌, ◌||◌, List, [], ◌∷◌, codes, None, nat_lt}
+use Rattle.std.specs.List.{list_all}
+use Rattle.sqlite_value.specs.declared.value.Value.TheVariants.{Null}
+use Rattle.sqlite_value.specs.declared.keys.Collation.TheVariants.{Binary}
+use Rattle.sqlite_value.specs.declared.keys.Order.{Order}
+use Rattle.sqlite_sql.specs.Term.{Term}
+use Rattle.sqlite_schema.specs.declared.schema.Kind.{Kind}
+use Rattle.sqlite_schema.specs.declared.schema.Kind.TheVariants as kind
+use Rattle.sqlite_schema.specs.declared.schema.Column.{Column}
+use Rattle.sqlite_schema.specs.declared.schema.Reference.{Reference}
+use Rattle.sqlite_schema.specs.declared.schema.Table.{Table}
+use Rattle.sqlite_schema.specs.declared.schema.Index.{Index}
+use Rattle.sqlite_schema.specs.declared.schema.View.{View}
+use Rattle.sqlite_schema.specs.declared.schema.Schema.{Schema}
+use Rattle.sqlite_schema.specs.Names.{same_name}
+
+-- a column of a STRICT table that takes no NULL (profile)
+abbrev pub required : List ℕ → Kind → Column
+required name kind = record { name = name; kind = kind; is_strict = true; not_null = true; default = Null; collation = Binary }
+
+-- the keys and the checks of a table, which only a refusal reads
+pub record Rules : Type 0 where
+  pub primary : List ℕ
+  pub uniques : List (List ℕ)
+  pub orders : List Order
+  pub checks : List Term
+
+-- a table of these columns, with no foreign key, no rowid of its own and no default
+abbrev pub table_with : List ℕ → ℕ → List Column → Rules → Table
+table_with name tree columns rules = record {
+  name = name;
+  tree = tree;
+  columns = columns;
+  key = None;
+  primary = rules.primary;
+  uniques = rules.uniques;
+  orders = rules.orders;
+  checks = rules.checks;
+  references = [];
+  computed = [];
+  stamps = record { places = []; terms = []; formats = [] };
+  is_counted = false;
+}
+
+-- a table has no foreign key, no rowid of its own and no default
+pub record IsPlain (table : Table) : Type 0 where
+  pub key : table.key ≡ None
+  pub references : table.references ≡ []
+  pub computed : table.computed ≡ []
+  pub places : table.stamps.places ≡ []
+  pub terms : table.stamps.terms ≡ []
+  pub formats : table.stamps.formats ≡ []
+  pub counted : table.is_counted ≡ false
+
+abbrev pub rules_of : Table → Rules
+rules_of table = record { primary = table.primary; uniques = table.uniques; orders = table.orders; checks = table.checks }
+
+-- the settings of the store: the version of its tables (profile)
+abbrev pub meta : Rules → Table
+meta = table_with (codes "meta") 0 (required (codes "name") kind.Text ∷ required (codes "value") kind.Text ∷ [])
+
+-- the objects, by class and key, with their canonical texts (profile)
+abbrev pub object : Rules → Table
+object = table_with (codes "object") 2 (required (codes "class") kind.Integer ∷ required (codes "okey") kind.Text ∷ required (codes "body") kind.Blob ∷ [])
+
+-- which objects name which maintainers (profile)
+abbrev pub named : Rules → Table
+named = table_with (codes "named") 4 (required (codes "maintainer") kind.Text ∷ required (codes "class") kind.Integer ∷ required (codes "okey") kind.Text ∷ [])
+
+-- what a file may have beside the three tables
+pub record Layout : Type 0 where
+  pub meta : Rules
+  pub object : Rules
+  pub named : Rules
+  pub others : List Table
+  pub indexes : List Index
+  pub views : List View
+
+-- the three tables come first, in this order (profile)
+abbrev pub laid : Layout → Schema
+laid l = record { tables = meta l.meta ∷ object l.object ∷ named l.named ∷ l.others; indexes = l.indexes; views = l.views }
+
+-- the reference is to none of the three tables
+abbrev pub refers_elsewhere : Reference → Bool
+refers_elsewhere reference = not (same_name (codes "meta") reference.parent || same_name (codes "object") reference.parent || same_name (codes "named") reference.parent)
+
+-- another table has a tree of its own, and no foreign key to the three
+abbrev pub stands_apart : Table → Bool
+stands_apart table = nat_lt 4 table.tree && list_all refers_elsewhere table.references
+
+-- a schema has the three tables first, and others that stand apart from them (profile)
+pub record HasTables (schema : Schema) : Type 0 where
+  pub layout : Layout
+  pub is : schema ≡ laid layout
+  pub apart : list_all stands_apart layout.others ≡ true

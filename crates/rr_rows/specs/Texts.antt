@@ -1,0 +1,56 @@
+-- The statements on the three tables.
+use Rattle.std.specs.Prelude.{ℕ, List, codes}
+
+abbrev pub create_meta : List ℕ
+create_meta = codes "CREATE TABLE IF NOT EXISTS meta (name TEXT NOT NULL PRIMARY KEY, value TEXT NOT NULL) STRICT"
+
+abbrev pub create_object : List ℕ
+create_object = codes "CREATE TABLE IF NOT EXISTS object (class INTEGER NOT NULL CHECK (class >= 1 AND class <= 7), okey TEXT NOT NULL, body BLOB NOT NULL, PRIMARY KEY (class, okey)) STRICT"
+
+abbrev pub create_named : List ℕ
+create_named = codes "CREATE TABLE IF NOT EXISTS named (maintainer TEXT NOT NULL, class INTEGER NOT NULL, okey TEXT NOT NULL, PRIMARY KEY (maintainer, class, okey)) STRICT"
+
+abbrev pub insert_meta : List ℕ
+insert_meta = codes "INSERT INTO meta (name, value) VALUES (?1, ?2)"
+
+abbrev pub insert_object : List ℕ
+insert_object = codes "INSERT INTO object (class, okey, body) VALUES (?1, ?2, ?3)"
+
+abbrev pub insert_named : List ℕ
+insert_named = codes "INSERT INTO named (maintainer, class, okey) VALUES (?1, ?2, ?3)"
+
+abbrev pub delete_object : List ℕ
+delete_object = codes "DELETE FROM object WHERE class = ?1 AND okey = ?2"
+
+abbrev pub delete_named : List ℕ
+delete_named = codes "DELETE FROM named WHERE class = ?1 AND okey = ?2"
+
+abbrev pub clear_meta : List ℕ
+clear_meta = codes "DELETE FROM meta"
+
+abbrev pub clear_object : List ℕ
+clear_object = codes "DELETE FROM object"
+
+abbrev pub clear_named : List ℕ
+clear_named = codes "DELETE FROM named"
+
+abbrev pub select_meta : List ℕ
+select_meta = codes "SELECT name, value FROM meta ORDER BY name, value"
+
+abbrev pub select_object : List ℕ
+select_object = codes "SELECT class, okey, body FROM object ORDER BY class, okey"
+
+abbrev pub select_named : List ℕ
+select_named = codes "SELECT maintainer, class, okey FROM named ORDER BY maintainer, class, okey"
+
+abbrev pub select_naming : List ℕ
+select_naming = codes "SELECT o.class, o.okey, o.body FROM named n JOIN object o ON o.class = n.class AND o.okey = n.okey WHERE n.maintainer = ?1 ORDER BY o.class, o.okey"
+
+abbrev pub meta_numbers : List ℕ
+meta_numbers = codes "SELECT rowid FROM meta ORDER BY rowid"
+
+abbrev pub object_numbers : List ℕ
+object_numbers = codes "SELECT rowid FROM object ORDER BY rowid"
+
+abbrev pub named_numbers : List ℕ
+named_numbers = codes "SELECT rowid FROM named ORDER BY rowid"

@@ -1,0 +1,30 @@
+//! Whether rows have numbers of their own.
+
+ghost use Rattle.std.specs.Prelude.{◌≡◌, IsTrue, IfOk};
+ghost use Rattle.rr_rows.specs.Contents.{AreKeyed, IsPast};
+
+use sqlite::{Error, Row};
+
+fn is_past(last: Option<i64>, number: i64) -> bool
+    ensures { IsTrue result → IsPast last number }
+{
+    match last {
+        Some(before) => before < number,
+        None => true,
+    }
+}
+
+/// Whether rows, each of one number, have whole numbers that rise. The error is want of memory.
+pub fn are_numbered(rows: &[Row]) -> Result<bool, Error>
+    ensures { IfOk result (λ rise. IsTrue rise → AreKeyed rows.now) }
+{
+    let mut last: Option<i64> = None;
+    for row in rows {
+        let number: i64 = row.get(0)?;
+        if !is_past(last, number) {
+            return Ok(false);
+        }
+        last = Some(number);
+    }
+    Ok(true)
+}

@@ -1,0 +1,16 @@
+-- What a transaction that is committed leaves, and what a stop during it may leave.
+use Rattle.std.proofs.Common.{◌≡◌, true, arith}
+use Rattle.sqlite_trees.specs.declared.store.Store.{Ghosts}
+use Rattle.sqlite.specs.Effect.{Database}
+use Rattle.sqlite.specs.State.{HasCleanDisk, Survives}
+use Rattle.sqlite.specs.Held.{Held, state}
+use Rattle.sqlite.proofs.Callers.{survives_begin}
+use Rattle.sqlite.proofs.StateLemmas.{survives_then}
+use Rattle.rr_rows.specs.Entries.{TreesOf}
+
+pub committed_survives : {S : Type 0} (g : Ghosts S) (old mid new : Held S) (P : Database → Type 0) → Survives (state g (record old { in_transaction = true })) (state g mid) (λ _. ⊥)
+    → Survives (state g mid) (state g new) (λ db. db ≡ (state g mid).now.trees) → (HasCleanDisk (state g mid) → P (state g mid).now) → Survives (state g old) (state g new) (TreesOf P)
+committed_survives g old mid new P first last done =
+    survives_begin g old (state g new) (TreesOf P)
+    (survives_then (state g (record old { in_transaction = true })) (state g mid) (state g new) (λ _. ⊥) (λ db. db ≡ (state g mid).now.trees) (TreesOf P) (λ clean db none. absurd none)
+    (λ clean db is. ((state g mid).now, done (omega (arith, last.clean)), is)) first last)

@@ -1,0 +1,5 @@
+pub mod CallLemmas
+pub mod AddingLemmas
+pub mod BodyLemmas
+pub mod CommitLemmas
+pub mod LookLemmas

@@ -1,0 +1,69 @@
+-- A query with no RETURNING leaves the database as it is, also where it fails.
+use Rattle.std.proofs.Common.{◌≡◌, inl, inr, false, ℕ, List, Option, Some, None, Ok, Err, Result, IfOk, IfErr, OnOk, OnErr, IsTrue, sym, subst, ◌∙◌, arith}
+use Rattle.std.proofs.lemmas.Bool.{cases_Bool}
+use Rattle.sqlite_value.specs.Order.{Row}
+use Rattle.sqlite.specs.declared.error.Error.{Error}
+use Rattle.sqlite_schema.specs.declared.command.Returning.{Returning}
+use Rattle.sqlite.specs.Listing.{understood}
+use Rattle.sqlite_schema.specs.declared.command.Command.{Command}
+use Rattle.sqlite_schema.specs.declared.schema.Schema.{Schema}
+use Rattle.rr_rows.specs.Tables.{Layout, HasTables}
+use Rattle.rr_rows.specs.Queries.{Means}
+use Rattle.sqlite.specs.State.{State, HasCleanDisk, IsUnchanged, Fails, Shown, ShowsRows, FailsToQuery, FailsToShow, IsNotRun, CommitsShowing, Survives}
+use Rattle.sqlite.specs.Clock.{timed}
+use Rattle.sqlite.proofs.Callers.{IsPlain, never_commits}
+use Rattle.sqlite.proofs.StateLemmas.{survives_weaker}
+
+module _ (sql : List ℕ) (params : Row) (old new : State) where
+  pub shown_open : (rows : List Row) → Shown sql params old new rows → IsTrue old.is_open
+  unfolding Shown
+  shown_open rows h = go h.0.returning h.2
+    where
+      go : (o : Option Returning) → ShowsRows old new sql h.0 (timed params h.0.formats h.1.now) rows o → IsTrue old.is_open
+      go None s = s.3.0.was_open
+      go (Some what) s = s.1.shown.was_open
+
+  pub shown_same : (rows : List Row) → IsPlain (understood old.now.schema sql) → Shown sql params old new rows → IsUnchanged old new
+  unfolding Shown
+  shown_same rows plain h = (subst (ShowsRows old new sql h.0 (timed params h.0.formats h.1.now) rows) (subst IsPlain h.1.is plain).0 h.2).3
+
+  module _ (settled : IsTrue old.is_open → old.now ≡ old.committed) (on : IsTrue new.is_open) where
+    fails_same : (T : Type 0) (e : Error) → Fails old new T e → new.now ≡ old.now
+    fails_same T e h = let back = h.3 in (back.undone on).0 ∙ sym (settled (back.was_open on))
+
+    unrun_same : (e : Error) → IsNotRun old new sql params e → new.now ≡ old.now
+    unfolding IsNotRun
+    unrun_same e (inl h) = h.1.0.now_is
+    unrun_same e (inr h) = fails_same ⊥ e h
+
+    pub failed_same : (e : Error) → FailsToQuery sql params old new e → new.now ≡ old.now
+    unfolding FailsToQuery
+    failed_same e (inl h) = unrun_same e h
+    failed_same e (inr h) = go h.0.returning h.2
+      where
+        go : (o : Option Returning) → FailsToShow old new sql h.0 (timed params h.0.formats h.1.now) e o → new.now ≡ old.now
+        go None f = f.3.0.now_is
+        go (Some what) (inl f) = f.1.0.now_is
+        go (Some what) (inr f) = fails_same _ e f
+
+  pub looks : (HasCleanDisk old → IsTrue old.is_open → IsPlain (understood old.now.schema sql)) → Survives old new (CommitsShowing sql params old) → Survives old new (λ _. old.is_open ≡ false)
+  looks plain h = survives_weaker old new (CommitsShowing sql params old) (λ _. old.is_open ≡ false) (λ clean db made. elim (cases_Bool old.is_open) [
+    | inl on ↦ absurd (never_commits sql params old db (plain (omega (arith, h.clean)) on) made)
+    | inr off ↦ off
+  ]) h
+
+pub on_each : {X E : Type 0} (r : Result X E) (P : X → Type 0) (Q : Type 0) → IfOk r P → ((x : X) → P x → Q) → OnOk r Q
+on_each (Ok x) P Q h f = f x h
+on_each (Err e) P Q h f = tt
+
+pub on_err : {X E : Type 0} (r : Result X E) (P : E → Type 0) (Q : Type 0) → IfErr r P → ((e : E) → P e → Q) → OnErr r Q
+on_err (Ok x) P Q h f = tt
+on_err (Err e) P Q h f = f e h
+
+-- a text on the tables is plain under each schema that has them
+pub plain_of : (schema : Schema) (text : List ℕ) (command : Layout → Command) → ((l : Layout) → Means l text (command l)) → HasTables schema → IsPlain (understood schema text)
+plain_of schema text command means has = subst (λ s. IsPlain (understood s text)) (sym has.is) (means has.layout).plain
+
+pub each_shown : {X E : Type 0} (r : Result X E) (P : X → Type 0) (Q : Type 0) (R : X → Type 0) → IfOk r P → OnOk r Q → ((x : X) → Q → P x → R x) → IfOk r R
+each_shown (Ok x) P Q R h k f = f x k h
+each_shown (Err e) P Q R h k f = tt

@@ -1,0 +1,30 @@
+use Rattle.std.proofs.Common.{◌≡◌, ℕ, ◌+◌, ◌<◌, List, [], ◌∷◌, ◌++◌, length, map, take, sym, ap, subst, ◌∙◌, arith}
+use Rattle.std.proofs.Math.Seq.{take-length}
+use Rattle.std.proofs.lemmas.List.{take_more, map-append}
+use Rattle.sqlite_value.specs.Order.{Row}
+use Rattle.sqlite.specs.Held.{state}
+use Rattle.rr_rows.specs.Contents.{Adds, Alters, named_values}
+use Rattle.rr_store.proofs.AddingLemmas.{HasAdded, added_more}
+use Rattle.rr_store.proofs.bodies.add_names.Goals as goal
+
+pub loop-name-preserved : goal.loop-name-preserved
+loop-name-preserved g c =
+    let name = c.name-item.result in
+    let names = c.args.names.now in
+    let at = c.loop-name.name-index in
+    let row : List ℕ → Row = λ n. named_values n c.args.class c.args.key.now in
+    let within : at < length names = omega arith in
+    let grown : map row (take (at + 1) names) ≡ map row (take at names) ++ row name ∷ [] =
+    ap (map row) (take_more names at name within ∙ ap (λ n. take at names ++ n ∷ []) (sym c.name-item.is)) ∙ map-append row (take at names) (name ∷ []) in (
+      c.in_ok-_count.ensures.same_reference ∙ c.loop-name.invariant.0,
+      subst (HasAdded g.S.Store c.args.tx.now.conn.now c.add_name.new.tx.conn.now) (sym grown)
+          (added_more g.S.Store c.args.tx.now.conn.now c.loop-name.tx.conn.now c.add_name.new.tx.conn.now (map row (take at names)) (row name) c.loop-name.invariant.1
+          (λ clean. rw c.as_bytes.ensures.value at (c.in_ok-_count.ensures.ok clean)) c.in_ok-_count.ensures.step c.in_ok-_count.ensures.kept c.in_ok-_count.ensures.survives),
+    )
+
+pub returns-clause-ok : goal.returns-clause-ok
+returns-clause-ok g c clean on =
+    let names = c.args.names.now in
+    let last : c.loop-name.name-index ≡ length names = omega (arith, c.loop-name-test.false, c.loop-name.auto.name-index-end) in
+    let all = ap (λ n. take n names) last ∙ take-length names in
+    subst (λ xs. Alters (state g.S.Store c.args.tx.now.conn.now).now (state g.S.Store c.loop-name.tx.conn.now).now 4 (Adds (map (λ name. named_values name c.args.class c.args.key.now) xs))) all (c.loop-name.invariant.1.done clean on)

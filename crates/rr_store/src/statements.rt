@@ -1,0 +1,142 @@
+//! One statement of a transaction each.
+
+ghost use Rattle.std.specs.Prelude.{◌≡◌, [], ◌∷◌, codes, true, IsTrue, OnOk};
+ghost use Rattle.sqlite.specs.State.{HasCleanDisk, KeepsCommit, Survives};
+ghost use Rattle.sqlite.specs.Held.{state};
+ghost use Rattle.rr_rows.specs.Contents.{Adds, Alters, IsStep, IsTidy, Removes, is_named_of, is_object_of, meta_values, named_values, object_values};
+
+use sqlite::{Alter, Error, Transaction};
+use sqlite_value::value::ValueRef;
+
+pub(crate) fn add_setting<'x, S: Alter>(
+    tx: &mut Transaction<'_, S>,
+    name: &'x [u8],
+    value: &'x [u8],
+) -> Result<usize, Error>
+    requires { HasCleanDisk (state S.Store tx.old.conn.now) → IsTrue (state S.Store tx.old.conn.now).is_open → IsTidy (state S.Store tx.old.conn.now).now }
+    ensures same_reference { tx.new.conn.ghost_name ≡ tx.old.conn.ghost_name }
+    ensures ok { HasCleanDisk (state S.Store tx.new.conn.now) → OnOk result (Alters (state S.Store tx.old.conn.now).now (state S.Store tx.new.conn.now).now 0 (Adds (meta_values name.now value.now ∷ []))) }
+    ensures step { HasCleanDisk (state S.Store tx.new.conn.now) → OnOk result (IsStep (state S.Store tx.old.conn.now) (state S.Store tx.new.conn.now)) }
+    ensures kept { HasCleanDisk (state S.Store tx.new.conn.now) → KeepsCommit (state S.Store tx.old.conn.now) (state S.Store tx.new.conn.now) }
+    ensures survives { Survives (state S.Store tx.old.conn.now) (state S.Store tx.new.conn.now) (λ _. ⊥) }
+{
+    tx.execute(
+        "INSERT INTO meta (name, value) VALUES (?1, ?2)",
+        &[ValueRef::Text(name), ValueRef::Text(value)],
+    )
+}
+
+pub(crate) fn add_object<'x, S: Alter>(
+    tx: &mut Transaction<'_, S>,
+    class: u8,
+    key: &'x [u8],
+    body: &'x [u8],
+) -> Result<usize, Error>
+    requires { HasCleanDisk (state S.Store tx.old.conn.now) → IsTrue (state S.Store tx.old.conn.now).is_open → IsTidy (state S.Store tx.old.conn.now).now }
+    ensures same_reference { tx.new.conn.ghost_name ≡ tx.old.conn.ghost_name }
+    ensures ok { HasCleanDisk (state S.Store tx.new.conn.now) → OnOk result (Alters (state S.Store tx.old.conn.now).now (state S.Store tx.new.conn.now).now 2 (Adds (object_values class key.now body.now ∷ []))) }
+    ensures step { HasCleanDisk (state S.Store tx.new.conn.now) → OnOk result (IsStep (state S.Store tx.old.conn.now) (state S.Store tx.new.conn.now)) }
+    ensures kept { HasCleanDisk (state S.Store tx.new.conn.now) → KeepsCommit (state S.Store tx.old.conn.now) (state S.Store tx.new.conn.now) }
+    ensures survives { Survives (state S.Store tx.old.conn.now) (state S.Store tx.new.conn.now) (λ _. ⊥) }
+{
+    tx.execute(
+        "INSERT INTO object (class, okey, body) VALUES (?1, ?2, ?3)",
+        &[
+            ValueRef::Int(i64::from(class)),
+            ValueRef::Text(key),
+            ValueRef::Blob(body),
+        ],
+    )
+}
+
+pub(crate) fn add_name<'x, S: Alter>(
+    tx: &mut Transaction<'_, S>,
+    name: &'x [u8],
+    class: u8,
+    key: &'x [u8],
+) -> Result<usize, Error>
+    requires { HasCleanDisk (state S.Store tx.old.conn.now) → IsTrue (state S.Store tx.old.conn.now).is_open → IsTidy (state S.Store tx.old.conn.now).now }
+    ensures same_reference { tx.new.conn.ghost_name ≡ tx.old.conn.ghost_name }
+    ensures ok { HasCleanDisk (state S.Store tx.new.conn.now) → OnOk result (Alters (state S.Store tx.old.conn.now).now (state S.Store tx.new.conn.now).now 4 (Adds (named_values name.now class key.now ∷ []))) }
+    ensures step { HasCleanDisk (state S.Store tx.new.conn.now) → OnOk result (IsStep (state S.Store tx.old.conn.now) (state S.Store tx.new.conn.now)) }
+    ensures kept { HasCleanDisk (state S.Store tx.new.conn.now) → KeepsCommit (state S.Store tx.old.conn.now) (state S.Store tx.new.conn.now) }
+    ensures survives { Survives (state S.Store tx.old.conn.now) (state S.Store tx.new.conn.now) (λ _. ⊥) }
+{
+    tx.execute(
+        "INSERT INTO named (maintainer, class, okey) VALUES (?1, ?2, ?3)",
+        &[
+            ValueRef::Text(name),
+            ValueRef::Int(i64::from(class)),
+            ValueRef::Text(key),
+        ],
+    )
+}
+
+pub(crate) fn remove_object<S: Alter>(
+    tx: &mut Transaction<'_, S>,
+    class: u8,
+    key: &[u8],
+) -> Result<usize, Error>
+    requires { HasCleanDisk (state S.Store tx.old.conn.now) → IsTrue (state S.Store tx.old.conn.now).is_open → IsTidy (state S.Store tx.old.conn.now).now }
+    ensures same_reference { tx.new.conn.ghost_name ≡ tx.old.conn.ghost_name }
+    ensures ok { HasCleanDisk (state S.Store tx.new.conn.now) → OnOk result (Alters (state S.Store tx.old.conn.now).now (state S.Store tx.new.conn.now).now 2 (Removes (is_object_of class key.now))) }
+    ensures step { HasCleanDisk (state S.Store tx.new.conn.now) → OnOk result (IsStep (state S.Store tx.old.conn.now) (state S.Store tx.new.conn.now)) }
+    ensures kept { HasCleanDisk (state S.Store tx.new.conn.now) → KeepsCommit (state S.Store tx.old.conn.now) (state S.Store tx.new.conn.now) }
+    ensures survives { Survives (state S.Store tx.old.conn.now) (state S.Store tx.new.conn.now) (λ _. ⊥) }
+{
+    tx.execute(
+        "DELETE FROM object WHERE class = ?1 AND okey = ?2",
+        &[ValueRef::Int(i64::from(class)), ValueRef::Text(key)],
+    )
+}
+
+pub(crate) fn remove_names<S: Alter>(
+    tx: &mut Transaction<'_, S>,
+    class: u8,
+    key: &[u8],
+) -> Result<usize, Error>
+    requires { HasCleanDisk (state S.Store tx.old.conn.now) → IsTrue (state S.Store tx.old.conn.now).is_open → IsTidy (state S.Store tx.old.conn.now).now }
+    ensures same_reference { tx.new.conn.ghost_name ≡ tx.old.conn.ghost_name }
+    ensures ok { HasCleanDisk (state S.Store tx.new.conn.now) → OnOk result (Alters (state S.Store tx.old.conn.now).now (state S.Store tx.new.conn.now).now 4 (Removes (is_named_of class key.now))) }
+    ensures step { HasCleanDisk (state S.Store tx.new.conn.now) → OnOk result (IsStep (state S.Store tx.old.conn.now) (state S.Store tx.new.conn.now)) }
+    ensures kept { HasCleanDisk (state S.Store tx.new.conn.now) → KeepsCommit (state S.Store tx.old.conn.now) (state S.Store tx.new.conn.now) }
+    ensures survives { Survives (state S.Store tx.old.conn.now) (state S.Store tx.new.conn.now) (λ _. ⊥) }
+{
+    tx.execute(
+        "DELETE FROM named WHERE class = ?1 AND okey = ?2",
+        &[ValueRef::Int(i64::from(class)), ValueRef::Text(key)],
+    )
+}
+
+pub(crate) fn clear_settings<S: Alter>(tx: &mut Transaction<'_, S>) -> Result<usize, Error>
+    requires { HasCleanDisk (state S.Store tx.old.conn.now) → IsTrue (state S.Store tx.old.conn.now).is_open → IsTidy (state S.Store tx.old.conn.now).now }
+    ensures same_reference { tx.new.conn.ghost_name ≡ tx.old.conn.ghost_name }
+    ensures ok { HasCleanDisk (state S.Store tx.new.conn.now) → OnOk result (Alters (state S.Store tx.old.conn.now).now (state S.Store tx.new.conn.now).now 0 (Removes (λ _. true))) }
+    ensures step { HasCleanDisk (state S.Store tx.new.conn.now) → OnOk result (IsStep (state S.Store tx.old.conn.now) (state S.Store tx.new.conn.now)) }
+    ensures kept { HasCleanDisk (state S.Store tx.new.conn.now) → KeepsCommit (state S.Store tx.old.conn.now) (state S.Store tx.new.conn.now) }
+    ensures survives { Survives (state S.Store tx.old.conn.now) (state S.Store tx.new.conn.now) (λ _. ⊥) }
+{
+    tx.execute("DELETE FROM meta", &[])
+}
+
+pub(crate) fn clear_objects<S: Alter>(tx: &mut Transaction<'_, S>) -> Result<usize, Error>
+    requires { HasCleanDisk (state S.Store tx.old.conn.now) → IsTrue (state S.Store tx.old.conn.now).is_open → IsTidy (state S.Store tx.old.conn.now).now }
+    ensures same_reference { tx.new.conn.ghost_name ≡ tx.old.conn.ghost_name }
+    ensures ok { HasCleanDisk (state S.Store tx.new.conn.now) → OnOk result (Alters (state S.Store tx.old.conn.now).now (state S.Store tx.new.conn.now).now 2 (Removes (λ _. true))) }
+    ensures step { HasCleanDisk (state S.Store tx.new.conn.now) → OnOk result (IsStep (state S.Store tx.old.conn.now) (state S.Store tx.new.conn.now)) }
+    ensures kept { HasCleanDisk (state S.Store tx.new.conn.now) → KeepsCommit (state S.Store tx.old.conn.now) (state S.Store tx.new.conn.now) }
+    ensures survives { Survives (state S.Store tx.old.conn.now) (state S.Store tx.new.conn.now) (λ _. ⊥) }
+{
+    tx.execute("DELETE FROM object", &[])
+}
+
+pub(crate) fn clear_names<S: Alter>(tx: &mut Transaction<'_, S>) -> Result<usize, Error>
+    requires { HasCleanDisk (state S.Store tx.old.conn.now) → IsTrue (state S.Store tx.old.conn.now).is_open → IsTidy (state S.Store tx.old.conn.now).now }
+    ensures same_reference { tx.new.conn.ghost_name ≡ tx.old.conn.ghost_name }
+    ensures ok { HasCleanDisk (state S.Store tx.new.conn.now) → OnOk result (Alters (state S.Store tx.old.conn.now).now (state S.Store tx.new.conn.now).now 4 (Removes (λ _. true))) }
+    ensures step { HasCleanDisk (state S.Store tx.new.conn.now) → OnOk result (IsStep (state S.Store tx.old.conn.now) (state S.Store tx.new.conn.now)) }
+    ensures kept { HasCleanDisk (state S.Store tx.new.conn.now) → KeepsCommit (state S.Store tx.old.conn.now) (state S.Store tx.new.conn.now) }
+    ensures survives { Survives (state S.Store tx.old.conn.now) (state S.Store tx.new.conn.now) (λ _. ⊥) }
+{
+    tx.execute("DELETE FROM named", &[])
+}

@@ -1,0 +1,11 @@
+use Rattle.std.proofs.Common.{◌≡◌, ◌++◌, ◌-◌, List, ℕ}
+use Rattle.rr_text.proofs.ReaderLemmas.{IsGathering}
+use Rattle.rr_text.specs.ParagraphReaders.{held, reads_of}
+use Rattle.rr_text.proofs.paragraphs.Paragraphs.gather.Given as goal
+
+abbrev pub invariant-reads : goal.invariant-reads
+invariant-reads g l =
+    IsGathering (g.R.Source.told l.initial.source) (g.R.Source.told l.source) (held l.initial.self) (reads_of l.initial.self) l.self × (g.R.Source.aside l.source ≡ g.R.Source.aside l.initial.source)
+
+abbrev pub decreases-reads : goal.decreases-reads
+decreases-reads g l = 16777216 - reads_of l.self

@@ -1,0 +1,115 @@
+-- The reading of a text paragraph by paragraph: what was given of it so far (profile).
+use Rattle.std.specs.Prelude.{◌≡◌, ℕ, ◌+◌, ◌-◌, ◌*◌, ◌<◌, ◌≤◌, ⊤, List, [], ◌∷◌, ◌++◌, length, take, drop, Option, Some, None, Result, Ok, Err}
+use Rattle.rr_io.specs.Told.{Told}
+use Rattle.rr_io.specs.Receiving.{Gives, IsSpent, CountsReads, Reads}
+use Rattle.rr_io.specs.declared.receiving.ReadEnd.{ReadEnd}
+use Rattle.rr_io.specs.declared.receiving.ReadEnd.TheVariants as end
+use Rattle.rr_text.specs.declared.fault.TextFault.{TextFault}
+use Rattle.rr_text.specs.declared.fault.TextFault.TheVariants as fault
+use Rattle.rr_text.specs.declared.paragraphs.ReaderState.{ReaderState}
+use Rattle.rr_text.specs.declared.paragraphs.ReaderState.TheVariants.{Open, Ended, Broken, Endless}
+use Rattle.rr_text.specs.declared.paragraphs.Paragraphs.{Paragraphs}
+use Rattle.rr_text.specs.declared.paragraph_reader.ParagraphReader.{ParagraphReader}
+use Rattle.rr_text.specs.Fields.{Field}
+use Rattle.rr_text.specs.Entries.{entries}
+use Rattle.rr_text.specs.WholePart.{whole_part, whole_entries}
+
+-- the entry of a block: its paragraph, or its fault
+abbrev pub Entry : Type 0
+Entry = Result (List Field) TextFault
+
+-- how the reading stands
+abbrev pub state_of : Paragraphs → ReaderState
+state_of p = p.state
+
+-- how many reads were made that did not fail
+abbrev pub reads_of : Paragraphs → ℕ
+reads_of p = p.reads
+
+-- the bytes that were read and stand behind what was given
+abbrev pub held : Paragraphs → List ℕ
+held p = drop p.from (take p.to p.block)
+
+-- nothing was read
+pub record IsNew (p : Paragraphs) : Type 0 where
+  pub state : state_of p ≡ Open
+  pub no_read : reads_of p ≡ 0
+  pub none_held : held p ≡ []
+
+-- what was given keeps apart from what comes: it ends with a blank line, or nothing comes
+abbrev pub KeepsApart : ReaderState → Told → List ℕ → List ℕ → Type 0
+KeepsApart Open now front left = whole_part front ≡ front
+KeepsApart Ended now front left = (left ≡ []) × IsSpent now
+KeepsApart Broken now front left = ⊥
+KeepsApart Endless now front left = ⊥
+
+-- of the bytes read from the start on, however they were cut, the entries of a front were given, and the others are held; each
+-- read that found bytes gave 1 to 4,096
+pub record HasGiven (start now : Told) (p : Paragraphs) (given : List Entry) : Type 0 where
+  pub text : List ℕ
+  pub front : List ℕ
+  pub gives : Gives start now text
+  pub cut : text ≡ front ++ held p
+  pub spelled : entries front ≡ given
+  pub apart : KeepsApart (state_of p) now front (held p)
+  pub counts : CountsReads start now (reads_of p)
+  pub fruitful : state_of p ≡ Open → reads_of p ≤ length text
+  pub bounded : length text ≤ 4096 * reads_of p
+  pub few : length given ≤ length front
+
+-- the entries that count of a text, by how its reading ended: after a failed read, or without an end, those that a blank line closes
+abbrev pub entries_by : ReadEnd → List ℕ → List Entry
+entries_by end.Whole text = entries text
+entries_by end.Broken text = whole_entries text
+entries_by end.Endless text = whole_entries text
+
+-- all of the text was read, and these are its entries that count
+pub record HasEnded (start now : Told) (ended : ReadEnd) (given : List Entry) : Type 0 where
+  pub text : List ℕ
+  pub reads : Reads start now text ended
+  pub spelled : entries_by ended text ≡ given
+
+-- what was given with an answer: one entry more, or those were all. Where memory was refused the entry is passed untold
+abbrev pub GivesNext : Told → Told → Paragraphs → List Entry → Result (Option (List Field)) TextFault → Type 0
+GivesNext start now p given (Ok None) = (state_of p ≡ Ended) × HasEnded start now end.Whole given
+GivesNext start now p given (Ok (Some fields)) = HasGiven start now p (given ++ Ok fields ∷ [])
+GivesNext start now p given (Err fault.TooLarge) = HasGiven start now p (given ++ Err fault.TooLarge ∷ [])
+GivesNext start now p given (Err fault.BadByte) = HasGiven start now p (given ++ Err fault.BadByte ∷ [])
+GivesNext start now p given (Err fault.FirstContinues) = HasGiven start now p (given ++ Err fault.FirstContinues ∷ [])
+GivesNext start now p given (Err fault.NoColon) = HasGiven start now p (given ++ Err fault.NoColon ∷ [])
+GivesNext start now p given (Err fault.BadName) = HasGiven start now p (given ++ Err fault.BadName ∷ [])
+GivesNext start now p given (Err fault.Memory) = (entry : Entry) × HasGiven start now p (given ++ entry ∷ [])
+GivesNext start now p given (Err fault.Read) = (state_of p ≡ Broken) × HasEnded start now end.Broken given
+GivesNext start now p given (Err fault.Endless) = (state_of p ≡ Endless) × HasEnded start now end.Endless given
+
+-- at the end, after a failed read or at the limit of reads the answer is the same for good, and nothing is read
+abbrev pub Stays : {R : Type 0} → ReaderState → R → R → Paragraphs → Paragraphs → Result (Option (List Field)) TextFault → Type 0
+Stays Open before after old new answer = ⊤
+Stays Ended before after old new answer = (answer ≡ Ok None) × (after ≡ before) × (new ≡ old)
+Stays Broken before after old new answer = (answer ≡ Err fault.Read) × (after ≡ before) × (new ≡ old)
+Stays Endless before after old new answer = (answer ≡ Err fault.Endless) × (after ≡ before) × (new ≡ old)
+
+-- a bound on how many answers are left before the last one
+abbrev pub left_of : Paragraphs → ℕ
+left_of p = (16777216 - reads_of p) * 4097 + length (held p)
+
+-- an answer other than the last one leaves fewer of them
+abbrev pub Nearer : ℕ → ℕ → Result (Option (List Field)) TextFault → Type 0
+Nearer before after (Ok None) = ⊤
+Nearer before after (Ok (Some fields)) = after < before
+Nearer before after (Err fault.TooLarge) = after < before
+Nearer before after (Err fault.BadByte) = after < before
+Nearer before after (Err fault.FirstContinues) = after < before
+Nearer before after (Err fault.NoColon) = after < before
+Nearer before after (Err fault.BadName) = after < before
+Nearer before after (Err fault.Memory) = after < before
+Nearer before after (Err fault.Read) = ⊤
+Nearer before after (Err fault.Endless) = ⊤
+
+-- the reader of a reader of paragraphs
+abbrev pub source_of : {R : Type 0} → ParagraphReader R → R
+source_of reader = reader.source
+
+-- where it stands
+abbrev pub paragraphs_of : {R : Type 0} → ParagraphReader R → Paragraphs
+paragraphs_of reader = reader.paragraphs

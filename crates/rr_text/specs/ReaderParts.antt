@@ -1,0 +1,102 @@
+-- One call of a reader of paragraphs: parts that its contract does not name.
+use Rattle.std.specs.Prelude.{◌≡◌, ◌≢◌, ℕ, ◌+◌, ◌*◌, ◌<◌, ◌≤◌, List, [], ◌∷◌, ◌++◌, length, Option, Some, None, Result, Ok, Err}
+use Rattle.rr_io.specs.Told.{Told, Fails}
+use Rattle.rr_io.specs.Receiving.{Gives, IsSpent, CountsReads, BreaksOff}
+use Rattle.rr_text.specs.declared.fault.TextFault.{TextFault}
+use Rattle.rr_text.specs.declared.draft.Draft.{Draft}
+use Rattle.rr_text.specs.declared.paragraphs.ReaderState.{ReaderState}
+use Rattle.rr_text.specs.declared.paragraphs.ReaderState.TheVariants.{Open, Ended, Broken, Endless}
+use Rattle.rr_text.specs.declared.paragraphs.Paragraphs.{Paragraphs}
+use Rattle.rr_text.specs.Fields.{Field}
+use Rattle.rr_text.specs.Entries.{entries}
+use Rattle.rr_text.specs.DraftParts.{IsBegun, IsClosed, GivesOne}
+use Rattle.rr_text.specs.ParagraphReaders.{reads_of, held}
+
+-- what is held is added up to the line that closes, or all of it
+pub record TakesClosed (past : List ℕ) (old new : Paragraphs) : Type 0 where
+  pub front : List ℕ
+  pub cut : held old ≡ front ++ held new
+  pub closed : IsClosed (past ++ front) new.draft
+
+pub record TakesAll (past : List ℕ) (old new : Paragraphs) : Type 0 where
+  pub none : held new ≡ []
+  pub begun : IsBegun (past ++ held old) new.draft
+
+-- bytes were read by one call
+pub record FillsMore (before after : Told) (old new : Paragraphs) : Type 0 where
+  pub gives : Gives before after (held new)
+  pub counts : CountsReads before after 1
+  pub reads : reads_of new ≡ reads_of old + 1
+  pub some : 0 < length (held new)
+
+-- no byte was left
+pub record FillsNone (before after : Told) (old new : Paragraphs) : Type 0 where
+  pub gives : Gives before after []
+  pub spent : IsSpent after
+  pub counts : CountsReads before after 1
+  pub reads : reads_of new ≡ reads_of old + 1
+  pub none : held new ≡ []
+
+-- the call failed
+pub record FillsNot (before after : Told) (old new : Paragraphs) : Type 0 where
+  pub fails : Fails before after
+  pub reads : reads_of new ≡ reads_of old
+  pub none : held new ≡ []
+
+-- what a read brings, by whether the text goes on
+abbrev pub Fills : Option ReaderState → Told → Told → Paragraphs → Paragraphs → Type 0
+Fills None before after old new = FillsMore before after old new
+Fills (Some Open) before after old new = ⊥
+Fills (Some Ended) before after old new = FillsNone before after old new
+Fills (Some Broken) before after old new = FillsNot before after old new
+Fills (Some Endless) before after old new = ⊥
+
+-- the bytes that were given in a call, by how the text stands then
+abbrev pub GivesBy : ReaderState → Told → Told → List ℕ → Type 0
+GivesBy Open before after given = Gives before after given
+GivesBy Ended before after given = Gives before after given × IsSpent after
+GivesBy Broken before after given = BreaksOff before after given
+GivesBy Endless before after given = Gives before after given
+
+-- these bytes were read in a call, behind those that were left from the calls before, and its reads are counted with those made before
+pub record Reading (state : ReaderState) (before after : Told) (left : List ℕ) (made : ℕ) (new : Paragraphs) (given : List ℕ) : Type 0 where
+  pub gives : GivesBy state before after given
+  pub count : ℕ
+  pub counts : CountsReads before after count
+  pub reads : reads_of new ≡ made + count
+  pub fruitful : state ≢ Ended → count ≤ length given
+  pub bounded : length given ≤ 4096 * count
+
+-- the text up to the end of a block was read
+pub record GathersClosed (before after : Told) (left : List ℕ) (made : ℕ) (new : Paragraphs) : Type 0 where
+  pub given : List ℕ
+  pub front : List ℕ
+  pub reading : Reading Open before after left made new given
+  pub cut : left ++ given ≡ front ++ held new
+  pub closed : IsClosed front new.draft
+
+-- all of the text was read that there is
+pub record GathersRest (state : ReaderState) (before after : Told) (left : List ℕ) (made : ℕ) (new : Paragraphs) : Type 0 where
+  pub given : List ℕ
+  pub reading : Reading state before after left made new given
+  pub none : held new ≡ []
+  pub begun : IsBegun (left ++ given) new.draft
+
+-- what was read, by how the text stands then: a failed read comes before the limit of reads
+abbrev pub Gathers : ReaderState → Told → Told → List ℕ → ℕ → Paragraphs → Type 0
+Gathers Open before after left made new = GathersClosed before after left made new
+Gathers Ended before after left made new = GathersRest Ended before after left made new
+Gathers Broken before after left made new = GathersRest Broken before after left made new × (reads_of new < 16777216)
+Gathers Endless before after left made new = GathersRest Endless before after left made new × (reads_of new ≡ 16777216)
+
+-- the answer with the one entry of a text
+abbrev pub GivesFound : List ℕ → Result (Option (List Field)) TextFault → Type 0
+GivesFound text (Ok None) = ⊥
+GivesFound text (Ok (Some fields)) = GivesOne text (Ok fields)
+GivesFound text (Err fault) = GivesOne text (Err fault)
+
+-- the answer with the last entry of a text, if it has one
+abbrev pub GivesLast : List ℕ → Result (Option (List Field)) TextFault → Type 0
+GivesLast text (Ok None) = entries text ≡ []
+GivesLast text (Ok (Some fields)) = GivesOne text (Ok fields)
+GivesLast text (Err fault) = GivesOne text (Err fault)

@@ -1,0 +1,149 @@
+//! A paragraph that is being read piece by piece.
+
+ghost use Rattle.std.specs.Prelude.{◌≤◌, length, vec_capacity};
+
+use crate::entry::{SIZE_LIMIT, read_entry};
+use crate::fault::TextFault;
+use crate::line::split_line;
+use crate::line_so_far::{LineEnd, LineSoFar, ends_line};
+use crate::paragraph::Paragraph;
+use std::alloc::{AllocError, Global};
+
+/// The paragraph that is being read: the bytes of its lines so far, and of the line that has begun. A paragraph that is too
+/// large is followed to its end, and no more of it is kept.
+#[derive(Drop)]
+pub(crate) struct Draft {
+    kept: Vec<u8>,
+    /// Whether bytes were left out.
+    over: bool,
+    /// How many bytes the whole lines have, or one more than a paragraph has at most.
+    whole: usize,
+    /// Whether a line of the paragraph was read.
+    started: bool,
+    line: LineSoFar,
+    ghost room: { 65536 ≤ vec_capacity kept },
+    ghost most: { length kept.items ≤ 65536 },
+}
+
+impl Draft {
+    ghost use Rattle.std.specs.Prelude.{◌≡◌, ◌<◌, ◌∷◌, ◌++◌, ℕ, List, [], IfOk, IfSome};
+    ghost use Rattle.rr_text.specs.Lines.{text_lines};
+    ghost use Rattle.rr_text.specs.LinesSoFar.{line_end};
+    ghost use Rattle.rr_text.specs.DraftParts as parts;
+
+    /// The draft of no text, with room for a paragraph; the error is want of memory.
+    pub(crate) fn new(alloc: Global) -> Result<Draft, AllocError>
+        ensures { IfOk result (λ draft. parts.IsFresh draft) }
+    {
+        let kept = Vec::with_capacity(alloc, SIZE_LIMIT)?;
+        Ok(Draft {
+            kept,
+            over: false,
+            whole: 0,
+            started: false,
+            line: LineSoFar::Nothing,
+        })
+    }
+
+    /// Forgets the text.
+    pub(crate) fn restart(&mut self)
+        ensures { parts.IsFresh self.new }
+    {
+        self.kept.clear();
+        self.over = false;
+        self.whole = 0;
+        self.started = false;
+        self.line = LineSoFar::Nothing;
+    }
+
+    /// Adds a piece of a line that begins where the text so far ends, and says whether it closes the paragraph.
+    pub(crate) fn add(&mut self, piece: &[u8]) -> bool
+        requires some { 0 < length piece.now }
+        requires single { text_lines piece.now ≡ piece.now ∷ [] }
+        ensures { (text : List ℕ) → parts.IsBegun text self.old → parts.Gathers result (text ++ piece.now) self.new }
+    {
+        self.keep(piece);
+        if ends_line(piece) {
+            self.end_line()
+        } else {
+            false
+        }
+    }
+
+    /// Adds the lines of a piece of the text up to the one that closes the paragraph, and says how many bytes these are.
+    pub(crate) fn add_lines(&mut self, text: &[u8]) -> Option<usize>
+        ensures adds { (past : List ℕ) → parts.IsBegun past self.old → parts.AddsLines past text.now result self.new }
+        ensures within { IfSome result (λ taken. taken ≤ length text.now) }
+    {
+        let mut rest = text;
+        'lines: while !rest.is_empty() {
+            let (piece, after) = split_line(rest);
+            if self.add(piece) {
+                return Some(text.len() - after.len());
+            }
+            rest = after;
+        }
+        None
+    }
+
+    /// Ends the text, and says whether it has a paragraph.
+    pub(crate) fn finish(&mut self) -> bool
+        ensures { (text : List ℕ) → parts.IsBegun text self.old → parts.Finishes result text self.new }
+    {
+        let _closes = self.end_line();
+        self.started
+    }
+
+    /// The entry of the text.
+    pub(crate) fn entry(&self, alloc: Global) -> Result<Paragraph, TextFault>
+        requires { (text : List ℕ) × parts.HasEntry text self.now }
+        ensures { (text : List ℕ) → parts.HasEntry text self.now → parts.GivesOne text result }
+    {
+        if self.whole > SIZE_LIMIT {
+            return Err(TextFault::TooLarge);
+        }
+        let (block, _) = self.kept.split_at(self.whole);
+        read_entry(alloc, block)
+    }
+
+    fn keep(&mut self, piece: &[u8])
+        ensures { parts.KeepsPiece self.old self.new piece.now }
+    {
+        self.line = self.line.with(piece);
+        if self.over || piece.len() > SIZE_LIMIT - self.kept.len() {
+            self.over = true;
+            return;
+        }
+        if self.kept.extend_from_slice(piece).is_err() {
+            self.over = true;
+        }
+    }
+
+    fn end_line(&mut self) -> bool
+        ensures { parts.EndsLine (line_end self.old.started self.old.line) self.old self.new result }
+    {
+        match self.line.end(self.started) {
+            LineEnd::Passed => {
+                self.restart();
+                false
+            }
+            LineEnd::Taken => {
+                self.take_line();
+                false
+            }
+            LineEnd::Closed => true,
+        }
+    }
+
+    fn take_line(&mut self)
+        ensures { parts.TakesLine self.old self.new }
+    {
+        self.whole = if self.over {
+            SIZE_LIMIT + 1
+        } else {
+            self.kept.len()
+        };
+        self.started = true;
+        self.line = LineSoFar::Nothing;
+    }
+}

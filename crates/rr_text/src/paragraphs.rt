@@ -1,0 +1,200 @@
+//! Paragraphs read piece by piece, from a reader that is lent to each call.
+
+ghost use Rattle.std.specs.Prelude.{◌≡◌, ◌≤◌, length, take, drop};
+
+use crate::draft::Draft;
+use crate::fault::TextFault;
+use crate::paragraph::Paragraph;
+use rr_io::{READ_LIMIT, READ_SIZE, Source};
+use std::alloc::{AllocError, Global};
+use std::io;
+
+/// How the reading of a text stands.
+#[derive(Clone, Copy, Debug, PartialEq, Eq)]
+pub enum ReaderState {
+    /// It goes on.
+    Open,
+    /// The reader came to its end.
+    Ended,
+    /// A read failed.
+    Broken,
+    /// The limit of reads was met.
+    Endless,
+}
+
+/// The paragraphs of a text that is read in blocks of 4,096 bytes, with at most 16,777,216 reads. It keeps one block and
+/// one paragraph at most, whatever comes, in memory that is taken as it is made.
+#[derive(Drop)]
+pub struct Paragraphs {
+    draft: Draft,
+    block: [u8; READ_SIZE],
+    from: usize,
+    to: usize,
+    reads: u32,
+    state: ReaderState,
+    ghost within: { from ≤ to },
+    ghost room: { to ≤ 4096 },
+    ghost few: { reads ≤ 16777216 },
+}
+
+impl Paragraphs {
+    ghost use Rattle.std.specs.Prelude.{◌<◌, ℕ, List, [], IfOk, IfSome, true, false};
+    ghost use Rattle.rr_io.specs.Told.{Told};
+    ghost use Rattle.rr_text.specs.Fields.{AreFields};
+    ghost use Rattle.rr_text.specs.DraftParts.{HasEntry, IsBegun};
+    ghost use Rattle.rr_text.specs.ReaderParts as parts;
+    ghost use Rattle.rr_text.specs.ParagraphReaders.{Entry, GivesNext, HasGiven, IsNew, Nearer, Stays, held, left_of, reads_of, state_of};
+
+    /// The paragraphs of a text of which nothing was read; the error is want of memory.
+    pub fn new(alloc: Global) -> Result<Paragraphs, AllocError>
+        ensures new { IfOk result (λ paragraphs. IsNew paragraphs) }
+        ensures given { IfOk result (λ paragraphs. (start : Told) → HasGiven start start paragraphs []) }
+    {
+        let draft = Draft::new(alloc)?;
+        Ok(Paragraphs {
+            draft,
+            block: [0; READ_SIZE],
+            from: 0,
+            to: 0,
+            reads: 0,
+            state: ReaderState::Open,
+        })
+    }
+
+    /// The next paragraph of the text that this reader gives; `None` at its end (RFC 2622, 2). The reader is the same in each
+    /// call. After `Read` and `Endless` the answer is the same for good; after another fault the next paragraph follows.
+    /// `Memory` passes a paragraph.
+    pub fn next<R: Source>(
+        &mut self,
+        alloc: Global,
+        source: &mut R,
+    ) -> Result<Option<Paragraph>, TextFault>
+        ensures given { (start : Told) (given : List Entry) → HasGiven start (R.told source.old) self.old given
+            → GivesNext start (R.told source.new) self.new given result }
+        ensures stays { Stays (state_of self.old) source.old source.new self.old self.new result }
+        ensures nearer { Nearer (left_of self.old) (left_of self.new) result }
+        ensures fields { IfOk result (λ next. IfSome next (λ paragraph. (0 < length paragraph) × AreFields paragraph)) }
+        ensures aside { R.aside source.new ≡ R.aside source.old }
+    {
+        match self.state {
+            ReaderState::Open => self.next_open(alloc, source),
+            ReaderState::Ended => Ok(None),
+            ReaderState::Broken => Err(TextFault::Read),
+            ReaderState::Endless => Err(TextFault::Endless),
+        }
+    }
+
+    fn next_open<R: Source>(
+        &mut self,
+        alloc: Global,
+        source: &mut R,
+    ) -> Result<Option<Paragraph>, TextFault>
+        requires { state_of self.old ≡ ReaderState.Open }
+        ensures given { (start : Told) (given : List Entry) → HasGiven start (R.told source.old) self.old given
+            → GivesNext start (R.told source.new) self.new given result }
+        ensures nearer { Nearer (left_of self.old) (left_of self.new) result }
+        ensures fields { IfOk result (λ next. IfSome next (λ paragraph. (0 < length paragraph) × AreFields paragraph)) }
+        ensures aside { R.aside source.new ≡ R.aside source.old }
+    {
+        let state = self.gather(source);
+        self.state = state;
+        match state {
+            ReaderState::Open => self.entry(alloc),
+            ReaderState::Ended => self.last(alloc),
+            ReaderState::Broken => Err(TextFault::Read),
+            ReaderState::Endless => Err(TextFault::Endless),
+        }
+    }
+
+    /// The entry of the text that was read.
+    fn entry(&self, alloc: Global) -> Result<Option<Paragraph>, TextFault>
+        requires { (text : List ℕ) × HasEntry text self.now.draft }
+        ensures { (text : List ℕ) → HasEntry text self.now.draft → parts.GivesFound text result }
+    {
+        let paragraph = self.draft.entry(alloc)?;
+        Ok(Some(paragraph))
+    }
+
+    /// The last entry of the text, if it has one.
+    fn last(&mut self, alloc: Global) -> Result<Option<Paragraph>, TextFault>
+        requires { (text : List ℕ) × IsBegun text self.old.draft }
+        ensures last { (text : List ℕ) → IsBegun text self.old.draft → parts.GivesLast text result }
+        ensures same { (held self.new ≡ held self.old) × (reads_of self.new ≡ reads_of self.old) × (state_of self.new ≡ state_of self.old) }
+    {
+        if self.draft.finish() {
+            self.entry(alloc)
+        } else {
+            Ok(None)
+        }
+    }
+
+    /// Reads up to the end of the next paragraph, or of the text.
+    fn gather<R: Source>(&mut self, source: &mut R) -> ReaderState
+        ensures gathers { parts.Gathers result (R.told source.old) (R.told source.new) (held self.old) (reads_of self.old) self.new }
+        ensures aside { R.aside source.new ≡ R.aside source.old }
+    {
+        self.draft.restart();
+        'reads: loop {
+            if self.take_held() {
+                return ReaderState::Open;
+            }
+            if self.reads == READ_LIMIT {
+                return ReaderState::Endless;
+            }
+            if let Some(state) = self.fill(source) {
+                return state;
+            }
+        }
+    }
+
+    /// Adds what is held to the paragraph, up to the line that closes it, and says whether there is one.
+    fn take_held(&mut self) -> bool
+        ensures closed { (past : List ℕ) → IsBegun past self.old.draft → result ≡ true → parts.TakesClosed past self.old self.new }
+        ensures begun { (past : List ℕ) → IsBegun past self.old.draft → result ≡ false → parts.TakesAll past self.old self.new }
+        ensures empty { result ≡ false → self.new.from ≡ self.new.to }
+        ensures reads { reads_of self.new ≡ reads_of self.old }
+    {
+        match self.draft.add_lines(part(&self.block, self.from, self.to)) {
+            Some(taken) => {
+                self.from += taken;
+                true
+            }
+            None => {
+                self.from = self.to;
+                false
+            }
+        }
+    }
+
+    /// Reads a block, where nothing is held, and says how the text stands if it does not go on.
+    fn fill<R: Source>(&mut self, source: &mut R) -> Option<ReaderState>
+        requires reads { reads_of self.old < 16777216 }
+        requires none { self.old.from ≡ self.old.to }
+        ensures fills { parts.Fills result (R.told source.old) (R.told source.new) self.old self.new }
+        ensures draft { self.new.draft ≡ self.old.draft }
+        ensures aside { R.aside source.new ≡ R.aside source.old }
+    {
+        match source.read(&mut self.block) {
+            Ok(count) => {
+                self.from = 0;
+                self.to = count;
+                self.reads += 1;
+                if count == 0 {
+                    Some(ReaderState::Ended)
+                } else {
+                    None
+                }
+            }
+            Err(_) => Some(ReaderState::Broken),
+        }
+    }
+}
+
+/// What stands between two places of a block.
+fn part(block: &[u8], from: usize, to: usize) -> &[u8]
+    requires order { from ≤ to }
+    requires room { to ≤ length block.now }
+    ensures { result.now ≡ drop from (take to block.now) }
+{
+    &block[from..to]
+}

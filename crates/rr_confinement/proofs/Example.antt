@@ -1,24 +1,24 @@
 -- The registry of the worked example is sound, and the prefix is held in it.
-use Rattle.std.proofs.Common.{◌≡◌, ◌≤◌, ◌<◌, ◌^◌, ℕ, Bool, true, false, cond, not, ◌&&◌, ◌||◌, inl, inr, List, [], ◌∷◌, refl, sym, ap, subst, ◌∙◌, lit≤, lit<}
+use Rattle.std.proofs.Common.{◌≡◌, ℕ, Bool, true, false, cond, not, ◌||◌, inl, inr, List, [], ◌∷◌, refl, sym, ap, subst, ◌∙◌, lit≤, lit<}
 use Rattle.std.specs.Prelude.{Option, None, Some, is_none, is_some, map, ◌==◌}
-use Rattle.std.specs.List.{list_any, list_all}
+use Rattle.std.specs.List.{list_all}
 use Rattle.std.specs.Ordering.{eq_by_cmp}
 use Rattle.std.specs.Str.{bytes_eq}
 use Rattle.std.specs.FinMap.{find, get, from_entries, get-from_entries}
-use Rattle.std.proofs.lemmas.Bool.{and_parts, eqb-true, not-true, or_cases}
+use Rattle.std.proofs.lemmas.Bool.{eqb-true, not-true}
 use Rattle.std.proofs.lemmas.Slice.Eq.{bytes_eq-Decides}
 use Rattle.rr_object.specs.declared.key.Key.{Key}
 use Rattle.rr_object.specs.declared.key.Key.TheVariants.{Mntner, AutNum, Inetnum, Route}
 use Rattle.rr_object.specs.KeyOrders.{IsKeyValue, key_cmp}
 use Rattle.rr_object.specs.Objects.{Obj, names_of}
-use Rattle.rr_auth.specs.Registries.{Reg, Sound, keys_cross, maintainer, names_nobody}
+use Rattle.rr_auth.specs.Registries.{Sound, keys_cross, maintainer, names_nobody}
 use Rattle.rr_auth.proofs.KeyLaws.{keys_total, same_key}
 use Rattle.rr_auth.proofs.Members.{IsIn, all_fail, each_passes}
 use Rattle.rr_bytes.specs.LetterCase.{upper as upper_of}
 use Rattle.rr_bytes.specs.NameBytes.{is_name}
 use Rattle.rr_number.specs.Names.{IsUpperName}
 use Rattle.rr_confinement.specs.Example.{a_mnt, b_mnt, root_mnt, example_holding, example_objects, example_registry}
-use Rattle.rr_confinement.specs.Holdings.{Holding, IsHeld, has_number, is_held, is_holder, names_holders, space_of}
+use Rattle.rr_confinement.specs.Holdings.{Holding, IsHeld, is_held, names_holders, space_of}
 
 -- what stands in the registry of a list is an entry of it
 record IsEntry (es : List (Key × Obj)) (k : Key) (o : Obj) : Type 0 where

@@ -1,8 +1,8 @@
 -- The keys that texts and paragraphs spell are well formed.
-use Rattle.std.proofs.Common.{◌≡◌, ℕ, ◌+◌, ◌<◌, ◌≤◌, ◌^◌, List, [], ◌∷◌, Option, Some, None, Result, Ok, Err, Bool, true, false, not, ◌&&◌, cond, refl, ap, sym, ◌∙◌, subst, inl, inr, arith, ◌⊎◌, ⊎_elim}
+use Rattle.std.proofs.Common.{◌≡◌, ℕ, ◌+◌, ◌<◌, ◌^◌, List, [], ◌∷◌, Option, Some, None, Ok, Bool, true, false, not, ◌&&◌, cond, refl, sym, subst, arith, ◌⊎◌, ⊎_elim}
 use Rattle.std.proofs.lemmas.Bool.{and_parts}
 use Rattle.std.proofs.lemmas.Option.{cond_some, option_and_then_some}
-use Rattle.std.specs.Option.{option_map, option_and_then}
+use Rattle.std.specs.Option.{option_map}
 use Rattle.rr_bytes.specs.LetterCase.{upper}
 use Rattle.rr_text.specs.Fields.{Field}
 use Rattle.rr_text.specs.Meanings.{value_meaning}
@@ -26,13 +26,12 @@ use Rattle.rr_number.proofs.SetNameLemmas.{IsSetText-set_text}
 use Rattle.rr_number.proofs.SpanTextLemmas.{spelled_span-spelled}
 use Rattle.rr_object.specs.declared.class.Class.{Class}
 use Rattle.rr_object.specs.declared.class.Class.TheVariants as class
-use Rattle.rr_object.specs.declared.fault.ObjectFault.TheVariants.{BadKey}
 use Rattle.rr_object.specs.declared.key.Key.{Key}
 use Rattle.rr_object.specs.declared.key.Key.TheVariants.{Mntner, AsBlock, AutNum, Inetnum, Route, AsSet, RouteSet}
 use Rattle.rr_object.specs.declared.kind.Kind.TheVariants.{Origin}
 use Rattle.rr_object.specs.Classes.{class_named}
 use Rattle.rr_object.specs.Items.{only, values_of, words}
-use Rattle.rr_object.specs.KeyOrders.{HasKeyParts, IsKeyValue, IsRoute, IsSetKey}
+use Rattle.rr_object.specs.KeyOrders.{HasKeyParts, IsKeyValue, IsSetKey}
 use Rattle.rr_object.specs.KeySpellings.{as_set_key_of, key_at, key_in, key_of, key_of_text, or_bad_key, route_key_of, route_key_of_words, route_set_key_of}
 use Rattle.rr_object.specs.Kinds.{kind_name}
 use Rattle.rr_object.specs.Members.{is_as_set}

@@ -1,5 +1,5 @@
 -- Keys are ordered, and told apart, by their classes and bytes.
-use Rattle.std.proofs.Common.{◌≡◌, ℕ, ◌+◌, ◌/◌, ◌%◌, ◌≤◌, ◌<◌, Bool, true, ◌&&◌, List, [], ◌∷◌, ◌++◌, length, Option, Some, None, refl, sym, ap, ◌∙◌, arith, nat_le}
+use Rattle.std.proofs.Common.{◌≡◌, ℕ, ◌+◌, ◌/◌, ◌%◌, ◌≤◌, ◌<◌, true, ◌&&◌, List, ◌∷◌, ◌++◌, length, Some, refl, sym, ap, ◌∙◌, arith}
 use Rattle.std.proofs.lemmas.Bool.{and_parts}
 use Rattle.std.proofs.lemmas.Bool.Decides.{nat_tests}
 use Rattle.std.proofs.lemmas.Option.{cond_some}
@@ -12,7 +12,6 @@ use Rattle.std.specs.Int.{to_be_bytes, w16, w32}
 use Rattle.std.specs.List.{list_all}
 use Rattle.hex.specs.Hex.{encode_with}
 use Rattle.rr_number.specs.AsNumbers.{greatest_as_number}
-use Rattle.rr_number.specs.AsSpans.{IsAsSpan}
 use Rattle.rr_number.specs.Prefixes.{PrefixParts}
 use Rattle.rr_number.specs.Spans.{Ends, IsSpan}
 use Rattle.rr_object.specs.declared.key.Key.{Key}
@@ -20,7 +19,7 @@ use Rattle.rr_object.specs.declared.key.Key.TheVariants.{Mntner, AsBlock, AutNum
 use Rattle.rr_object.specs.contracts.key.KeyOrd.TheImpl as derived
 use Rattle.rr_object.specs.Classes.{class_number}
 use Rattle.rr_object.specs.Keys.{class_of}
-use Rattle.rr_object.specs.KeyOrders.{BytesTellKeys, HasKeyParts, IsRoute, class_and_bytes_cmp}
+use Rattle.rr_object.specs.KeyOrders.{BytesTellKeys, HasKeyParts, class_and_bytes_cmp}
 use Rattle.rr_object.specs.KeyTexts.{bytes_with, eight_digits, key_bytes, length_bytes, route_bytes, span_bytes}
 use Rattle.rr_object.specs.OldKeys.{OldBytesKeepOrder, OldBytesTellKeys, four_digits, has_two_octets, numbers_in, old_key_bytes}
 use Rattle.rr_number.proofs.NumberOrders.{ties}

@@ -1,36 +1,107 @@
--- Paragraphs of a text that were passed and are no items.
-use Rattle.std.proofs.Common.{◌≡◌, ◌≢◌, ◌<◌, ℕ, true, List, [], ◌∷◌, ◌++◌, length, drop, Ok, Err, arith}
+-- Paragraphs that were passed and are no items, and those that are.
+use Rattle.std.proofs.Common.{◌≡◌, ◌≢◌, ◌<◌, ◌≤◌, ◌+◌, ℕ, true, false, List, [], ◌∷◌, ◌++◌, length, length-append, append_assoc, Option, Some, None, Ok, Err, arith, ap, sym, subst, refl, ◌∙◌}
 use Rattle.std.specs.Prelude.{Result}
+use Rattle.std.proofs.lemmas.List.{append-nil}
+use Rattle.rr_io.specs.Told.{Told}
+use Rattle.rr_io.specs.declared.receiving.ReadEnd.{ReadEnd}
+use Rattle.rr_io.specs.declared.receiving.ReadEnd.TheVariants as end
 use Rattle.rr_text.specs.Fields.{Field}
 use Rattle.rr_text.specs.declared.fault.TextFault.{TextFault}
+use Rattle.rr_text.specs.declared.fault.TextFault.TheVariants.{TooLarge, BadByte, FirstContinues, NoColon, BadName, Memory, Read, Endless}
+use Rattle.rr_text.specs.declared.paragraphs.Paragraphs.{Paragraphs}
+use Rattle.rr_text.specs.ParagraphReaders.{Entry, GivesNext, HasEnded, HasGiven, Nearer}
+use Rattle.rr_object.specs.declared.code.Code.TheVariants.{E90}
+use Rattle.rr_submission.specs.declared.request.Request.{Request}
 use Rattle.rr_submission.specs.SubmissionTexts.{secrets_of, is_secrets_alone}
 use Rattle.rr_submission.specs.SubmissionItems.{AreItems, Asked}
-use Rattle.rr_submission.specs.SubmissionItems.AreItems.{secrets_alone, faulty, unread_for_memory}
-use Rattle.rr_submission.specs.Requests.{unread, text_code}
-use Rattle.rr_text.specs.declared.fault.TextFault.TheVariants.{TooLarge, BadByte, FirstContinues, NoColon, BadName, Memory, Read, Endless}
+use Rattle.rr_submission.specs.SubmissionItems.AreItems.{at_end, secrets_alone, asked, faulty, unread_for_memory}
+use Rattle.rr_submission.specs.Requests.{IsRequest, unread, text_code}
+use Rattle.rr_submission.specs.ItemReaders.{Finds, FindsItem, FindsNone, end_of}
 
--- the items of the rest are those of the whole
-pub record Passes (source : List ℕ) (before after : List (List ℕ)) (whole rest : List (Result (List Field) TextFault)) : Type 0 where
-  pub items_stay : (items : List Asked) → AreItems source after rest items → AreItems source before whole items
+-- these entries more were given, and none of them is an item
+pub record IsPassing (source : List ℕ) (start now : Told) (p : Paragraphs) (given : List Entry) (before after : List (List ℕ)) : Type 0 where
+  pub added : List Entry
+  pub has : HasGiven start now p (given ++ added)
+  pub stay : (more : List Entry) (items : List Asked) → AreItems source after more items → AreItems source before (added ++ more) items
 
-pub Passes-none : (source : List ℕ) (secrets : List (List ℕ)) (entries : List (Result (List Field) TextFault)) → Passes source secrets secrets entries entries
-Passes-none source secrets entries = record { items_stay = λ items h. h }
+pub passing_none : (source : List ℕ) (start now : Told) (p : Paragraphs) (given : List Entry) (secrets : List (List ℕ)) → HasGiven start now p given
+    → IsPassing source start now p given secrets secrets
+passing_none source start now p given secrets has = record {
+  added = [];
+  has = subst (HasGiven start now p) (sym (append-nil given)) has;
+  stay = λ more items h. h;
+}
+
+-- one entry more, of a kind that is no item or is one
+more_given : (start now : Told) (p : Paragraphs) (given added : List Entry) (entry : Entry) → HasGiven start now p ((given ++ added) ++ entry ∷ []) → HasGiven start now p (given ++ (added ++ entry ∷ []))
+more_given start now p given added entry has = subst (HasGiven start now p) (append_assoc given added (entry ∷ [])) has
 
 -- a paragraph of passwords alone is passed
-pub Passes-alone : {source : List ℕ} {before after : List (List ℕ)} {whole rest more : List (Result (List Field) TextFault)} (fields : List Field) →
-    Passes source before after whole rest → rest ≡ Ok fields ∷ more → is_secrets_alone fields ≡ true → Passes source before (after ++ secrets_of fields) whole more
-Passes-alone fields p e alone = record { items_stay = λ items h. p.items_stay items (rw e (secrets_alone alone h)) }
+pub passing_more : (source : List ℕ) (start now then : Told) (p q : Paragraphs) (given : List Entry) (before after : List (List ℕ)) (fields : List Field)
+    → (so : IsPassing source start now p given before after) → HasGiven start then q ((given ++ so.added) ++ Ok fields ∷ []) → is_secrets_alone fields ≡ true
+    → IsPassing source start then q given before (after ++ secrets_of fields)
+passing_more source start now then p q given before after fields so has alone = record {
+  added = so.added ++ Ok fields ∷ [];
+  has = more_given start then q given so.added (Ok fields) has;
+  stay = λ more items h. rw (append_assoc so.added (Ok fields ∷ []) more) (so.stay (Ok fields ∷ more) items (secrets_alone alone h));
+}
 
--- a paragraph that could not be read is an item
-pub AreItems-faulty : (source : List ℕ) (secrets : List (List ℕ)) (fault : TextFault) (whole : List (Result (List Field) TextFault)) (items : List Asked) →
-    0 < length whole → (fault ≢ Memory → whole ≡ Err fault ∷ drop 1 whole) → AreItems source secrets (drop 1 whole) items →
-    AreItems source secrets whole (record { secrets = secrets; request = unread (text_code fault) } ∷ items)
-AreItems-faulty source secrets Memory (entry ∷ more) items h e rest = unread_for_memory entry rest
-AreItems-faulty source secrets TooLarge whole items h e rest = rw (e (λ p. cc)) (faulty TooLarge rest)
-AreItems-faulty source secrets BadByte whole items h e rest = rw (e (λ p. cc)) (faulty BadByte rest)
-AreItems-faulty source secrets FirstContinues whole items h e rest = rw (e (λ p. cc)) (faulty FirstContinues rest)
-AreItems-faulty source secrets NoColon whole items h e rest = rw (e (λ p. cc)) (faulty NoColon rest)
-AreItems-faulty source secrets BadName whole items h e rest = rw (e (λ p. cc)) (faulty BadName rest)
-AreItems-faulty source secrets Read whole items h e rest = rw (e (λ p. cc)) (faulty Read rest)
-AreItems-faulty source secrets Endless whole items h e rest = rw (e (λ p. cc)) (faulty Endless rest)
-AreItems-faulty source secrets Memory [] items h e rest = absurd (omega arith)
+-- an entry that is an item
+pub passing_item : (source : List ℕ) (start now then : Told) (p q : Paragraphs) (given : List Entry) (before after counts : List (List ℕ)) (entry : Entry) (request : Request)
+    → (so : IsPassing source start now p given before after) → HasGiven start then q ((given ++ so.added) ++ entry ∷ [])
+    → ((more : List Entry) (items : List Asked) → AreItems source counts more items → AreItems source after (entry ∷ more) (record { secrets = counts; request = request } ∷ items))
+    → FindsItem source start then q given before counts request
+passing_item source start now then p q given before after counts entry request so has is = record {
+  added = so.added ++ entry ∷ [];
+  has = more_given start then q given so.added entry has;
+  some = omega (arith, length-append so.added (entry ∷ []));
+  item = λ more items h. rw (append_assoc so.added (entry ∷ []) more) (so.stay (entry ∷ more) (record { secrets = counts; request = request } ∷ items) (is more items h));
+}
+
+-- the reading ended
+pub passing_end : (source : List ℕ) (start now then : Told) (p : Paragraphs) (given : List Entry) (before after : List (List ℕ)) (ended : ReadEnd)
+    → (so : IsPassing source start now p given before after) → HasEnded start then ended (given ++ so.added) → FindsNone source start then given before ended
+passing_end source start now then p given before after ended so all = record {
+  added = so.added;
+  all = all;
+  none = subst (λ es. AreItems source before es []) (append-nil so.added) (so.stay [] [] at_end);
+}
+
+-- a fault ends the reading, or is that of a paragraph
+pub passing_fault : (source : List ℕ) (start now then : Told) (p q : Paragraphs) (given : List Entry) (before after : List (List ℕ)) (fault : TextFault) (ended : ReadEnd)
+    → (so : IsPassing source start now p given before after) → GivesNext start then q (given ++ so.added) (Err fault) → end_of fault ≡ Some ended → FindsNone source start then given before ended
+passing_fault source start now then p q given before after TooLarge ended so next e = cc
+passing_fault source start now then p q given before after BadByte ended so next e = cc
+passing_fault source start now then p q given before after FirstContinues ended so next e = cc
+passing_fault source start now then p q given before after NoColon ended so next e = cc
+passing_fault source start now then p q given before after BadName ended so next e = cc
+passing_fault source start now then p q given before after Memory ended so next e = cc
+passing_fault source start now then p q given before after Read ended so next e =
+    let is : end.Broken ≡ ended = cc in
+    subst (FindsNone source start then given before) is (passing_end source start now then p given before after end.Broken so next.1)
+passing_fault source start now then p q given before after Endless ended so next e =
+    let is : end.Endless ≡ ended = cc in
+    subst (FindsNone source start then given before) is (passing_end source start now then p given before after end.Endless so next.1)
+
+pub passing_faulty : (source : List ℕ) (start now then : Told) (p q : Paragraphs) (given : List Entry) (before after : List (List ℕ)) (fault : TextFault)
+    → (so : IsPassing source start now p given before after) → GivesNext start then q (given ++ so.added) (Err fault) → end_of fault ≡ None
+    → FindsItem source start then q given before after (unread (text_code fault))
+passing_faulty source start now then p q given before after TooLarge so next e = passing_item source start now then p q given before after after (Err TooLarge) (unread (text_code TooLarge)) so next (λ more items h. faulty TooLarge h)
+passing_faulty source start now then p q given before after BadByte so next e = passing_item source start now then p q given before after after (Err BadByte) (unread (text_code BadByte)) so next (λ more items h. faulty BadByte h)
+passing_faulty source start now then p q given before after FirstContinues so next e = passing_item source start now then p q given before after after (Err FirstContinues) (unread (text_code FirstContinues)) so next (λ more items h. faulty FirstContinues h)
+passing_faulty source start now then p q given before after NoColon so next e = passing_item source start now then p q given before after after (Err NoColon) (unread (text_code NoColon)) so next (λ more items h. faulty NoColon h)
+passing_faulty source start now then p q given before after BadName so next e = passing_item source start now then p q given before after after (Err BadName) (unread (text_code BadName)) so next (λ more items h. faulty BadName h)
+passing_faulty source start now then p q given before after Memory so next e = passing_item source start now then p q given before after after next.0 (unread E90) so next.1 (λ more items h. unread_for_memory next.0 h)
+passing_faulty source start now then p q given before after Read so next e = cc
+passing_faulty source start now then p q given before after Endless so next e = cc
+
+-- a fault that does not end the reading leaves fewer answers
+pub nearer_faulty : (before after : ℕ) (fault : TextFault) → Nearer before after (Err fault) → end_of fault ≡ None → after < before
+nearer_faulty before after TooLarge nearer e = nearer
+nearer_faulty before after BadByte nearer e = nearer
+nearer_faulty before after FirstContinues nearer e = nearer
+nearer_faulty before after NoColon nearer e = nearer
+nearer_faulty before after BadName nearer e = nearer
+nearer_faulty before after Memory nearer e = nearer
+nearer_faulty before after Read nearer e = cc
+nearer_faulty before after Endless nearer e = cc

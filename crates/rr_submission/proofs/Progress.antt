@@ -1,12 +1,20 @@
 -- How far a submission has come.
-use Rattle.std.proofs.Common.{◌≡◌, ℕ, ◌+◌, ◌<◌, ◌≤◌, Bool, true, false, List, [], ◌∷◌, ◌++◌, length, cond, refl, ap, sym, ◌∙◌, inl, append_assoc, length-append, Ok, Err, arith, drop, suc, zero-add}
-use Rattle.std.specs.Prelude.{Result, map}
+use Rattle.std.proofs.Common.{◌≡◌, ℕ, ◌+◌, ◌<◌, ◌≤◌, Bool, true, false, List, [], ◌∷◌, ◌++◌, length, cond, refl, ap, sym, subst, ◌∙◌, inl, inr, append_assoc, length-append, Ok, Err, arith, drop, suc, zero-add}
+use Rattle.std.specs.Prelude.{Result, map, ◌^◌, ◌*◌, ◌⊎◌}
 use Rattle.std.proofs.lemmas.List.Sums.{sum_by-append}
 use Rattle.std.proofs.lemmas.List.{append-nil}
 use Rattle.rr_io.specs.Told.{Told}
 use Rattle.rr_io.specs.Sending.{Takes, TakesFront, TakesSome}
 use Rattle.rr_io.proofs.Transfers.{Takes-none, Takes-then}
+use Rattle.rr_io.specs.Receiving.{IsSpent}
 use Rattle.rr_text.specs.Entries.{entries}
+use Rattle.rr_text.specs.ParagraphReaders.{Entry, HasGiven, KeepsApart, held, reads_of, state_of}
+use Rattle.rr_text.specs.declared.paragraphs.Paragraphs.{Paragraphs}
+use Rattle.rr_text.specs.declared.paragraphs.ReaderState.{ReaderState}
+use Rattle.rr_text.specs.declared.paragraphs.ReaderState.TheVariants.{Open, Ended, Broken, Endless}
+use Rattle.rr_text.specs.WholePart.{whole_part}
+use Rattle.rr_text.proofs.ReaderLemmas.{held_few, within_limit}
+use Rattle.rr_submission.specs.ItemReaders.{FindsItem}
 use Rattle.rr_text.specs.Fields.{Field}
 use Rattle.rr_text.specs.declared.fault.TextFault.{TextFault}
 use Rattle.rr_auth.specs.Registries.{Reg}
@@ -23,7 +31,7 @@ use Rattle.rr_submission.specs.SubmissionItems.{AreItems, Asked, submitted}
 use Rattle.rr_submission.specs.SubmissionItems.AreItems.{at_end, secrets_alone, asked, faulty}
 use Rattle.rr_submission.specs.Refusals.{is_refusal, refusals}
 use Rattle.rr_submission.specs.Reports.{item_line, lines_from, stop_lines}
-use Rattle.rr_submission.specs.Served.{HaltsAt, Serves, ServesAll, ServesHalted, ServesOne, ServesSome}
+use Rattle.rr_submission.specs.Served.{HaltsAt, ReadsFront, Serves, ServesAll, ServesHalted, ServesOne, ServesRead, ServesSome, ServesStopped, ServesUnwritten}
 
 -- one item more is decided
 pub Run-more : (old between new : Reg) (items : List Asked) (outcomes : List Outcome) (item : Asked) (outcome : Outcome) →
@@ -54,32 +62,30 @@ lines_from-more number old new (i ∷ is) (o ∷ os) item outcome r =
 pub refusals-more : (outcomes : List Outcome) (outcome : Outcome) → refusals (outcomes ++ outcome ∷ []) ≡ refusals outcomes + cond (is_refusal outcome) 1 0
 refusals-more outcomes outcome = sum_by-append _ outcomes (outcome ∷ []) ∙ ap (λ n. refusals outcomes + n) (zero-add (cond (is_refusal outcome) 1 0))
 
--- the text up to a place: its items were decided and their lines written
-pub record ComesTo (source text : List ℕ) (old new : Reg) (before after : Told) (secrets : List (List ℕ)) (at : ℕ) (done : Done) : Type 0 where
+-- of what was given so far the items were decided and their lines written
+pub record ComesTo (source : List ℕ) (given : List Entry) (old new : Reg) (before after : Told) (secrets : List (List ℕ)) (done : Done) : Type 0 where
   pub items : List Asked
   pub outcomes : List Outcome
-  pub are_items : (later : List Asked) → AreItems source secrets (entries (drop at text)) later → AreItems source [] (entries text) (items ++ later)
+  pub are_items : (more : List Entry) (later : List Asked) → AreItems source secrets more later → AreItems source [] (given ++ more) (items ++ later)
   pub runs : Run old (map submitted items) outcomes new
   pub writes : Takes before after (lines_from 1 items outcomes)
   pub counted : done.items ≡ length items
   pub refused : done.refused ≡ refusals outcomes
   pub fewer : done.refused ≤ done.items
-  pub few : done.items ≤ at
-  pub within : at ≤ length text
+  pub few : done.items ≤ length given
 
-pub ComesTo-start : (source text : List ℕ) (registry : Reg) (told : Told) → ComesTo source text registry registry told told [] 0 (record { items = 0; refused = 0 })
+pub ComesTo-start : (source : List ℕ) (registry : Reg) (told : Told) → ComesTo source [] registry registry told told [] (record { items = 0; refused = 0 })
 unfolding lines_from
-ComesTo-start source text registry told = record {
+ComesTo-start source registry told = record {
   items = [];
   outcomes = [];
-  are_items = λ later h. h;
+  are_items = λ more later h. h;
   runs = refl;
   writes = Takes-none told;
   counted = refl;
   refused = refl;
   fewer = omega arith;
   few = omega arith;
-  within = omega arith;
 }
 
 at_most_one : (b : Bool) → cond b 1 0 ≤ 1
@@ -87,117 +93,136 @@ at_most_one true = omega arith
 at_most_one false = omega arith
 
 -- the next item is decided, and its line is written
-pub ComesTo-more : {source text : List ℕ} {old between : Reg} {before middle : Told} {secrets : List (List ℕ)} {at : ℕ} {done : Done}
-    (new : Reg) (after : Told) (given : List (List ℕ)) (next : ℕ) (then : Done) (request : Request) (outcome : Outcome) →
-    ComesTo source text old between before middle secrets at done →
-    ((later : List Asked) → AreItems source given (entries (drop next text)) later →
-    AreItems source secrets (entries (drop at text)) (record { secrets = given; request = request } ∷ later)) →
-    at < next → next ≤ length text → Decides between given request.action outcome new →
+pub ComesTo-more : {source : List ℕ} {given : List Entry} {old between : Reg} {before middle : Told} {secrets : List (List ℕ)} {done : Done}
+    (start now : Told) (p : Paragraphs) (new : Reg) (after : Told) (then_secrets : List (List ℕ)) (then : Done) (request : Request) (outcome : Outcome) →
+    ComesTo source given old between before middle secrets done → (found : FindsItem source start now p given secrets then_secrets request) →
+    Decides between then_secrets request.action outcome new →
     then.items ≡ done.items + 1 → then.refused ≡ done.refused + cond (is_refusal outcome) 1 0 →
     Takes middle after (item_line then.items request.key outcome) →
-    ComesTo source text old new before after given next then
-ComesTo-more {source} {text} new after given next then request outcome p found lower upper decides items refused line =
-    let item : Asked = record { secrets = given; request = request } in
-    let number : then.items ≡ 1 + length p.items = items ∙ (ap (λ n. n + 1) p.counted ∙ omega arith) in
+    ComesTo source (given ++ found.added) old new before after then_secrets then
+ComesTo-more {source} {given} start now p new after then_secrets then request outcome so found decides items refused line =
+    let item : Asked = record { secrets = then_secrets; request = request } in
+    let number : then.items ≡ 1 + length so.items = items ∙ (ap (λ n. n + 1) so.counted ∙ omega arith) in
     let shown = rw number at line in
     record {
-      items = p.items ++ item ∷ [];
-      outcomes = p.outcomes ++ outcome ∷ [];
-      are_items = λ later h. rw append_assoc (p.are_items (item ∷ later) (found later h));
-      runs = Run-more _ _ _ p.items p.outcomes item outcome p.runs decides;
-      writes = rw (lines_from-more 1 _ _ p.items p.outcomes item outcome p.runs) (Takes-then _ _ p.writes shown);
-      counted = omega (arith, items, p.counted, length-append p.items (item ∷ []));
-      refused = refused ∙ (ap (λ n. n + cond (is_refusal outcome) 1 0) p.refused ∙ sym (refusals-more p.outcomes outcome));
-      fewer = omega (arith, refused, p.fewer, items, at_most_one (is_refusal outcome));
-      few = omega (arith, items, p.few, lower);
-      within = upper;
+      items = so.items ++ item ∷ [];
+      outcomes = so.outcomes ++ outcome ∷ [];
+      are_items = λ more later h.
+          let all : AreItems source [] (given ++ (found.added ++ more)) (so.items ++ item ∷ later) = so.are_items (found.added ++ more) (item ∷ later) (found.item more later h) in
+          rw (append_assoc given found.added more, append_assoc so.items (item ∷ []) later) all;
+      runs = Run-more _ _ _ so.items so.outcomes item outcome so.runs decides;
+      writes = rw (lines_from-more 1 _ _ so.items so.outcomes item outcome so.runs) (Takes-then _ _ so.writes shown);
+      counted = omega (arith, items, so.counted, length-append so.items (item ∷ []));
+      refused = refused ∙ (ap (λ n. n + cond (is_refusal outcome) 1 0) so.refused ∙ sym (refusals-more so.outcomes outcome));
+      fewer = omega (arith, refused, so.fewer, items, at_most_one (is_refusal outcome));
+      few = omega (arith, items, so.few, found.some, length-append given found.added);
     }
 
--- an item is decided, and a text ends behind it
-pub ServesAll-end : {source text : List ℕ} {old new : Reg} {before after : Told} {secrets : List (List ℕ)} {at : ℕ} {done : Done} →
-    ComesTo source text old new before after secrets at done → AreItems source secrets (entries (drop at text)) [] → ServesAll source (entries text) old new before after done
-ServesAll-end p none = record {
-  items = p.items;
-  outcomes = p.outcomes;
-  are_items = rw append-nil at (p.are_items [] none);
-  runs = p.runs;
-  writes = p.writes;
-  counted = p.counted;
-  refused = p.refused;
+-- what was given is within the bytes that a reader of paragraphs reads
+pub given_few : (start now : Told) (p : Paragraphs) (given : List Entry) → HasGiven start now p given → length given ≤ 2 ^ 36
+given_few start now p given has =
+    let all : length has.text ≡ length has.front + length (held p) = ap length has.cut ∙ length-append has.front (held p) in
+    omega (arith, all, has.few, has.bounded, p.few)
+
+-- no item is left behind what was given
+pub ServesAll-end : {source : List ℕ} {given : List Entry} {old new : Reg} {before after : Told} {secrets : List (List ℕ)} {done : Done} (added : List Entry) →
+    ComesTo source given old new before after secrets done → AreItems source secrets added [] → ServesAll source (given ++ added) old new before after done
+ServesAll-end added so none = record {
+  items = so.items;
+  outcomes = so.outcomes;
+  are_items = rw append-nil at (so.are_items added [] none);
+  runs = so.runs;
+  writes = so.writes;
+  counted = so.counted;
+  refused = so.refused;
 }
 
-alone_or_asked : (source : List ℕ) (secrets : List (List ℕ)) (fields : List Field) (es : List (Result (List Field) TextFault)) (b : Bool) → is_secrets_alone fields ≡ b →
-    ((items : List Asked) × AreItems source (secrets ++ secrets_of fields) es items) → (items : List Asked) × AreItems source secrets (Ok fields ∷ es) items
-alone_or_asked source secrets fields es true e rest = (rest.0, secrets_alone e rest.1)
-alone_or_asked source secrets fields es false e rest = (_, asked (request_of source fields) e (inl refl) rest.1)
+apart_by : (state : ReaderState) (now : Told) (front left : List ℕ) → KeepsApart state now front left → (whole_part front ≡ front) ⊎ ((left ≡ []) × IsSpent now)
+apart_by Open now front left keeps = inl keeps
+apart_by Ended now front left keeps = inr keeps
+apart_by Broken now front left keeps = absurd keeps
+apart_by Endless now front left keeps = absurd keeps
 
--- whatever follows in a text are items too
-pub some_items : (source : List ℕ) (secrets : List (List ℕ)) (es : List (Result (List Field) TextFault)) → (items : List Asked) × AreItems source secrets es items
-some_items source secrets [] = ([], at_end)
-some_items source secrets (Err fault ∷ es) = let rest = some_items source secrets es in (_, faulty fault rest.1)
-some_items source secrets (Ok fields ∷ es) = alone_or_asked source secrets fields es (is_secrets_alone fields) refl (some_items source (secrets ++ secrets_of fields) es)
+-- the front that was given
+pub front_read : (start now : Told) (p : Paragraphs) (given : List Entry) (has : HasGiven start now p given) → ReadsFront start now has.front
+front_read start now p given has = record {
+  left = held p;
+  gives = rw (← has.cut) has.gives;
+  short = held_few p;
+  apart = apart_by (state_of p) now has.front (held p) has.apart;
+  few = within_limit start.reads now.reads (reads_of p) has.counts p.few;
+}
+
+-- the items up to one that was found
+last_items : {source : List ℕ} {given : List Entry} {old between : Reg} {before middle : Told} {secrets : List (List ℕ)} {done : Done}
+    (start now : Told) (p : Paragraphs) (then_secrets : List (List ℕ)) (request : Request) → (so : ComesTo source given old between before middle secrets done) →
+    (found : FindsItem source start now p given secrets then_secrets request) →
+    AreItems source [] (entries found.has.front) (so.items ++ record { secrets = then_secrets; request = request } ∷ [])
+last_items {source} {given} start now p then_secrets request so found =
+    let item : Asked = record { secrets = then_secrets; request = request } in
+    let all : AreItems source [] (given ++ (found.added ++ [])) (so.items ++ item ∷ []) = so.are_items (found.added ++ []) (item ∷ []) (found.item [] [] at_end) in
+    let same : entries found.has.front ≡ given ++ (found.added ++ []) = found.has.spelled ∙ ap (λ es. given ++ es) (sym (append-nil found.added)) in
+    subst (λ es. AreItems source [] es (so.items ++ item ∷ [])) (sym same) all
 
 -- a line could not be written
-pub ServesSome-cut : {source text : List ℕ} {old between : Reg} {before middle : Told} {secrets : List (List ℕ)} {at : ℕ} {done : Done}
-    (new : Reg) (after : Told) (given : List (List ℕ)) (next count : ℕ) (request : Request) (outcome : Outcome) →
-    ComesTo source text old between before middle secrets at done →
-    ((later : List Asked) → AreItems source given (entries (drop next text)) later →
-    AreItems source secrets (entries (drop at text)) (record { secrets = given; request = request } ∷ later)) →
-    Decides between given request.action outcome new → count ≡ done.items + 1 →
+pub ServesSome-cut : {source : List ℕ} {given : List Entry} {old between : Reg} {before middle : Told} {secrets : List (List ℕ)} {done : Done}
+    (start now : Told) (p : Paragraphs) (new : Reg) (after : Told) (then_secrets : List (List ℕ)) (count : ℕ) (request : Request) (outcome : Outcome) →
+    ComesTo source given old between before middle secrets done → FindsItem source start now p given secrets then_secrets request →
+    Decides between then_secrets request.action outcome new → count ≡ done.items + 1 →
     TakesFront middle after (item_line count request.key outcome) →
-    ServesSome source (entries text) old new before after count
-ServesSome-cut {source} {text} {middle} new after given next count request outcome p found decides items line =
-    let item : Asked = record { secrets = given; request = request } in
-    let rest = some_items source given (entries (drop next text)) in
+    ServesUnwritten source start now old new before after count
+ServesSome-cut {source} {middle} start now p new after then_secrets count request outcome so found decides items line =
+    let item : Asked = record { secrets = then_secrets; request = request } in
     record {
-      told = p.items;
-      last = item;
-      later = rest.0;
-      outcomes = p.outcomes;
-      outcome = outcome;
-      between = middle;
-      are_items = p.are_items (item ∷ rest.0) (found rest.0 rest.1);
-      runs = Run-more _ _ _ p.items p.outcomes item outcome p.runs decides;
-      writes = p.writes;
-      cut = line;
-      counted = items ∙ ap (λ n. n + 1) p.counted;
+      front = found.has.front;
+      reads = front_read start now p _ found.has;
+      serves = record {
+        told = so.items;
+        last = item;
+        outcomes = so.outcomes;
+        outcome = outcome;
+        between = middle;
+        are_items = last_items start now p then_secrets request so found;
+        runs = Run-more _ _ _ so.items so.outcomes item outcome so.runs decides;
+        writes = so.writes;
+        cut = line;
+        counted = items ∙ ap (λ n. n + 1) so.counted;
+      };
     }
 
 -- the ledger came to a halt
-pub ServesHalted-cut : {L : Type 0} (g : Ghosts L) {source text : List ℕ} (old between new : L) {before middle : Told} {secrets : List (List ℕ)} {at : ℕ} {done : Done}
-    (after : Told) (given : List (List ℕ)) (next count : ℕ) (request : Request) →
-    ComesTo source text (g.registry old) (g.registry between) before middle secrets at done → g.Ready between →
-    ((later : List Asked) → AreItems source given (entries (drop next text)) later →
-    AreItems source secrets (entries (drop at text)) (record { secrets = given; request = request } ∷ later)) →
-    HaltsAt g between given request.action new → count ≡ done.items → TakesSome middle after (stop_lines count request.key) →
-    ServesHalted g source (entries text) old new before after count
-ServesHalted-cut g {source} {text} old between new {before} {middle} after given next count request p ready found halts items lines =
-    let item : Asked = record { secrets = given; request = request } in
-    let rest = some_items source given (entries (drop next text)) in
+pub ServesHalted-cut : {L : Type 0} (g : Ghosts L) {source : List ℕ} {given : List Entry} (old between new : L) {before middle : Told} {secrets : List (List ℕ)} {done : Done}
+    (start now : Told) (p : Paragraphs) (after : Told) (then_secrets : List (List ℕ)) (count : ℕ) (request : Request) →
+    ComesTo source given (g.registry old) (g.registry between) before middle secrets done → g.Ready between → FindsItem source start now p given secrets then_secrets request →
+    HaltsAt g between then_secrets request.action new → count ≡ done.items → TakesSome middle after (stop_lines count request.key) →
+    ServesStopped g source start now old new before after count
+ServesHalted-cut g {source} old between new {before} {middle} start now p after then_secrets count request so ready found halts items line =
+    let item : Asked = record { secrets = then_secrets; request = request } in
     record {
-      told = p.items;
-      last = item;
-      later = rest.0;
-      outcomes = p.outcomes;
-      middle = between;
-      between = middle;
-      are_items = p.are_items (item ∷ rest.0) (found rest.0 rest.1);
-      runs = p.runs;
-      ready = ready;
-      halts = halts;
-      writes = p.writes;
-      ends = lines;
-      counted = items ∙ p.counted;
+      front = found.has.front;
+      reads = front_read start now p _ found.has;
+      serves = record {
+        told = so.items;
+        last = item;
+        outcomes = so.outcomes;
+        middle = between;
+        between = middle;
+        are_items = last_items start now p then_secrets request so found;
+        runs = so.runs;
+        ready = ready;
+        halts = halts;
+        writes = so.writes;
+        ends = line;
+        counted = items ∙ so.counted;
+      };
     }
 
 -- an item could not be served
-pub Serves-cut : {L : Type 0} (g : Ghosts L) {source text : List ℕ} (old between new : L) {before middle : Told} {secrets : List (List ℕ)} {at : ℕ} {done : Done}
-    (after : Told) (given : List (List ℕ)) (next : ℕ) (request : Request) (stop : Stop) →
-    ComesTo source text (g.registry old) (g.registry between) before middle secrets at done → g.Ready between →
-    ((later : List Asked) → AreItems source given (entries (drop next text)) later →
-    AreItems source secrets (entries (drop at text)) (record { secrets = given; request = request } ∷ later)) →
-    ServesOne g given request done between new middle after (Err stop) → Serves g source (entries text) old new before after (Err stop)
-Serves-cut g old between new after given next request (Unwritten count) p ready found one =
-    ServesSome-cut _ after given next count request one.outcome p found one.decides one.items one.writes
-Serves-cut g old between new after given next request (Halted count) p ready found one =
-    ServesHalted-cut g old between new after given next count request p ready found one.halts one.items one.writes
+pub Serves-cut : {L : Type 0} (g : Ghosts L) {source : List ℕ} {given : List Entry} (old between new : L) {before middle : Told} {secrets : List (List ℕ)} {done : Done}
+    (start now : Told) (p : Paragraphs) (after : Told) (then_secrets : List (List ℕ)) (request : Request) (stop : Stop) →
+    ComesTo source given (g.registry old) (g.registry between) before middle secrets done → g.Ready between → FindsItem source start now p given secrets then_secrets request →
+    ServesOne g then_secrets request done between new middle after (Err stop) → Serves g source start now old new before after (Err stop)
+Serves-cut g old between new start now p after then_secrets request (Unwritten count) so ready found one =
+    ServesSome-cut start now p _ after then_secrets count request one.outcome so found one.decides one.items one.writes
+Serves-cut g old between new start now p after then_secrets request (Halted count) so ready found one =
+    ServesHalted-cut g old between new start now p after then_secrets count request so ready found one.halts one.items one.writes

@@ -3,6 +3,7 @@ pub mod SubmissionItems
 pub mod Refusals
 pub mod Endings
 pub mod Reports
+pub mod ItemReaders
 pub mod Ledgers
 pub mod Served
 pub mod Submissions

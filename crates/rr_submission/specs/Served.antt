@@ -1,7 +1,12 @@
 -- The items of the entries of a text decided one by one, each with its line (profile).
-use Rattle.std.specs.Prelude.{◌≡◌, ℕ, ◌+◌, List, [], ◌∷◌, ◌++◌, length, map, Result, Ok, Err, if◌then◌else◌}
+use Rattle.std.specs.Prelude.{◌≡◌, ℕ, ◌+◌, ◌^◌, ◌≤◌, ◌⊎◌, List, [], ◌∷◌, ◌++◌, length, map, Result, Ok, Err, if◌then◌else◌}
 use Rattle.rr_io.specs.Told.{Told}
+use Rattle.rr_io.specs.Receiving.{Gives, IsSpent}
 use Rattle.rr_io.specs.Sending.{Takes, TakesFront, TakesSome}
+use Rattle.rr_io.specs.declared.receiving.ReadEnd.{ReadEnd}
+use Rattle.rr_text.specs.Entries.{entries}
+use Rattle.rr_text.specs.ParagraphReaders.{HasEnded}
+use Rattle.rr_text.specs.WholePart.{whole_part}
 use Rattle.rr_text.specs.Fields.{Field}
 use Rattle.rr_text.specs.declared.fault.TextFault.{TextFault}
 use Rattle.rr_object.specs.declared.code.Code.{Code}
@@ -28,16 +33,15 @@ pub record ServesAll (source : List ℕ) (entries : List (Result (List Field) Te
   pub counted : done.items ≡ length items
   pub refused : done.refused ≡ refusals outcomes
 
--- the line of an item could not be written: it was the last to be decided, the items told before it had been decided and their
--- lines written whole, and the later ones were not decided
+-- the line of the last item could not be written: it was decided, the items told before it had been decided and their lines
+-- written whole
 pub record ServesSome (source : List ℕ) (entries : List (Result (List Field) TextFault)) (old new : Reg) (before after : Told) (count : ℕ) : Type 0 where
   pub told : List Asked
   pub last : Asked
-  pub later : List Asked
   pub outcomes : List Outcome
   pub outcome : Outcome
   pub between : Told
-  pub are_items : AreItems source [] entries (told ++ last ∷ later)
+  pub are_items : AreItems source [] entries (told ++ last ∷ [])
   pub runs : Run old (map submitted (told ++ last ∷ [])) (outcomes ++ outcome ∷ []) new
   pub writes : Takes before between (lines_from 1 told outcomes)
   pub cut : TakesFront between after (item_line count last.request.key outcome)
@@ -48,16 +52,15 @@ abbrev pub HaltsAt : {L : Type 0} → Ghosts L → L → List (List ℕ) → Res
 HaltsAt g old secrets (Ok item) new = g.Halts old secrets item new
 HaltsAt g old secrets (Err code) new = ⊥
 
--- the ledger came to a halt at an item: the items told before it had been decided and their lines written whole, it has its line
--- with the code E91 and the last line behind that, as far as they could be written, and the later ones were not decided
+-- the ledger came to a halt at the last item: the items told before it had been decided and their lines written whole, and it has
+-- its line with the code E91 and the last line behind that, as far as they could be written
 pub record ServesHalted {L : Type 0} (g : Ghosts L) (source : List ℕ) (entries : List (Result (List Field) TextFault)) (old new : L) (before after : Told) (count : ℕ) : Type 0 where
   pub told : List Asked
   pub last : Asked
-  pub later : List Asked
   pub outcomes : List Outcome
   pub middle : L
   pub between : Told
-  pub are_items : AreItems source [] entries (told ++ last ∷ later)
+  pub are_items : AreItems source [] entries (told ++ last ∷ [])
   pub runs : Run (g.registry old) (map submitted told) outcomes (g.registry middle)
   pub ready : g.Ready middle
   pub halts : HaltsAt g middle last.secrets last.request.action new
@@ -65,12 +68,39 @@ pub record ServesHalted {L : Type 0} (g : Ghosts L) (source : List ℕ) (entries
   pub ends : TakesSome between after (stop_lines count last.request.key)
   pub counted : count ≡ length told
 
+-- a front of the text was read, and at most one block behind it, whose bytes are passed unread: the front ends with a blank line, so
+-- that its entries are the first of the text whatever follows, or with the text (profile)
+pub record ReadsFront (start now : Told) (front : List ℕ) : Type 0 where
+  pub left : List ℕ
+  pub gives : Gives start now (front ++ left)
+  pub short : length left ≤ 4096
+  pub apart : (whole_part front ≡ front) ⊎ ((left ≡ []) × IsSpent now)
+  pub few : now.reads ≤ start.reads + 2 ^ 24
+
+-- the text was read to its end, or to a failed read or the limit of reads, and these of its entries count
+pub record ServesRead (source : List ℕ) (start now : Told) (end : ReadEnd) (old new : Reg) (before after : Told) (done : Done) : Type 0 where
+  pub given : List (Result (List Field) TextFault)
+  pub ended : HasEnded start now end given
+  pub serves : ServesAll source given old new before after done
+
+-- a front of the text was read, up to the item whose line could not be written
+pub record ServesUnwritten (source : List ℕ) (start now : Told) (old new : Reg) (before after : Told) (count : ℕ) : Type 0 where
+  pub front : List ℕ
+  pub reads : ReadsFront start now front
+  pub serves : ServesSome source (entries front) old new before after count
+
+-- a front of the text was read, up to the item at which the ledger came to a halt
+pub record ServesStopped {L : Type 0} (g : Ghosts L) (source : List ℕ) (start now : Told) (old new : L) (before after : Told) (count : ℕ) : Type 0 where
+  pub front : List ℕ
+  pub reads : ReadsFront start now front
+  pub serves : ServesHalted g source (entries front) old new before after count
+
 -- all of the items, with what is counted; those up to the one whose line could not be written, with their number; or those before
 -- the one at which the ledger came to a halt
-abbrev pub Serves : {L : Type 0} → Ghosts L → List ℕ → List (Result (List Field) TextFault) → L → L → Told → Told → Result Done Stop → Type 0
-Serves g source entries old new before after (Ok done) = ServesAll source entries (g.registry old) (g.registry new) before after done
-Serves g source entries old new before after (Err (Unwritten count)) = ServesSome source entries (g.registry old) (g.registry new) before after count
-Serves g source entries old new before after (Err (Halted count)) = ServesHalted g source entries old new before after count
+abbrev pub Serves : {L : Type 0} → Ghosts L → List ℕ → Told → Told → L → L → Told → Told → Result (Done × ReadEnd) Stop → Type 0
+Serves g source start now old new before after (Ok served) = ServesRead source start now served.1 (g.registry old) (g.registry new) before after served.0
+Serves g source start now old new before after (Err (Unwritten count)) = ServesUnwritten source start now (g.registry old) (g.registry new) before after count
+Serves g source start now old new before after (Err (Halted count)) = ServesStopped g source start now old new before after count
 
 -- a fact that holds unless the ledger came to a halt
 abbrev pub UnlessHalted : {T : Type 0} → Result T Stop → Type 0 → Type 0

@@ -1,14 +1,12 @@
 -- What a submission does: to the ledger and its registry, and to its reader and its writer (profile).
 use Rattle.std.specs.Prelude.{◌≡◌, ◌≢◌, ℕ, List, [], length, map, Result, Ok, Err, ◌⊎◌}
 use Rattle.rr_io.specs.Told.{Told}
-use Rattle.rr_io.specs.Receiving.{Gives, Reads}
+use Rattle.rr_io.specs.Receiving.{Reads}
 use Rattle.rr_io.specs.Sending.{Takes, TakesFront, TakesSome}
 use Rattle.rr_io.specs.declared.receiving.ReadEnd.{ReadEnd}
-use Rattle.rr_io.specs.declared.receiving.ReadEnd.TheVariants.{Whole, Broken, Endless}
+use Rattle.rr_io.specs.declared.receiving.ReadEnd.TheVariants.{Whole}
 use Rattle.rr_text.specs.Entries.{entries}
 use Rattle.rr_text.specs.WholePart.{whole_entries}
-use Rattle.rr_text.specs.Fields.{Field}
-use Rattle.rr_text.specs.declared.fault.TextFault.{TextFault}
 use Rattle.rr_auth.specs.Registries.{Reg}
 use Rattle.rr_registry.specs.declared.outcome.Outcome.{Outcome}
 use Rattle.rr_registry.specs.Runs.{Run}
@@ -23,13 +21,7 @@ use Rattle.rr_submission.specs.SubmissionItems.{AreItems, Asked, submitted}
 use Rattle.rr_submission.specs.Refusals.{refusals}
 use Rattle.rr_submission.specs.Endings.{last_line}
 use Rattle.rr_submission.specs.Reports.{lines_from, report}
-use Rattle.rr_submission.specs.Served.{ServesSome, ServesHalted}
-
--- the entries that count of a text: all where it ended, and after a read fault those that a blank line closes
-abbrev pub entries_read : ReadEnd → List ℕ → List (Result (List Field) TextFault)
-entries_read Whole text = entries text
-entries_read Broken text = whole_entries text
-entries_read Endless text = whole_entries text
+use Rattle.rr_submission.specs.Served.{ServesStopped, ServesUnwritten}
 
 -- a reader and a writer, and a registry, before and after
 pub record Sides : Type 0 where
@@ -68,12 +60,10 @@ pub record IsReadFault (source : List ℕ) (sides : Sides) (count : ℕ) : Type 
   pub ends : TakesSome between sides.sink_after (last_line ReadFault (length items))
   pub counted : count ≡ length items
 
--- a write failed in the line of an item, whether or not a read had failed: the items up to that one were decided and no others
-pub record IsLineFault (source : List ℕ) (sides : Sides) (count : ℕ) : Type 0 where
-  pub text : List ℕ
-  pub end : ReadEnd
-  pub reads : Reads sides.source_before sides.source_after text end
-  pub serves : ServesSome source (entries_read end text) sides.before sides.after sides.sink_before sides.sink_after count
+-- a write failed in the line of an item: the items up to that one were read and decided and no others
+abbrev pub IsLineFault : List ℕ → Sides → ℕ → Type 0
+IsLineFault source sides count =
+    ServesUnwritten source sides.source_before sides.source_after sides.before sides.after sides.sink_before sides.sink_after count
 
 -- the text was read to its end, and a write failed in the last line: all items were decided and their lines written whole
 pub record IsLastLineFault (source : List ℕ) (sides : Sides) (count : ℕ) : Type 0 where
@@ -92,17 +82,13 @@ pub record IsLastLineFault (source : List ℕ) (sides : Sides) (count : ℕ) : T
 abbrev pub IsWriteFault : List ℕ → Sides → ℕ → Type 0
 IsWriteFault source sides count = IsLineFault source sides count ⊎ IsLastLineFault source sides count
 
--- the ledger came to a halt at an item, whether or not a read had failed: the items before it were decided and no others
-pub record IsStoreFault {L : Type 0} (g : Ghosts L) (source : List ℕ) (sides : Sides) (old new : L) (count : ℕ) : Type 0 where
-  pub text : List ℕ
-  pub end : ReadEnd
-  pub reads : Reads sides.source_before sides.source_after text end
-  pub serves : ServesHalted g source (entries_read end text) old new sides.sink_before sides.sink_after count
+-- the ledger came to a halt at an item: the items before it were decided, and none behind it was read
+abbrev pub IsStoreFault : {L : Type 0} → Ghosts L → List ℕ → Sides → L → L → ℕ → Type 0
+IsStoreFault g source sides old new count = ServesStopped g source sides.source_before sides.source_after old new sides.sink_before sides.sink_after count
 
--- memory was refused before the first item: nothing was decided
+-- memory was refused before the first item: nothing was read or decided
 pub record IsUnread (sides : Sides) : Type 0 where
-  pub text : List ℕ
-  pub gives : Gives sides.source_before sides.source_after text
+  pub unread : sides.source_after ≡ sides.source_before
   pub same : sides.after ≡ sides.before
   pub writes : TakesSome sides.sink_before sides.sink_after (last_line Memory 0)
 

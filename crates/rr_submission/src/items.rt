@@ -1,52 +1,70 @@
 //! The items of a text in turn.
 
-ghost use Rattle.std.specs.Prelude.{◌≡◌, ◌∷◌, ◌++◌, ◌<◌, ◌≤◌, ℕ, [], List, length, drop, IfOk, IfSome, IfNone, OnOk, OnErr};
-ghost use Rattle.rr_text.specs.Entries.{entries};
+ghost use Rattle.std.specs.Prelude.{◌≡◌, ◌∷◌, ◌++◌, ◌<◌, [], List, IfOk, OnOk, OnErr};
+ghost use Rattle.rr_io.specs.Told.{Told};
+ghost use Rattle.rr_text.specs.ParagraphReaders.{Entry, HasGiven, left_of};
+ghost use Rattle.rr_submission.specs.ItemReaders.{Finds, end_of};
 ghost use Rattle.rr_submission.specs.SubmissionTexts.{secrets_of};
-ghost use Rattle.rr_submission.specs.SubmissionItems.{AreItems, Asked};
 
 use crate::request::Request;
 use crate::secret::secret_of;
 use crate::submission_text::{is_password, is_secrets_alone};
 use rr_auth::Secrets;
+use rr_io::{ReadEnd, Source};
 use rr_number::Name;
 use rr_object::Code;
-use rr_text::{Attribute, Paragraph, TextFault, next_paragraph, skip_paragraph};
+use rr_text::{Attribute, Paragraph, Paragraphs, TextFault};
 use std::alloc::{AllocError, Global};
 
-/// What the first item of the text from a place on asks, with the place after it; `None` where there is no more. The
-/// secrets of the paragraphs that it passes are added to `secrets`. Want of memory is the refusal E90.
-pub fn next_item(
+/// What the next item of the text that this reader gives asks; the error is how the reading ended, where there is no more.
+/// The secrets of the paragraphs that it passes are added to `secrets`. Want of memory is the refusal E90.
+pub fn next_item<R: Source>(
     alloc: Global,
-    text: &[u8],
-    from: usize,
+    paragraphs: &mut Paragraphs,
+    reader: &mut R,
     source: &Name,
     secrets: &mut Secrets,
-) -> Option<(Request, usize)>
-    requires { from ≤ length text.now }
-    ensures none { IfNone result (AreItems source.now secrets.old (entries (drop from text.now)) []) }
-    ensures found { IfSome result (λ found. (items : List Asked)
-        → AreItems source.now secrets.new (entries (drop found.1 text.now)) items
-        → AreItems source.now secrets.old (entries (drop from text.now))
-        (record { secrets = secrets.new; request = found.0 } ∷ items)) }
-    ensures place { IfSome result (λ found. (from < found.1) × (found.1 ≤ length text.now)) }
+) -> Result<Request, ReadEnd>
+    ensures finds { (start : Told) (given : List Entry) → HasGiven start (R.told reader.old) paragraphs.old given
+        → Finds source.now start (R.told reader.new) paragraphs.new given secrets.old secrets.new result }
+    ensures nearer { OnOk result (left_of paragraphs.new < left_of paragraphs.old) }
+    ensures aside { R.aside reader.new ≡ R.aside reader.old }
 {
-    let mut at = from;
     'paragraphs: loop {
-        match next_paragraph(alloc, text, at) {
-            Ok(None) => return None,
-            Ok(Some((paragraph, next))) => {
+        match paragraphs.next(alloc, reader) {
+            Ok(None) => return Err(ReadEnd::Whole),
+            Ok(Some(paragraph)) => {
                 match add_secrets(alloc, &paragraph, secrets) {
                     Ok(()) => {}
-                    Err(_) => return Some((Request::unread(Code::E90), next)),
+                    Err(_) => return Ok(Request::unread(Code::E90)),
                 }
                 if !is_secrets_alone(&paragraph) {
-                    return Some((Request::read(alloc, paragraph, source), next));
+                    return Ok(Request::read(alloc, paragraph, source));
                 }
-                at = next;
             }
-            Err(fault) => return Some((Request::unread_text(fault), skip_paragraph(text, at))),
+            Err(fault) => {
+                return match read_end(fault) {
+                    Some(end) => Err(end),
+                    None => Ok(Request::unread_text(fault)),
+                };
+            }
         }
+    }
+}
+
+/// How a fault ends the reading, if it does.
+fn read_end(fault: TextFault) -> Option<ReadEnd>
+    ensures { result ≡ end_of fault }
+{
+    match fault {
+        TextFault::Read => Some(ReadEnd::Broken),
+        TextFault::Endless => Some(ReadEnd::Endless),
+        TextFault::TooLarge
+        | TextFault::BadByte
+        | TextFault::FirstContinues
+        | TextFault::NoColon
+        | TextFault::BadName
+        | TextFault::Memory => None,
     }
 }
 

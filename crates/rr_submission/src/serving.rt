@@ -1,11 +1,8 @@
 //! Submissions: read, decided item by item, and reported.
 
-ghost use Rattle.std.specs.Prelude.{◌≡◌, ◌≢◌, ◌+◌, ◌<◌, ◌^◌, if◌then◌else◌, IfOk, OnOk, OnErr};
-ghost use Rattle.rr_io.specs.Told.{Told};
-ghost use Rattle.rr_io.specs.Receiving.{Reads};
+ghost use Rattle.std.specs.Prelude.{◌≡◌, ◌+◌, ◌<◌, ◌^◌, [], if◌then◌else◌, IfOk, OnOk, OnErr};
 ghost use Rattle.rr_io.specs.Sending.{Writes};
-ghost use Rattle.rr_io.specs.declared.receiving.ReadEnd.{ReadEnd};
-ghost use Rattle.rr_text.specs.Entries.{entries};
+ghost use Rattle.rr_text.specs.ParagraphReaders.{HasGiven};
 ghost use Rattle.rr_registry.specs.Runs.{Decides};
 ghost use Rattle.rr_submission.specs.Refusals.{is_refusal};
 ghost use Rattle.rr_submission.specs.Reports.{stop_lines};
@@ -20,17 +17,17 @@ use crate::request::Request;
 use crate::stop::Stop;
 use crate::submission::{DeskFault, Done};
 use rr_auth::{Item, Secrets};
-use rr_io::{ReadEnd, Sink, Source, read_to_end};
+use rr_io::{ReadEnd, Sink, Source};
 use rr_number::Name;
 use rr_object::{Code, Key};
 use rr_registry::Outcome;
-use rr_text::whole_part;
+use rr_text::Paragraphs;
 use std::alloc::Global;
 use std::io;
 
-/// Submits what the reader gives to a ledger with a registry of this source, and writes the report. The items are decided
-/// one by one, in order. Where the line of an item cannot be written, that item and those before it stand, and those
-/// behind it are never decided. Where the ledger comes to a halt at an item, those before it stand, the item has a line
+/// Submits what the reader gives to a ledger with a registry of this source, and writes the report. The items are read,
+/// decided and reported one by one, in order, in memory that does not grow with the text. Where the line of an item cannot be
+/// written, that item and those before it stand, and those behind it are not read. Where the ledger comes to a halt at an item, those before it stand, the item has a line
 /// with the code E91, and a last line follows.
 pub fn submit<L: Ledger, R: Source, W: Sink>(
     alloc: Global,
@@ -52,14 +49,8 @@ pub fn submit<L: Ledger, R: Source, W: Sink>(
     ensures reader_aside { R.aside reader.new ≡ R.aside reader.old }
     ensures writer_aside { W.aside writer.new ≡ W.aside writer.old }
 {
-    match read_to_end(alloc, reader) {
-        Ok((text, end)) => {
-            if end.is_whole() {
-                report_whole(alloc, ledger, source, text.as_slice(), writer)
-            } else {
-                report_part(alloc, ledger, source, text.as_slice(), writer)
-            }
-        }
+    match Paragraphs::new(alloc) {
+        Ok(mut paragraphs) => report(alloc, ledger, source, &mut paragraphs, reader, writer),
         Err(_) => {
             let _ = write_last_line(writer, Ending::Memory, 0);
             Err(DeskFault::Memory)
@@ -67,88 +58,72 @@ pub fn submit<L: Ledger, R: Source, W: Sink>(
     }
 }
 
-/// Submits a text that was read to its end.
-fn report_whole<L: Ledger, W: Sink>(
+/// Submits a text of which nothing was read.
+fn report<L: Ledger, R: Source, W: Sink>(
     alloc: Global,
     ledger: &mut L,
     source: &Name,
-    text: &[u8],
+    paragraphs: &mut Paragraphs,
+    reader: &mut R,
     writer: &mut W,
 ) -> Result<Done, DeskFault>
-    requires { L.Ready ledger.old }
-    ensures submits { (before after : Told) → Reads before after text.now ReadEnd.Whole → Submits L.Ledger source.now (record {
-      source_before = before;
-      source_after = after;
+    requires ready { L.Ready ledger.old }
+    requires unread { HasGiven (R.told reader.old) (R.told reader.old) paragraphs.old [] }
+    ensures submits { Submits L.Ledger source.now (record {
+      source_before = R.told reader.old;
+      source_after = R.told reader.new;
       sink_before = W.told writer.old;
       sink_after = W.told writer.new;
       before = L.registry ledger.old;
       after = L.registry ledger.new;
     }) ledger.old ledger.new result }
     ensures ready { UnlessStoreFault result (L.Ready ledger.new) }
-    ensures aside { W.aside writer.new ≡ W.aside writer.old }
+    ensures reader_aside { R.aside reader.new ≡ R.aside reader.old }
+    ensures writer_aside { W.aside writer.new ≡ W.aside writer.old }
 {
-    match serve_all(alloc, ledger, source, text, writer) {
-        Ok(done) => match write_last_line(writer, Ending::Complete, done.items) {
-            Ok(()) => Ok(done),
-            Err(_) => Err(DeskFault::WriteFault { items: done.items }),
-        },
-        Err(stop) => Err(stop.fault()),
-    }
-}
-
-/// Submits a text that broke off.
-fn report_part<L: Ledger, W: Sink>(
-    alloc: Global,
-    ledger: &mut L,
-    source: &Name,
-    text: &[u8],
-    writer: &mut W,
-) -> Result<Done, DeskFault>
-    requires { L.Ready ledger.old }
-    ensures submits { (end : ReadEnd) (before after : Told) → end ≢ ReadEnd.Whole → Reads before after text.now end → Submits L.Ledger source.now (record {
-      source_before = before;
-      source_after = after;
-      sink_before = W.told writer.old;
-      sink_after = W.told writer.new;
-      before = L.registry ledger.old;
-      after = L.registry ledger.new;
-    }) ledger.old ledger.new result }
-    ensures ready { UnlessStoreFault result (L.Ready ledger.new) }
-    ensures aside { W.aside writer.new ≡ W.aside writer.old }
-{
-    match serve_all(alloc, ledger, source, whole_part(text), writer) {
-        Ok(done) => {
-            let _ = write_last_line(writer, Ending::ReadFault, done.items);
-            Err(DeskFault::ReadFault { items: done.items })
+    match serve_all(alloc, ledger, source, paragraphs, reader, writer) {
+        Ok((done, end)) => {
+            if end.is_whole() {
+                match write_last_line(writer, Ending::Complete, done.items) {
+                    Ok(()) => Ok(done),
+                    Err(_) => Err(DeskFault::WriteFault { items: done.items }),
+                }
+            } else {
+                let _ = write_last_line(writer, Ending::ReadFault, done.items);
+                Err(DeskFault::ReadFault { items: done.items })
+            }
         }
         Err(stop) => Err(stop.fault()),
     }
 }
 
-/// Decides the items of a text and writes a line on each.
-fn serve_all<L: Ledger, W: Sink>(
+/// Reads, decides and reports the items of a text one by one: each line is written before the next item is read.
+fn serve_all<L: Ledger, R: Source, W: Sink>(
     alloc: Global,
     ledger: &mut L,
     source: &Name,
-    text: &[u8],
+    paragraphs: &mut Paragraphs,
+    reader: &mut R,
     writer: &mut W,
-) -> Result<Done, Stop>
-    requires { L.Ready ledger.old }
-    ensures serves { Serves L.Ledger source.now (entries text.now) ledger.old ledger.new (W.told writer.old) (W.told writer.new) result }
+) -> Result<(Done, ReadEnd), Stop>
+    requires ready { L.Ready ledger.old }
+    requires unread { HasGiven (R.told reader.old) (R.told reader.old) paragraphs.old [] }
+    ensures serves { Serves L.Ledger source.now (R.told reader.old) (R.told reader.new) ledger.old ledger.new (W.told writer.old) (W.told writer.new) result }
     ensures ready { UnlessHalted result (L.Ready ledger.new) }
-    ensures aside { W.aside writer.new ≡ W.aside writer.old }
+    ensures reader_aside { R.aside reader.new ≡ R.aside reader.old }
+    ensures writer_aside { W.aside writer.new ≡ W.aside writer.old }
 {
     let mut secrets = Secrets::new(alloc);
     let mut done = Done {
         items: 0,
         refused: 0,
     };
-    let mut at = 0;
-    'items: while let Some((request, next)) = next_item(alloc, text, at, source, &mut secrets) {
-        done = serve_one(alloc, ledger, &secrets, request, done, writer)?;
-        at = next;
+    'items: loop {
+        match next_item(alloc, paragraphs, reader, source, &mut secrets) {
+            Ok(request) => done = serve_one(alloc, ledger, &secrets, request, done, writer)?,
+            Err(end) => return Ok((done, end)),
+        }
     }
-    Ok(done)
 }
 
 /// Decides an item and writes its line.

@@ -83,7 +83,7 @@ gathered_rest before now left made cur mid so reads takes =
       begun = subst (λ (t : List ℕ). IsBegun t mid.draft) (sym so.cut) all.begun;
     }
 
-held_few : (p : Paragraphs) → length (held p) ≤ 4096
+pub held_few : (p : Paragraphs) → length (held p) ≤ 4096
 held_few p =
     let short : length (take p.to p.block) ≤ p.to = omega (arith, length-take p.to p.block) in
     let shorter : length (held p) ≡ length (take p.to p.block) - p.from = length-drop p.from (take p.to p.block) in
@@ -278,7 +278,7 @@ ended_finds before after old mid new gathers same reads is =
 all_of : (start before : Told) (old : Paragraphs) (given : List Entry) (has : HasGiven start before old given) (bytes : List ℕ) → has.text ++ bytes ≡ has.front ++ (held old ++ bytes)
 all_of start before old given has bytes = ap (λ t. t ++ bytes) has.cut ∙ append_assoc has.front (held old) bytes
 
-within_limit : (a b n : ℕ) → Counts a b n → n ≤ 16777216 → b ≤ a + 2 ^ 24
+pub within_limit : (a b n : ℕ) → Counts a b n → n ≤ 16777216 → b ≤ a + 2 ^ 24
 within_limit a b n counts few = elim (below_or_not (a + n)) [
   | inl below ↦ omega (arith, counts.exact below)
   | inr past ↦ omega (arith, counts.full past)

@@ -1,33 +1,57 @@
-use Rattle.std.proofs.Common.{◌≤◌, ◌∙◌, sym, arith}
-use Rattle.rr_submission.specs.SubmissionItems.AreItems.{at_end, asked, unread_for_memory}
-use Rattle.rr_submission.proofs.Passing.{Passes-alone, AreItems-faulty}
+-- Paragraphs of passwords are passed up to one that is an item, or to the end.
+use Rattle.std.proofs.Common.{◌∙◌, ◌++◌, refl, sym, arith}
+use Rattle.rr_io.specs.declared.receiving.ReadEnd.TheVariants.{Whole}
+use Rattle.rr_submission.specs.SubmissionItems.AreItems.{asked, unread_for_memory}
+use Rattle.rr_submission.proofs.Passing.{passing_none, passing_more, passing_item, passing_end, passing_fault, passing_faulty, nearer_faulty}
 use Rattle.rr_submission.proofs.items.next_item.Goals as goal
 
-pub returns-in-Ok-None-clause-none : goal.returns-in-Ok-None-clause-none
-returns-in-Ok-None-clause-none c =
-    let none = c.in-Ok-None.ensures.none c.in-Ok-None.field-0-is in
-    c.paragraphs.invariant.0.items_stay _ (rw none at_end)
+pub paragraphs-init : goal.paragraphs-init
+paragraphs-init g c = record {
+  passing = λ start given has. passing_none _ start _ _ given _ has;
+  nearer = omega arith;
+  aside = refl;
+}
 
-pub returns-in-Err-add_secrets-clause-found : goal.returns-in-Err-add_secrets-clause-found
-returns-in-Err-add_secrets-clause-found c = λ items h.
-    let found = rw c.in-Ok-Some.field-0-is at c.in-Ok-Some.ensures.found in
+pub returns-in-Ok-None-clause-finds : goal.returns-in-Ok-None-clause-finds
+returns-in-Ok-None-clause-finds g c = λ start given has.
+    let so = c.paragraphs.invariant.passing start given has in
+    let next = rw c.in-Ok-None.field-0-is at (c.in-Ok-None.ensures.given start (given ++ so.added) so.has) in
+    passing_end _ start _ _ c.paragraphs.paragraphs given _ _ Whole so next.1
+
+pub returns-in-Err-add_secrets-clause-finds : goal.returns-in-Err-add_secrets-clause-finds
+returns-in-Err-add_secrets-clause-finds g c = λ start given has.
+    let so = c.paragraphs.invariant.passing start given has in
+    let next = rw c.in-Ok-Some.field-0-is at (c.in-Ok-Some.ensures.given start (given ++ so.added) so.has) in
     let same = c.in-Err-add_secrets.ensures.err in
-    c.paragraphs.invariant.0.items_stay _ (rw (found, same, c.unread.ensures) (unread_for_memory _ (rw same at h)))
+    rw (same, c.unread.ensures) (passing_item _ start _ _ c.paragraphs.paragraphs _ given _ _ c.paragraphs.secrets _ _ so next (λ more items h. unread_for_memory _ h))
 
-pub returns-then-not-is_secrets_alone-clause-found : goal.returns-then-not-is_secrets_alone-clause-found
-returns-then-not-is_secrets_alone-clause-found c = λ items h.
-    let found = rw c.in-Ok-Some.field-0-is at c.in-Ok-Some.ensures.found in
+pub returns-then-not-is_secrets_alone-clause-finds : goal.returns-then-not-is_secrets_alone-clause-finds
+returns-then-not-is_secrets_alone-clause-finds g c = λ start given has.
+    let so = c.paragraphs.invariant.passing start given has in
+    let next = rw c.in-Ok-Some.field-0-is at (c.in-Ok-Some.ensures.given start (given ++ so.added) so.has) in
     let same = c.in-Ok.ensures.ok in
-    c.paragraphs.invariant.0.items_stay _ (rw (found, same) (asked _ (sym c.is_secrets_alone.ensures ∙ c.if-not-is_secrets_alone.true) c.read.ensures.asked (rw same at h)))
+    rw same (passing_item _ start _ _ c.paragraphs.paragraphs _ given _ _ _ _ c.read.result so next
+    (λ more items h. asked c.read.result (sym c.is_secrets_alone.ensures ∙ c.if-not-is_secrets_alone.true) c.read.ensures.asked h))
 
 pub paragraphs-preserved : goal.paragraphs-preserved
-paragraphs-preserved c =
-    let found = rw c.in-Ok-Some.field-0-is at c.in-Ok-Some.ensures.found in
+paragraphs-preserved g c =
+    let nearer = rw c.in-Ok-Some.field-0-is at c.in-Ok-Some.ensures.nearer in
     let same = c.in-Ok.ensures.ok in
-    let place = rw c.in-Ok-Some.field-0-is at c.in-Ok-Some.ensures.place in
-    let from : c.args.from ≤ c.in-Ok-Some.next = omega (arith, place.0) in
-    (rw same (Passes-alone _ c.paragraphs.invariant.0 found (sym c.is_secrets_alone.ensures ∙ c.if-not-is_secrets_alone.false)), from, place.1)
+    record {
+      passing = λ start given has.
+          let so = c.paragraphs.invariant.passing start given has in
+          let next = rw c.in-Ok-Some.field-0-is at (c.in-Ok-Some.ensures.given start (given ++ so.added) so.has) in
+          rw same (passing_more _ start _ _ c.paragraphs.paragraphs _ given _ _ _ so next (sym c.is_secrets_alone.ensures ∙ c.if-not-is_secrets_alone.false));
+      nearer = omega (arith, nearer, c.paragraphs.invariant.nearer);
+      aside = c.next.ensures.aside ∙ c.paragraphs.invariant.aside;
+    }
 
-pub returns-in-Err-clause-found : goal.returns-in-Err-clause-found
-returns-in-Err-clause-found c = λ items h.
-    c.paragraphs.invariant.0.items_stay _ (rw c.unread_text.ensures (AreItems-faulty _ _ _ _ _ c.in-Err.ensures.memory c.in-Err.ensures.fault (rw (← c.skip_paragraph.ensures.others) h)))
+pub returns-in-Some-clause-finds : goal.returns-in-Some-clause-finds
+returns-in-Some-clause-finds g c = λ start given has.
+    let so = c.paragraphs.invariant.passing start given has in
+    passing_fault _ start _ _ c.paragraphs.paragraphs _ given _ _ c.in-Err.fault c.in-Some.end so (c.in-Err.ensures.given start (given ++ so.added) so.has) (sym c.read_end.ensures ∙ c.in-Some.is)
+
+pub returns-in-None-clause-finds : goal.returns-in-None-clause-finds
+returns-in-None-clause-finds g c = λ start given has.
+    let so = c.paragraphs.invariant.passing start given has in
+    rw c.unread_text.ensures (passing_faulty _ start _ _ c.paragraphs.paragraphs _ given _ _ c.in-Err.fault so (c.in-Err.ensures.given start (given ++ so.added) so.has) (sym c.read_end.ensures ∙ c.in-None.is))

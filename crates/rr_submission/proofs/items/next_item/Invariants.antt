@@ -1,12 +1,16 @@
-use Rattle.std.proofs.Common.{◌≤◌, ◌-◌, drop, length}
-use Rattle.rr_text.specs.Entries.{entries}
-use Rattle.rr_submission.proofs.Passing.{Passes}
+use Rattle.std.proofs.Common.{◌≡◌, ◌≤◌, List}
+use Rattle.rr_io.specs.Told.{Told}
+use Rattle.rr_text.specs.ParagraphReaders.{Entry, HasGiven, left_of}
+use Rattle.rr_submission.proofs.Passing.{IsPassing}
 use Rattle.rr_submission.proofs.items.next_item.Given as goal
 
 abbrev pub invariant-paragraphs : goal.invariant-paragraphs
-invariant-paragraphs l =
-    Passes l.source l.initial.secrets l.secrets (entries (drop l.from l.text)) (entries (drop l.at l.text))
-    × (l.from ≤ l.at) × (l.at ≤ length l.text)
+invariant-paragraphs g l = record {
+  passing : (start : Told) (given : List Entry) → HasGiven start (g.R.Source.told l.initial.reader) l.initial.paragraphs given
+      → IsPassing l.source start (g.R.Source.told l.reader) l.paragraphs given l.initial.secrets l.secrets;
+  nearer : left_of l.paragraphs ≤ left_of l.initial.paragraphs;
+  aside : g.R.Source.aside l.reader ≡ g.R.Source.aside l.initial.reader;
+}
 
 abbrev pub decreases-paragraphs : goal.decreases-paragraphs
-decreases-paragraphs l = length l.text - l.at
+decreases-paragraphs g l = left_of l.paragraphs

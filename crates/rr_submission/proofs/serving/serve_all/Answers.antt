@@ -1,22 +1,42 @@
-use Rattle.std.proofs.Common.{refl, ◌∙◌}
+-- Reading moves what was given, and a line moves how far the items have come.
+use Rattle.std.proofs.Common.{[], ◌++◌, ◌∙◌, refl, arith}
 use Rattle.std.proofs.lemmas.Result.{err_from_is_err_and}
-use Rattle.rr_submission.proofs.Progress.{ComesTo-start, ComesTo-more, Serves-cut}
+use Rattle.rr_submission.proofs.Progress.{ComesTo-start, ComesTo-more, Serves-cut, ServesAll-end, given_few}
 use Rattle.rr_submission.proofs.serving.serve_all.Goals as goal
 
 pub items-init : goal.items-init
-items-init g c = (rw c.new-secrets.ensures (ComesTo-start _ _ _ _), c.requires, refl)
+items-init g c = (([], c.requires.unread, rw c.new-secrets.ensures (ComesTo-start _ _ _)), c.requires.ready, refl, refl)
 
-pub returns-in_err-done-clause-serves : goal.returns-in_err-done-clause-serves
-returns-in_err-done-clause-serves g c =
+pub serve_one-requires-clause-items : goal.serve_one-requires-clause-items
+serve_one-requires-clause-items g c =
+    let so = c.items.invariant.0 in
+    omega (arith, so.2.few, given_few _ _ c.items.paragraphs so.0 so.1)
+
+pub serve_one-requires-clause-refused : goal.serve_one-requires-clause-refused
+serve_one-requires-clause-refused g c =
+    let so = c.items.invariant.0 in
+    omega (arith, so.2.fewer, so.2.few, given_few _ _ c.items.paragraphs so.0 so.1)
+
+pub returns-in_err-done-in-Ok-clause-serves : goal.returns-in_err-done-in-Ok-clause-serves
+returns-in_err-done-in-Ok-clause-serves g c =
     let exit = err_from_is_err_and c.from_residual.result c.from_residual.ensures.1 in
-    rw (exit.1, exit.2)
-    (Serves-cut g.L.Ledger _ _ _ _ _ _ _ _ c.items.invariant.0 c.items.invariant.1 c.in-Some.ensures.found c.in_err-done.ensures.serves)
+    let so = c.items.invariant.0 in
+    let found = c.in-Ok.ensures.finds _ so.0 so.1 in
+    rw (exit.1, exit.2) (Serves-cut g.L.Ledger _ _ _ _ _ _ _ _ _ _ so.2 c.items.invariant.1 found c.in_err-done-in-Ok.ensures.serves)
 
 pub items-preserved : goal.items-preserved
 items-preserved g c =
-    let one = c.in_ok-done.ensures.serves in
-    let place = c.in-Some.ensures.place in (
-      ComesTo-more _ _ _ _ _ _ one.outcome c.items.invariant.0 c.in-Some.ensures.found place.0 place.1 one.decides one.items one.refused one.writes,
-      c.in_ok-done.ensures.ready,
-      c.in_ok-done.ensures.aside ∙ c.items.invariant.2,
+    let so = c.items.invariant.0 in
+    let found = c.in-Ok.ensures.finds _ so.0 so.1 in
+    let one = c.in_ok-done-in-Ok.ensures.serves in (
+      (so.0 ++ found.added, found.has, ComesTo-more _ _ _ _ _ _ _ _ one.outcome so.2 found one.decides one.items one.refused one.writes),
+      c.in_ok-done-in-Ok.ensures.ready,
+      c.in-Ok.ensures.aside ∙ c.items.invariant.2,
+      c.in_ok-done-in-Ok.ensures.aside ∙ c.items.invariant.3,
     )
+
+pub returns-in-Err-clause-serves : goal.returns-in-Err-clause-serves
+returns-in-Err-clause-serves g c =
+    let so = c.items.invariant.0 in
+    let none = c.in-Err.ensures.finds _ so.0 so.1 in
+    record { given = so.0 ++ none.added; ended = none.all; serves = ServesAll-end none.added so.2 none.none }

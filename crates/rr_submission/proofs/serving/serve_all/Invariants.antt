@@ -1,13 +1,16 @@
-use Rattle.std.proofs.Common.{◌≡◌, ◌-◌, length}
+use Rattle.std.proofs.Common.{◌≡◌, List}
+use Rattle.rr_text.specs.ParagraphReaders.{Entry, HasGiven, left_of}
 use Rattle.rr_submission.proofs.Progress.{ComesTo}
 use Rattle.rr_submission.proofs.serving.serve_all.Given as goal
 
 abbrev pub invariant-items : goal.invariant-items
 invariant-items g l =
-    ComesTo l.source l.text (g.L.Ledger.registry l.initial.ledger) (g.L.Ledger.registry l.ledger)
-    (g.W.Sink.told l.initial.writer) (g.W.Sink.told l.writer) l.secrets l.at l.done
+    ((given : List Entry) × HasGiven (g.R.Source.told l.initial.reader) (g.R.Source.told l.reader) l.paragraphs given
+    × ComesTo l.source given (g.L.Ledger.registry l.initial.ledger) (g.L.Ledger.registry l.ledger)
+    (g.W.Sink.told l.initial.writer) (g.W.Sink.told l.writer) l.secrets l.done)
     × g.L.Ledger.Ready l.ledger
+    × (g.R.Source.aside l.reader ≡ g.R.Source.aside l.initial.reader)
     × (g.W.Sink.aside l.writer ≡ g.W.Sink.aside l.initial.writer)
 
 abbrev pub decreases-items : goal.decreases-items
-decreases-items g l = length l.text - l.at
+decreases-items g l = left_of l.paragraphs

@@ -129,18 +129,15 @@ fn texts_inside(alloc: Global, objects: &[Object], prefix: Span) -> Result<Vec<u
     Ok(texts)
 }
 
+/// The texts of the inetnums and routes inside the held prefix, after these submissions.
+fn held_after(alloc: Global, submissions: &[&str]) -> Result<Vec<u8>, Fail> {
+    let prefix = Span::read(b"10.1.0.0/16").ok_or("no span")?;
+    let (desk, _) = submitted(alloc, submissions)?;
+    texts_inside(alloc, desk.registry().objects(), prefix)
+}
+
 #[test]
 fn a_held_prefix_stays_as_it_was(rt: HostRuntime) -> Result<(), Fail> {
-    let alloc = rt.alloc();
-    let prefix = Span::read(b"10.1.0.0/16").ok_or("no span")?;
-    let (before, _) = submitted(alloc, &[HOLDERS, HELD, HOLDING])?;
-    let (after, _) = submitted(alloc, &[HOLDERS, HELD, HOLDING, HOSTILE])?;
-    let held = texts_inside(alloc, before.registry().objects(), prefix)?;
-    let left = texts_inside(alloc, after.registry().objects(), prefix)?;
-    assert_eq!(rt;
-        str::from_utf8(left.as_slice())?,
-        str::from_utf8(held.as_slice())?
-    );
     let wanted = "\
 inetnum:        10.1.0.0/16
 mnt-by:         A-MNT
@@ -150,6 +147,9 @@ origin:         AS1
 mnt-by:         A-MNT
 source:         TEST
 ";
-    assert_eq!(rt; str::from_utf8(left.as_slice())?, wanted);
+    let before = held_after(rt.alloc(), &[HOLDERS, HELD, HOLDING])?;
+    assert_eq!(rt; before.as_slice(), wanted.as_bytes());
+    let after = held_after(rt.alloc(), &[HOLDERS, HELD, HOLDING, HOSTILE])?;
+    assert_eq!(rt; after.as_slice(), wanted.as_bytes());
     Ok(())
 }

@@ -36,13 +36,16 @@ pub fn expect_report<R: Abort + AllocGlobal>(
 pub fn objects(alloc: Global, text: &str) -> Result<Vec<Object>, Fail> {
     let source = opening::read_source(alloc)?;
     let mut objects = Vec::new(alloc);
-    let mut from = 0;
+    let mut rest = text.as_bytes();
     for _paragraph in 0..text.len() {
-        let Some((paragraph, next)) = next_paragraph(alloc, text.as_bytes(), from)? else {
+        let Some((paragraph, next)) = next_paragraph(alloc, rest, 0)? else {
             break;
         };
         objects.push(Object::read(alloc, paragraph, &source)?)?;
-        from = next;
+        let Some(behind) = rest.get(next..) else {
+            break;
+        };
+        rest = behind;
     }
     Ok(objects)
 }

@@ -358,32 +358,37 @@ fn members_by_reference_are_asked_for(rt: HostRuntime) -> Result<(), Fail> {
     Ok(())
 }
 
+/// What AS-R and RS-R stand for once these texts were submitted in turn, with a bar between them.
+fn referring(alloc: Global, texts: &[&str]) -> Result<String, Fail> {
+    let mut submission = String::from_str(alloc, SECRETS)?;
+    for text in texts {
+        submission.push_str(text)?;
+        submission.push_str("\n")?;
+    }
+    let (desk, _) = submitted(alloc, &[submission.as_str()])?;
+    let book = desk.registry().book();
+    let numbers = members(alloc, book, Asked::Numbers, "AS-R", 1)?;
+    let ranges = members(alloc, book, Asked::Ranges, "RS-R", 2)?;
+    Ok(format!(in alloc; "{numbers}| {ranges}")?)
+}
+
 #[test]
 fn members_by_reference_change_with_the_set_and_with_the_member(
     rt: HostRuntime,
 ) -> Result<(), Fail> {
-    let alloc = rt.alloc();
-    let mut submissions = Vec::new(alloc);
-    submissions.push(String::from_str(alloc, HOLDERS)?)?;
-    for (text, numbers, ranges) in [
-        (REFERRERS, "no such set", "no such set"),
-        (TAKES_A, "AS1 ", "10.1.0.0/16 "),
-        (TAKES_ANY, "AS1 AS2 ", "10.0.0.0/8 10.1.0.0/16 "),
-        (LEFT, "AS2 ", "10.1.0.0/16 "),
-        (TAKES_A, "", "10.1.0.0/16 "),
-        (TAKES_NONE, "", ""),
+    let texts = [
+        HOLDERS, REFERRERS, TAKES_A, TAKES_ANY, LEFT, TAKES_A, TAKES_NONE,
+    ];
+    for (count, wanted) in [
+        (2, "no such set| no such set"),
+        (3, "AS1 | 10.1.0.0/16 "),
+        (4, "AS1 AS2 | 10.0.0.0/8 10.1.0.0/16 "),
+        (5, "AS2 | 10.1.0.0/16 "),
+        (6, "| 10.1.0.0/16 "),
+        (7, "| "),
     ] {
-        submissions.push(format!(in alloc; "{SECRETS}{text}")?)?;
-        let mut texts = Vec::new(alloc);
-        for submission in &submissions {
-            texts.push(submission.as_str())?;
-        }
-        let (desk, _) = submitted(alloc, texts.as_slice())?;
-        let book = desk.registry().book();
-        let found = members(alloc, book, Asked::Numbers, "AS-R", 1)?;
-        assert_eq!(rt; found.as_str(), numbers, "{text}");
-        let found = members(alloc, book, Asked::Ranges, "RS-R", 2)?;
-        assert_eq!(rt; found.as_str(), ranges, "{text}");
+        let found = referring(rt.alloc(), &texts[..count])?;
+        assert_eq!(rt; found.as_str(), wanted, "{count}");
     }
     Ok(())
 }

@@ -98,11 +98,23 @@ const BY_NOBODY: &str = "route-set: RS-C\nmnt-by: C-MNT\nsource: TEST\n";
 
 const TAKING: &str = "route-set: RS-C\nmbrs-by-ref: C-MNT\nmnt-by: A-MNT\nsource: TEST\n";
 
+/// The verdict on an object or its deletion, with this secret.
+fn verdict(
+    alloc: Global,
+    registry: &Registry,
+    secret: &str,
+    deletes: bool,
+    text: &str,
+) -> Result<Verdict, Fail> {
+    let secrets = secrets(alloc, &[secret])?;
+    let item = item(alloc, deletes, text)?;
+    Ok(judge(alloc, registry.book(), &secrets, &item)?)
+}
+
 #[test]
 fn route_sets_are_judged_by_their_place(rt: HostRuntime) -> Result<(), Fail> {
-    let alloc = rt.alloc();
-    let registry = registry(alloc, HELD_SETS)?;
-    for (given, deletes, text, wanted) in [
+    let registry = registry(rt.alloc(), HELD_SETS)?;
+    for (secret, deletes, text, wanted) in [
         ("c", false, ALONE, Verdict::Add),
         ("abc", false, ALONE, Verdict::Refuse(Code::E11)),
         ("c", false, KNOWN, Verdict::Same),
@@ -117,40 +129,39 @@ fn route_sets_are_judged_by_their_place(rt: HostRuntime) -> Result<(), Fail> {
         ("abc", true, KNOWN, Verdict::Refuse(Code::E11)),
         ("c", true, ALONE, Verdict::Refuse(Code::E18)),
     ] {
-        let secrets = secrets(alloc, &[given])?;
-        let item = item(alloc, deletes, text)?;
-        let verdict = judge(alloc, registry.book(), &secrets, &item)?;
-        assert_eq!(rt; verdict, wanted, "{given} {text}");
+        let verdict = verdict(rt.alloc(), &registry, secret, deletes, text)?;
+        assert_eq!(rt; verdict, wanted, "{secret} {text}");
     }
     Ok(())
 }
 
-#[test]
-fn a_run_has_the_outcome_of_each_item(rt: HostRuntime) -> Result<(), Fail> {
-    let alloc = rt.alloc();
-    let mut registry = registry(alloc, HELD_SETS)?;
-    let mut items = Vec::new(alloc);
-    for (given, deletes, text) in [
-        ("c", false, ALONE),
-        ("c", false, OTHER),
-        ("c", false, OTHER),
-        ("c", true, ALONE),
-        ("c", false, DEEPER),
-    ] {
-        items.push(Submitted {
-            secrets: secrets(alloc, &[given])?,
-            action: Ok(item(alloc, deletes, text)?),
-        })?;
-    }
-    items.push(Submitted {
+/// What is submitted with these secrets: an object or its deletion.
+fn given(alloc: Global, list: &[&str], deletes: bool, text: &str) -> Result<Submitted, Fail> {
+    let secrets = secrets(alloc, list)?;
+    let action = Ok(item(alloc, deletes, text)?);
+    Ok(Submitted { secrets, action })
+}
+
+/// A run: an addition, a change, the same again, a deletion, two refusals and an addition.
+fn worked_run(alloc: Global) -> Result<Vec<Submitted>, Fail> {
+    let mut run = Vec::new(alloc);
+    run.push(given(alloc, &["c"], false, ALONE)?)?;
+    run.push(given(alloc, &["c"], false, OTHER)?)?;
+    run.push(given(alloc, &["c"], false, OTHER)?)?;
+    run.push(given(alloc, &["c"], true, ALONE)?)?;
+    run.push(given(alloc, &["c"], false, DEEPER)?)?;
+    run.push(Submitted {
         secrets: Secrets::new(alloc),
         action: Err(Code::E01),
     })?;
-    items.push(Submitted {
-        secrets: secrets(alloc, &["c", "abc"])?,
-        action: Ok(item(alloc, false, DEEPER)?),
-    })?;
-    let outcomes = registry.run_items(alloc, items)?;
+    run.push(given(alloc, &["c", "abc"], false, DEEPER)?)?;
+    Ok(run)
+}
+
+#[test]
+fn a_run_has_the_outcome_of_each_item(rt: HostRuntime) -> Result<(), Fail> {
+    let mut registry = registry(rt.alloc(), HELD_SETS)?;
+    let outcomes = registry.run_items(rt.alloc(), worked_run(rt.alloc())?)?;
     let wanted = [
         Outcome::Added,
         Outcome::Changed,
@@ -196,28 +207,32 @@ mnt-by: A-MNT
 source: TEST
 ";
 
+/// The names that decide about a route of the prefix below the n-th object of a text.
+fn names_for(alloc: Global, text: &str, n: usize, prefix: &str) -> Result<String, Fail> {
+    let objects = objects(alloc, text)?;
+    let object = objects.get(n).ok_or("no object")?;
+    let prefix = Prefix::read(prefix.as_bytes()).ok_or("no prefix")?;
+    let mut names = String::new(alloc);
+    for name in &route_names(alloc, object, prefix)? {
+        write!(names, "{name} ")?;
+    }
+    Ok(names)
+}
+
 #[test]
 fn names_for_a_route_are_those_of_its_grants_else_of_its_object(
     rt: HostRuntime,
 ) -> Result<(), Fail> {
-    let alloc = rt.alloc();
-    let granting = object(alloc, GRANTING)?;
-    let governing = objects(alloc, GOVERNING)?;
-    assert_eq!(rt; governing.len(), 4);
-    for (object, prefix, wanted) in [
-        (&granting, "10.1.5.0/24", "C-MNT D-MNT "),
-        (&granting, "10.1.0.0/16", "D-MNT "),
-        (&granting, "10.2.5.0/24", "D-MNT "),
-        (&governing[0], "10.1.0.0/16", "A-MNT "),
-        (&governing[1], "10.1.0.0/16", "B-MNT D-MNT "),
-        (&governing[2], "10.1.0.0/16", "B-MNT "),
-        (&governing[3], "10.1.0.0/16", "A-MNT "),
+    for (text, n, prefix, wanted) in [
+        (GRANTING, 0, "10.1.5.0/24", "C-MNT D-MNT "),
+        (GRANTING, 0, "10.1.0.0/16", "D-MNT "),
+        (GRANTING, 0, "10.2.5.0/24", "D-MNT "),
+        (GOVERNING, 0, "10.1.0.0/16", "A-MNT "),
+        (GOVERNING, 1, "10.1.0.0/16", "B-MNT D-MNT "),
+        (GOVERNING, 2, "10.1.0.0/16", "B-MNT "),
+        (GOVERNING, 3, "10.1.0.0/16", "A-MNT "),
     ] {
-        let prefix = Prefix::read(prefix.as_bytes()).ok_or("no prefix")?;
-        let mut names = String::new(alloc);
-        for name in &route_names(alloc, object, prefix)? {
-            write!(names, "{name} ")?;
-        }
+        let names = names_for(rt.alloc(), text, n, prefix)?;
         assert_eq!(rt; names.as_str(), wanted, "{prefix}");
     }
     Ok(())
@@ -233,30 +248,46 @@ fn keys(alloc: Global, objects: &[&Object]) -> Result<Vec<u8>, Fail> {
     Ok(keys.into_inner())
 }
 
+/// The keys of the objects whose `member-of` names the set.
+fn referrers(alloc: Global, registry: &Registry, set: &str) -> Result<Vec<u8>, Fail> {
+    let set = SetName::read(alloc, set.as_bytes())?.ok_or("no name of a set")?;
+    keys(alloc, &registry.book().referrers(alloc, &set)?)
+}
+
+/// The origins of the routes of the prefix.
+fn origins(alloc: Global, registry: &Registry, prefix: &str) -> Result<String, Fail> {
+    let prefix = Prefix::read(prefix.as_bytes()).ok_or("no prefix")?;
+    let mut text = String::new(alloc);
+    for origin in &registry.book().origins(alloc, prefix)? {
+        write!(text, "{origin} ")?;
+    }
+    Ok(text)
+}
+
 #[test]
-fn a_book_lists_what_expansions_and_verdicts_ask(rt: HostRuntime) -> Result<(), Fail> {
+fn a_book_lists_numbers_and_routes(rt: HostRuntime) -> Result<(), Fail> {
     let alloc = rt.alloc();
     let registry = registry(alloc, HELD_SETS)?;
-    let book = registry.book();
-    let numbers = keys(alloc, &book.aut_nums(alloc)?)?;
+    let numbers = keys(alloc, &registry.book().aut_nums(alloc)?)?;
     assert_eq!(rt; numbers.as_slice(), b"AS1|AS2|".as_slice());
-    let routes = keys(alloc, &book.routes(alloc)?)?;
-    let both = "10.1.0.0/16 AS1|10.1.0.0/16 AS2|";
-    assert_eq!(rt; routes.as_slice(), both.as_bytes());
-    for (name, wanted) in [
+    let routes = keys(alloc, &registry.book().routes(alloc)?)?;
+    let wanted = b"10.1.0.0/16 AS1|10.1.0.0/16 AS2|";
+    assert_eq!(rt; routes.as_slice(), wanted.as_slice());
+    let origins = origins(alloc, &registry, "10.1.0.0/16")?;
+    assert_eq!(rt; origins.as_str(), "AS1 AS2 ");
+    Ok(())
+}
+
+#[test]
+fn a_book_lists_who_refers_to_a_set(rt: HostRuntime) -> Result<(), Fail> {
+    let registry = registry(rt.alloc(), HELD_SETS)?;
+    for (set, wanted) in [
         ("rs-a", "AS1|10.1.0.0/16 AS1|"),
         ("RS-B", "10.1.0.0/16 AS1|"),
         ("RS-C", ""),
     ] {
-        let name = SetName::read(alloc, name.as_bytes())?.ok_or("no name of a set")?;
-        let referrers = keys(alloc, &book.referrers(alloc, &name)?)?;
-        assert_eq!(rt; referrers.as_slice(), wanted.as_bytes(), "{name}");
+        let keys = referrers(rt.alloc(), &registry, set)?;
+        assert_eq!(rt; keys.as_slice(), wanted.as_bytes(), "{set}");
     }
-    let prefix = Prefix::read(b"10.1.0.0/16").ok_or("no prefix")?;
-    let mut origins = String::new(alloc);
-    for origin in &book.origins(alloc, prefix)? {
-        write!(origins, "{origin} ")?;
-    }
-    assert_eq!(rt; origins.as_str(), "AS1 AS2 ");
     Ok(())
 }

@@ -88,14 +88,25 @@ fn reserved_words_name_no_maintainer(rt: HostRuntime) -> Result<(), Fail> {
 #[test]
 fn names_are_copied_and_compared_by_their_bytes(rt: HostRuntime) -> Result<(), Fail> {
     let name = Name::read(rt.alloc(), b"a-mnt")?.ok_or("a name")?;
-    let other = Name::read(rt.alloc(), b"A-MNT")?.ok_or("a name")?;
+    assert!(rt; name.copy(rt.alloc())? == name);
     let later = Name::read(rt.alloc(), b"a_mnt")?.ok_or("a name")?;
-    assert!(rt; name.copy(rt.alloc())? == other);
     assert!(rt; name < later);
+    Ok(())
+}
+
+#[test]
+fn names_of_sets_are_compared_as_they_are_printed(rt: HostRuntime) -> Result<(), Fail> {
     let set = SetName::read(rt.alloc(), b"as010:as-x")?.ok_or("a name of a set")?;
     let same = SetName::read(rt.alloc(), b"AS10:AS-X")?.ok_or("a name of a set")?;
+    assert!(rt; set == same);
+    Ok(())
+}
+
+#[test]
+fn names_of_sets_are_copied_and_ordered_by_their_bytes(rt: HostRuntime) -> Result<(), Fail> {
+    let set = SetName::read(rt.alloc(), b"AS10:AS-X")?.ok_or("a name of a set")?;
+    assert!(rt; set.copy(rt.alloc())? == set);
     let before = SetName::read(rt.alloc(), b"AS1:AS-X")?.ok_or("a name of a set")?;
-    assert!(rt; set.copy(rt.alloc())? == same);
     assert!(rt; set < before);
     Ok(())
 }

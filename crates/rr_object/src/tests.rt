@@ -1,5 +1,5 @@
 //! Outside examples of objects, keys and their faults.
-use crate::{Class, Key, Member, Object, ObjectFault, key_of, public, read_auth};
+use crate::{Class, Key, Member, Object, ObjectFault, public, read_auth};
 use rr_number::Name;
 use rr_text::{Paragraph, next_paragraph, print};
 use std::alloc::Global;
@@ -334,19 +334,5 @@ fn some_texts_are_no_keys(rt: HostRuntime) -> Result<(), Fail> {
             "{text}"
         );
     }
-    Ok(())
-}
-
-#[test]
-fn a_key_is_read_before_its_object(rt: HostRuntime) -> Result<(), Fail> {
-    let source = Name::read(rt.alloc(), b"TEST")?.ok_or("no name")?;
-    let text = "route: 10.0.0.5/8\norigin: AS01\nmnt-by: A-MNT\nsource: test\n";
-    let paragraph = paragraph(rt.alloc(), text)?;
-    let key = key_of(rt.alloc(), &paragraph)?;
-    let wanted = Key::read(rt.alloc(), Class::Route, b"10.0.0.0/8 AS1")?;
-    assert!(rt; Some(key.copy(rt.alloc())?) == wanted);
-    let object = Object::read_with_key(rt.alloc(), key, paragraph, &source)?;
-    assert!(rt; Some(object.key().copy(rt.alloc())?) == wanted);
-    assert_eq!(rt; object.maintainers()[0].as_bytes(), b"A-MNT".as_slice());
     Ok(())
 }

@@ -11,7 +11,7 @@ mod streams;
 pub use counting::Counted;
 pub use cutting::Cut;
 pub use joining::Joined;
-pub use receiving::{READ_LIMIT, READ_SIZE, ReadEnd, read_to_end};
+pub use receiving::{READ_LIMIT, READ_SIZE, ReadEnd};
 pub use sending::{write_all, write_pieces};
 pub use streams::{Connection, Sink, Source};
 

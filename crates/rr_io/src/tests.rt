@@ -1,6 +1,5 @@
 //! Readers and writers that fail, which no clause can make.
 use super::*;
-use std::alloc::AllocError;
 use std::io;
 use std::io::{ErrorKind, Read, Write};
 
@@ -37,57 +36,36 @@ impl Write for Full {
 }
 
 #[test]
-fn reads_and_writes_whole_texts(rt: HostRuntime) -> Result<(), AllocError> {
-    let mut source = Counted::new(&b"abcdef"[..]);
-    let (bytes, end) = read_to_end(rt.alloc(), &mut source)?;
-    assert_eq!(rt; bytes.as_slice(), &b"abcdef"[..]);
-    assert_eq!(rt; end, ReadEnd::Whole);
-    assert!(rt; end.is_whole());
-
+fn writes_whole_texts(rt: HostRuntime) {
     let mut sink = Cut::new(Counted::new(Vec::new(rt.alloc())), 4, 100);
     assert!(rt; write_all(&mut sink, b"ab").is_ok());
     assert!(rt; write_pieces(&mut sink, &[b"cdefg", b"", b"h"]).is_ok());
     assert_eq!(rt; sink.into_inner().into_inner().as_slice(), &b"abcdefgh"[..]);
-    Ok(())
 }
 
 #[test]
-fn a_long_text_in_whole_blocks_is_read_to_its_end(rt: HostRuntime) -> Result<(), AllocError> {
-    let mut text = Vec::with_capacity(rt.alloc(), (1 << 24) + 1)?;
-    for _ in 0..4_096 {
-        text.extend_from_slice(&[b'a'; READ_SIZE])?;
-    }
-    text.push(b'b')?;
-    assert_eq!(rt; text.len(), (1 << 24) + 1);
-
-    let mut source = Cut::new(Counted::new(text.as_slice()), READ_SIZE, (1 << 24) + 2);
-    let (bytes, end) = read_to_end(rt.alloc(), &mut source)?;
-    assert_eq!(rt; end, ReadEnd::Whole);
-    assert!(rt; bytes.as_slice() == text.as_slice());
-    assert_eq!(rt; source.into_inner().reads(), 4_098);
-    Ok(())
-}
-
-#[test]
-fn a_failed_read_ends_the_reading(rt: HostRuntime) -> Result<(), AllocError> {
+fn a_read_fails_behind_the_bytes_that_pass(rt: HostRuntime) {
     let mut source = Cut::new(Counted::new(&b"abcdef"[..]), 3, 4);
-    let (bytes, end) = read_to_end(rt.alloc(), &mut source)?;
-    assert_eq!(rt; bytes.as_slice(), &b"abcd"[..]);
-    assert_eq!(rt; end, ReadEnd::Broken);
+    let mut block = [0u8; 8];
+    assert_eq!(rt; source.read(&mut block).unwrap_or(0), 3);
+    assert_eq!(rt; source.read(&mut block[3..]).unwrap_or(0), 1);
+    assert!(rt; source.read(&mut block).is_err());
+    assert_eq!(rt; &block[..4], &b"abcd"[..]);
     assert_eq!(rt; source.failed_reads(), 1);
-    assert_eq!(rt; source.into_inner().failed_reads(), 0);
-    Ok(())
+    let counted = source.into_inner();
+    assert_eq!(rt; counted.failed_reads(), 0);
+    assert_eq!(rt; counted.reads(), 2);
 }
 
 #[test]
-fn an_interrupted_read_is_a_fault(rt: HostRuntime) -> Result<(), AllocError> {
+fn an_interrupted_read_is_a_fault(rt: HostRuntime) {
     let mut source = Counted::new(Interrupted { calls: 0 });
-    let (bytes, end) = read_to_end(rt.alloc(), &mut source)?;
-    assert_eq!(rt; bytes.as_slice(), &b"ab"[..]);
-    assert_eq!(rt; end, ReadEnd::Broken);
+    let mut block = [0u8; 8];
+    assert_eq!(rt; source.read(&mut block).unwrap_or(0), 2);
+    assert_eq!(rt; &block[..2], &b"ab"[..]);
+    assert!(rt; source.read(&mut block).is_err());
     assert_eq!(rt; source.failed_reads(), 1);
     assert_eq!(rt; source.reads(), 1);
-    Ok(())
 }
 
 #[test]

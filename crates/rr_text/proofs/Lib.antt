@@ -6,7 +6,6 @@ pub mod PlaceLemmas
 pub mod SoundLemmas
 pub mod FieldLemmas
 pub mod MeaningLemmas
-pub mod WholeLemmas
 pub mod RoundTrip
 pub mod LineSoFarLemmas
 pub mod ApartLemmas

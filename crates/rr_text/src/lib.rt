@@ -21,7 +21,6 @@ mod reader_tests;
 mod tests;
 pub mod text;
 pub mod value;
-pub mod whole;
 
 pub use attribute::Attribute;
 pub use canonical::{print, read_canonical};
@@ -33,4 +32,3 @@ pub use reader::{next_paragraph, skip_paragraph};
 pub use rr_io::{Counted, Cut, Sink, Source};
 pub use text::Text;
 pub use value::meaning;
-pub use whole::whole_part;

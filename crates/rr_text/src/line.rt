@@ -110,13 +110,6 @@ pub(crate) fn has_refused_byte(line: &[u8]) -> bool
     found
 }
 
-/// Whether a line has the LF that ends it.
-pub(crate) fn has_line_feed(line: &[u8]) -> bool
-    ensures { result ≡ list_any is_line_feed line.now }
-{
-    line.iter().any(|byte| *byte == b'\n')
-}
-
 #[inline]
 #[tactic(auto, using(crate::proofs::LineLemmas::place_found))]
 fn first_line_feed(text: &[u8]) -> Option<usize>

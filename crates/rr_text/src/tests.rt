@@ -2,7 +2,6 @@
 
 use crate::{
     Paragraph, Text, TextFault, meaning, next_paragraph, print, read_canonical, skip_paragraph,
-    whole_part,
 };
 use std::alloc::Global;
 use std::test::Fail;
@@ -249,21 +248,6 @@ fn paragraphs_after_a_fault_are_read(rt: HostRuntime) -> Result<(), Fail> {
     let printed = print(alloc, &paragraph)?;
     assert_eq!(rt; printed.as_slice(), b"b:              2\n".as_slice());
     assert_eq!(rt; place, text.len());
-    Ok(())
-}
-
-#[test]
-fn the_whole_part_ends_with_a_blank_line(rt: HostRuntime) -> Result<(), Fail> {
-    let parts = [
-        (b"a: 1\n\nb: 2\n".as_slice(), b"a: 1\n\n".as_slice()),
-        (b"a: 1\n \t", b""),
-        (b"a: 1\n\r\n", b"a: 1\n\r\n"),
-        (b"a: 1", b""),
-        (b"\n% x\n\nb", b"\n% x\n\n"),
-    ];
-    for (text, part) in parts {
-        assert_eq!(rt; whole_part(text), part, "of {text:?}");
-    }
     Ok(())
 }
 

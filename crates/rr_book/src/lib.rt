@@ -9,7 +9,7 @@ mod listings;
 pub mod lists;
 mod plain_book;
 mod set_book;
-mod set_index;
+pub mod set_index;
 
 pub use keeper::Keeper;
 pub use plain_book::PlainBook;

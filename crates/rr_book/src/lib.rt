@@ -8,7 +8,7 @@ mod keys;
 mod listings;
 pub mod lists;
 mod plain_book;
-mod set_book;
+pub mod set_book;
 pub mod set_index;
 
 pub use keeper::Keeper;

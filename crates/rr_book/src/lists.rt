@@ -125,7 +125,8 @@ pub(crate) fn some_names(objects: &[Object], name: &Name) -> bool
     objects.iter().any(|object| names_another(object, name))
 }
 
-fn names_another(object: &Object, name: &Name) -> bool
+/// Whether the object is not the maintainer of the name, and names it.
+pub fn names_another(object: &Object, name: &Name) -> bool
     ensures { result ≡ names_another name.now object.now }
 {
     !is_mntner_of(object.key(), name) && object_names(object, name)
@@ -152,7 +153,8 @@ pub(crate) fn origins(
         .collect(alloc)
 }
 
-fn origin_at(key: &Key, prefix: Prefix) -> Option<AsNumber>
+/// The origin of the key, where it is that of a route of the prefix.
+pub fn origin_at(key: &Key, prefix: Prefix) -> Option<AsNumber>
     ensures { result ≡ origin_at prefix key.now }
 {
     match key {

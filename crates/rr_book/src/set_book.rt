@@ -42,7 +42,8 @@ fn objects_of_class<'a>(
         .collect(alloc)
 }
 
-fn is_of_class(object: &Object, class: Class) -> bool
+/// Whether the object is of the class.
+pub fn is_of_class(object: &Object, class: Class) -> bool
     ensures { result ≡ is_of_class class object.now }
 {
     object.key().class() == class

@@ -9,3 +9,6 @@ pub mod NestOrder
 pub mod NestTurns
 pub mod Ordered
 pub mod Places
+pub mod TreeHalves
+pub mod TreeHeld
+pub mod TreeModel

@@ -1,0 +1,92 @@
+//! Prefixes in a binary tree.
+
+ghost use Rattle.std.specs.Prelude.{◌≡◌, map, IfOk, IfErr, IfSome, IfNone, OnOk, OnErr};
+ghost use Rattle.std.specs.Option.{option_copied};
+ghost use Rattle.std.specs.FinMap as span_map;
+ghost use Rattle.rr_number.specs.Prefixes.{span_of};
+ghost use Rattle.rr_cover.specs.SpanMaps.{covering, inside, NoneCross, IsClosest, NoneCovers};
+ghost use Rattle.rr_cover.specs.declared.insert_fault.InsertFault.TheVariants.{Memory};
+
+mod reading;
+
+use reading::{find, smallest_cover};
+use rr_number::Prefix;
+use std::alloc::Global;
+use std::marker::Model;
+
+/// Values kept by prefix: a binary tree in which each prefix has those of its lower half on one side and those of its
+/// upper half on the other. It has a node for each prefix held and for each at which two of them part, and at most 33
+/// levels.
+#[derive(Drop)]
+pub struct PrefixTree<T> {
+    root: Tree<T>,
+    alloc: Global,
+}
+
+/// A tree of prefixes.
+#[derive(Drop)]
+#[cycle(tree)]
+enum Tree<T> {
+    Empty,
+    Fork(Box<Node<T>>),
+}
+
+/// A prefix with its value, or one at which two others part, and the trees of the prefixes in its halves.
+#[derive(Drop)]
+#[cycle(tree)]
+struct Node<T> {
+    prefix: Prefix,
+    value: Option<T>,
+    lower: Tree<T>,
+    upper: Tree<T>,
+}
+
+impl<T> Model for PrefixTree<T> {
+    ghost use Rattle.std.specs.FinMap as span_map;
+    ghost use Rattle.rr_number.specs.Spans.{ends_code};
+    ghost use Rattle.rr_cover.specs.SpanMaps.{SpanMap};
+
+    ghost Value = { SpanMap T };
+
+    ghost coded = { span_map.code ends_code T.code };
+
+    ghost use Rattle.rr_cover.specs.PrefixTrees.{held_by, IsTree};
+
+    ghost view = { λ a. held_by a.root };
+
+    ghost invariant = { λ a. IsTree a.root };
+}
+
+impl<T> PrefixTree<T> {
+    /// A tree of no prefix.
+    pub fn new(alloc: Global) -> Self
+        ensures { result ≡ span_map.empty }
+    {
+        PrefixTree {
+            root: Tree::Empty,
+            alloc,
+        }
+    }
+
+    /// Tells a caller's proof that no two spans of the tree cross.
+    pub fn apart(&self)
+        ensures { NoneCross self.now }
+    {
+        let _root = &self.root;
+    }
+
+    /// The value that stands at the prefix.
+    pub fn get(&self, prefix: Prefix) -> Option<&T>
+        ensures { option_copied result ≡ span_map.get self.now (span_of prefix) }
+    {
+        find(&self.root, prefix)
+    }
+
+    /// The longest prefix held that covers the prefix, with its value; an equal one counts (RFC 2725, 9).
+    pub fn closest(&self, prefix: Prefix) -> Option<(Prefix, &T)>
+        ensures found { IfSome result (λ p. IsClosest self.now (span_of prefix) (span_of p.0) p.1.now) }
+        ensures none { IfNone result (NoneCovers self.now (span_of prefix)) }
+    {
+        smallest_cover(&self.root, prefix)
+    }
+}

@@ -12,3 +12,4 @@ pub mod Places
 pub mod TreeHalves
 pub mod TreeHeld
 pub mod TreeModel
+pub mod TreeChanged

@@ -40,11 +40,11 @@ module _ {T : Type 0} where
   own_other prefix value s true tied other = absurd (other (tied_same s (span_of prefix) tied))
   own_other prefix value s false tied other = refl
 
-  none_of : (o : Option T) → (is_some o ≡ true → ⊥) → o ≡ None
+  pub none_of : (o : Option T) → (is_some o ≡ true → ⊥) → o ≡ None
   none_of None never = refl
   none_of (Some x) never = absurd (never refl)
 
-  or_none : (o : Option T) → option_or o None ≡ o
+  pub or_none : (o : Option T) → option_or o None ≡ o
   or_none None = refl
   or_none (Some x) = refl
 
@@ -81,10 +81,10 @@ module _ {T : Type 0} where
       ]
 
   module _ (tree : Tree T) (prefix : PrefixParts) (value : Option T) (lower upper : Tree T) (made : MadeOf tree prefix value lower upper) (is : IsFork prefix lower upper × (IsTree lower × IsTree upper)) where
-    in_low : (s : Ends) → is_some (standing lower s) ≡ true → lies_on prefix false s ≡ true
+    pub in_low : (s : Ends) → is_some (standing lower s) ≡ true → lies_on prefix false s ≡ true
     in_low s held = held_on lower is.1.0 prefix false is.0.low s held
 
-    in_high : (s : Ends) → is_some (standing upper s) ≡ true → lies_on prefix true s ≡ true
+    pub in_high : (s : Ends) → is_some (standing upper s) ≡ true → lies_on prefix true s ≡ true
     in_high s held = held_on upper is.1.1 prefix true is.0.high s held
 
     -- the root covers each span held
@@ -105,11 +105,15 @@ module _ {T : Type 0} where
           | inr (inr high) ↦ inr (ap (λ b. is_some (standing (cond b upper lower) u)) (high_over prefix s u (in_high u high) over some) ∙ high)
         ]
 
-    not_root : (side : Bool) (s : Ends) → lies_on prefix side s ≡ true → s ≡ span_of prefix → ⊥
+    pub not_root : (side : Bool) (s : Ends) → lies_on prefix side s ≡ true → s ≡ span_of prefix → ⊥
     not_root side s lies same = contradicted _ (ap (lies_on prefix side) same ∙ not_in_itself prefix side) lies
 
-    none_low : (s : Ends) → lies_on prefix true s ≡ true → (is_some (standing upper s) ≡ true → s.first ≤ s.last) → is_some (standing upper s) ≡ true → standing lower s ≡ None
-    none_low s lies ordered high = none_of (standing lower s) (λ low. halves_apart prefix s (ordered high) (in_low s low) lies)
+    -- a side holds nothing of the other half
+    pub none_lower : (s : Ends) → s.first ≤ s.last → in_upper prefix s ≡ true → standing lower s ≡ None
+    none_lower s some lies = none_of (standing lower s) (λ low. halves_apart prefix s some (in_low s low) lies)
+
+    pub none_upper : (s : Ends) → in_upper prefix s ≡ false → standing upper s ≡ None
+    none_upper s lies = none_of (standing upper s) (λ high. contradicted _ lies (in_high s high))
 
     -- what stands on a side stands in the tree
     pub stands_low : (s : Ends) (v : T) → standing lower s ≡ Some v → standing tree s ≡ Some v
@@ -143,9 +147,9 @@ module _ {T : Type 0} where
 
     read_case : (s : Ends) (b : Bool) → s.first ≤ s.last → in_upper prefix s ≡ b → option_or (standing lower s) (standing upper s) ≡ standing (cond b upper lower) s
     read_case s true some lies =
-        ap (λ o. option_or o (standing upper s)) (none_of (standing lower s) (λ low. halves_apart prefix s some (in_low s low) lies))
+        ap (λ o. option_or o (standing upper s)) (none_lower s some lies)
     read_case s false some lies =
-        ap (option_or (standing lower s)) (none_of (standing upper s) (λ high. contradicted _ lies (in_high s high))) ∙ or_none (standing lower s)
+        ap (option_or (standing lower s)) (none_upper s lies) ∙ or_none (standing lower s)
 
     -- another span than the root's stands on its side, or nowhere
     pub stands_aside : (s : Ends) → s.first ≤ s.last → eq_by_cmp span_cmp s (span_of prefix) ≡ false → standing tree s ≡ standing (side_of prefix lower upper s) s
@@ -153,6 +157,13 @@ module _ {T : Type 0} where
         made.all s
         ∙ ap (λ o. option_or o (option_or (standing lower s) (standing upper s))) (ap (λ b. cond b value None) apart)
         ∙ read_case s (in_upper prefix s) some refl
+
+    -- another span than the root's stands in its half, or nowhere
+    pub stands_upper : (s : Ends) → s.first ≤ s.last → eq_by_cmp span_cmp s (span_of prefix) ≡ false → in_upper prefix s ≡ true → standing tree s ≡ standing upper s
+    stands_upper s some apart lies = stands_aside s some apart ∙ ap (λ b. standing (cond b upper lower) s) lies
+
+    pub stands_lower : (s : Ends) → s.first ≤ s.last → eq_by_cmp span_cmp s (span_of prefix) ≡ false → in_upper prefix s ≡ false → standing tree s ≡ standing lower s
+    stands_lower s some apart lies = stands_aside s some apart ∙ ap (λ b. standing (cond b upper lower) s) lies
 
     or_absent : (o rest : Option T) → (is_some rest ≡ true → ⊥) → option_or o rest ≡ o
     or_absent o rest never = ap (option_or o) (none_of rest never) ∙ or_none o

@@ -1,5 +1,5 @@
 -- What the parts of a tree of prefixes answer and leave. No public contract cites these.
-use Rattle.std.specs.Prelude.{◌≡◌, ℕ, ◌≤◌, Bool, true, false, not, if◌then◌else◌, Some, is_some}
+use Rattle.std.specs.Prelude.{◌≡◌, ℕ, ◌≤◌, Bool, true, false, not, ◌&&◌, ◌||◌, if◌then◌else◌, Option, Some, is_some}
 use Rattle.rr_number.specs.Prefixes.{PrefixParts, IsMasked, span_of}
 use Rattle.rr_number.specs.Spans.{Ends, covers, size}
 use Rattle.rr_cover.specs.PrefixTrees.{standing, in_upper, lies_on}
@@ -31,3 +31,17 @@ pub record IsParting (p a b : PrefixParts) : Type 0 where
   pub masked : IsMasked p
   pub one : lies_on p side (span_of a) ≡ true
   pub other : lies_on p (not side) (span_of b) ≡ true
+
+-- A tree has no root.
+abbrev pub is_empty : {T : Type 0} → Tree T → Bool
+is_empty Empty = true
+is_empty (Fork' p prefix value lower upper) = false
+
+-- A node has no value, and a prefix on one side at most.
+abbrev pub is_idle : {T : Type 0} → Option T → Tree T → Tree T → Bool
+is_idle value lower upper = not (is_some value) && (is_empty lower || is_empty upper)
+
+-- The side that is not empty, if one is empty.
+abbrev pub only_side : {T : Type 0} → Tree T → Tree T → Tree T
+only_side Empty upper = upper
+only_side (Fork' p prefix value lower upper) other = Fork' p prefix value lower upper

@@ -7,8 +7,10 @@ ghost use Rattle.rr_number.specs.Prefixes.{span_of};
 ghost use Rattle.rr_cover.specs.SpanMaps.{covering, inside, NoneCross, IsClosest, NoneCovers};
 ghost use Rattle.rr_cover.specs.declared.insert_fault.InsertFault.TheVariants.{Memory};
 
+mod changes;
 mod reading;
 
+use changes::take;
 use reading::{find, smallest_cover};
 use rr_number::Prefix;
 use std::alloc::Global;
@@ -88,5 +90,15 @@ impl<T> PrefixTree<T> {
         ensures none { IfNone result (NoneCovers self.now (span_of prefix)) }
     {
         smallest_cover(&self.root, prefix)
+    }
+}
+
+impl<T: Drop> PrefixTree<T> {
+    /// Takes the value out that stands at the prefix. The prefixes inside it stay.
+    pub fn remove(&mut self, prefix: Prefix) -> Option<T>
+        ensures value { result ≡ span_map.get self.old (span_of prefix) }
+        ensures rest { self.new ≡ span_map.remove self.old (span_of prefix) }
+    {
+        take(&mut self.root, prefix)
     }
 }

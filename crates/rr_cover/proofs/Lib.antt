@@ -12,4 +12,6 @@ pub mod Places
 pub mod TreeHalves
 pub mod TreeHeld
 pub mod TreeModel
+pub mod TreeParting
+pub mod TreeAdded
 pub mod TreeChanged

@@ -69,7 +69,7 @@ module _ {T : Type 0} where
   pub fork_lower : (prefix : PrefixParts) (lower upper new : Tree T) → IsFork prefix lower upper × (IsTree lower × IsTree upper) → IsRootedOn prefix false new → IsTree new → IsFork prefix new upper × (IsTree new × IsTree upper)
   fork_lower prefix lower upper new is rooted order = (record { masked = is.0.masked; low = rooted; high = is.0.high }, (order, is.1.1))
 
-  same_either : (b : Bool) (o : Option T) → cond b o o ≡ o
+  pub same_either : (b : Bool) (o : Option T) → cond b o o ≡ o
   same_either true o = refl
   same_either false o = refl
 

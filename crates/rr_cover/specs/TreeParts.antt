@@ -1,5 +1,5 @@
 -- What the parts of a tree of prefixes answer and leave. No public contract cites these.
-use Rattle.std.specs.Prelude.{◌≡◌, ℕ, ◌≤◌, Bool, true, false, not, ◌&&◌, ◌||◌, if◌then◌else◌, Option, Some, is_some}
+use Rattle.std.specs.Prelude.{◌≡◌, ℕ, ◌≤◌, Bool, true, false, not, ◌&&◌, ◌||◌, if◌then◌else◌, Option, None, Some, is_some}
 use Rattle.rr_number.specs.Prefixes.{PrefixParts, IsMasked, span_of}
 use Rattle.rr_number.specs.Spans.{Ends, covers, size}
 use Rattle.rr_cover.specs.PrefixTrees.{standing, in_upper, lies_on}
@@ -45,3 +45,8 @@ is_idle value lower upper = not (is_some value) && (is_empty lower || is_empty u
 abbrev pub only_side : {T : Type 0} → Tree T → Tree T → Tree T
 only_side Empty upper = upper
 only_side (Fork' p prefix value lower upper) other = Fork' p prefix value lower upper
+
+-- The prefix at the root of a tree.
+abbrev pub root_of : {T : Type 0} → Tree T → Option PrefixParts
+root_of Empty = None
+root_of (Fork' p prefix value lower upper) = Some prefix

@@ -7,9 +7,13 @@ ghost use Rattle.rr_number.specs.Prefixes.{span_of};
 ghost use Rattle.rr_cover.specs.SpanMaps.{covering, inside, NoneCross, IsClosest, NoneCovers};
 ghost use Rattle.rr_cover.specs.declared.insert_fault.InsertFault.TheVariants.{Memory};
 
+mod adding;
 mod changes;
+mod parting;
 mod reading;
 
+use crate::insert_fault::InsertFault;
+use adding::set;
 use changes::take;
 use reading::{find, smallest_cover};
 use rr_number::Prefix;
@@ -94,6 +98,22 @@ impl<T> PrefixTree<T> {
 }
 
 impl<T: Drop> PrefixTree<T> {
+    /// Puts the value at the prefix, and gives back the value that stood there. Where memory is refused, nothing
+    /// changes and the value comes back.
+    pub fn insert(&mut self, prefix: Prefix, value: T) -> Result<Option<T>, InsertFault<T>>
+        ensures stood { IfOk result (λ old. old ≡ span_map.get self.old (span_of prefix)) }
+        ensures ok { OnOk result (self.new ≡ span_map.insert self.old (span_of prefix) value) }
+        ensures err { OnErr result (self.new ≡ self.old) }
+        ensures back { IfErr result (λ fault. fault ≡ Memory value) }
+    {
+        let _length = prefix.length();
+        let alloc = self.alloc;
+        match set(&mut self.root, alloc, prefix, value) {
+            Ok(old) => Ok(old),
+            Err(value) => Err(InsertFault::Memory(value)),
+        }
+    }
+
     /// Takes the value out that stands at the prefix. The prefixes inside it stay.
     pub fn remove(&mut self, prefix: Prefix) -> Option<T>
         ensures value { result ≡ span_map.get self.old (span_of prefix) }

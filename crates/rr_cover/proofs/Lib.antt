@@ -11,6 +11,7 @@ pub mod Ordered
 pub mod Places
 pub mod TreeHalves
 pub mod TreeHeld
+pub mod TreeLists
 pub mod TreeModel
 pub mod TreeParting
 pub mod TreeAdded

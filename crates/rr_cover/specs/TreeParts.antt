@@ -1,7 +1,9 @@
 -- What the parts of a tree of prefixes answer and leave. No public contract cites these.
-use Rattle.std.specs.Prelude.{◌≡◌, ℕ, ◌≤◌, Bool, true, false, not, ◌&&◌, ◌||◌, if◌then◌else◌, Option, None, Some, is_some}
+use Rattle.std.specs.Prelude.{◌≡◌, ℕ, ◌≤◌, Bool, true, false, not, ◌&&◌, ◌||◌, if◌then◌else◌, List, Option, None, Some, is_some}
+use Rattle.std.specs.List.{list_any}
+use Rattle.std.specs.Ordering.{eq_by_cmp}
 use Rattle.rr_number.specs.Prefixes.{PrefixParts, IsMasked, span_of}
-use Rattle.rr_number.specs.Spans.{Ends, covers, size}
+use Rattle.rr_number.specs.Spans.{Ends, covers, size, span_cmp}
 use Rattle.rr_cover.specs.PrefixTrees.{standing, in_upper, lies_on}
 use Rattle.rr_cover.specs.declared.prefix_tree.Tree.{Tree}
 use Rattle.rr_cover.specs.declared.prefix_tree.Tree.TheVariants.{Empty, Fork'}
@@ -50,3 +52,7 @@ only_side (Fork' p prefix value lower upper) other = Fork' p prefix value lower 
 abbrev pub root_of : {T : Type 0} → Tree T → Option PrefixParts
 root_of Empty = None
 root_of (Fork' p prefix value lower upper) = Some prefix
+
+-- A span is that of a prefix of a list.
+abbrev pub is_listed : List PrefixParts → Ends → Bool
+is_listed prefixes u = list_any (λ p. eq_by_cmp span_cmp u (span_of p)) prefixes

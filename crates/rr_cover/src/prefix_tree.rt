@@ -9,15 +9,17 @@ ghost use Rattle.rr_cover.specs.declared.insert_fault.InsertFault.TheVariants.{M
 
 mod adding;
 mod changes;
+mod lists;
 mod parting;
 mod reading;
 
 use crate::insert_fault::InsertFault;
 use adding::set;
 use changes::take;
+use lists::{push_covering, push_inside, put_in_order};
 use reading::{find, smallest_cover};
-use rr_number::Prefix;
-use std::alloc::Global;
+use rr_number::{Prefix, Span};
+use std::alloc::{AllocError, Global};
 use std::marker::Model;
 
 /// Values kept by prefix: a binary tree in which each prefix has those of its lower half on one side and those of its
@@ -95,6 +97,26 @@ impl<T> PrefixTree<T> {
     {
         smallest_cover(&self.root, prefix)
     }
+
+    /// The prefixes held that cover the span, in order of first, then last address.
+    pub fn covering(&self, alloc: Global, span: Span) -> Result<Vec<Prefix>, AllocError>
+        ensures { IfOk result (λ prefixes. map span_of prefixes.items ≡ covering self.now span) }
+    {
+        let mut prefixes = Vec::new(alloc);
+        push_covering(&self.root, span, &mut prefixes)?;
+        put_in_order(&mut prefixes);
+        Ok(prefixes)
+    }
+
+    /// The prefixes held that lie inside the span, in order of first, then last address.
+    pub fn inside(&self, alloc: Global, span: Span) -> Result<Vec<Prefix>, AllocError>
+        ensures { IfOk result (λ prefixes. map span_of prefixes.items ≡ inside self.now span) }
+    {
+        let mut prefixes = Vec::new(alloc);
+        push_inside(&self.root, span, &mut prefixes)?;
+        put_in_order(&mut prefixes);
+        Ok(prefixes)
+    }
 }
 
 impl<T: Drop> PrefixTree<T> {
@@ -122,3 +144,6 @@ impl<T: Drop> PrefixTree<T> {
         take(&mut self.root, prefix)
     }
 }
+
+#[cfg(test)]
+mod tests;

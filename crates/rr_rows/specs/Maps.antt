@@ -1,16 +1,17 @@
 -- The rows of a finite map of objects, of a list of them, and of such a list in tables of version 1.
-use Rattle.std.specs.Prelude.{◌≡◌, ◌≢◌, ℕ, true, List, [], ◌∷◌, Option, Some, codes, map, is_some, unwrap_or}
+use Rattle.std.specs.Prelude.{◌≡◌, ◌≢◌, ℕ, true, List, [], ◌∷◌, Option, Some, Ok, codes, map, is_some, unwrap_or}
 use Rattle.std.specs.List.{AllByRecursion}
 use Rattle.std.specs.declared.cmp.Ordering.TheVariants.{Less}
 use Rattle.std.specs.FinMap.{FinMap, get, insert, remove, values}
 use Rattle.sqlite_trees.specs.Tree.{IsAscending}
 use Rattle.sqlite.specs.Effect.{Database}
+use Rattle.rr_text.specs.Fields.{AreFields}
 use Rattle.rr_object.specs.declared.key.Key.{Key}
 use Rattle.rr_object.specs.KeyOrders.{IsKeyValue, key_cmp}
 use Rattle.rr_object.specs.KeyTexts.{key_bytes}
 use Rattle.rr_object.specs.Objects.{Obj}
 use Rattle.rr_object.specs.OldKeys.{old_key_bytes}
-use Rattle.rr_object.specs.Readings.{ReadsAs}
+use Rattle.rr_object.specs.Readings.{ReadsAs, obj_of}
 use Rattle.rr_rows.specs.Contents.{contents, meta_values}
 use Rattle.rr_rows.specs.Entries.{Entry, AreRowsOf, entry_of}
 
@@ -26,10 +27,22 @@ this_version = codes "2"
 abbrev pub old_version : List ℕ
 old_version = codes "1"
 
--- each object of a finite map stands under its own key, and the keys are such as readers make
+-- an object as readers make it: of good attributes, and what these read as in a registry of any source (RFC 2622, 2 to 6;
+-- RFC 2725, 10)
+pub record IsObject (object : Obj) : Type 0 where
+  pub fields : AreFields object.paragraph
+  pub read : obj_of object.paragraph ≡ Ok object
+
+-- and here in a registry of one source
+pub record IsObjectOf (source : List ℕ) (object : Obj) : Type 0 where
+  pub fields : AreFields object.paragraph
+  pub read : ReadsAs source object.paragraph object
+
+-- each object of a finite map stands under its own key, and the keys and objects are such as readers make
 pub record IsKeyed (objects : FinMap key_cmp Obj) : Type 0 where
   pub keyed : (k : Key) (o : Obj) → get objects k ≡ Some o → o.key ≡ k
   pub formed : (k : Key) (o : Obj) → get objects k ≡ Some o → IsKeyValue k
+  pub read : (k : Key) (o : Obj) → get objects k ≡ Some o → IsObject o
 
 -- the tables hold the rows of the objects of a finite map and no others, and are of version 2 (profile)
 pub record HasRows (objects : FinMap key_cmp Obj) (db : Database) : Type 0 where
@@ -61,13 +74,13 @@ KeyForm = Key → Option (List ℕ)
 abbrev pub entry_in : KeyForm → Obj → Entry
 entry_in form object = record (entry_of object) { key = unwrap_or (form object.key) [] }
 
--- the tables hold the rows of a list of objects and no others: with keys in this form, of this version, and each object is
--- what its text reads as in a registry of this source (profile)
+-- the tables hold the rows of a list of objects of one source and no others, with keys in this form and of this version; no
+-- two of the objects have the same key (profile)
 pub record AreStoredIn (form : KeyForm) (number : List ℕ) (source : List ℕ) (objects : List Obj) (db : Database) : Type 0 where
   pub rows : AreRowsOf (map (entry_in form) objects) db
   pub version : HasVersion number db
   pub formed : AllByRecursion (λ o. is_some (form o.key) ≡ true) objects
-  pub of_source : AllByRecursion (λ o. ReadsAs source o.paragraph o) objects
+  pub of_source : AllByRecursion (IsObjectOf source) objects
   pub apart : AreApart objects
 
 -- every key has a text in tables of version 2 (profile)

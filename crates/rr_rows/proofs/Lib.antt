@@ -8,3 +8,4 @@ pub mod NumberLemmas
 pub mod CreateLemmas
 pub mod EntryLemmas
 pub mod MapKeys
+pub mod MapEntries

@@ -3,3 +3,4 @@ pub mod AddingLemmas
 pub mod BodyLemmas
 pub mod CommitLemmas
 pub mod LookLemmas
+pub mod TidyLemmas

@@ -8,6 +8,7 @@ mod names;
 mod reading;
 mod statements;
 mod store;
+mod tidy;
 mod writes;
 
 pub use fault::StoreFault;

@@ -9,3 +9,4 @@ pub mod CreateLemmas
 pub mod EntryLemmas
 pub mod MapKeys
 pub mod MapEntries
+pub mod MapRows

@@ -19,7 +19,7 @@ use Rattle.rr_object.specs.Classes.{class_number}
 use Rattle.rr_object.specs.Keys.{class_of}
 use Rattle.rr_object.specs.declared.key.Key.{Key}
 use Rattle.rr_object.specs.declared.key.Key.TheVariants.{Mntner, AsBlock, AutNum, Inetnum, Route, AsSet, RouteSet}
-use Rattle.rr_object.specs.KeyOrders.{IsKeyValue, key_cmp, words_of}
+use Rattle.rr_object.specs.KeyOrders.{HasKeyParts, IsKeyValue, class_and_bytes_cmp, key_cmp, words_of}
 use Rattle.rr_object.specs.KeyTexts.{key_bytes}
 use Rattle.rr_object.specs.OldKeys.{old_key_bytes}
 use Rattle.rr_object.proofs.DerivedOrder.{derived_order}
@@ -76,11 +76,14 @@ KeepsOrder form =
     (a b : Key) (x y : List ℕ) → IsKeyValue a → IsKeyValue b → form a ≡ Some x → form b ≡ Some y
     → key_cmp a b ≡ ordering_then (nat_cmp (class_number (class_of a)) (class_number (class_of b))) (slice_cmp nat_cmp x y)
 
+pub ordered_as_bytes : (a b : Key) → HasKeyParts a → HasKeyParts b → key_cmp a b ≡ class_and_bytes_cmp a b
+ordered_as_bytes a b fa fb = sym (derived_order a b) ∙ ordered_by_bytes a b fa fb
+
 pub this_form_keeps_order : KeepsOrder this_form
 this_form_keeps_order a b x y fa fb ea eb =
     let same_a : key_bytes a ≡ x = cc in
     let same_b : key_bytes b ≡ y = cc in
-    sym (derived_order a b) ∙ ordered_by_bytes a b (has_parts a fa) (has_parts b fb)
+    ordered_as_bytes a b (has_parts a fa) (has_parts b fb)
     ∙ (λ i. ordering_then (nat_cmp (class_number (class_of a)) (class_number (class_of b))) (slice_cmp nat_cmp (same_a i) (same_b i)))
 
 pub old_form_keeps_order : KeepsOrder old_key_bytes

@@ -7,3 +7,4 @@ pub mod StatementLemmas
 pub mod NumberLemmas
 pub mod CreateLemmas
 pub mod EntryLemmas
+pub mod AddedLemmas

@@ -7,3 +7,5 @@ pub mod LookLemmas
 pub mod ObjectLemmas
 pub mod OrderLemmas
 pub mod TidyLemmas
+pub mod UpperLemmas
+pub mod MigrateLemmas

@@ -8,15 +8,17 @@ mod entry;
 mod fault;
 mod filling;
 mod making;
+mod migrating;
 mod names;
 mod objects;
 mod reading;
 mod statements;
 mod store;
 mod tidy;
+mod upper;
 mod vacancy;
 mod version;
 mod writes;
 
-pub use fault::{CreateFault, OpenFault, StoreFault};
+pub use fault::{CreateFault, MigrateFault, OpenFault, StoreFault};
 pub use store::Store;

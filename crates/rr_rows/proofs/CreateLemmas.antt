@@ -13,7 +13,7 @@ use Rattle.sqlite.specs.State.{State, Writes, Executes}
 use Rattle.sqlite.proofs.Callers.{IsPlain, command_of, statement_of, runs_as}
 use Rattle.sqlite_tied.specs.Compute.{everything}
 use Rattle.rr_rows.specs.Tables.{rules_of, HasTables}
-use Rattle.rr_rows.specs.Contents.{AreKeyed, IsTidy}
+use Rattle.rr_rows.specs.Contents.{AreKeyed}
 use Rattle.rr_rows.specs.Texts.{create_meta, create_object, create_named}
 use Rattle.rr_rows.specs.Made.{no_schema, meta_table, object_table, named_table, with_meta, with_object, with_named, Creates, IsBare}
 use Rattle.rr_rows.proofs.ChangeLemmas.{went}

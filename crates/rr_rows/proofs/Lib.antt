@@ -7,3 +7,8 @@ pub mod StatementLemmas
 pub mod NumberLemmas
 pub mod CreateLemmas
 pub mod EntryLemmas
+pub mod MapKeys
+pub mod MapEntries
+pub mod MapRows
+pub mod MapLists
+pub mod AddedLemmas

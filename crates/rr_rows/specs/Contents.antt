@@ -76,6 +76,14 @@ pub record IsListing (rank : Row → Row → Ordering) (rows answer : List Row) 
 abbrev pub meta_values : List ℕ → List ℕ → Row
 meta_values name value = Text name ∷ Text value ∷ Null ∷ []
 
+-- the names and values of settings, which are all that is read of a row of `meta`
+abbrev pub settings : List Row → List Row
+settings = map (λ row. column row 1 ∷ column row 2 ∷ [])
+
+-- a setting and its value, as they are read
+abbrev pub setting : List ℕ → List ℕ → Row
+setting name value = Text name ∷ Text value ∷ []
+
 -- a class, a key and a text, as a row of `object`
 abbrev pub object_values : ℕ → List ℕ → List ℕ → Row
 object_values class key body = Int (pos class) ∷ Text key ∷ Blob body ∷ []

@@ -4,3 +4,4 @@ pub mod Queries
 pub mod Contents
 pub mod Made
 pub mod Entries
+pub mod Maps

@@ -1,6 +1,6 @@
 -- A query with no RETURNING leaves the database as it is, also where it fails.
 use Rattle.std.proofs.Common.{◌≡◌, inl, inr, false, ℕ, List, Option, Some, None, Ok, Err, Result, IfOk, IfErr, OnOk, OnErr, IsTrue, sym, subst, ◌∙◌, arith}
-use Rattle.std.proofs.lemmas.Bool.{cases_Bool}
+use Rattle.std.proofs.lemmas.Bool.{cases_Bool, both_ways}
 use Rattle.sqlite_value.specs.Order.{Row}
 use Rattle.sqlite.specs.declared.error.Error.{Error}
 use Rattle.sqlite_schema.specs.declared.command.Returning.{Returning}
@@ -9,10 +9,13 @@ use Rattle.sqlite_schema.specs.declared.command.Command.{Command}
 use Rattle.sqlite_schema.specs.declared.schema.Schema.{Schema}
 use Rattle.rr_rows.specs.Tables.{Layout, HasTables}
 use Rattle.rr_rows.specs.Queries.{Means}
+use Rattle.rr_rows.specs.Entries.{TreesOf}
+use Rattle.sqlite.specs.Effect.{Database}
+use Rattle.rr_store.specs.Kept.{IsLeft}
 use Rattle.sqlite.specs.State.{State, HasCleanDisk, IsUnchanged, Fails, Shown, ShowsRows, FailsToQuery, FailsToShow, IsNotRun, CommitsShowing, Survives}
 use Rattle.sqlite.specs.Clock.{timed}
 use Rattle.sqlite.proofs.Callers.{IsPlain, never_commits}
-use Rattle.sqlite.proofs.StateLemmas.{survives_weaker}
+use Rattle.sqlite.proofs.StateLemmas.{survives_then, survives_weaker}
 
 module _ (sql : List ℕ) (params : Row) (old new : State) where
   pub shown_open : (rows : List Row) → Shown sql params old new rows → IsTrue old.is_open
@@ -67,3 +70,22 @@ plain_of schema text command means has = subst (λ s. IsPlain (understood s text
 pub each_shown : {X E : Type 0} (r : Result X E) (P : X → Type 0) (Q : Type 0) (R : X → Type 0) → IfOk r P → OnOk r Q → ((x : X) → Q → P x → R x) → IfOk r R
 each_shown (Ok x) P Q R h k f = f x k h
 each_shown (Err e) P Q R h k f = tt
+
+-- what an answer shows leaves the connection open, so that a stop during the next look leaves what it could before the first
+pub quiet_then : (a b c : State) → (HasCleanDisk b → IsUnchanged a b) → Survives a b (λ _. a.is_open ≡ false) → Survives b c (λ _. b.is_open ≡ false) → Survives a c (λ _. a.is_open ≡ false)
+quiet_then a b c same one two =
+    survives_then a b c (λ _. a.is_open ≡ false) (λ _. b.is_open ≡ false) (λ _. a.is_open ≡ false) (λ clean db off. off)
+    (λ clean db off. absurd (both_ways b.is_open off (same (omega (arith, two.clean))).0.is_open)) one two
+
+pub kept_then : (a b c : State) → (HasCleanDisk b → IsUnchanged a b) → Survives b c (λ _. b.is_open ≡ false) → HasCleanDisk c → c.now ≡ b.now → c.now ≡ a.now
+kept_then a b c same two clean is = is ∙ (same (omega (arith, two.clean))).0.now_is
+
+module _ (P : Database → Type 0) where
+  pub quiet_left : (a b : State) → Survives a b (λ _. a.is_open ≡ false) → Survives a b (IsLeft a.is_open P)
+  quiet_left a b one = survives_weaker a b (λ _. a.is_open ≡ false) (IsLeft a.is_open P) (λ clean db off. inl off) one
+
+  pub made_left : (a b : State) → Survives a b (TreesOf P) → Survives a b (IsLeft a.is_open P)
+  made_left a b one = survives_weaker a b (TreesOf P) (IsLeft a.is_open P) (λ clean db made. inr made) one
+
+  pub quiet_made : (a b c : State) → Survives a b (λ _. a.is_open ≡ false) → Survives b c (TreesOf P) → Survives a c (IsLeft a.is_open P)
+  quiet_made a b c one two = survives_then a b c (λ _. a.is_open ≡ false) (TreesOf P) (IsLeft a.is_open P) (λ clean db off. inl off) (λ clean db made. inr made) one two

@@ -1,1 +1,6 @@
+pub mod Empty
+pub mod Faults
 pub mod Kept
+pub mod Migrating
+pub mod Reading
+pub mod Versions

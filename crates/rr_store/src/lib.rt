@@ -2,13 +2,23 @@
 #![tactic(auto)]
 
 mod bodies;
+mod columns;
+mod creating;
+mod entry;
 mod fault;
+mod filling;
 mod making;
+mod migrating;
 mod names;
+mod objects;
 mod reading;
 mod statements;
 mod store;
+mod tidy;
+mod upper;
+mod vacancy;
+mod version;
 mod writes;
 
-pub use fault::StoreFault;
+pub use fault::{CreateFault, MigrateFault, OpenFault, StoreFault};
 pub use store::Store;

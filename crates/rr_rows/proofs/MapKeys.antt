@@ -1,0 +1,116 @@
+-- The order of keys, and the tests by which SQL tells them.
+use Rattle.std.proofs.Common.{◌≡◌, ℕ, pos, Bool, true, false, ◌&&◌, List, [], ◌∷◌, Some, refl, sym, ap, ◌∙◌, Ordering, Less, Equal, Greater, nat_cmp, int_cmp, arith}
+use Rattle.std.proofs.lemmas.Bool.Decides.{nat_tests}
+use Rattle.std.specs.Prelude.{◌==◌, if◌then◌else◌}
+use Rattle.std.specs.Ordering.{eq_by_cmp, is_eq, ordering_then}
+use Rattle.std.specs.Cmp.{IsTotalOrder, then_total, on_total, nat_cmp_total, Equal-is}
+use Rattle.std.specs.Cmp.Lexicographic.{slice_cmp, nat_list_cmp_total}
+use Rattle.std.specs.FinMap.{IsAntisymmetric, nat_cmp-IsAntisymmetric, slice_cmp-IsAntisymmetric}
+use Rattle.sqlite_value.specs.declared.value.Value.{Value}
+use Rattle.sqlite_value.specs.declared.value.Value.TheVariants.{Int, Text}
+use Rattle.sqlite_value.specs.declared.keys.Collation.TheVariants.{Binary}
+use Rattle.sqlite_value.specs.Order.{value_cmp}
+use Rattle.sqlite_value.proofs.OrderLemmas.{value_cmp-Int, value_cmp-Text}
+use Rattle.sqlite_sql.specs.Ops.{binary, is_null, is_true}
+use Rattle.sqlite_sql.specs.declared.ops.BinaryOp.TheVariants.{Compare}
+use Rattle.sqlite_sql.specs.declared.ops.CompareOp.TheVariants.{Eq}
+use Rattle.rr_number.proofs.NumberOrders.{ties}
+use Rattle.rr_object.specs.Classes.{class_number}
+use Rattle.rr_object.specs.Keys.{class_of}
+use Rattle.rr_object.specs.declared.key.Key.{Key}
+use Rattle.rr_object.specs.declared.key.Key.TheVariants.{Mntner, AsBlock, AutNum, Inetnum, Route, AsSet, RouteSet}
+use Rattle.rr_object.specs.KeyOrders.{HasKeyParts, IsKeyValue, class_and_bytes_cmp, key_cmp, words_of}
+use Rattle.rr_object.specs.KeyTexts.{key_bytes}
+use Rattle.rr_object.specs.OldKeys.{old_key_bytes}
+use Rattle.rr_object.proofs.DerivedOrder.{derived_order}
+use Rattle.rr_object.proofs.KeyBounds.{has_parts}
+use Rattle.rr_object.proofs.KeysByBytes.{ordered_by_bytes, old_bytes_keep_order}
+use Rattle.rr_rows.specs.Entries.{Entry}
+use Rattle.rr_rows.specs.Maps.{KeyForm, this_form}
+use Rattle.rr_rows.proofs.EntryLemmas.{is_at}
+
+pub keys_total : IsTotalOrder key_cmp
+keys_total = then_total (on_total (λ k. class_number (class_of k)) nat_cmp_total) (on_total words_of nat_list_cmp_total)
+
+first : List ℕ → ℕ
+first [] = 0
+first (x ∷ xs) = x
+
+rest : List ℕ → List ℕ
+rest [] = []
+rest (x ∷ xs) = xs
+
+-- the key of a class's number and of words
+key_from : ℕ → List ℕ → Key
+key_from n ws =
+    if n == 1 then Mntner ws else (
+    if n == 2 then AsBlock (record { first = first ws; last = first (rest ws) }) else (
+    if n == 3 then AutNum (first ws) else (
+    if n == 4 then Inetnum (record { first = first ws; last = first (rest ws) }) else (
+    if n == 5 then Route (record { address = first ws; length = first (rest ws) }) (first (rest (rest ws))) else (
+    if n == 6 then AsSet ws else RouteSet ws)))))
+
+from_parts : (k : Key) → key_from (class_number (class_of k)) (words_of k) ≡ k
+unfolding key_from first rest
+from_parts (Mntner n) = refl
+from_parts (AsBlock s) = refl
+from_parts (AutNum n) = refl
+from_parts (Inetnum s) = refl
+from_parts (Route p n) = refl
+from_parts (AsSet n) = refl
+from_parts (RouteSet n) = refl
+
+-- only equal keys tie
+pub keys_exact : IsAntisymmetric key_cmp
+keys_exact a b e =
+    let same_class = nat_cmp-IsAntisymmetric (class_number (class_of a)) (class_number (class_of b)) ((ties _ _ e).0) in
+    let same_words = slice_cmp-IsAntisymmetric nat_cmp-IsAntisymmetric (words_of a) (words_of b) ((ties _ _ e).1) in
+    sym (from_parts a) ∙ (λ i. key_from (same_class i) (same_words i)) ∙ from_parts b
+
+pub same_key : (a b : Key) → eq_by_cmp key_cmp a b ≡ true → a ≡ b
+same_key a b e = keys_exact a b ((Equal-is (key_cmp a b)).0 e)
+
+-- the texts of keys in this form stand in the order of the keys of a class
+abbrev pub KeepsOrder : KeyForm → Type 0
+KeepsOrder form =
+    (a b : Key) (x y : List ℕ) → IsKeyValue a → IsKeyValue b → form a ≡ Some x → form b ≡ Some y
+    → key_cmp a b ≡ ordering_then (nat_cmp (class_number (class_of a)) (class_number (class_of b))) (slice_cmp nat_cmp x y)
+
+pub ordered_as_bytes : (a b : Key) → HasKeyParts a → HasKeyParts b → key_cmp a b ≡ class_and_bytes_cmp a b
+ordered_as_bytes a b fa fb = sym (derived_order a b) ∙ ordered_by_bytes a b fa fb
+
+pub this_form_keeps_order : KeepsOrder this_form
+this_form_keeps_order a b x y fa fb ea eb =
+    let same_a : key_bytes a ≡ x = cc in
+    let same_b : key_bytes b ≡ y = cc in
+    ordered_as_bytes a b (has_parts a fa) (has_parts b fb)
+    ∙ (λ i. ordering_then (nat_cmp (class_number (class_of a)) (class_number (class_of b))) (slice_cmp nat_cmp (same_a i) (same_b i)))
+
+pub old_form_keeps_order : KeepsOrder old_key_bytes
+old_form_keeps_order = old_bytes_keep_order
+
+-- `=` of two values
+is_true_test : (b : Bool) → (a c : Value) → is_null a ≡ false → is_null c ≡ false → is_eq (value_cmp a c) ≡ b → is_true (binary (Compare Eq Binary) a c) ≡ b
+unfolding binary
+is_true_test true a c p q e = rw (p, q, e) refl
+is_true_test false a c p q e = rw (p, q, e) refl
+
+tie_as_numbers : (m n : ℕ) → is_eq (int_cmp (pos m) (pos n)) ≡ is_eq (nat_cmp m n)
+tie_as_numbers m n = grind (arith, nat_tests)
+
+numbers_tie : (m n : ℕ) → is_true (binary (Compare Eq Binary) (Int (pos m)) (Int (pos n))) ≡ is_eq (nat_cmp m n)
+numbers_tie m n = is_true_test (is_eq (nat_cmp m n)) (Int (pos m)) (Int (pos n)) refl refl (ap is_eq (value_cmp-Int (pos m) (pos n)) ∙ tie_as_numbers m n)
+
+texts_tie : (x y : List ℕ) → is_true (binary (Compare Eq Binary) (Text x) (Text y)) ≡ is_eq (slice_cmp nat_cmp x y)
+texts_tie x y = is_true_test (is_eq (slice_cmp nat_cmp x y)) (Text x) (Text y) refl refl (ap is_eq (value_cmp-Text x y))
+
+both_tie : (a b : Ordering) → (is_eq a && (is_eq b && true)) ≡ is_eq (ordering_then a b)
+both_tie Less b = refl
+both_tie Equal Less = refl
+both_tie Equal Equal = refl
+both_tie Equal Greater = refl
+both_tie Greater b = refl
+
+-- SQL tells entries by the orders of their classes' numbers and their keys' texts
+pub at_ties : (class : ℕ) (key : List ℕ) (entry : Entry) → is_at class key entry ≡ is_eq (ordering_then (nat_cmp entry.class class) (slice_cmp nat_cmp entry.key key))
+at_ties class key entry = (λ i. numbers_tie entry.class class i && (texts_tie entry.key key i && true)) ∙ both_tie (nat_cmp entry.class class) (slice_cmp nat_cmp entry.key key)

@@ -14,12 +14,12 @@ use std::alloc::{AllocError, Global};
 impl SetBook for PlainBook {
     fn aut_nums(&self, alloc: Global) -> Result<Vec<&Object>, AllocError> {
         self.sound();
-        objects_of_class(alloc, self.objects(), Class::AutNum)
+        objects_of_class(alloc, self.as_slice(), Class::AutNum)
     }
 
     fn routes(&self, alloc: Global) -> Result<Vec<&Object>, AllocError> {
         self.sound();
-        objects_of_class(alloc, self.objects(), Class::Route)
+        objects_of_class(alloc, self.as_slice(), Class::Route)
     }
 
     fn referrers(&self, alloc: Global, name: &SetName) -> Result<Vec<&Object>, AllocError> {

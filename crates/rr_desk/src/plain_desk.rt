@@ -11,7 +11,7 @@ use crate::opening;
 use rr_io::{Sink, Source};
 use rr_number::Name;
 use rr_object::Object;
-use rr_registry::{LoadFault, Registry};
+use rr_registry::{LoadFault, PlainBook, Registry};
 use rr_submission::{DeskFault, Done};
 use std::alloc::{AllocError, Global};
 use std::marker::Model;
@@ -19,7 +19,7 @@ use std::marker::Model;
 /// A desk over a registry in memory. Contracts see the registry.
 #[derive(Drop)]
 pub struct PlainDesk {
-    registry: Registry,
+    registry: Registry<PlainBook>,
     source: Name,
 }
 
@@ -53,7 +53,7 @@ impl PlainDesk {
     }
 
     /// The registry.
-    pub fn registry(&self) -> &Registry
+    pub fn registry(&self) -> &Registry<PlainBook>
         ensures { result.now ≡ self.now }
     {
         &self.registry
@@ -84,7 +84,7 @@ impl PlainDesk {
 
 /// The registry of the opening objects; the error is want of memory.
 #[tactic(auto, using(crate::proofs::OpeningRegistry::opening_faultless))]
-fn register(alloc: Global, objects: Vec<Object>) -> Result<Registry, AllocError>
+fn register(alloc: Global, objects: Vec<Object>) -> Result<Registry<PlainBook>, AllocError>
     requires { AreObjects built_in_source (entries opening_text) objects.items }
     ensures { IfOk result (IsTaken objects.items) }
 {

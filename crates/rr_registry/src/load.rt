@@ -8,7 +8,7 @@ ghost use Rattle.rr_registry.specs.Loading.{clash, clash_of};
 ghost use Rattle.rr_registry.specs.Private.{IsApart, IsGathered, IsTakenIn};
 
 use crate::registry::Registry;
-use rr_book::{PlainBook, lists};
+use rr_book::{Keeper, lists};
 use rr_number::Name;
 use rr_object::{Grant, Object};
 use std::alloc::{AllocError, AllocFailed, Global};
@@ -48,13 +48,13 @@ impl<T: Drop> From<AllocFailed<T>> for LoadFault {
     }
 }
 
-impl Registry {
+impl<B: Keeper> Registry<B> {
     ghost use Rattle.rr_registry.specs.Loading.{IsFaultOf, IsTaken};
 
     /// The registry of these objects. The fault is the first key that stands twice or span that crosses one before it,
     /// else the first object that names a maintainer who is not in the list, or want of memory (profile).
     #[tactic(auto, using(crate::proofs::Gathering::clash_is_fault))]
-    pub fn from_objects(alloc: Global, objects: Vec<Object>) -> Result<Registry, LoadFault>
+    pub fn from_objects(alloc: Global, objects: Vec<Object>) -> Result<Registry<B>, LoadFault>
         ensures { MatchResult result (IsTaken objects.items) (IsFaultOf objects.items) }
     {
         let unnamed = first_unnamed(&objects);
@@ -62,7 +62,7 @@ impl Registry {
             Err(fault) => Err(fault),
             Ok(gathered) => match unnamed {
                 Some(i) => Err(LoadFault::Unnamed(i as u64 + 1)),
-                None => Ok(Registry::of(PlainBook::of(alloc, gathered)?)),
+                None => Ok(Registry::of(B::of(alloc, gathered)?)),
             },
         }
     }

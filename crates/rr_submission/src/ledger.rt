@@ -6,7 +6,7 @@ ghost use Rattle.rr_auth.specs.declared.item.Item.{Item};
 ghost use Rattle.rr_registry.specs.Runs.{IsStep};
 
 use rr_auth::{Item, Secrets};
-use rr_registry::{Outcome, Registry};
+use rr_registry::{Keeper, Outcome, Registry};
 use std::alloc::Global;
 
 /// A ledger came to a halt at an item: it decides no more.
@@ -33,7 +33,7 @@ pub trait Ledger {
 }
 
 /// A registry in memory decides each item by itself, and never comes to a halt.
-impl Ledger for Registry {
+impl<B: Keeper> Ledger for Registry<B> {
     ghost registry = { λ kept. kept };
 
     ghost Ready = { λ kept. Unit {0} };

@@ -133,7 +133,7 @@ fn texts_inside(alloc: Global, objects: &[Object], prefix: Span) -> Result<Vec<u
 fn held_after(alloc: Global, submissions: &[&str]) -> Result<Vec<u8>, Fail> {
     let prefix = Span::read(b"10.1.0.0/16").ok_or("no span")?;
     let (desk, _) = submitted(alloc, submissions)?;
-    texts_inside(alloc, desk.registry().objects(), prefix)
+    texts_inside(alloc, &desk.registry().objects(alloc)?, prefix)
 }
 
 #[test]

@@ -33,7 +33,7 @@ fn a_failed_read_leaves_the_items_before_it(rt: HostRuntime) -> Result<(), Fail>
 % read fault after 2 items
 ";
     assert_eq!(rt; writer.into_inner().as_slice(), report.as_bytes());
-    assert_eq!(rt; desk.registry().objects().len(), 6);
+    assert_eq!(rt; desk.registry().objects(rt.alloc())?.len(), 6);
     Ok(())
 }
 
@@ -58,7 +58,7 @@ fn a_failed_write_leaves_the_items_told(rt: HostRuntime) -> Result<(), Fail> {
         };
         assert_eq!(rt; done, wanted, "with room for {room} bytes");
         assert_eq!(rt;
-            desk.registry().objects().len(),
+            desk.registry().objects(rt.alloc())?.len(),
             stand,
             "with room for {room} bytes"
         );
@@ -86,7 +86,7 @@ fn a_failed_read_and_a_failed_write_leave_the_items_told(rt: HostRuntime) -> Res
         let done = desk.submit(rt.alloc(), &mut reader, &mut writer);
         assert_eq!(rt; done, Err(wanted), "with room for {room} bytes");
         assert_eq!(rt;
-            desk.registry().objects().len(),
+            desk.registry().objects(rt.alloc())?.len(),
             stand,
             "with room for {room} bytes"
         );

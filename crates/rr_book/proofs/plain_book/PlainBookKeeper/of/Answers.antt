@@ -1,5 +1,5 @@
 use Rattle.rr_book.proofs.KeysUnderSets.{indexed_by_all}
-use Rattle.rr_book.proofs.plain_book.PlainBook.of.Goals as goal
+use Rattle.rr_book.proofs.plain_book.PlainBookKeeper.of.Goals as goal
 
 pub invariant_of-result : goal.invariant_of-result
 invariant_of-result c =

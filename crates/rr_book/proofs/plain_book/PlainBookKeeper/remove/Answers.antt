@@ -4,7 +4,7 @@ use Rattle.rr_auth.specs.Registries.{Sound}
 use Rattle.rr_book.specs.Books.{book_of}
 use Rattle.rr_book.proofs.KeysUnderSets.{indexed_none, indexed_removal}
 use Rattle.rr_book.proofs.Order.{book_others}
-use Rattle.rr_book.proofs.plain_book.PlainBook.remove.Goals as goal
+use Rattle.rr_book.proofs.plain_book.PlainBookKeeper.remove.Goals as goal
 
 pub invariant_of-self : goal.invariant_of-self
 invariant_of-self c =

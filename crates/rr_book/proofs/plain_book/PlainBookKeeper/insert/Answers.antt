@@ -14,7 +14,7 @@ use Rattle.rr_book.specs.SetIndexes.{IsIndexed, stands_under}
 use Rattle.rr_book.specs.SetLists.{names_set}
 use Rattle.rr_book.proofs.KeysUnderSets.{fresh, indexed_change, indexed_first, indexed_same, indexed_undone}
 use Rattle.rr_book.proofs.Order.{book_put}
-use Rattle.rr_book.proofs.plain_book.PlainBook.put.Goals as goal
+use Rattle.rr_book.proofs.plain_book.PlainBookKeeper.insert.Goals as goal
 use Rattle.rr_book.specs.Private.{is_meant}
 
 pub add-requires : goal.add-requires

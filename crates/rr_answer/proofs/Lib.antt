@@ -1,5 +1,7 @@
 pub mod Alike
 pub mod Expanded
+pub mod Lists
+pub mod Routes
 pub mod Secrets
 pub mod Seen
 pub mod Selected

@@ -11,15 +11,16 @@ use crate::query::Query;
 use crate::reading::read_query;
 use crate::selection::asked;
 use crate::text::objects_text;
+use rr_book::Keeper;
 use rr_number::{SetKind, SetName};
 use rr_registry::Registry;
 use std::alloc::Global;
 
 /// The answer to a query: the objects that it asks for, or the members of a set, `limit` bounding its expansion. The fault
 /// is `TooMany` for an expansion over the limit, or want of memory.
-pub fn answer(
+pub fn answer<B: Keeper>(
     alloc: Global,
-    registry: &Registry,
+    registry: &Registry<B>,
     limit: usize,
     query: &Query,
 ) -> Result<Vec<u8>, QueryFault>
@@ -37,9 +38,9 @@ pub fn answer(
 }
 
 /// The members of a set, by its kind.
-fn expanded(
+fn expanded<B: Keeper>(
     alloc: Global,
-    registry: &Registry,
+    registry: &Registry<B>,
     limit: usize,
     name: &SetName,
 ) -> Result<Vec<u8>, QueryFault>
@@ -53,9 +54,9 @@ fn expanded(
 }
 
 /// The answer to the text of a query. The fault is the first of `TooLong`, `Bad` and `TooMany` that fits, or want of memory.
-pub fn answer_to(
+pub fn answer_to<B: Keeper>(
     alloc: Global,
-    registry: &Registry,
+    registry: &Registry<B>,
     limit: usize,
     text: &[u8],
 ) -> Result<Vec<u8>, QueryFault>

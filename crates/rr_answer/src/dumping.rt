@@ -7,6 +7,7 @@ ghost use Rattle.rr_sets.specs.Lists.{lent};
 ghost use Rattle.rr_answer.specs.Dumps.{WritesDump, dump, dumped, end_line};
 
 use crate::text::{push_paragraph, push_public};
+use rr_book::Keeper;
 use rr_io::{Sink, write_all};
 use rr_object::Object;
 use rr_registry::Registry;
@@ -50,9 +51,9 @@ impl From<AllocError> for DumpFault {
 /// Writes the objects by class and key, each with an empty line, and a last line that counts them; `full` says whether
 /// with all their text, or as they are answered (profile). It answers their number. Each object is written by itself:
 /// after a fault the writer has taken a front of these bytes.
-pub fn dump<W: Sink>(
+pub fn dump<B: Keeper, W: Sink>(
     alloc: Global,
-    registry: &Registry,
+    registry: &Registry<B>,
     writer: &mut W,
     full: bool,
 ) -> Result<usize, DumpFault>
@@ -60,17 +61,10 @@ pub fn dump<W: Sink>(
     ensures count { IfOk result (λ count. count ≡ length (values registry.now)) }
     ensures aside { W.aside writer.new ≡ W.aside writer.old }
 {
-    let objects = all(alloc, registry)?;
+    let objects = registry.objects(alloc)?;
     dump_objects(alloc, &objects, writer, full)?;
     dump_end(alloc, writer, objects.len())?;
     Ok(objects.len())
-}
-
-/// The objects in the order of class and key.
-fn all(alloc: Global, registry: &Registry) -> Result<Vec<&Object>, AllocError>
-    ensures { IfOk result (λ objects. lent objects.items ≡ values registry.now) }
-{
-    registry.objects().iter().collect(alloc)
 }
 
 /// Writes the objects.

@@ -179,6 +179,7 @@ fn key_of_words(
 }
 
 /// The words with a space between each two.
+#[tactic(auto, using(crate::proofs::Lists::joined_words))]
 fn joined(alloc: Global, first: &[u8], others: &[&[u8]]) -> Result<Vec<u8>, AllocError>
     ensures { IfOk result (λ text. text.items ≡ join_with_byte 32 (first.now ∷ map (λ word. word.now) others.now)) }
 {

@@ -2,26 +2,26 @@
 
 ghost use Rattle.std.specs.Prelude.{◌≡◌, [], IfOk, filter};
 ghost use Rattle.std.specs.FinMap.{get, values};
-ghost use Rattle.std.specs.List.{cons_option, filter_map, list_any};
+ghost use Rattle.std.specs.List.{cons_option, filter_map};
 ghost use Rattle.std.specs.Option.{option_copied};
-ghost use Rattle.rr_auth.specs.Closest.{closest_inetnum, origin_at};
-ghost use Rattle.rr_book.specs.Listings.{addresses, covering, covers_span, inside, lies_in};
+ghost use Rattle.rr_book.specs.Listings.{lies_in};
+ghost use Rattle.rr_object.specs.declared.key.Key.TheVariants as key;
 ghost use Rattle.rr_sets.specs.Lists.{lent};
-ghost use Rattle.rr_object.specs.Objects.{Obj};
-ghost use Rattle.rr_answer.specs.declared.query.Query.TheVariants.{Closest};
+ghost use Rattle.rr_answer.specs.declared.query.Query.TheVariants as query;
 ghost use Rattle.rr_answer.specs.Selections as select;
 
 use crate::query::Query;
 use rr_auth::Book;
+use rr_book::Keeper;
 use rr_number::{AsNumber, Name, Prefix, Span};
 use rr_object::{Key, Object};
 use rr_registry::Registry;
 use std::alloc::{AllocError, Global};
 
 /// The objects that the query asks for, by class and key; of an expansion none.
-pub(crate) fn asked<'a>(
+pub(crate) fn asked<'a, B: Keeper>(
     alloc: Global,
-    registry: &'a Registry,
+    registry: &'a Registry<B>,
     query: &Query,
 ) -> Result<Vec<&'a Object>, AllocError>
     ensures { IfOk result (λ found. lent found.items ≡ select.asked query.now registry.now) }
@@ -30,8 +30,8 @@ pub(crate) fn asked<'a>(
         Query::Object(key) => listed(alloc, registry.book().get(key)),
         Query::Exact(prefix) => exact(alloc, registry, prefix.span()),
         Query::Closest(prefix) => closest(alloc, registry.book(), *prefix),
-        Query::Less(prefix) => covering(alloc, registry, prefix.span()),
-        Query::More(prefix) => inside(alloc, registry, prefix.span()),
+        Query::Less(prefix) => registry.covering(alloc, prefix.span()),
+        Query::More(prefix) => registry.inside(alloc, prefix.span()),
         Query::Naming(name) => naming(alloc, registry, name),
         Query::Originated(number) => originated(alloc, registry, *number),
         Query::Expand(_) | Query::Prefixes(_) => Ok(Vec::new(alloc)),
@@ -49,87 +49,42 @@ fn listed(alloc: Global, object: Option<&Object>) -> Result<Vec<&Object>, AllocE
     Ok(found)
 }
 
-/// The inetnums and routes that cover the span.
-fn covering(alloc: Global, registry: &Registry, span: Span) -> Result<Vec<&Object>, AllocError>
-    ensures { IfOk result (λ found. lent found.items ≡ covering registry.now span) }
+/// The inetnums and routes of exactly the span: of those that cover it, the ones inside it.
+#[tactic(auto, using(crate::proofs::Lists::filtered, crate::proofs::Lists::covering_inside))]
+fn exact<B: Keeper>(
+    alloc: Global,
+    registry: &Registry<B>,
+    span: Span,
+) -> Result<Vec<&Object>, AllocError>
+    ensures { IfOk result (λ found. lent found.items ≡ filter (select.is_at span) (values registry.now)) }
 {
-    registry
-        .objects()
-        .iter()
-        .filter(|object| covers_span(object, span))
-        .collect(alloc)
-}
-
-fn covers_span(object: &Object, span: Span) -> bool
-    ensures { result ≡ covers_span span object.now }
-{
-    match addresses(object.key()) {
-        Some(own) => own.covers(span),
-        None => false,
-    }
-}
-
-/// The inetnums and routes inside the span.
-fn inside(alloc: Global, registry: &Registry, span: Span) -> Result<Vec<&Object>, AllocError>
-    ensures { IfOk result (λ found. lent found.items ≡ inside registry.now span) }
-{
-    registry
-        .objects()
-        .iter()
-        .filter(|object| lies_in(object, span))
-        .collect(alloc)
+    let mut found = registry.covering(alloc, span)?;
+    found.retain(|object| lies_in(object, span));
+    Ok(found)
 }
 
 fn lies_in(object: &Object, span: Span) -> bool
     ensures { result ≡ lies_in span object.now }
 {
-    match addresses(object.key()) {
-        Some(own) => span.covers(own),
-        None => false,
+    match object.key() {
+        Key::Inetnum(own) => span.covers(*own),
+        Key::Route(prefix, _) => span.covers(prefix.span()),
+        _ => false,
     }
-}
-
-/// The addresses that the key is about.
-fn addresses(key: &Key) -> Option<Span>
-    ensures { result ≡ addresses key.now }
-{
-    match key {
-        Key::Inetnum(span) => Some(*span),
-        Key::Route(prefix, _) => Some(prefix.span()),
-        _ => None,
-    }
-}
-
-/// The inetnums and routes of exactly the span.
-fn exact(alloc: Global, registry: &Registry, span: Span) -> Result<Vec<&Object>, AllocError>
-    ensures { IfOk result (λ found. lent found.items ≡ filter (select.is_at span) (values registry.now)) }
-{
-    registry
-        .objects()
-        .iter()
-        .filter(|object| is_at(object, span))
-        .collect(alloc)
-}
-
-fn is_at(object: &Object, span: Span) -> bool
-    ensures { result ≡ select.is_at span object.now }
-{
-    covers_span(object, span) && lies_in(object, span)
 }
 
 /// The objects that name the maintainer.
-fn naming<'a>(
+#[tactic(auto, using(crate::proofs::Lists::filtered))]
+fn naming<'a, B: Keeper>(
     alloc: Global,
-    registry: &'a Registry,
+    registry: &'a Registry<B>,
     name: &Name,
 ) -> Result<Vec<&'a Object>, AllocError>
     ensures { IfOk result (λ found. lent found.items ≡ filter (select.names name.now) (values registry.now)) }
 {
-    registry
-        .objects()
-        .iter()
-        .filter(|object| names(object, name))
-        .collect(alloc)
+    let mut found = registry.objects(alloc)?;
+    found.retain(|object| names(object, name));
+    Ok(found)
 }
 
 fn names(object: &Object, name: &Name) -> bool
@@ -139,42 +94,55 @@ fn names(object: &Object, name: &Name) -> bool
 }
 
 /// The routes of the origin.
-fn originated(
+#[tactic(auto, using(crate::proofs::Lists::filtered))]
+fn originated<B: Keeper>(
     alloc: Global,
-    registry: &Registry,
+    registry: &Registry<B>,
     number: AsNumber,
 ) -> Result<Vec<&Object>, AllocError>
     ensures { IfOk result (λ found. lent found.items ≡ filter (select.is_originated number) (values registry.now)) }
 {
-    registry
-        .objects()
-        .iter()
-        .filter(|object| is_originated(object.key(), number))
-        .collect(alloc)
+    let mut found = registry.objects(alloc)?;
+    found.retain(|object| is_originated(object, number));
+    Ok(found)
 }
 
-fn is_originated(key: &Key, number: AsNumber) -> bool
-    ensures { (o : Obj) → o.key ≡ key.now → result ≡ select.is_originated number o }
+fn is_originated(object: &Object, number: AsNumber) -> bool
+    ensures { result ≡ select.is_originated number object.now }
 {
-    match key {
+    match object.key() {
         Key::Route(_, origin) => *origin == number,
         _ => false,
     }
 }
 
 /// The closest inetnum to the prefix, and the closest routes.
+#[tactic(auto, using(crate::proofs::Lists::lent_behind))]
 fn closest<B: Book>(alloc: Global, book: &B, prefix: Prefix) -> Result<Vec<&Object>, AllocError>
-    ensures { IfOk result (λ found. lent found.items ≡ select.asked (Closest prefix) (B.contents book.now)) }
+    ensures { IfOk result (λ found. lent found.items ≡ select.asked (query.Closest prefix) (B.contents book.now)) }
 {
     let mut found = listed(alloc, book.closest_inetnum(prefix.span()))?;
-    if let Some(closest) = book.closest_routes(prefix) {
-        let routes = routes_of(alloc, book, closest)?;
-        found.extend_from_slice(&routes)?;
-    }
+    let routes = routes_closest(alloc, book, prefix)?;
+    found.extend_from_slice(&routes)?;
     Ok(found)
 }
 
+/// The closest routes to the prefix.
+fn routes_closest<B: Book>(
+    alloc: Global,
+    book: &B,
+    prefix: Prefix,
+) -> Result<Vec<&Object>, AllocError>
+    ensures { IfOk result (λ found. lent found.items ≡ select.routes_closest (B.contents book.now) prefix) }
+{
+    match book.closest_routes(prefix) {
+        Some(closest) => routes_of(alloc, book, closest),
+        None => Ok(Vec::new(alloc)),
+    }
+}
+
 /// The routes of the prefix.
+#[tactic(auto, using(crate::proofs::Routes::routes_of_origins))]
 fn routes_of<B: Book>(alloc: Global, book: &B, prefix: Prefix) -> Result<Vec<&Object>, AllocError>
     ensures { IfOk result (λ found. lent found.items ≡ filter (select.is_route_of prefix) (values (B.contents book.now))) }
 {
@@ -190,7 +158,7 @@ fn routes_from<'a, B: Book>(
     prefix: Prefix,
     origins: &[AsNumber],
 ) -> Result<Vec<&'a Object>, AllocError>
-    ensures { IfOk result (λ found. lent found.items ≡ filter_map (λ n. get (B.contents book.now) (Key.Route prefix n)) origins.now) }
+    ensures { IfOk result (λ found. lent found.items ≡ filter_map (λ n. get (B.contents book.now) (key.Route prefix n)) origins.now) }
 {
     let mut found = Vec::new(alloc);
     for origin in origins {

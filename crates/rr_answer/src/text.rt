@@ -24,6 +24,7 @@ pub fn objects_text(alloc: Global, objects: &[&Object]) -> Result<Vec<u8>, Alloc
 }
 
 /// The objects as they are answered, one after the other.
+#[tactic(auto, using(crate::proofs::Lists::texts_lent))]
 fn public_texts(alloc: Global, objects: &[&Object]) -> Result<Vec<u8>, AllocError>
     ensures { IfOk result (λ text. text.items ≡ flat_map texts.public_text (lent objects.now)) }
 {

@@ -1,0 +1,10 @@
+pub mod Alike
+pub mod Expanded
+pub mod Lists
+pub mod Routes
+pub mod Secrets
+pub mod Seen
+pub mod Selected
+pub mod SetsAlike
+pub mod Sorted
+pub mod Weaker

@@ -1,0 +1,5 @@
+pub mod FrontLemmas
+pub mod LineLemmas
+pub mod RequestLemmas
+pub mod ReplyLemmas
+pub mod WantLemmas

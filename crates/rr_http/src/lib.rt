@@ -1,0 +1,17 @@
+//! Connections of whois and HTTP: what each asks, and the bytes that answer it (RFC 3912, RFC 9112).
+#![tactic(auto)]
+
+mod asking;
+mod fronts;
+pub mod laws;
+mod lines;
+mod replying;
+mod routing;
+mod short_reply;
+mod wanting;
+
+pub use asking::{Asked, BODY_SIZE, Page, Refusal, read_request};
+pub use fronts::{FRONT_SIZE, Goal, read_on};
+pub use lines::{speaks_http, whois_query};
+pub use wanting::{FIELD_LIMIT, Wanted, read_front, wanted_of};
+pub use replying::{write_given_head, write_refusal};

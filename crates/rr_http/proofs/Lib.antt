@@ -3,3 +3,4 @@ pub mod LineLemmas
 pub mod RequestLemmas
 pub mod ReplyLemmas
 pub mod WantLemmas
+pub mod FrontReading

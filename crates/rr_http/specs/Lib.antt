@@ -5,3 +5,4 @@ pub mod Requests
 pub mod Replies
 pub mod Wants
 pub mod Wanted
+pub mod Bodies

@@ -2,6 +2,7 @@
 #![tactic(auto)]
 
 mod asking;
+mod body_reading;
 mod fronts;
 pub mod laws;
 mod lines;
@@ -11,7 +12,8 @@ mod short_reply;
 mod wanting;
 
 pub use asking::{Asked, BODY_SIZE, Page, Refusal, read_request};
+pub use body_reading::{BodyEnd, read_body};
 pub use fronts::{FRONT_SIZE, Goal, read_on};
 pub use lines::{speaks_http, whois_query};
-pub use wanting::{FIELD_LIMIT, Wanted, read_front, wanted_of};
 pub use replying::{write_given_head, write_refusal};
+pub use wanting::{FIELD_LIMIT, Wanted, read_front, wanted_of};

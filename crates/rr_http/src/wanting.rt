@@ -1,6 +1,6 @@
 //! What a connection wants, by the bytes at its front.
 
-ghost use Rattle.std.specs.Prelude.{◌≡◌, ◌×◌, ◌≤◌, List, ℕ, Option, length, nat_le, take, IfOk, OnErr};
+ghost use Rattle.std.specs.Prelude.{◌≡◌, ◌≤◌, List, ℕ, Option, length, nat_le, take, if◌then◌else◌, IfOk, OnErr};
 ghost use Rattle.httparse.specs.Grammar.{RequestHead};
 ghost use Rattle.rr_io.specs.Receiving.{BreaksOff};
 ghost use Rattle.rr_http.specs.Asked.{seen};
@@ -82,13 +82,15 @@ fn asked_by(head: &[u8]) -> Asked<'_>
 {
     let mut fields = [EMPTY_HEADER_SPAN; FIELD_LIMIT];
     match parse_request(head, &mut fields) {
-        Ok(Status::Complete(spans)) => read_request(
-            spans.method.of(head),
-            spans.path.of(head),
-            head,
-            &fields[..spans.headers],
-        ),
-        Ok(Status::Partial) => Asked::Refused(Refusal::BadRequest),
+        Ok(status) => match status {
+            Status::Complete(spans) => read_request(
+                spans.method.of(head),
+                spans.path.of(head),
+                head,
+                &fields[..spans.headers],
+            ),
+            Status::Partial => Asked::Refused(Refusal::BadRequest),
+        },
         Err(_) => Asked::Refused(Refusal::BadRequest),
     }
 }

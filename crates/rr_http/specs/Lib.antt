@@ -6,3 +6,4 @@ pub mod Replies
 pub mod Wants
 pub mod Wanted
 pub mod Bodies
+pub mod BodyReaders

@@ -2,6 +2,7 @@
 #![tactic(auto)]
 
 mod asking;
+mod body;
 mod body_reading;
 mod fronts;
 pub mod laws;
@@ -12,6 +13,7 @@ mod short_reply;
 mod wanting;
 
 pub use asking::{Asked, BODY_SIZE, Page, Refusal, read_request};
+pub use body::Body;
 pub use body_reading::{BodyEnd, read_body};
 pub use fronts::{FRONT_SIZE, Goal, read_on};
 pub use lines::{speaks_http, whois_query};

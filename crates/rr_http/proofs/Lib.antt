@@ -4,3 +4,5 @@ pub mod RequestLemmas
 pub mod ReplyLemmas
 pub mod WantLemmas
 pub mod FrontReading
+pub mod AnswerLemmas
+pub mod BodyLemmas

@@ -7,3 +7,4 @@ pub mod Wants
 pub mod Wanted
 pub mod Bodies
 pub mod BodyReaders
+pub mod Answering

@@ -5,7 +5,7 @@
 mod closest;
 mod keeper;
 mod keys;
-mod listings;
+pub mod listings;
 pub mod lists;
 mod plain_book;
 pub mod set_book;

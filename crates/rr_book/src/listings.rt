@@ -43,7 +43,8 @@ pub(crate) fn inside(
         .collect(alloc)
 }
 
-fn covers_span(object: &Object, span: Span) -> bool
+/// Whether the object is an inetnum or a route that covers the span.
+pub fn covers_span(object: &Object, span: Span) -> bool
     ensures { result ≡ covers_span span object.now }
 {
     match addresses(object.key()) {
@@ -52,7 +53,8 @@ fn covers_span(object: &Object, span: Span) -> bool
     }
 }
 
-fn lies_in(object: &Object, span: Span) -> bool
+/// Whether the object is an inetnum or a route that lies inside the span.
+pub fn lies_in(object: &Object, span: Span) -> bool
     ensures { result ≡ lies_in span object.now }
 {
     match addresses(object.key()) {

@@ -1,4 +1,5 @@
 use super::*;
+use rr_number::Address;
 use std::test::Fail;
 
 fn prefix(text: &[u8]) -> Result<Prefix, Fail> {
@@ -111,8 +112,9 @@ fn levels(tree: &Tree<u32>) -> Option<u32> {
         Tree::Fork(node) => {
             let lower = levels(&node.lower)?;
             let upper = levels(&node.upper)?;
+            let height = lower.max(upper).checked_add(1)?;
             let idle = node.value.is_none() && (lower == 0 || upper == 0);
-            (!idle).then_some(lower.max(upper) + 1)
+            (!idle).then_some(height)
         }
     }
 }
@@ -122,7 +124,7 @@ fn all_lengths_of_one_address_make_33_levels(rt: HostRuntime) -> Result<(), Fail
     let mut tree = PrefixTree::new(rt.alloc());
     for step in 0..33u32 {
         let length = step * 7 % 33;
-        let longest = Prefix::new(rr_number::Address::from_bits(u32::MAX), length as u8);
+        let longest = Prefix::new(Address::from_bits(u32::MAX), length as u8);
         assert_eq!(rt; tree.insert(longest, length)?, None);
     }
     assert_eq!(rt; levels(&tree.root), Some(33));

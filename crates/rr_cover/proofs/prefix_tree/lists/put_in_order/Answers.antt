@@ -4,10 +4,10 @@ use Rattle.std.proofs.lemmas.List.Kept.{IsStrictlySortedBy-dedup}
 use Rattle.std.proofs.lemmas.List.Sorted.{IsPermutation-map, answers_always}
 use Rattle.std.specs.List.{dedup}
 use Rattle.std.specs.List.Sorted.{IsStrictlySortedBy}
-use Rattle.rr_number.specs.Prefixes.{PrefixParts, span_of}
+use Rattle.rr_number.specs.Prefixes.{span_of}
 use Rattle.rr_number.specs.Spans.{Ends, span_cmp}
 use Rattle.rr_number.proofs.SpanOrder.{span_cmp_total}
-use Rattle.rr_cover.proofs.Ordered.{span_eq, span_eq_ties, sorted_kept}
+use Rattle.rr_cover.proofs.Ordered.{span_eq_ties, sorted_kept}
 use Rattle.rr_cover.proofs.TreeLists.{same_span, deduped_spans, sorted_spans, listed_spans}
 use Rattle.rr_cover.proofs.prefix_tree.lists.put_in_order.Goals as goal
 

@@ -1,4 +1,4 @@
-use Rattle.std.proofs.Common.{◌≡◌, ◌<◌, ◌-◌, true, false, ap, sym, subst, ◌∙◌, arith}
+use Rattle.std.proofs.Common.{◌≡◌, ◌<◌, ◌-◌, true, ap, sym, subst, ◌∙◌, arith}
 use Rattle.rr_number.specs.Prefixes.{PrefixParts, IsMasked, span_of}
 use Rattle.rr_number.specs.Spans.{covers}
 use Rattle.rr_cover.specs.TreeParts.{IsParting}

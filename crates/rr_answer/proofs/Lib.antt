@@ -1,4 +1,5 @@
 pub mod Alike
+pub mod Dumped
 pub mod Expanded
 pub mod Lists
 pub mod Routes

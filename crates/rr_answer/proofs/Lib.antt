@@ -3,6 +3,7 @@ pub mod Dumped
 pub mod Expanded
 pub mod Lists
 pub mod Routes
+pub mod Rows
 pub mod Secrets
 pub mod Seen
 pub mod Selected

@@ -187,7 +187,7 @@ fn sets_are_expanded_within_the_limit(rt: HostRuntime) -> Result<(), Fail> {
 fn bad_queries_are_errors(rt: HostRuntime) -> Result<(), Fail> {
     let mut long = String::new(rt.alloc());
     long.push_str("ROOT-MNT")?;
-    while long.len() < 1_025 {
+    for _blank in 0..1_017 {
         long.push(' ')?;
     }
     let fits = long.get(..1_024).ok_or("no text")?;

@@ -34,9 +34,9 @@ module _ {X : Type 0} (cmp : X → X → Ordering) (line : X → List ℕ) (tota
   listed_alike : (t u : List ℕ) → IsListed cmp line set t → IsListed cmp line other u → t ≡ u
   listed_alike t u p q =
       let found : p.found ≡ q.found = same_sorted total exact p.found q.found p.found_sorted q.found_sorted
-          (λ x. (λ h. (q.has x).1 (on.has x ((p.has x).0 h)), λ h. (p.has x).1 (from.has x ((q.has x).0 h)))) in
+      (λ x. (λ h. (q.has x).1 (on.has x ((p.has x).0 h)), λ h. (p.has x).1 (from.has x ((q.has x).0 h)))) in
       let missing : p.missing ≡ q.missing = same_sorted nat_list_cmp_total exact_bytes p.missing q.missing p.missing_sorted q.missing_sorted
-          (λ n. (λ h. (q.lacks n).1 (on.lacks n ((p.lacks n).0 h)), λ h. (p.lacks n).1 (from.lacks n ((q.lacks n).0 h)))) in
+      (λ n. (λ h. (q.lacks n).1 (on.lacks n ((p.lacks n).0 h)), λ h. (p.lacks n).1 (from.lacks n ((q.lacks n).0 h)))) in
       p.text_is ∙ (λ i. members_text line (found i) (missing i)) ∙ sym q.text_is
 
   -- the answers are the same

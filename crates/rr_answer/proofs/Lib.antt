@@ -1,7 +1,9 @@
 pub mod Alike
+pub mod Dumped
 pub mod Expanded
 pub mod Lists
 pub mod Routes
+pub mod Rows
 pub mod Secrets
 pub mod Seen
 pub mod Selected

@@ -1,9 +1,10 @@
 -- The routes of a prefix are those under its origins.
-use Rattle.std.proofs.Common.{◌≡◌, ℕ, Bool, true, false, cond, List, [], ◌∷◌, inl, inr, refl, sym, ap, ◌∙◌}
+use Rattle.std.proofs.Common.{◌≡◌, ℕ, ◌+◌, ◌<◌, Bool, Bor, true, false, cond, List, [], ◌∷◌, ◌++◌, inl, inr, length, get_or, take, refl, sym, ap, ◌∙◌}
 use Rattle.std.specs.Prelude.{Option, None, Some, ◌==◌, filter, is_some}
 use Rattle.std.specs.List.{cons_option, filter_map}
 use Rattle.std.specs.FinMap.{get, values}
 use Rattle.std.proofs.lemmas.Bool.{and_parts, eqb-true}
+use Rattle.std.proofs.lemmas.List.{map-append}
 use Rattle.rr_number.specs.Prefixes.{PrefixParts}
 use Rattle.rr_object.specs.declared.key.Key.{Key}
 use Rattle.rr_object.specs.declared.key.Key.TheVariants.{Mntner, AsBlock, AutNum, Inetnum, Route, AsSet, RouteSet}
@@ -11,6 +12,8 @@ use Rattle.rr_object.specs.Objects.{Obj}
 use Rattle.rr_auth.specs.Closest.{origin_at, origins, origins_among, same_prefix}
 use Rattle.rr_auth.specs.Registries.{Reg, Sound}
 use Rattle.rr_auth.proofs.Members.{IsIn, stands_at}
+use Rattle.rr_graph.proofs.Lists.{filter_map_more-None, filter_map_more-Some}
+use Rattle.rr_sets.specs.Lists.{lent}
 use Rattle.rr_answer.specs.Selections.{is_route_of}
 
 same_parts : (p q : PrefixParts) → same_prefix p q ≡ true → p ≡ q
@@ -48,3 +51,15 @@ routes_among r p (o ∷ os) there =
 -- the routes under the origins of a prefix are all of it
 pub routes_of_origins : (r : Reg) (p : PrefixParts) → Sound r → filter_map (λ n. get r (Route p n)) (origins r p) ≡ filter (is_route_of p) (values r)
 routes_of_origins r p sound = routes_among r p (values r) (λ o i. stands_at r o sound i)
+
+-- one more origin, under which there is a route
+pub found_more : (h : ℕ → Option Obj) (ns : List ℕ) (i n : ℕ) (found grown : List (Bor Obj)) (route : Bor Obj) → i < length ns → n ≡ get_or ns i n
+    → lent found ≡ filter_map h (take i ns) → h n ≡ Some route.now → grown ≡ found ++ route ∷ [] → lent grown ≡ filter_map h (take (i + 1) ns)
+found_more h ns i n found grown route inside is before here pushed =
+    ap lent pushed ∙ map-append (λ object. object.now) found (route ∷ []) ∙ ap (λ (os : List Obj). os ++ route.now ∷ []) before
+    ∙ sym (filter_map_more-Some h ns i n route.now inside is here)
+
+-- one more origin, under which there is none
+pub found_no_more : (h : ℕ → Option Obj) (ns : List ℕ) (i n : ℕ) (found : List (Bor Obj)) → i < length ns → n ≡ get_or ns i n
+    → lent found ≡ filter_map h (take i ns) → h n ≡ None → lent found ≡ filter_map h (take (i + 1) ns)
+found_no_more h ns i n found inside is before none = before ∙ sym (filter_map_more-None h ns i n inside is none)

@@ -42,8 +42,8 @@ values_behind : (name : List ℕ) (field : Field) (xs ys : List Field) → value
     → values_of name (field ∷ xs) ≡ values_of name (field ∷ ys)
 values_behind name field xs ys rest =
     elim (is_named name field) as (λ b.
-        map (λ f. value_meaning f.lines) (cond b (field ∷ filter (is_named name) xs) (filter (is_named name) xs))
-        ≡ map (λ f. value_meaning f.lines) (cond b (field ∷ filter (is_named name) ys) (filter (is_named name) ys))) [
+    map (λ f. value_meaning f.lines) (cond b (field ∷ filter (is_named name) xs) (filter (is_named name) xs))
+    ≡ map (λ f. value_meaning f.lines) (cond b (field ∷ filter (is_named name) ys) (filter (is_named name) ys))) [
       | true ↦ ap (λ values. value_meaning field.lines ∷ values) rest
       | false ↦ rest
     ]

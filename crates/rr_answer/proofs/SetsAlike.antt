@@ -69,9 +69,16 @@ module _ (r s : Reg) (alike : Alike r s) where
   belongs_on : (name : List ℕ) (n : ℕ) → BelongsTo r name n → BelongsTo s name n
   belongs_on name n h =
       let other = other_object r s (AsSet name) h.0 alike h.1 in
-      let number = other_object r s (AutNum n) h.2.0 alike h.2.1 in
-      (other.0, other.1, (number.0, number.1, subst (λ sets. Contains sets name) (member_of_alike h.2.0 number.0 number.2) h.2.2,
-      takes_alike h.0.by_ref other.0.by_ref h.2.0 number.0 (by_ref_alike h.0 other.0 other.2) number.2 h.2.3))
+      let number = other_object r s (AutNum n) h.2.0 alike h.2.1 in (
+        other.0,
+        other.1,
+        (
+          number.0,
+          number.1,
+          subst (λ sets. Contains sets name) (member_of_alike h.2.0 number.0 number.2) h.2.2,
+          takes_alike h.0.by_ref other.0.by_ref h.2.0 number.0 (by_ref_alike h.0 other.0 other.2) number.2 h.2.3,
+        ),
+      )
 
   any_number_on : (name : List ℕ) (n : ℕ) → IsAnyNumber r name n → IsAnyNumber s name n
   any_number_on name n h = let number = other_object r s (AutNum n) h.1.0 alike h.1.1 in (h.0, (number.0, number.1))
@@ -120,9 +127,15 @@ module _ (r s : Reg) (alike : Alike r s) where
 
   taken_on : (a b : ByRefParts) (name : List ℕ) (range : RangeParts) → a ≡ b → IsTaken r a name range → IsTaken s b name range
   taken_on a b name range same h =
-      let found = other_object r s (Route h.0 h.1) h.2 alike h.3 in
-      (h.0, h.1, found.0, found.1, subst (λ sets. Contains sets name) (member_of_alike h.2 found.0 found.2) h.4,
-      takes_alike a b h.2 found.0 same found.2 h.5, h.6)
+      let found = other_object r s (Route h.0 h.1) h.2 alike h.3 in (
+        h.0,
+        h.1,
+        found.0,
+        found.1,
+        subst (λ sets. Contains sets name) (member_of_alike h.2 found.0 found.2) h.4,
+        takes_alike a b h.2 found.0 same found.2 h.5,
+        h.6,
+      )
 
   by_reference_on : (name : List ℕ) (range : RangeParts) → IsByReference r name range → IsByReference s name range
   by_reference_on name range h =

@@ -17,7 +17,7 @@ pub same_sorted : {K : Type 0} {R : K → K → Ordering} → IsTotalOrder R →
 unfolding set_of
 same_sorted {K} {R} total exact xs ys p q same =
     btree_set_from_contains total (set_of xs) (set_of ys) p q (λ k.
-        let first = btree_set_contains_iff total exact (set_of xs) k in
-        let second = btree_set_contains_iff total exact (set_of ys) k in
-        both_or_none (contains R (set_of xs) k) (contains R (set_of ys) k)
-        (λ has. second.1 ((same k).0 (first.0 has))) (λ has. first.1 ((same k).1 (second.0 has)))) exact
+    let first = btree_set_contains_iff total exact (set_of xs) k in
+    let second = btree_set_contains_iff total exact (set_of ys) k in
+    both_or_none (contains R (set_of xs) k) (contains R (set_of ys) k)
+    (λ has. second.1 ((same k).0 (first.0 has))) (λ has. first.1 ((same k).1 (second.0 has)))) exact

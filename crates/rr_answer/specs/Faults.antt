@@ -1,5 +1,5 @@
 -- Why a query is not answered.
-use Rattle.std.specs.Prelude.{ℕ, List, ◌++◌, codes, decimal}
+use Rattle.std.specs.Prelude.{ℕ, ◌+◌, List, [], ◌∷◌, ◌++◌, codes}
 use Rattle.rr_text.specs.CanonicalText.{ended}
 use Rattle.rr_answer.specs.declared.fault.QueryFault.{QueryFault}
 use Rattle.rr_answer.specs.declared.fault.QueryFault.TheVariants.{Bad, TooLong, TooMany, Memory, Store, Stopped}
@@ -13,6 +13,6 @@ error_number Memory = 4
 error_number Store = 5
 error_number Stopped = 6
 
--- An error is answered as this one line (profile).
+-- An error is answered as one line with its number, which has one digit (profile).
 abbrev pub error_line : QueryFault → List ℕ
-error_line fault = ended (codes "% error " ++ decimal (error_number fault))
+error_line fault = ended (codes "% error " ++ (48 + error_number fault) ∷ [])

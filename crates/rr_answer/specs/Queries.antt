@@ -67,7 +67,7 @@ inverse_of attribute word =
     else None
 
 -- Three words and more: an object by its class and key, or what names a maintainer or an AS (profile).
-abbrev pub query_of_more : List ℕ → List ℕ → List (List ℕ) → Option Query
+unfoldable pub query_of_more : List ℕ → List ℕ → List (List ℕ) → Option Query
 query_of_more verb second others =
     if is_keyword (codes "object") verb then option_map Object (key_of_words second others)
     else if is_keyword (codes "inverse") verb then option_and_then (inverse_of second) (only others)

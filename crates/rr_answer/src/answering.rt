@@ -14,6 +14,7 @@ use crate::text::objects_text;
 use rr_book::Keeper;
 use rr_number::{SetKind, SetName};
 use rr_registry::Registry;
+use rr_sets::SetBook;
 use std::alloc::Global;
 
 /// The answer to a query: the objects that it asks for, or the members of a set, `limit` bounding its expansion. The fault
@@ -28,7 +29,7 @@ pub fn answer<B: Keeper>(
     ensures fault { IfErr result (λ fault. fault ≢ Memory → IsAnswer registry.now limit query.now (Err fault)) }
 {
     match query {
-        Query::Expand(name) => expanded(alloc, registry, limit, name),
+        Query::Expand(name) => expanded(alloc, registry.book(), name, limit),
         Query::Prefixes(name) => ranges(alloc, registry.book(), name, limit),
         _ => {
             let objects = asked(alloc, registry, query)?;
@@ -38,18 +39,18 @@ pub fn answer<B: Keeper>(
 }
 
 /// The members of a set, by its kind.
-fn expanded<B: Keeper>(
+fn expanded<B: SetBook>(
     alloc: Global,
-    registry: &Registry<B>,
-    limit: usize,
+    book: &B,
     name: &SetName,
+    limit: usize,
 ) -> Result<Vec<u8>, QueryFault>
-    ensures ok { IfOk result (λ text. IsExpanded (kind_of name.now) registry.now limit name.now (Ok text.items)) }
-    ensures fault { IfErr result (λ fault. fault ≢ Memory → IsExpanded (kind_of name.now) registry.now limit name.now (Err fault)) }
+    ensures ok { IfOk result (λ text. IsExpanded (kind_of name.now) (B.contents book.now) limit name.now (Ok text.items)) }
+    ensures fault { IfErr result (λ fault. fault ≢ Memory → IsExpanded (kind_of name.now) (B.contents book.now) limit name.now (Err fault)) }
 {
     match name.kind() {
-        SetKind::AsSet => numbers(alloc, registry.book(), name, limit),
-        SetKind::RouteSet => ranges(alloc, registry.book(), name, limit),
+        SetKind::AsSet => numbers(alloc, book, name, limit),
+        SetKind::RouteSet => ranges(alloc, book, name, limit),
     }
 }
 

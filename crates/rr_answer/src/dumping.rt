@@ -62,7 +62,21 @@ pub fn dump<B: Keeper, W: Sink>(
     ensures aside { W.aside writer.new ≡ W.aside writer.old }
 {
     let objects = registry.objects(alloc)?;
-    dump_objects(alloc, &objects, writer, full)?;
+    dump_listed(alloc, &objects, writer, full)
+}
+
+/// Writes the objects and the last line.
+fn dump_listed<W: Sink>(
+    alloc: Global,
+    objects: &[&Object],
+    writer: &mut W,
+    full: bool,
+) -> Result<usize, DumpFault>
+    ensures writes { WritesDump (flat_map (dumped full) (lent objects.now) ++ end_line (length objects.now)) (W.told writer.old) (W.told writer.new) result }
+    ensures count { IfOk result (λ count. count ≡ length objects.now) }
+    ensures aside { W.aside writer.new ≡ W.aside writer.old }
+{
+    dump_objects(alloc, objects, writer, full)?;
     dump_end(alloc, writer, objects.len())?;
     Ok(objects.len())
 }

@@ -141,6 +141,7 @@ fn query_of_two(alloc: Global, verb: &[u8], word: &[u8]) -> Result<Option<Query>
 }
 
 /// The query that three words or more are.
+#[tactic(auto, unfolding(crate::specs::Queries::query_of_more))]
 fn query_of_more(
     alloc: Global,
     verb: &[u8],

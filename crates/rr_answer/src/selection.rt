@@ -50,7 +50,6 @@ fn listed(alloc: Global, object: Option<&Object>) -> Result<Vec<&Object>, AllocE
 }
 
 /// The inetnums and routes of exactly the span: of those that cover it, the ones inside it.
-#[tactic(auto, using(crate::proofs::Lists::filtered, crate::proofs::Lists::covering_inside))]
 fn exact<B: Keeper>(
     alloc: Global,
     registry: &Registry<B>,
@@ -58,9 +57,23 @@ fn exact<B: Keeper>(
 ) -> Result<Vec<&Object>, AllocError>
     ensures { IfOk result (λ found. lent found.items ≡ filter (select.is_at span) (values registry.now)) }
 {
-    let mut found = registry.covering(alloc, span)?;
-    found.retain(|object| lies_in(object, span));
-    Ok(found)
+    let objects = registry.covering(alloc, span)?;
+    those_inside(alloc, &objects, span)
+}
+
+/// Those of the objects that lie inside the span.
+fn those_inside<'a>(
+    alloc: Global,
+    objects: &[&'a Object],
+    span: Span,
+) -> Result<Vec<&'a Object>, AllocError>
+    ensures { IfOk result (λ found. found.items ≡ filter (λ object. lies_in span object.now) objects.now) }
+{
+    objects
+        .iter()
+        .copied()
+        .filter(|object| lies_in(object, span))
+        .collect(alloc)
 }
 
 fn lies_in(object: &Object, span: Span) -> bool
@@ -74,7 +87,6 @@ fn lies_in(object: &Object, span: Span) -> bool
 }
 
 /// The objects that name the maintainer.
-#[tactic(auto, using(crate::proofs::Lists::filtered))]
 fn naming<'a, B: Keeper>(
     alloc: Global,
     registry: &'a Registry<B>,
@@ -82,9 +94,23 @@ fn naming<'a, B: Keeper>(
 ) -> Result<Vec<&'a Object>, AllocError>
     ensures { IfOk result (λ found. lent found.items ≡ filter (select.names name.now) (values registry.now)) }
 {
-    let mut found = registry.objects(alloc)?;
-    found.retain(|object| names(object, name));
-    Ok(found)
+    let objects = registry.objects(alloc)?;
+    those_naming(alloc, &objects, name)
+}
+
+/// Those of the objects that name the maintainer.
+fn those_naming<'a>(
+    alloc: Global,
+    objects: &[&'a Object],
+    name: &Name,
+) -> Result<Vec<&'a Object>, AllocError>
+    ensures { IfOk result (λ found. found.items ≡ filter (λ object. select.names name.now object.now) objects.now) }
+{
+    objects
+        .iter()
+        .copied()
+        .filter(|object| names(object, name))
+        .collect(alloc)
 }
 
 fn names(object: &Object, name: &Name) -> bool
@@ -94,7 +120,6 @@ fn names(object: &Object, name: &Name) -> bool
 }
 
 /// The routes of the origin.
-#[tactic(auto, using(crate::proofs::Lists::filtered))]
 fn originated<B: Keeper>(
     alloc: Global,
     registry: &Registry<B>,
@@ -102,9 +127,23 @@ fn originated<B: Keeper>(
 ) -> Result<Vec<&Object>, AllocError>
     ensures { IfOk result (λ found. lent found.items ≡ filter (select.is_originated number) (values registry.now)) }
 {
-    let mut found = registry.objects(alloc)?;
-    found.retain(|object| is_originated(object, number));
-    Ok(found)
+    let objects = registry.objects(alloc)?;
+    those_originated(alloc, &objects, number)
+}
+
+/// Those of the objects that are routes of the origin.
+fn those_originated<'a>(
+    alloc: Global,
+    objects: &[&'a Object],
+    number: AsNumber,
+) -> Result<Vec<&'a Object>, AllocError>
+    ensures { IfOk result (λ found. found.items ≡ filter (λ object. select.is_originated number object.now) objects.now) }
+{
+    objects
+        .iter()
+        .copied()
+        .filter(|object| is_originated(object, number))
+        .collect(alloc)
 }
 
 fn is_originated(object: &Object, number: AsNumber) -> bool
@@ -162,9 +201,17 @@ fn routes_from<'a, B: Book>(
 {
     let mut found = Vec::new(alloc);
     for origin in origins {
-        if let Some(route) = book.get(&Key::Route(prefix, *origin)) {
+        if let Some(route) = route_of(book, prefix, *origin) {
             found.push(route)?;
         }
     }
     Ok(found)
+}
+
+/// The route of the prefix and the origin.
+fn route_of<B: Book>(book: &B, prefix: Prefix, origin: AsNumber) -> Option<&Object>
+    ensures { option_copied result ≡ get (B.contents book.now) (key.Route prefix origin) }
+{
+    let key = Key::Route(prefix, origin);
+    book.get(&key)
 }

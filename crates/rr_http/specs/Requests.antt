@@ -1,5 +1,5 @@
 -- What a request asks, by its method, its target and its fields (RFC 9110; profile).
-use Rattle.std.specs.Prelude.{ℕ, Bool, false, nat_eq, ◌==◌, ◌&&◌, not, nat_lt, nat_le, List, [], ◌∷◌, ◌++◌, length, map, filter, drop, codes, Option, None, Some, Result, Ok, Err, if◌then◌else◌}
+use Rattle.std.specs.Prelude.{ℕ, ◌≤◌, Bool, false, nat_eq, ◌==◌, ◌&&◌, not, nat_lt, nat_le, List, [], ◌∷◌, ◌++◌, length, map, filter, drop, codes, Option, None, Some, Result, Ok, Err, if◌then◌else◌}
 use Rattle.std.specs.List.{before_first, list_all, list_any, starts_with}
 use Rattle.std.specs.Str.{bytes_eq}
 use Rattle.std.specs.Char.{is_ascii_digit}
@@ -100,3 +100,10 @@ unfoldable pub asks_of : List ℕ → List ℕ → List Part → Asks
 asks_of method target parts =
     if has_field (codes "Transfer-Encoding") parts then refused NotImplemented
     else asks_at method (path_of target) parts (page_of (path_of target))
+
+-- a body that is asked for has at most 1,048,576 bytes (profile)
+abbrev pub HasSmallSize : Asks → Type 0
+HasSmallSize (refused refusal) = Unit {0}
+HasSmallSize (submission size) = size ≤ 1048576
+HasSmallSize (query escaped) = Unit {0}
+HasSmallSize dump = Unit {0}

@@ -1,5 +1,5 @@
 -- Lemmas on serving a connection.
-use Rattle.std.proofs.Common.{◌≡◌, ℕ, ◌⊎◌, inr, Bool, List, length, subst}
+use Rattle.std.proofs.Common.{◌≡◌, ℕ, inr, Bool, List, length, subst}
 use Rattle.std.specs.Prelude.{nat_le}
 use Rattle.rr_io.specs.Told.{Told}
 use Rattle.rr_http.specs.declared.desk.Desk.{Ghosts}

@@ -1,5 +1,5 @@
 -- What serving a connection does: what is read of it, what it is answered, and what that leaves of the desk.
-use Rattle.std.specs.Prelude.{◌≡◌, ℕ, ◌-◌, ◌≤◌, Bool, true, false, nat_lt, IsTrue, ◌⊎◌, List, [], ◌++◌, length, drop, Result, Ok, Err}
+use Rattle.std.specs.Prelude.{◌≡◌, ℕ, ◌-◌, Bool, true, false, nat_lt, IsTrue, ◌⊎◌, List, [], ◌++◌, length, drop, Result, Ok, Err}
 use Rattle.percent_encoding.specs.Percent.{percent_decode}
 use Rattle.rr_io.specs.Told.{Told}
 use Rattle.rr_io.specs.Receiving.{BreaksOff, Gives}

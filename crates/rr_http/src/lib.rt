@@ -25,3 +25,6 @@ pub use lines::{speaks_http, whois_query};
 pub use replying::{write_given_head, write_refusal};
 pub use serving::serve_one;
 pub use wanting::{FIELD_LIMIT, Wanted, read_front, wanted_of};
+
+#[cfg(test)]
+mod tests;

@@ -1,5 +1,5 @@
 -- Lemmas on the front of a connection.
-use Rattle.std.proofs.Common.{eq-eqb, ◌⊎◌, inl, inr, ◌≡◌, ℕ, ◌+◌, ◌<◌, ◌≤◌, true, false, ◌==◌, ◌&&◌, List, [], ◌∷◌, ◌++◌, length, Option, None, Some, arith, refl, ap, sym, ◌∙◌, take, length-take-le, append_assoc}
+use Rattle.std.proofs.Common.{eq-eqb, ◌⊎◌, inl, inr, ◌≡◌, ℕ, ◌+◌, ◌<◌, ◌≤◌, true, false, ◌&&◌, List, [], ◌∷◌, ◌++◌, length, Option, None, Some, arith, refl, ap, sym, ◌∙◌, take, length-take-le, append_assoc}
 use Rattle.std.proofs.Math.Seq.{take-append-add, take-take}
 use Rattle.std.proofs.lemmas.Slice.{take-put_mid}
 use borrow.Rule.Slice.PartMut.{put_mid}

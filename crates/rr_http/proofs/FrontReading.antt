@@ -1,5 +1,5 @@
 -- Lemmas on the reading of a front, line and head.
-use Rattle.std.proofs.Common.{◌≡◌, ℕ, ◌≤◌, ◌⊎◌, inl, inr, Bool, true, false, List, [], ◌++◌, length, take, drop, map, Option, Some, Result, Ok, Err, arith, ap, ap₂, sym, ◌∙◌, subst, length-append, length-take, if◌then◌else◌}
+use Rattle.std.proofs.Common.{◌≡◌, ℕ, ◌≤◌, ◌⊎◌, inl, inr, Bool, true, false, List, [], ◌++◌, length, take, drop, map, Option, Some, Result, Ok, Err, arith, ap, sym, ◌∙◌, subst, length-append, length-take, if◌then◌else◌}
 use Rattle.std.specs.Prelude.{IfOk, IsTrue, OnErr}
 use Rattle.std.proofs.lemmas.List.{length-map}
 use Rattle.rr_io.specs.Told.{Told}

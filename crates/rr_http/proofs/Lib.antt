@@ -6,3 +6,4 @@ pub mod WantLemmas
 pub mod FrontReading
 pub mod AnswerLemmas
 pub mod BodyLemmas
+pub mod ServingLemmas

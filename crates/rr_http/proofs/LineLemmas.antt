@@ -1,5 +1,5 @@
 -- Lemmas on the first line of a connection.
-use Rattle.std.proofs.Common.{◌≡◌, ℕ, true, false, ◌==◌, List, [], ◌∷◌, ◌++◌, length, arith, refl, ap}
+use Rattle.std.proofs.Common.{◌≡◌, ℕ, false, ◌==◌, List, [], ◌∷◌, ◌++◌, length, arith, refl, ap}
 use Rattle.rr_http.specs.FrontLines.{without_return}
 
 pub without_return_empty : (line : List ℕ) → length line ≡ 0 → line ≡ without_return line

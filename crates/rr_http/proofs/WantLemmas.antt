@@ -1,7 +1,6 @@
 -- Lemmas on what a connection wants: its front says it.
-use Rattle.std.proofs.Common.{◌≡◌, ℕ, suc, ◌+◌, ◌-◌, ◌<◌, ◌≤◌, ◌⊎◌, inl, inr, Bool, true, false, ◌==◌, ◌&&◌, List, [], ◌∷◌, ◌++◌, length, take, Option, None, Some, cond, arith, refl, ap, sym, ◌∙◌, subst, length-append, if◌then◌else◌}
-use Rattle.std.specs.Prelude.{nat_lt, nat_le, is_some, IfSome, IsTrue}
-use Rattle.std.specs.List.{list_any, before_first}
+use Rattle.std.proofs.Common.{◌≡◌, ℕ, suc, ◌+◌, ◌-◌, ◌<◌, ◌≤◌, inl, inr, Bool, true, false, ◌==◌, ◌&&◌, List, [], ◌∷◌, ◌++◌, length, take, Option, None, Some, arith, refl, ap, sym, ◌∙◌, subst, length-append, if◌then◌else◌}
+use Rattle.std.specs.Prelude.{nat_lt, nat_le, is_some, IfSome}
 use Rattle.std.specs.Option.{option_map}
 use Rattle.std.proofs.lemmas.Bool.{and_parts, and_right, le-leb, ltb-true, or_left, or_right}
 use Rattle.std.proofs.lemmas.Bool.Decides.{nat_tests}
@@ -13,7 +12,7 @@ use Rattle.rr_bytes.specs.Trims.{trim_end}
 use Rattle.rr_http.specs.declared.fronts.Goal.TheVariants.{Line, Head}
 use Rattle.rr_http.specs.Fronts.{head_length, has_line_feed, is_reached, line_end}
 use Rattle.rr_http.specs.FrontLines.{line_of, names_version, speaks_http, whois_query}
-use Rattle.rr_http.specs.Wants.{FrontWants, HeadWants, IsParsed, IsSettled, IsWanted, Wants, WantsByItsFront, whois}
+use Rattle.rr_http.specs.Wants.{FrontWants, HeadWants, IsParsed, Wants, WantsByItsFront, whois}
 
 line_of_feed : (b : ℕ) (bs : List ℕ) → (b == 10) ≡ true → line_of (b ∷ bs) ≡ []
 line_of_feed b bs e = rw e refl

@@ -1,12 +1,12 @@
 -- What a connection is answered, and what of it is written.
-use Rattle.std.specs.Prelude.{◌≡◌, ◌≢◌, ℕ, ◌<◌, Bool, true, false, ◌⊎◌, List, [], ◌++◌, Result, Ok, Err, Some, OnOk, if◌then◌else◌}
+use Rattle.std.specs.Prelude.{◌≡◌, ◌≢◌, ℕ, Bool, false, ◌⊎◌, List, [], ◌++◌, Result, Ok, Err, Some, OnOk}
 use Rattle.rr_io.specs.Told.{Told}
 use Rattle.rr_io.specs.Sending.{Takes, TakesFront, Writes}
 use Rattle.rr_submission.specs.declared.ledger.Ledger.{Ghosts}
 use Rattle.rr_submission.specs.declared.submission.Done.{Done}
 use Rattle.rr_submission.specs.declared.submission.DeskFault.{DeskFault}
 use Rattle.rr_submission.specs.declared.submission.DeskFault.TheVariants as fault
-use Rattle.rr_submission.specs.Submissions.{Sides, Submits}
+use Rattle.rr_submission.specs.Submissions.{Submits}
 use Rattle.rr_http.specs.declared.desk.DumpFault.{DumpFault}
 use Rattle.rr_http.specs.declared.desk.DumpFault.TheVariants as dump_fault
 use Rattle.rr_http.specs.declared.desk.ConnFault.{ConnFault}

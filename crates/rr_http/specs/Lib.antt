@@ -8,3 +8,4 @@ pub mod Wanted
 pub mod Bodies
 pub mod BodyReaders
 pub mod Answering
+pub mod Serving

@@ -1,7 +1,6 @@
 -- The bytes of replies (RFC 9112, 4; profile).
 use Rattle.std.specs.Prelude.{ℕ, ◌+◌, List, [], ◌++◌, length, codes, decimal}
 use Rattle.http.specs.StatusCode.{code_digits}
-use Rattle.rr_http.specs.declared.asking.Page.{Page}
 use Rattle.rr_http.specs.declared.asking.Refusal.{Refusal}
 use Rattle.rr_http.specs.declared.asking.Refusal.TheVariants.{HeadTooLarge, BadRequest, NotImplemented, NotFound, MethodNotAllowed, LengthRequired, PayloadTooLarge, Unavailable}
 use Rattle.rr_http.specs.Requests.{method_of}

@@ -1,5 +1,5 @@
 -- What a request asks, by its method, its target and its fields (RFC 9110; profile).
-use Rattle.std.specs.Prelude.{ℕ, Bool, false, nat_eq, ◌==◌, ◌&&◌, not, nat_lt, nat_le, List, [], ◌∷◌, ◌++◌, length, map, filter, drop, codes, Option, None, Some, Result, Ok, Err, if◌then◌else◌}
+use Rattle.std.specs.Prelude.{ℕ, ◌≤◌, Bool, false, nat_eq, ◌==◌, ◌&&◌, not, nat_lt, nat_le, List, [], ◌∷◌, length, map, filter, drop, codes, Option, None, Some, Result, Ok, Err, if◌then◌else◌}
 use Rattle.std.specs.List.{before_first, list_all, list_any, starts_with}
 use Rattle.std.specs.Str.{bytes_eq}
 use Rattle.std.specs.Char.{is_ascii_digit}
@@ -8,7 +8,7 @@ use Rattle.rr_bytes.specs.LetterCase.{is_keyword}
 use Rattle.rr_http.specs.declared.asking.Page.{Page}
 use Rattle.rr_http.specs.declared.asking.Page.TheVariants as page
 use Rattle.rr_http.specs.declared.asking.Refusal.{Refusal}
-use Rattle.rr_http.specs.declared.asking.Refusal.TheVariants.{HeadTooLarge, BadRequest, NotImplemented, NotFound, MethodNotAllowed, LengthRequired, PayloadTooLarge, Unavailable}
+use Rattle.rr_http.specs.declared.asking.Refusal.TheVariants.{BadRequest, NotImplemented, NotFound, MethodNotAllowed, LengthRequired, PayloadTooLarge}
 
 -- a field of a head: its name, and its value less the white space around it (RFC 9110, 5)
 abbrev pub Part : Type 0
@@ -100,3 +100,10 @@ unfoldable pub asks_of : List ℕ → List ℕ → List Part → Asks
 asks_of method target parts =
     if has_field (codes "Transfer-Encoding") parts then refused NotImplemented
     else asks_at method (path_of target) parts (page_of (path_of target))
+
+-- a body that is asked for has at most 1,048,576 bytes (profile)
+abbrev pub HasSmallSize : Asks → Type 0
+HasSmallSize (refused refusal) = Unit {0}
+HasSmallSize (submission size) = size ≤ 1048576
+HasSmallSize (query escaped) = Unit {0}
+HasSmallSize dump = Unit {0}

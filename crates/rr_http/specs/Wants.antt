@@ -8,7 +8,7 @@ use Rattle.rr_http.specs.declared.asking.Refusal.TheVariants.{BadRequest, HeadTo
 use Rattle.rr_http.specs.declared.fronts.Goal.TheVariants.{Line, Head}
 use Rattle.rr_http.specs.Fronts.{head_length, is_reached}
 use Rattle.rr_http.specs.FrontLines.{speaks_http, whois_query}
-use Rattle.rr_http.specs.Requests.{Asks, asks_of, refused}
+use Rattle.rr_http.specs.Requests.{Asks, HasSmallSize, asks_of, refused}
 
 -- what a connection wants: the answer to a query by whois, or what a request asks whose head has so many bytes
 pub data Wants : Type 0 where
@@ -60,3 +60,8 @@ abbrev pub WantsByItsFront : Type 0
 WantsByItsFront =
     (front more : List ℕ) (ended : Bool) (wants : Wants) → length front ≤ 8192 → IsSettled front ended → (IsTrue ended → more ≡ [])
     → FrontWants (speaks_http front) front (nat_le 8192 (length front)) wants → IsWanted (front ++ more) wants
+
+-- the head of a request is in the front, and the body that it asks for is small
+abbrev pub IsInFront : List ℕ → Wants → Type 0
+IsInFront front (whois query) = Unit {0}
+IsInFront front (http place asks) = (place ≤ length front) × HasSmallSize asks

@@ -1,13 +1,13 @@
 //! What a request asks: its page, its method, and the size of its body.
 
-ghost use Rattle.std.specs.Prelude.{◌≡◌, ◌∷◌, [], Some, codes, length, true, min, All, IfSome, MatchOption};
+ghost use Rattle.std.specs.Prelude.{◌≡◌, ◌≤◌, ◌∷◌, [], IfOk, Some, codes, length, true, min, All, IfSome, MatchOption};
 ghost use Rattle.std.specs.List.{list_all};
 ghost use Rattle.std.specs.Str.{bytes_eq};
 ghost use Rattle.std.specs.Str.Parse.{digits_value};
 ghost use Rattle.std.specs.Char.{is_ascii_digit};
 ghost use Rattle.httparse.specs.Spans.{IsHeaderWithin, header_bytes};
 ghost use Rattle.rr_http.specs.Asked.{parts_of, seen};
-ghost use Rattle.rr_http.specs.Requests.{asks_of, asks_page, is_length, is_named, method_of, page_of, path_of, size_of, sized, values_of};
+ghost use Rattle.rr_http.specs.Requests.{HasSmallSize, asks_of, asks_page, is_length, is_named, method_of, page_of, path_of, size_of, sized, values_of};
 
 use crate::routing::find_page;
 use http::Method;
@@ -83,7 +83,8 @@ pub fn read_request<'a>(
     fields: &[HeaderSpan],
 ) -> Asked<'a>
     requires { All (IsHeaderWithin (length head.now)) fields.now }
-    ensures { seen result ≡ asks_of method.now target.now (parts_of head.now fields.now) }
+    ensures asks { seen result ≡ asks_of method.now target.now (parts_of head.now fields.now) }
+    ensures small { HasSmallSize (seen result) }
 {
     if find_value(head, fields, b"Transfer-Encoding").is_some() {
         return Asked::Refused(Refusal::NotImplemented);
@@ -106,7 +107,8 @@ pub fn read_request<'a>(
 fn read_page<'a>(path: &'a [u8], page: Page, head: &[u8], fields: &[HeaderSpan]) -> Asked<'a>
     requires at_page { page_of path.now ≡ Some page }
     requires within { All (IsHeaderWithin (length head.now)) fields.now }
-    ensures { seen result ≡ asks_page path.now (parts_of head.now fields.now) page }
+    ensures asks { seen result ≡ asks_page path.now (parts_of head.now fields.now) page }
+    ensures small { HasSmallSize (seen result) }
 {
     match page {
         Page::Submissions => match read_size(head, fields) {
@@ -129,7 +131,8 @@ fn path_of(target: &[u8]) -> &[u8]
 /// The size of the body that the fields tell (RFC 9110, 8.6).
 fn read_size(head: &[u8], fields: &[HeaderSpan]) -> Result<usize, Refusal>
     requires { All (IsHeaderWithin (length head.now)) fields.now }
-    ensures { result ≡ sized (values_of (codes "Content-Length") (parts_of head.now fields.now)) }
+    ensures sized { result ≡ sized (values_of (codes "Content-Length") (parts_of head.now fields.now)) }
+    ensures small { IfOk result (λ size. size ≤ 1048576) }
 {
     match find_value(head, fields, b"Content-Length") {
         None => Err(Refusal::LengthRequired),
@@ -172,7 +175,8 @@ fn is_named(head: &[u8], field: &HeaderSpan, name: &[u8]) -> bool
 /// The size that the text spells (RFC 9110, 8.6).
 #[tactic(auto, unfolding(crate::specs::Requests::size_of))]
 fn size_of(text: &[u8]) -> Result<usize, Refusal>
-    ensures { result ≡ size_of text.now }
+    ensures size { result ≡ size_of text.now }
+    ensures small { IfOk result (λ size. size ≤ 1048576) }
 {
     if !is_length(text) {
         return Err(Refusal::BadRequest);

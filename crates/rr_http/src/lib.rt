@@ -11,6 +11,7 @@ pub mod laws;
 mod lines;
 mod replying;
 mod routing;
+mod serving;
 mod short_reply;
 mod wanting;
 
@@ -22,4 +23,8 @@ pub use desk::{ConnFault, Desk, DumpFault};
 pub use fronts::{FRONT_SIZE, Goal, read_on};
 pub use lines::{speaks_http, whois_query};
 pub use replying::{write_given_head, write_refusal};
+pub use serving::serve_one;
 pub use wanting::{FIELD_LIMIT, Wanted, read_front, wanted_of};
+
+#[cfg(test)]
+mod tests;

@@ -6,8 +6,9 @@ ghost use Rattle.rr_io.specs.Receiving.{BreaksOff};
 ghost use Rattle.rr_http.specs.Asked.{seen};
 ghost use Rattle.rr_http.specs.Fronts.{head_length};
 ghost use Rattle.rr_http.specs.FrontLines.{speaks_http};
+ghost use Rattle.rr_http.specs.Requests.{HasSmallSize};
 ghost use Rattle.rr_http.specs.Wanted.{seen_wanted};
-ghost use Rattle.rr_http.specs.Wants.{FrontWants, HeadWants, IsParsed, ReadsFront, head_asks};
+ghost use Rattle.rr_http.specs.Wants.{FrontWants, HeadWants, IsInFront, IsParsed, ReadsFront, head_asks};
 
 use crate::asking::{Asked, Refusal, read_request};
 use crate::fronts::{FRONT_SIZE, Goal, head_length, read_on};
@@ -47,7 +48,8 @@ pub fn read_front<R: Source>(source: &mut R, front: &mut [u8]) -> io::Result<(us
 
 /// What a connection wants whose front is this.
 pub fn wanted_of(front: &[u8]) -> Wanted<'_>
-    ensures { FrontWants (speaks_http front.now) front.now (nat_le 8192 (length front.now)) (seen_wanted result) }
+    ensures wants { FrontWants (speaks_http front.now) front.now (nat_le 8192 (length front.now)) (seen_wanted result) }
+    ensures in_front { IsInFront front.now (seen_wanted result) }
 {
     if speaks_http(front) {
         wanted_by_http(front)
@@ -57,7 +59,8 @@ pub fn wanted_of(front: &[u8]) -> Wanted<'_>
 }
 
 fn wanted_by_http(front: &[u8]) -> Wanted<'_>
-    ensures { HeadWants (head_length front.now) front.now (nat_le 8192 (length front.now)) (seen_wanted result) }
+    ensures wants { HeadWants (head_length front.now) front.now (nat_le 8192 (length front.now)) (seen_wanted result) }
+    ensures in_front { IsInFront front.now (seen_wanted result) }
 {
     match head_length(front) {
         Some(place) => Wanted::Http(place, asked_by(&front[..place])),
@@ -78,7 +81,8 @@ fn unended_head(front: &[u8]) -> Refusal
 
 /// What a request asks that begins with this head, if it is one.
 fn asked_by(head: &[u8]) -> Asked<'_>
-    ensures { (parsed : Option RequestHead) × IsParsed head.now parsed × (seen result ≡ head_asks parsed) }
+    ensures asks { (parsed : Option RequestHead) × IsParsed head.now parsed × (seen result ≡ head_asks parsed) }
+    ensures small { HasSmallSize (seen result) }
 {
     let mut fields = [EMPTY_HEADER_SPAN; FIELD_LIMIT];
     match parse_request(head, &mut fields) {

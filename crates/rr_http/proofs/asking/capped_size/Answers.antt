@@ -1,4 +1,4 @@
-use Rattle.std.proofs.Common.{◌≡◌, ◌∙◌, ap, ◌+◌, ◌*◌}
+use Rattle.std.proofs.Common.{◌∙◌, ap, ◌+◌, ◌*◌}
 use Rattle.std.specs.Prelude.{min}
 use Rattle.rr_http.proofs.RequestLemmas.{capped_more}
 use Rattle.rr_http.proofs.asking.capped_size.Goals as goal

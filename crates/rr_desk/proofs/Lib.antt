@@ -1,3 +1,5 @@
-pub mod OpeningTexts
-pub mod OpeningObjects
+pub mod GoodSettings
+pub mod PlainTexts
+pub mod OpeningLines
+pub mod OpeningReads
 pub mod OpeningRegistry

@@ -1,3 +1,4 @@
 pub mod OpeningTexts
 pub mod OpeningObjects
 pub mod OpeningRegistry
+pub mod Following

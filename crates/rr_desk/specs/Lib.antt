@@ -1,1 +1,5 @@
 pub mod Opening
+pub mod Rows
+pub mod Halts
+pub mod Stocks
+pub mod Private

@@ -11,3 +11,4 @@ pub mod MapKeys
 pub mod MapEntries
 pub mod MapRows
 pub mod MapLists
+pub mod AddedLemmas

@@ -39,6 +39,13 @@ pub record AreRowsOf (entries : List Entry) (db : Database) : Type 0 where
   pub objects : IsPermutation (map object_row entries) (contents (db.trees 2))
   pub named : IsPermutation (flat_map named_rows entries) (contents (db.trees 4))
 
+-- the rows of these are added
+pub record IsAdded (entries : List Entry) (old new : Database) : Type 0 where
+  pub tidy : IsTidy new
+  pub objects : IsPermutation (map object_row entries ++ contents (old.trees 2)) (contents (new.trees 2))
+  pub named : IsPermutation (flat_map named_rows entries ++ contents (old.trees 4)) (contents (new.trees 4))
+  pub meta : new.trees 0 ≡ old.trees 0
+
 -- one takes the place of those with its class and key
 pub record IsPut (entry : Entry) (old new : Database) : Type 0 where
   pub tidy : IsTidy new

@@ -1,5 +1,5 @@
 -- The schemas that the three CREATE statements make of none.
-use Rattle.std.specs.Prelude.{◌≡◌, ℕ, pos, List, [], ◌∷◌}
+use Rattle.std.specs.Prelude.{◌≡◌, ◌⊎◌, ℕ, pos, List, [], ◌∷◌}
 use Rattle.std.specs.List.{AllByRecursion}
 use Rattle.sqlite_value.specs.declared.value.Value.TheVariants.{Int}
 use Rattle.sqlite_value.specs.declared.keys.Collation.TheVariants.{Binary}
@@ -57,3 +57,11 @@ pub record IsBare (db : Database) : Type 0 where
   pub meta : db.trees 0 ≡ []
   pub object : db.trees 2 ≡ []
   pub named : db.trees 4 ≡ []
+
+-- one of the three tables has a row
+abbrev pub HasRow : Database → Type 0
+HasRow db = db.trees 0 ≡ [] → db.trees 2 ≡ [] → db.trees 4 ≡ [] → ⊥
+
+-- a new store has room here: nothing at all stands in the database, or the three tables without a row (profile)
+abbrev pub IsVacant : Database → Type 0
+IsVacant db = (db.schema ≡ no_schema) ⊎ IsBare db

@@ -27,6 +27,11 @@ this_version = codes "2"
 abbrev pub old_version : List ℕ
 old_version = codes "1"
 
+-- the tables hold the rows of these and no others, and are of version 2 (profile)
+pub record IsFilled (entries : List Entry) (db : Database) : Type 0 where
+  pub rows : AreRowsOf entries db
+  pub version : HasVersion this_version db
+
 -- an object as readers make it: of good attributes, and what these read as in a registry of any source (RFC 2622, 2 to 6;
 -- RFC 2725, 10)
 pub record IsObject (object : Obj) : Type 0 where

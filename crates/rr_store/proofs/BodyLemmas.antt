@@ -1,8 +1,14 @@
 -- What statements in a row do.
-use Rattle.std.proofs.Common.{◌≢◌, ℕ, List, [], ◌∷◌, ◌++◌, map, filter, not, Ok, Err, Result, OnOk, sym, ap, subst, ◌∙◌, arith, IsPermutation}
+use Rattle.std.proofs.Common.{◌≢◌, ℕ, List, [], ◌∷◌, ◌++◌, map, filter, not, Ok, Err, Result, OnOk, sym, ap, subst, subst₂, ◌∙◌, arith, IsPermutation}
 use Rattle.sqlite.specs.Effect.{Database}
 use Rattle.rr_rows.specs.Contents.{Alters, Adds, Removes, contents, is_object_of, is_named_of, object_values, named_values}
-use Rattle.rr_rows.specs.Entries.{IsPut}
+use Rattle.sqlite_value.specs.Order.{Row}
+use Rattle.std.specs.Prelude.{codes}
+use Rattle.rr_rows.specs.Contents.{meta_values}
+use Rattle.rr_rows.specs.Entries.{Entry, IsAdded, IsPut}
+use Rattle.rr_rows.specs.Made.{IsBare}
+use Rattle.rr_rows.specs.Maps.{IsFilled, this_version}
+use Rattle.rr_rows.proofs.AddedLemmas.{append_none, filled_by}
 
 pub then_ok : {X E P Q : Type 0} (r : Result X E) → OnOk r P → (P → Q) → OnOk r Q
 then_ok (Ok x) p f = f p
@@ -20,6 +26,12 @@ none_two h = omega arith
 none_four : ◌≢◌ {A = ℕ} 0 4
 none_four h = omega arith
 
+two_none : ◌≢◌ {A = ℕ} 2 0
+two_none h = omega arith
+
+four_none : ◌≢◌ {A = ℕ} 4 0
+four_none h = omega arith
+
 -- the old rows of the object go, and the new ones come
 pub put_by : (class : ℕ) (key body : List ℕ) (names : List (List ℕ)) (a b c d e : Database) → Alters a b 4 (Removes (is_named_of class key)) → Alters b c 2 (Removes (is_object_of class key))
     → Alters c d 2 (Adds (object_values class key body ∷ [])) → Alters d e 4 (Adds (map (λ name. named_values name class key) names)) → IsPut (record { class = class; key = key; body = body; names = names }) a e
@@ -30,3 +42,17 @@ put_by class key body names a b c d e first second third fourth = record {
   named = subst (λ xs. IsPermutation (map (λ name. named_values name class key) names ++ xs) (contents (e.trees 4))) (ap contents (third.named four_two ∙ second.named four_two) ∙ first.change) fourth.change;
   meta = fourth.meta none_four ∙ third.meta none_two ∙ second.meta none_two ∙ first.meta none_four;
 }
+
+-- the rows of an object come
+pub added_by : (class : ℕ) (key body : List ℕ) (names : List (List ℕ)) (a b c : Database) → Alters a b 2 (Adds (object_values class key body ∷ [])) → Alters b c 4 (Adds (map (λ name. named_values name class key) names))
+    → IsAdded (record { class = class; key = key; body = body; names = names } ∷ []) a c
+added_by class key body names a b c first second = record {
+  tidy = second.tidy;
+  objects = subst (IsPermutation _) (sym (ap contents (second.object two_four))) first.change;
+  named = subst₂ (λ xs ys. IsPermutation (xs ++ ys) (contents (c.trees 4))) (sym (append_none _)) (ap contents (first.named four_two)) second.change;
+  meta = second.meta none_four ∙ first.meta none_two;
+}
+
+-- the version comes and then the rows of objects, in tables without a row
+pub filled_so : (entries : List Entry) (a b c : Database) → IsBare a → Alters a b 0 (Adds (meta_values (codes "version") this_version ∷ [])) → IsAdded entries b c → IsFilled entries c
+filled_so entries a b c bare first second = filled_by entries a b c bare.meta bare.object bare.named (first.object two_none) (first.named four_none) first.change second

@@ -1,6 +1,9 @@
 pub mod CallLemmas
 pub mod AddingLemmas
+pub mod FillLemmas
 pub mod BodyLemmas
 pub mod CommitLemmas
 pub mod LookLemmas
+pub mod ObjectLemmas
+pub mod OrderLemmas
 pub mod TidyLemmas

@@ -9,6 +9,9 @@ use Rattle.sqlite_schema.specs.declared.command.Command.{Command}
 use Rattle.sqlite_schema.specs.declared.schema.Schema.{Schema}
 use Rattle.rr_rows.specs.Tables.{Layout, HasTables}
 use Rattle.rr_rows.specs.Queries.{Means}
+use Rattle.rr_rows.specs.Entries.{TreesOf}
+use Rattle.sqlite.specs.Effect.{Database}
+use Rattle.rr_store.specs.Kept.{IsLeft}
 use Rattle.sqlite.specs.State.{State, HasCleanDisk, IsUnchanged, Fails, Shown, ShowsRows, FailsToQuery, FailsToShow, IsNotRun, CommitsShowing, Survives}
 use Rattle.sqlite.specs.Clock.{timed}
 use Rattle.sqlite.proofs.Callers.{IsPlain, never_commits}
@@ -76,3 +79,13 @@ quiet_then a b c same one two =
 
 pub kept_then : (a b c : State) → (HasCleanDisk b → IsUnchanged a b) → Survives b c (λ _. b.is_open ≡ false) → HasCleanDisk c → c.now ≡ b.now → c.now ≡ a.now
 kept_then a b c same two clean is = is ∙ (same (omega (arith, two.clean))).0.now_is
+
+module _ (P : Database → Type 0) where
+  pub quiet_left : (a b : State) → Survives a b (λ _. a.is_open ≡ false) → Survives a b (IsLeft a.is_open P)
+  quiet_left a b one = survives_weaker a b (λ _. a.is_open ≡ false) (IsLeft a.is_open P) (λ clean db off. inl off) one
+
+  pub made_left : (a b : State) → Survives a b (TreesOf P) → Survives a b (IsLeft a.is_open P)
+  made_left a b one = survives_weaker a b (TreesOf P) (IsLeft a.is_open P) (λ clean db made. inr made) one
+
+  pub quiet_made : (a b c : State) → Survives a b (λ _. a.is_open ≡ false) → Survives b c (TreesOf P) → Survives a c (IsLeft a.is_open P)
+  quiet_made a b c one two = survives_then a b c (λ _. a.is_open ≡ false) (TreesOf P) (IsLeft a.is_open P) (λ clean db off. inl off) (λ clean db made. inr made) one two

@@ -1,10 +1,29 @@
 -- What the numbers of the rows say of the rows.
-use Rattle.std.proofs.Common.{Bool, List, Ok, Err, Result, IfOk, IsTrue, map, IsPermutation}
+use Rattle.std.proofs.Common.{◌≡◌, Bool, false, List, [], ◌∷◌, length, Ok, Err, Result, IfOk, IsTrue, map, refl, sym, ap, ◌∙◌, arith, IsPermutation}
+use Rattle.std.specs.Prelude.{◌==◌}
+use Rattle.std.proofs.lemmas.Bool.{both_ways, eqb-true}
+use Rattle.std.proofs.lemmas.List.{length-map}
+use Rattle.std.proofs.lemmas.List.Sorted.{length_permutation}
 use Rattle.sqlite_value.specs.Order.{Row}
 use Rattle.rr_rows.specs.Contents.{AreKeyed, number}
 use Rattle.rr_rows.proofs.NumberLemmas.{keyed_by}
+use Rattle.rr_store.specs.Empty.{SaysEmpty}
 
 -- rows have numbers of their own where the answer that lists these has
 pub keyed_as : {E : Type 0} (r : Result Bool E) (rows answer : List Row) → IsPermutation (map number rows) answer → IfOk r (λ are. IsTrue are → AreKeyed answer) → IfOk r (λ are. IsTrue are → AreKeyed rows)
 keyed_as (Ok b) rows answer same h = λ is. keyed_by rows answer same (h is)
 keyed_as (Err e) rows answer same h = tt
+
+none_of_length : {X : Type 0} (xs : List X) → length xs ≡ 0 → xs ≡ []
+none_of_length [] h = refl
+none_of_length (x ∷ xs) h = absurd (omega arith)
+
+as_many : (rows answer : List Row) → IsPermutation (map number rows) answer → length answer ≡ length rows
+as_many rows answer same = length_permutation _ _ same ∙ length-map rows number
+
+-- a table has no row where the list of the numbers has none
+pub empty_as : (is : Bool) (rows answer : List Row) → IsPermutation (map number rows) answer → is ≡ (length answer == 0) → SaysEmpty rows is
+empty_as is rows answer same told = record {
+  empty = λ on. none_of_length rows (sym (as_many rows answer same) ∙ eqb-true (length answer) 0 (sym told ∙ on));
+  filled = λ off none. absurd (both_ways is off (told ∙ ap (λ n. n == 0) (as_many rows answer same ∙ ap length none)));
+}

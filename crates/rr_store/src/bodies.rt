@@ -1,10 +1,10 @@
 //! What a transaction does before its commit.
 
-ghost use Rattle.std.specs.Prelude.{◌≡◌, map, OnOk, IsTrue};
+ghost use Rattle.std.specs.Prelude.{◌≡◌, [], ◌∷◌, map, OnOk, IsTrue};
 ghost use Rattle.sqlite.specs.State.{HasCleanDisk, KeepsCommit, Survives};
 ghost use Rattle.sqlite.specs.Held.{state};
 ghost use Rattle.rr_rows.specs.Contents.{Adds, Alters, IsStep, IsTidy, named_values};
-ghost use Rattle.rr_rows.specs.Entries.{IsPut, IsTaken};
+ghost use Rattle.rr_rows.specs.Entries.{IsAdded, IsPut, IsTaken};
 
 use crate::statements::{add_name, add_object, remove_names, remove_object};
 use rr_number::Name;
@@ -27,6 +27,25 @@ fn add_names<S: Alter>(
         let _count = add_name(tx, name.as_bytes(), class, key)?;
     }
     Ok(())
+}
+
+/// Adds the rows of an object.
+pub(crate) fn add_rows<S: Alter>(
+    tx: &mut Transaction<'_, S>,
+    class: u8,
+    key: &[u8],
+    body: &[u8],
+    names: &[Name],
+) -> Result<(), Error>
+    requires { HasCleanDisk (state S.Store tx.old.conn.now) → IsTrue (state S.Store tx.old.conn.now).is_open → IsTidy (state S.Store tx.old.conn.now).now }
+    ensures same_reference { tx.new.conn.ghost_name ≡ tx.old.conn.ghost_name }
+    ensures ok { HasCleanDisk (state S.Store tx.new.conn.now) → OnOk result (IsAdded (record { class = class; key = key.now; body = body.now; names = names.now } ∷ []) (state S.Store tx.old.conn.now).now (state S.Store tx.new.conn.now).now) }
+    ensures step { HasCleanDisk (state S.Store tx.new.conn.now) → OnOk result (IsStep (state S.Store tx.old.conn.now) (state S.Store tx.new.conn.now)) }
+    ensures kept { HasCleanDisk (state S.Store tx.new.conn.now) → KeepsCommit (state S.Store tx.old.conn.now) (state S.Store tx.new.conn.now) }
+    ensures survives { Survives (state S.Store tx.old.conn.now) (state S.Store tx.new.conn.now) (λ _. ⊥) }
+{
+    let _object = add_object(tx, class, key, body)?;
+    add_names(tx, names, class, key)
 }
 
 /// Puts the rows of an object in place of those with its class and key.

@@ -1,5 +1,6 @@
 //! Why a call on a store failed.
 
+use sqlite::Error;
 use std::alloc::AllocError;
 
 /// Why a call on a store failed. It changed no row.
@@ -19,5 +20,68 @@ impl From<AllocError> for StoreFault {
 
     fn from(_refused: AllocError) -> StoreFault {
         StoreFault::Memory
+    }
+}
+
+impl From<Error> for StoreFault {
+    ghost use Rattle.std.specs.Prelude.{◌≡◌};
+    ghost use Rattle.rr_store.specs.declared.fault.StoreFault.TheVariants.{Store};
+
+    ghost from_gives = { λ _ fault. fault ≡ Store };
+
+    fn from(_refused: Error) -> StoreFault {
+        StoreFault::Store
+    }
+}
+
+/// Why no new store was made. No row was changed.
+#[derive(Clone, Copy, Debug, PartialEq, Eq)]
+pub enum CreateFault {
+    /// One of the three tables has a row.
+    NotEmpty,
+    /// The database refused, for want of memory too, or has other tables in place of the three.
+    Store,
+    /// Memory was wanting.
+    Memory,
+}
+
+impl From<StoreFault> for CreateFault {
+    ghost use Rattle.std.specs.Prelude.{◌≡◌};
+    ghost use Rattle.rr_store.specs.Faults.{create_fault};
+
+    ghost from_gives = { λ refused fault. fault ≡ create_fault refused };
+
+    fn from(refused: StoreFault) -> CreateFault {
+        match refused {
+            StoreFault::Store => CreateFault::Store,
+            StoreFault::Memory => CreateFault::Memory,
+        }
+    }
+}
+
+/// Why a store was not opened. No row was changed.
+#[derive(Clone, Copy, Debug, PartialEq, Eq)]
+pub enum OpenFault {
+    /// The tables are of the version of this other number.
+    WrongVersion(u32),
+    /// The rows are not those of objects of the source.
+    BadRow,
+    /// The database refused, for want of memory too, or has other tables in place of the three.
+    Store,
+    /// Memory was wanting.
+    Memory,
+}
+
+impl From<StoreFault> for OpenFault {
+    ghost use Rattle.std.specs.Prelude.{◌≡◌};
+    ghost use Rattle.rr_store.specs.Faults.{open_fault};
+
+    ghost from_gives = { λ refused fault. fault ≡ open_fault refused };
+
+    fn from(refused: StoreFault) -> OpenFault {
+        match refused {
+            StoreFault::Store => OpenFault::Store,
+            StoreFault::Memory => OpenFault::Memory,
+        }
     }
 }

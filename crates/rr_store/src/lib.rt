@@ -2,14 +2,21 @@
 #![tactic(auto)]
 
 mod bodies;
+mod columns;
+mod creating;
+mod entry;
 mod fault;
+mod filling;
 mod making;
 mod names;
+mod objects;
 mod reading;
 mod statements;
 mod store;
 mod tidy;
+mod vacancy;
+mod version;
 mod writes;
 
-pub use fault::StoreFault;
+pub use fault::{CreateFault, OpenFault, StoreFault};
 pub use store::Store;

@@ -6,7 +6,7 @@ ghost use Rattle.sqlite.specs.Held.{state};
 ghost use Rattle.sqlite.specs.Listing.{understood};
 ghost use Rattle.sqlite.specs.State.{HasCleanDisk, IsUnchanged, Shown, Survives};
 ghost use Rattle.sqlite.specs.Values.{bound};
-ghost use Rattle.rr_rows.specs.Contents.{IsListing, by_one, by_three, by_two, contents, number, pointed};
+ghost use Rattle.rr_rows.specs.Contents.{IsListing, by_one, by_three, by_two, contents, number, pointed, settings};
 ghost use Rattle.rr_rows.specs.Tables.{HasTables};
 
 use sqlite::{Alter, Connection, Error, Row};
@@ -29,6 +29,24 @@ fn look<S: Alter>(
 {
     let _settled = conn.is_autocommit();
     conn.query_all(sql, params)
+}
+
+/// The settings, in order of their names.
+pub(crate) fn meta_rows<S: Alter>(conn: &mut Connection<S>) -> Result<Vec<Row>, Error>
+    requires autocommit { conn.old.in_transaction ≡ false }
+    requires tables { HasCleanDisk (state S.Store conn.old) → IsTrue (state S.Store conn.old).is_open → HasTables (state S.Store conn.old).now.schema }
+    ensures autocommit { conn.new.in_transaction ≡ false }
+    ensures was_open { HasCleanDisk (state S.Store conn.new) → OnOk result (IsTrue (state S.Store conn.old).is_open) }
+    ensures rows { HasCleanDisk (state S.Store conn.new) → IfOk result (λ rows. IsListing by_two (settings ((state S.Store conn.old).now.trees 0)) rows.items) }
+    ensures same { HasCleanDisk (state S.Store conn.new) → OnOk result (IsUnchanged (state S.Store conn.old) (state S.Store conn.new)) }
+    ensures err { HasCleanDisk (state S.Store conn.new) → IsTrue (state S.Store conn.new).is_open → OnErr result ((state S.Store conn.new).now ≡ (state S.Store conn.old).now) }
+    ensures crash { Survives (state S.Store conn.old) (state S.Store conn.new) (λ _. (state S.Store conn.old).is_open ≡ false) }
+{
+    look(
+        conn,
+        "SELECT name, value FROM meta ORDER BY name, value",
+        &[],
+    )
 }
 
 /// The rows of `object`, by class and key.

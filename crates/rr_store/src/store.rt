@@ -1,6 +1,6 @@
 //! The store.
 
-ghost use Rattle.std.specs.Prelude.{◌≡◌, false, IsTrue, OnErr, OnOk};
+ghost use Rattle.std.specs.Prelude.{◌≡◌, false, map, IfErr, IfOk, IsTrue, OnErr, OnOk};
 ghost use Rattle.sqlite.specs.Held.{state};
 ghost use Rattle.sqlite.specs.State.{HasCleanDisk, Survives};
 ghost use Rattle.sqlite_trees.specs.Tree.{Trees};
@@ -8,8 +8,14 @@ ghost use Rattle.rr_object.specs.Classes.{class_number};
 ghost use Rattle.rr_object.specs.Keys.{class_of};
 ghost use Rattle.rr_object.specs.KeyTexts.{key_bytes};
 ghost use Rattle.rr_rows.specs.Entries.{IsPut, IsTaken, TreesOf, entry_of};
+ghost use Rattle.rr_rows.specs.Made.{HasRow, IsVacant};
+ghost use Rattle.rr_rows.specs.Maps.{IsFilled};
+ghost use Rattle.rr_rows.specs.Tables.{HasTables};
+ghost use Rattle.rr_store.specs.Kept.{IsLeft};
+ghost use Rattle.rr_store.specs.declared.fault.CreateFault.TheVariants.{NotEmpty};
 
-use crate::fault::StoreFault;
+use crate::creating::create_where_vacant;
+use crate::fault::{CreateFault, StoreFault};
 use crate::names::maintainers_of;
 use crate::writes::{put_entry, remove_entry};
 use rr_object::{Key, Object};
@@ -39,6 +45,29 @@ impl<S: Alter> Model for Store<S> {
 }
 
 impl<S: Alter> Store<S> {
+    /// Makes the store of the objects, no two of one key, in a database with nothing in it or with the three tables and no
+    /// row. The connection is in no transaction. After a fault it is given back, with the rows as they were.
+    pub fn create(
+        alloc: Global,
+        mut conn: Connection<S>,
+        objects: &[Object],
+    ) -> Result<Store<S>, (CreateFault, Connection<S>)>
+        requires autocommit { conn.in_transaction ≡ false }
+        ensures ok { IfOk result (λ store. HasCleanDisk (state S.Store store) → IsFilled (map entry_of objects.now) (state S.Store store).now) }
+        ensures is_open { IfOk result (λ store. HasCleanDisk (state S.Store store) → IsTrue (state S.Store store).is_open) }
+        ensures vacant { IfOk result (λ store. HasCleanDisk (state S.Store store) → IsVacant (state S.Store conn).now) }
+        ensures crash { IfOk result (λ store. Survives (state S.Store conn) (state S.Store store) (IsLeft (state S.Store conn).is_open (IsFilled (map entry_of objects.now)))) }
+        ensures err { IfErr result (λ e. HasCleanDisk (state S.Store e.1) → IsTrue (state S.Store e.1).is_open → (state S.Store e.1).now ≡ (state S.Store conn).now) }
+        ensures not_empty { IfErr result (λ e. HasCleanDisk (state S.Store e.1) → e.0 ≡ NotEmpty → HasTables (state S.Store conn).now.schema × HasRow (state S.Store conn).now) }
+        ensures err_autocommit { IfErr result (λ e. e.1.in_transaction ≡ false) }
+        ensures err_crash { IfErr result (λ e. Survives (state S.Store conn) (state S.Store e.1) (IsLeft (state S.Store conn).is_open (IsFilled (map entry_of objects.now)))) }
+    {
+        match create_where_vacant(&mut conn, alloc, objects) {
+            Ok(()) => Ok(Store { conn }),
+            Err(fault) => Err((fault, conn)),
+        }
+    }
+
     /// Puts the rows of the object in place of those of its key. After a fault the rows are as they were.
     pub fn put(&mut self, alloc: Global, object: &Object) -> Result<(), StoreFault>
         ensures ok { HasCleanDisk (state S.Store self.new) → OnOk result (IsPut (entry_of object.now) (state S.Store self.old).now (state S.Store self.new).now) }

@@ -1,0 +1,7 @@
+use Rattle.std.proofs.Common.{take}
+use Rattle.rr_store.specs.Reading.{AreRead}
+use Rattle.rr_store.specs.Versions.{form_of}
+use Rattle.rr_store.proofs.objects.read_objects.Given as goal
+
+abbrev pub invariant-loop-row : goal.invariant-loop-row
+invariant-loop-row l = AreRead (form_of l.version) l.source (take l.row-index l.rows) l.objects.items

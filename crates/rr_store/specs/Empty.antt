@@ -1,0 +1,8 @@
+-- Whether a table has a row.
+use Rattle.std.specs.Prelude.{◌≡◌, ◌≢◌, Bool, false, List, [], IsTrue}
+use Rattle.sqlite_value.specs.Order.{Row}
+
+-- an answer says whether there is a row
+pub record SaysEmpty (rows : List Row) (is : Bool) : Type 0 where
+  pub empty : IsTrue is → rows ≡ []
+  pub filled : is ≡ false → rows ≢ []

@@ -1,0 +1,20 @@
+-- The versions of tables.
+use Rattle.std.specs.Prelude.{ℕ, List}
+use Rattle.rr_store.specs.declared.version.Version.{Version}
+use Rattle.rr_store.specs.declared.version.Version.TheVariants.{Old, This}
+use Rattle.rr_object.specs.OldKeys.{old_key_bytes}
+use Rattle.rr_rows.specs.Maps.{KeyForm, old_version, this_form, this_version}
+
+abbrev pub version_number : Version → ℕ
+version_number Old = 1
+version_number This = 2
+
+-- the number as `meta` has it (profile)
+abbrev pub version_text : Version → List ℕ
+version_text Old = old_version
+version_text This = this_version
+
+-- the texts of keys in such tables (profile)
+abbrev pub form_of : Version → KeyForm
+form_of Old = old_key_bytes
+form_of This = this_form

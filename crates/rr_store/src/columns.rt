@@ -1,0 +1,94 @@
+//! What the columns of a row hold.
+
+ghost use Rattle.std.specs.Prelude.{◌≡◌, ◌<◌, length, pos, IfSome, IsTrue, None};
+ghost use Rattle.sqlite_value.specs.declared.value.Value.TheVariants.{Blob, Int, Text};
+ghost use Rattle.sqlite_value.specs.Order.{column};
+ghost use Rattle.rr_rows.specs.Contents.{named_values, object_values, setting};
+
+use sqlite::Row;
+use sqlite_value::value::ValueRef;
+
+fn has_number(row: &Row, at: usize, number: u8) -> bool
+    requires { at < length row.now }
+    ensures is { IsTrue result → column row.now at ≡ Int (pos number) }
+    ensures only { column row.now at ≡ Int (pos number) → IsTrue result }
+{
+    match row.get_ref(at) {
+        Ok(ValueRef::Int(held)) => held == i64::from(number),
+        _ => false,
+    }
+}
+
+fn has_text(row: &Row, at: usize, text: &[u8]) -> bool
+    requires { at < length row.now }
+    ensures is { IsTrue result → column row.now at ≡ Text text.now }
+    ensures only { column row.now at ≡ Text text.now → IsTrue result }
+{
+    match row.get_ref(at) {
+        Ok(ValueRef::Text(held)) => held == text,
+        _ => false,
+    }
+}
+
+fn has_blob(row: &Row, at: usize, bytes: &[u8]) -> bool
+    requires { at < length row.now }
+    ensures is { IsTrue result → column row.now at ≡ Blob bytes.now }
+    ensures only { column row.now at ≡ Blob bytes.now → IsTrue result }
+{
+    match row.get_ref(at) {
+        Ok(ValueRef::Blob(held)) => held == bytes,
+        _ => false,
+    }
+}
+
+/// The bytes of the third column, if it has some.
+pub(crate) fn third_bytes(row: &Row) -> Option<&[u8]>
+    ensures found { IfSome result (λ bytes. column row.now 2 ≡ Blob bytes.now) }
+    ensures none { (bytes : _) → result ≡ None → column row.now 2 ≡ Blob bytes → ⊥ }
+{
+    match row.get_ref(2) {
+        Ok(ValueRef::Blob(held)) => Some(held),
+        _ => None,
+    }
+}
+
+/// The text of the second column, if it has some.
+pub(crate) fn second_text(row: &Row) -> Option<&[u8]>
+    ensures found { IfSome result (λ text. column row.now 1 ≡ Text text.now) }
+    ensures none { (text : _) → result ≡ None → column row.now 1 ≡ Text text → ⊥ }
+{
+    match row.get_ref(1) {
+        Ok(ValueRef::Text(held)) => Some(held),
+        _ => None,
+    }
+}
+
+/// Whether a row is that of an object.
+pub(crate) fn is_object_row(row: &Row, class: u8, key: &[u8], body: &[u8]) -> bool
+    ensures is { IsTrue result → row.now ≡ object_values class key.now body.now }
+    ensures only { row.now ≡ object_values class key.now body.now → IsTrue result }
+{
+    row.column_count() == 3
+        && has_number(row, 0, class)
+        && has_text(row, 1, key)
+        && has_blob(row, 2, body)
+}
+
+/// Whether a row is that of a maintainer and an object that names it.
+pub(crate) fn is_named_row(row: &Row, name: &[u8], class: u8, key: &[u8]) -> bool
+    ensures is { IsTrue result → row.now ≡ named_values name.now class key.now }
+    ensures only { row.now ≡ named_values name.now class key.now → IsTrue result }
+{
+    row.column_count() == 3
+        && has_text(row, 0, name)
+        && has_number(row, 1, class)
+        && has_text(row, 2, key)
+}
+
+/// Whether a row is that of a setting.
+pub(crate) fn is_setting(row: &Row, name: &[u8], value: &[u8]) -> bool
+    ensures is { IsTrue result → row.now ≡ setting name.now value.now }
+    ensures only { row.now ≡ setting name.now value.now → IsTrue result }
+{
+    row.column_count() == 2 && has_text(row, 0, name) && has_text(row, 1, value)
+}

@@ -1,0 +1,74 @@
+//! What the tables keep of an object.
+
+ghost use Rattle.std.specs.Prelude.{◌≡◌, IfOk};
+ghost use Rattle.rr_rows.specs.Entries.{entry_of};
+
+use crate::names::maintainers_of;
+use rr_number::Name;
+use rr_object::Object;
+use rr_text::{Text, print};
+use std::alloc::{AllocError, Global};
+use std::marker::Model;
+
+/// What the tables keep of an object: its class, its key, its text, and who it names.
+#[derive(Drop)]
+pub(crate) struct Entry {
+    class: u8,
+    key: Vec<u8>,
+    body: Text,
+    names: Vec<Name>,
+}
+
+impl Model for Entry {
+    ghost use Rattle.rr_rows.specs.Entries.{Entry as Kept};
+
+    ghost Value = { Kept };
+
+    ghost view = { λ e. record { class = e.class; key = e.key.items; body = e.body; names = e.names.items } };
+}
+
+impl Entry {
+    /// The entry of an object; the error is want of memory.
+    pub(crate) fn of(alloc: Global, object: &Object) -> Result<Entry, AllocError>
+        ensures { IfOk result (λ entry. entry ≡ entry_of object.now) }
+    {
+        let class = object.key().class().number();
+        let key = object.key().bytes(alloc)?;
+        let body = print(alloc, object.paragraph())?;
+        let names = maintainers_of(alloc, object)?;
+        Ok(Entry {
+            class,
+            key,
+            body,
+            names,
+        })
+    }
+
+    /// The number of the class.
+    pub(crate) fn class(&self) -> u8
+        ensures { result ≡ self.now.class }
+    {
+        self.class
+    }
+
+    /// The bytes of the key.
+    pub(crate) fn key(&self) -> &[u8]
+        ensures { result.now ≡ self.now.key }
+    {
+        &self.key
+    }
+
+    /// The canonical text.
+    pub(crate) fn body(&self) -> &[u8]
+        ensures { result.now ≡ self.now.body }
+    {
+        self.body.as_slice()
+    }
+
+    /// The maintainers that the object names, each once.
+    pub(crate) fn names(&self) -> &[Name]
+        ensures { result.now ≡ self.now.names }
+    {
+        &self.names
+    }
+}

@@ -1,0 +1,64 @@
+//! The versions of tables.
+
+ghost use Rattle.std.specs.Prelude.{◌≡◌, ◌<◌, ◌^◌, decimal, IfOk, IfSome, Some};
+ghost use Rattle.std.specs.Option.{option_map};
+ghost use Rattle.rr_store.specs.Versions.{form_of, version_number, version_text};
+
+use itoa::Buffer;
+use rr_object::Key;
+use std::alloc::{AllocError, Global};
+
+/// The version of tables, which says how their keys are written.
+#[derive(Clone, Copy, Debug, PartialEq, Eq)]
+pub(crate) enum Version {
+    /// AS numbers of two octets, in four hexadecimal digits.
+    Old,
+    /// AS numbers of four octets, in eight.
+    This,
+}
+
+impl Version {
+    pub(crate) fn number(self) -> u32
+        ensures { result ≡ version_number self }
+    {
+        match self {
+            Version::Old => 1,
+            Version::This => 2,
+        }
+    }
+
+    /// The number as `meta` has it.
+    pub(crate) fn text(self) -> &'static [u8]
+        ensures { result.now ≡ version_text self }
+    {
+        match self {
+            Version::Old => b"1",
+            Version::This => b"2",
+        }
+    }
+
+    /// The text of a key, if it has one in tables of this version; the error is want of memory.
+    pub(crate) fn key_bytes(self, alloc: Global, key: &Key) -> Result<Option<Vec<u8>>, AllocError>
+        ensures { IfOk result (λ bytes. option_map (λ b. b.items) bytes ≡ form_of self key.now) }
+    {
+        match self {
+            Version::Old => key.old_bytes(alloc),
+            Version::This => Ok(Some(key.bytes(alloc)?)),
+        }
+    }
+}
+
+/// The number that bytes write in decimal digits without leading zeros, if they do.
+pub(crate) fn number_of(bytes: &[u8]) -> Option<u32>
+    ensures found { IfSome result (λ n. bytes.now ≡ decimal n) }
+    ensures only { (n : _) → n < 2 ^ 32 → bytes.now ≡ decimal n → result ≡ Some n }
+{
+    let text = std::str::from_utf8(bytes).ok()?;
+    let number = text.parse::<u32>().ok()?;
+    let mut buffer = Buffer::new();
+    if buffer.format(number).as_bytes() == bytes {
+        Some(number)
+    } else {
+        None
+    }
+}

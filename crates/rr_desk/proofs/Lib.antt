@@ -1,4 +1,6 @@
-pub mod OpeningTexts
-pub mod OpeningObjects
+pub mod GoodSettings
+pub mod PlainTexts
+pub mod OpeningLines
+pub mod OpeningReads
 pub mod OpeningRegistry
 pub mod Following

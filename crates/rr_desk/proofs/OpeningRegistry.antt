@@ -1,48 +1,76 @@
 -- The opening objects are a sound registry.
-use Rattle.std.proofs.Common.{◌≡◌, List, [], ◌∷◌, refl, sym, ap, ◌∙◌}
-use Rattle.std.specs.Prelude.{None, Some, find, is_none, map, position}
+use Rattle.std.proofs.Common.{◌≡◌, ℕ, List, [], ◌∷◌, Bool, true, false, Result, Ok, Err, refl, sym, ap, ◌∙◌, codes, map}
+use Rattle.std.specs.Prelude.{None, Some, find, is_none, position}
 use Rattle.std.specs.List.{list_any}
-use Rattle.hex.specs.Hex.{decode_pairs}
-use Rattle.rr_bytes.specs.Trims.{trim_start, trim_end}
-use Rattle.rr_text.specs.Entries.{entries}
-use Rattle.rr_text.specs.Meanings.{value_meaning}
-use Rattle.rr_bytes.specs.NameBytes.{is_name}
-use Rattle.rr_number.specs.Names.{is_reserved}
+use Rattle.std.specs.Str.{bytes_eq}
+use Rattle.rr_object.specs.declared.fault.ObjectFault.{ObjectFault}
+use Rattle.rr_object.specs.declared.key.Key.TheVariants.{Mntner, AsBlock, Inetnum}
 use Rattle.rr_object.specs.Objects.{Obj, names_of}
-use Rattle.rr_object.specs.Readings.{obj_at, items_of, items_read}
-use Rattle.rr_object.specs.Kinds.{occurs}
-use Rattle.rr_bytes.specs.LetterCase.{is_keyword}
-use Rattle.rr_object.specs.Items.{items, words}
-use Rattle.rr_object.specs.Auths.{salted_digest_of, auth_of_words}
-use Rattle.rr_object.specs.Grants.{entries_behind}
+use Rattle.rr_object.specs.Readings.{obj_at, object_of}
 use Rattle.rr_auth.specs.Registries.{is_mntner_of}
 use Rattle.rr_registry.specs.Loading.{clash, load_fault}
 use Rattle.rr_registry.proofs.Gathering.{first_unnamed_is}
-use Rattle.rr_desk.specs.Opening.{AreObjects, built_in_source, opening_text}
-use Rattle.rr_desk.proofs.OpeningObjects.{are_opening_objects, opening_objects}
+use Rattle.rr_desk.specs.Opening.{AreOpening, opening_paragraphs}
+use Rattle.rr_desk.specs.Settings.{IsSettings, SettingsParts}
+use Rattle.rr_desk.proofs.OpeningLines.{equal_texts}
+use Rattle.rr_desk.proofs.OpeningReads.{addresses_named, addresses_object, addresses_read, block_named, block_object, four_octets, four_octets_read, numbers, numbers_read, root_named, root_object, root_read}
 
--- no key stands twice, and none crosses another
-unclashed : clash [] 1 opening_objects ≡ None
-unfolding obj_at
-unclashed = refl
+abbrev pub numbers_object : SettingsParts → Obj
+numbers_object s = block_object numbers (codes "AS0 - AS65535") s
 
-all_named : position (λ o. list_any (λ n. is_none (find (λ x. is_mntner_of n x.key) opening_objects)) (names_of o)) opening_objects ≡ None
-unfolding obj_at items_of items_read occurs items is_name is_reserved value_meaning trim_end trim_start entries_behind words is_keyword salted_digest_of auth_of_words decode_pairs
-all_named = refl
+abbrev pub four_octets_object : SettingsParts → Obj
+four_octets_object s = block_object four_octets (codes "AS65536 - AS4294967295") s
 
-opening_is_sound : load_fault opening_objects ≡ None
-opening_is_sound = rw (unclashed, first_unnamed_is opening_objects, all_named)
+-- the opening objects in order
+abbrev pub opening_objects : SettingsParts → List Obj
+opening_objects s = root_object s ∷ (numbers_object s ∷ (four_octets_object s ∷ (addresses_object s ∷ [])))
 
--- a list is told by its options
-same_objects : (xs ys : List Obj) → map Some xs ≡ map Some ys → xs ≡ ys
+-- a list is told by its results
+same_objects : (xs ys : List Obj) → map {A = Obj} {B = Result Obj ObjectFault} Ok xs ≡ map Ok ys → xs ≡ ys
 same_objects [] [] e = refl
 same_objects [] (y ∷ ys) e = cc
 same_objects (x ∷ xs) [] e = cc
 same_objects (x ∷ xs) (y ∷ ys) e =
-    let rest : map Some xs ≡ map Some ys = cc in
+    let rest : map {A = Obj} {B = Result Obj ObjectFault} Ok xs ≡ map Ok ys = cc in
     let same = same_objects xs ys rest in
     cc
 
--- so nothing is the matter with the objects that the opening text's entries are
-pub opening_faultless : (objects : List Obj) → AreObjects built_in_source (entries opening_text) objects → load_fault objects ≡ None
-opening_faultless objects e = ap load_fault (same_objects objects opening_objects (sym e ∙ are_opening_objects)) ∙ opening_is_sound
+paragraphs_read : (s : SettingsParts) → IsSettings s → map (λ fields. object_of fields s.source) (opening_paragraphs s) ≡ map Ok (opening_objects s)
+paragraphs_read s is = rw (root_read s is, numbers_read s is, four_octets_read s is, addresses_read s is) refl
+
+-- which the opening objects are
+pub are_these : (s : SettingsParts) (objects : List Obj) → IsSettings s → AreOpening s objects → objects ≡ opening_objects s
+are_these s objects is opening = same_objects objects (opening_objects s) (sym opening.read ∙ paragraphs_read s is)
+
+pub these_open : (s : SettingsParts) → IsSettings s → AreOpening s (opening_objects s)
+these_open s is = record { read = paragraphs_read s is }
+
+-- no key stands twice, and none crosses another
+unclashed : (s : SettingsParts) → clash [] 1 (opening_objects s) ≡ None
+unfolding obj_at
+unclashed s = refl
+
+-- each names the root alone, which is there
+found_root : (name : List ℕ) (a b c d : Obj) → a.key ≡ Mntner name → list_any (λ n. is_none (find (λ x. is_mntner_of n x.key) (a ∷ (b ∷ (c ∷ (d ∷ [])))))) (name ∷ []) ≡ false
+found_root name a b c d key = rw (key, equal_texts name) refl
+
+named_by_root : (name : List ℕ) (a b c d : Obj) → a.key ≡ Mntner name → names_of a ≡ name ∷ [] → names_of b ≡ name ∷ [] → names_of c ≡ name ∷ [] → names_of d ≡ name ∷ []
+    → position (λ o. list_any (λ n. is_none (find (λ x. is_mntner_of n x.key) (a ∷ (b ∷ (c ∷ (d ∷ [])))))) (names_of o)) (a ∷ (b ∷ (c ∷ (d ∷ [])))) ≡ None
+named_by_root name a b c d key na nb nc nd = rw (na, nb, nc, nd, found_root name a b c d key) refl
+
+root_key_is : (s : SettingsParts) → (root_object s).key ≡ Mntner s.root
+unfolding obj_at
+root_key_is s = refl
+
+all_named : (s : SettingsParts) → IsSettings s
+    → position (λ o. list_any (λ n. is_none (find (λ x. is_mntner_of n x.key) (opening_objects s))) (names_of o)) (opening_objects s) ≡ None
+all_named s is =
+    named_by_root s.root (root_object s) (numbers_object s) (four_octets_object s) (addresses_object s) (root_key_is s) (root_named s is)
+    (block_named numbers (codes "AS0 - AS65535") s is) (block_named four_octets (codes "AS65536 - AS4294967295") s is) (addresses_named s is)
+
+opening_is_sound : (s : SettingsParts) → IsSettings s → load_fault (opening_objects s) ≡ None
+opening_is_sound s is = rw (unclashed s, first_unnamed_is (opening_objects s), all_named s is)
+
+-- so nothing is the matter with them
+pub opening_faultless : (s : SettingsParts) (objects : List Obj) → IsSettings s → AreOpening s objects → load_fault objects ≡ None
+opening_faultless s objects is opening = ap load_fault (are_these s objects is opening) ∙ opening_is_sound s is

@@ -3,3 +3,4 @@ pub mod Rows
 pub mod Halts
 pub mod Stocks
 pub mod Private
+pub mod Settings

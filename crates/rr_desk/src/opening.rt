@@ -1,108 +1,141 @@
-//! What a registry opens with: a source, and the objects of a text.
+//! The objects that a registry opens with.
 
-ghost use Rattle.std.specs.Prelude.{◌≡◌, ◌<◌, ◌≤◌, [], ◌∷◌, true, IfOk, IfSome, drop, is_some, length, map};
-ghost use Rattle.rr_text.specs.Entries.{entries};
-ghost use Rattle.rr_desk.specs.Opening.{AreObjects, are_readable, built_in_source, object_at, opening_text};
+ghost use Rattle.std.specs.Prelude.{◌≡◌, [], ◌∷◌, ◌++◌, Ok, IfOk, true};
+ghost use Rattle.std.specs.Result.{is_ok};
+ghost use Rattle.rr_text.specs.Fields.{AreFields, IsField, IsLine};
+ghost use Rattle.rr_object.specs.Readings.{object_of};
+ghost use Rattle.rr_desk.specs.Opening.{AreOpening, IsOpened, auth_line, field, owned, root_fields};
 
-use rr_number::Name;
-use rr_object::{Object, ObjectFault};
-use rr_text::{Paragraph, TextFault, next_paragraph};
+use crate::settings::Settings;
+use rr_object::{Auth, Object, ObjectFault};
+use rr_registry::{LoadFault, Registry};
+use rr_text::{Attribute, Paragraph, Text};
 use std::alloc::{AllocError, Global};
 
-/// The registry that the opening objects stand in (profile).
-const SOURCE: &str = "TEST";
+/// The block of all AS numbers of two octets.
+const NUMBERS: &[u8] = b"AS0 - AS65535";
 
-/// The opening objects: the root maintainer, whose secret is `bc`, the blocks of AS numbers of two and of four octets, and
-/// that of all addresses (profile).
-const TEXT: &str = "\
-mntner:         ROOT-MNT
-auth:           SHA256-PW a:ba7816bf8f01cfea414140de5dae2223b00361a396177a9cb410ff61f20015ad
-mnt-by:         ROOT-MNT
-source:         TEST
+/// The block of the other AS numbers of four octets (RFC 6793).
+const FOUR_OCTETS: &[u8] = b"AS65536 - AS4294967295";
 
-as-block:       AS0 - AS65535
-mnt-by:         ROOT-MNT
-source:         TEST
+/// The span of all addresses.
+const ADDRESSES: &[u8] = b"0.0.0.0 - 255.255.255.255";
 
-as-block:       AS65536 - AS4294967295
-mnt-by:         ROOT-MNT
-source:         TEST
-
-inetnum:        0.0.0.0 - 255.255.255.255
-mnt-by:         ROOT-MNT
-source:         TEST
-";
-
-/// The opening text.
-#[tactic(auto, unfolding(crate::specs::Opening::opening_text))]
-pub fn text() -> &'static str
-    ensures { result.now ≡ opening_text }
+/// The objects that a registry of these settings opens with: the root maintainer, the blocks of AS numbers of two and of
+/// four octets, and the span of all addresses, each maintained by the root (profile). The error is want of memory.
+pub fn opening_objects(alloc: Global, settings: &Settings) -> Result<Vec<Object>, AllocError>
+    ensures { IfOk result (λ objects. AreOpening settings.now objects.items) }
 {
-    TEXT
-}
-
-/// The name of the built-in source; the error is want of memory.
-#[tactic(auto, unfolding(rr_bytes::specs::NameBytes::is_name))]
-pub fn read_source(alloc: Global) -> Result<Name, AllocError>
-    ensures { IfOk result (λ source. source ≡ built_in_source) }
-{
-    match Name::read(alloc, SOURCE.as_bytes())? {
-        Some(source) => Ok(source),
-        None => unreachable!(),
-    }
-}
-
-/// The objects that the paragraphs of a text are; the error is want of memory.
-pub fn read_objects(alloc: Global, text: &[u8], source: &Name) -> Result<Vec<Object>, AllocError>
-    requires { are_readable source.now (entries text.now) ≡ true }
-    ensures { IfOk result (λ objects. AreObjects source.now (entries text.now) objects.items) }
-{
-    let mut objects = Vec::new(alloc);
-    let mut from = 0;
-    'entries: while let Some((object, next)) = next_object(alloc, text, from, source)? {
-        objects.push(object)?;
-        from = next;
-    }
+    let root = root_object(alloc, settings)?;
+    let numbers = span_object(alloc, settings, b"as-block", NUMBERS)?;
+    let four_octets = span_object(alloc, settings, b"as-block", FOUR_OCTETS)?;
+    let addresses = span_object(alloc, settings, b"inetnum", ADDRESSES)?;
+    let mut objects = Vec::with_capacity(alloc, 4)?;
+    objects.push(root)?;
+    objects.push(numbers)?;
+    objects.push(four_octets)?;
+    objects.push(addresses)?;
     Ok(objects)
 }
 
-/// The first object of a text from a place on, with the place after it; the error is want of memory.
-fn next_object(
-    alloc: Global,
-    text: &[u8],
-    from: usize,
-    source: &Name,
-) -> Result<Option<(Object, usize)>, AllocError>
-    requires within { from ≤ length text.now }
-    requires readable { are_readable source.now (entries (drop from text.now)) ≡ true }
-    ensures none { IfOk result (λ next. next ≡ None → entries (drop from text.now) ≡ []) }
-    ensures found { IfOk result (λ next. IfSome next (λ found.
-        map (object_at source.now) (entries (drop from text.now)) ≡ Some found.0 ∷ map (object_at source.now) (entries (drop found.1 text.now)))) }
-    ensures place { IfOk result (λ next. IfSome next (λ found. (from < found.1) × (found.1 ≤ length text.now))) }
+/// The registry of these objects alone; the error is want of memory.
+#[tactic(auto, using(crate::proofs::OpeningRegistry::opening_faultless))]
+pub fn opening_registry(alloc: Global, settings: &Settings) -> Result<Registry, AllocError>
+    ensures { IfOk result (IsOpened settings.now) }
 {
-    match next_paragraph(alloc, text, from) {
-        Ok(None) => Ok(None),
-        Ok(Some((paragraph, next))) => {
-            let object = read_object(alloc, paragraph, source)?;
-            Ok(Some((object, next)))
-        }
-        Err(fault) => match fault {
-            TextFault::Memory => Err(AllocError),
-            _ => unreachable!(),
-        },
+    settings.are_good();
+    let objects = opening_objects(alloc, settings)?;
+    match Registry::from_objects(alloc, objects) {
+        Ok(registry) => Ok(registry),
+        Err(LoadFault::Memory) => Err(AllocError),
+        Err(_) => unreachable!(),
     }
 }
 
-/// The object that a paragraph is; the error is want of memory.
-fn read_object(alloc: Global, paragraph: Paragraph, source: &Name) -> Result<Object, AllocError>
-    requires { is_some (object_at source.now (Ok paragraph)) ≡ true }
-    ensures { IfOk result (λ object. object_at source.now (Ok paragraph) ≡ Some object) }
+/// The root maintainer.
+fn root_object(alloc: Global, settings: &Settings) -> Result<Object, AllocError>
+    ensures { IfOk result (λ object. object_of (root_fields settings.now) settings.now.source ≡ Ok object) }
 {
-    match Object::read(alloc, paragraph, source) {
+    settings.are_good();
+    let root = attribute(alloc, b"mntner", settings.root().as_bytes())?;
+    let line = auth_text(alloc, settings.auth())?;
+    let auth = attribute(alloc, b"auth", line.as_slice())?;
+    let mut attributes = Vec::with_capacity(alloc, 4)?;
+    attributes.push(root)?;
+    attributes.push(auth)?;
+    read(alloc, attributes, settings)
+}
+
+/// The object of a span of numbers or addresses.
+fn span_object(
+    alloc: Global,
+    settings: &Settings,
+    class: &[u8],
+    span: &[u8],
+) -> Result<Object, AllocError>
+    requires field { IsField (field class.now span.now) }
+    requires readable { is_ok (object_of (field class.now span.now ∷ owned settings.now) settings.now.source) ≡ true }
+    ensures { IfOk result (λ object. object_of (field class.now span.now ∷ owned settings.now) settings.now.source ≡ Ok object) }
+{
+    let class = attribute(alloc, class, span)?;
+    let mut attributes = Vec::with_capacity(alloc, 3)?;
+    attributes.push(class)?;
+    read(alloc, attributes, settings)
+}
+
+/// The object of these attributes that is maintained by the root.
+fn read(
+    alloc: Global,
+    attributes: Vec<Attribute>,
+    settings: &Settings,
+) -> Result<Object, AllocError>
+    requires fields { AreFields attributes.items }
+    requires readable { is_ok (object_of (attributes.items ++ owned settings.now) settings.now.source) ≡ true }
+    ensures { IfOk result (λ object. object_of (attributes.items ++ owned settings.now) settings.now.source ≡ Ok object) }
+{
+    let paragraph = owned(alloc, attributes, settings)?;
+    match Object::read(alloc, paragraph, settings.source()) {
         Ok(object) => Ok(object),
-        Err(fault) => match fault {
-            ObjectFault::Memory => Err(AllocError),
-            _ => unreachable!(),
-        },
+        Err(ObjectFault::Memory) => Err(AllocError),
+        Err(_) => unreachable!(),
     }
+}
+
+/// The paragraph of these attributes, of the settings' source and maintained by the root.
+fn owned(
+    alloc: Global,
+    mut attributes: Vec<Attribute>,
+    settings: &Settings,
+) -> Result<Paragraph, AllocError>
+    requires { AreFields attributes.items }
+    ensures { IfOk result (λ paragraph. paragraph ≡ attributes.items ++ owned settings.now) }
+{
+    settings.are_good();
+    let maintainer = attribute(alloc, b"mnt-by", settings.root().as_bytes())?;
+    let source = attribute(alloc, b"source", settings.source().as_bytes())?;
+    attributes.push(maintainer)?;
+    attributes.push(source)?;
+    Ok(Paragraph::new(attributes))
+}
+
+/// An attribute with a value of one line.
+fn attribute(alloc: Global, name: &[u8], line: &[u8]) -> Result<Attribute, AllocError>
+    ensures { IfOk result (λ attribute. attribute ≡ field name.now line.now) }
+{
+    let name = Text::from_slice(alloc, name)?;
+    let mut lines = Vec::with_capacity(alloc, 1)?;
+    lines.push(Text::from_slice(alloc, line)?)?;
+    Ok(Attribute::new(name, lines))
+}
+
+/// The value of `auth` for a digest.
+fn auth_text(alloc: Global, auth: &Auth) -> Result<Vec<u8>, AllocError>
+    ensures { IfOk result (λ line. line.items ≡ auth_line auth.now) }
+{
+    let digits = hex::encode(alloc, auth.digest())?;
+    let mut line = Vec::from_slice(alloc, b"SHA256-PW ")?;
+    line.extend_from_slice(auth.salt())?;
+    line.push(b':')?;
+    line.extend_from_slice(digits.as_bytes())?;
+    Ok(line)
 }

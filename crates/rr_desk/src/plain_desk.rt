@@ -1,17 +1,15 @@
 //! A desk without tables: a registry in memory, with the built-in settings.
 
 ghost use Rattle.std.specs.Prelude.{◌≡◌, IfOk};
-ghost use Rattle.rr_text.specs.Entries.{entries};
 ghost use Rattle.rr_submission.specs.Ledgers.{registry_ledger};
 ghost use Rattle.rr_submission.specs.Submissions.{Submits};
-ghost use Rattle.rr_registry.specs.Loading.{IsTaken};
-ghost use Rattle.rr_desk.specs.Opening.{AreObjects, IsOpened, built_in_source, opening_text};
+ghost use Rattle.rr_desk.specs.Opening.{IsOpened};
+ghost use Rattle.rr_desk.specs.Settings.{built_in};
 
-use crate::opening;
+use crate::opening::opening_registry;
+use crate::settings::Settings;
 use rr_io::{Sink, Source};
-use rr_number::Name;
-use rr_object::Object;
-use rr_registry::{LoadFault, Registry};
+use rr_registry::Registry;
 use rr_submission::{DeskFault, Done};
 use std::alloc::{AllocError, Global};
 use std::marker::Model;
@@ -20,7 +18,7 @@ use std::marker::Model;
 #[derive(Drop)]
 pub struct PlainDesk {
     registry: Registry,
-    source: Name,
+    settings: Settings,
 }
 
 impl Model for PlainDesk {
@@ -29,7 +27,7 @@ impl Model for PlainDesk {
     ghost use Rattle.std.specs.FinMap as map;
     ghost use Rattle.rr_object.specs.contracts.key.Key as key;
     ghost use Rattle.rr_object.specs.contracts.object.Object as object;
-    ghost use Rattle.rr_desk.specs.Opening.{built_in_source};
+    ghost use Rattle.rr_desk.specs.Settings.{built_in};
 
     ghost Value = { Reg };
 
@@ -37,19 +35,17 @@ impl Model for PlainDesk {
 
     ghost view = { λ d. d.registry };
 
-    ghost invariant = { λ d. d.source ≡ built_in_source };
+    ghost invariant = { λ d. d.settings ≡ built_in };
 }
 
 impl PlainDesk {
-    /// A desk with the opening objects; the error is want of memory.
-    #[tactic(auto, using(crate::proofs::OpeningObjects::opening_is_readable))]
+    /// A desk with the opening objects of the built-in settings; the error is want of memory.
     pub fn new(alloc: Global) -> Result<PlainDesk, AllocError>
-        ensures { IfOk result (IsOpened built_in_source (entries opening_text)) }
+        ensures { IfOk result (IsOpened built_in) }
     {
-        let source = opening::read_source(alloc)?;
-        let objects = opening::read_objects(alloc, opening::text().as_bytes(), &source)?;
-        let registry = register(alloc, objects)?;
-        Ok(PlainDesk { registry, source })
+        let settings = Settings::built_in(alloc)?;
+        let registry = opening_registry(alloc, &settings)?;
+        Ok(PlainDesk { registry, settings })
     }
 
     /// The registry.
@@ -67,7 +63,7 @@ impl PlainDesk {
         reader: &mut R,
         writer: &mut W,
     ) -> Result<Done, DeskFault>
-        ensures submits { Submits registry_ledger built_in_source (record {
+        ensures submits { Submits registry_ledger built_in.source (record {
           source_before = R.told reader.old;
           source_after = R.told reader.new;
           sink_before = W.told writer.old;
@@ -78,21 +74,12 @@ impl PlainDesk {
         ensures reader_aside { R.aside reader.new ≡ R.aside reader.old }
         ensures writer_aside { W.aside writer.new ≡ W.aside writer.old }
     {
-        rr_submission::submit(alloc, &mut self.registry, &self.source, reader, writer)
-    }
-}
-
-/// The registry of the opening objects; the error is want of memory.
-#[tactic(auto, using(crate::proofs::OpeningRegistry::opening_faultless))]
-fn register(alloc: Global, objects: Vec<Object>) -> Result<Registry, AllocError>
-    requires { AreObjects built_in_source (entries opening_text) objects.items }
-    ensures { IfOk result (IsTaken objects.items) }
-{
-    match Registry::from_objects(alloc, objects) {
-        Ok(registry) => Ok(registry),
-        Err(fault) => match fault {
-            LoadFault::Memory => Err(AllocError),
-            _ => unreachable!(),
-        },
+        rr_submission::submit(
+            alloc,
+            &mut self.registry,
+            self.settings.source(),
+            reader,
+            writer,
+        )
     }
 }

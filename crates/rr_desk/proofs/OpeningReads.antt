@@ -1,0 +1,253 @@
+-- The paragraphs of the opening objects are read as objects.
+use Rattle.std.proofs.Common.{◌≡◌, ℕ, Bool, true, false, not, ◌&&◌, ◌||◌, List, [], ◌∷◌, ◌++◌, Option, Some, None, Result, Ok, Err, refl, sym, ap, ◌∙◌, codes}
+use Rattle.std.specs.Prelude.{is_some}
+use Rattle.std.specs.Result.{is_ok}
+use Rattle.std.specs.Str.{bytes_eq}
+use Rattle.rr_bytes.specs.Cuts.{cut_at}
+use Rattle.rr_bytes.specs.LetterCase.{is_keyword, upper}
+use Rattle.rr_bytes.specs.NameBytes.{is_name}
+use Rattle.rr_bytes.specs.Trims.{trim_end, trim_start}
+use Rattle.rr_number.specs.Addresses.{address_of, joined_of}
+use Rattle.rr_number.specs.AsNumbers.{as_number_of}
+use Rattle.rr_number.specs.AsSpans.{as_span_of}
+use Rattle.rr_number.specs.Dashes.{dashed_of}
+use Rattle.rr_number.specs.EndsTexts.{ends_between}
+use Rattle.rr_number.specs.Names.{IsUpperName, is_maintainer_name, is_reserved, maintainer_name_of, name_of}
+use Rattle.rr_number.specs.Numerals.{number_of}
+use Rattle.rr_number.specs.Spans.{Ends}
+use Rattle.rr_number.specs.SpanTexts.{spelled_span}
+use Rattle.rr_number.proofs.NameLemmas.{name_of-upper_name}
+use Rattle.rr_text.specs.Fields.{Field}
+use Rattle.rr_text.specs.Meanings.{value_meaning}
+use Rattle.rr_object.specs.Auths.{auth_item}
+use Rattle.rr_object.specs.Grants.{entries_behind}
+use Rattle.rr_object.specs.Items.{items, only, values_of}
+use Rattle.rr_object.specs.Keys.{class_of}
+use Rattle.rr_object.specs.KeySpellings.{key_at, key_of, key_of_text}
+use Rattle.rr_object.specs.Kinds.{kind_name, occurs}
+use Rattle.rr_object.specs.Objects.{Obj, names_of}
+use Rattle.rr_object.specs.Readings.{has_bad_authority, has_bad_membership, has_bad_text, has_bad_value, is_from, is_miscounted, items_of, items_read, obj_at, obj_of, object_of, source_of}
+use Rattle.rr_object.specs.declared.class.Class.{Class}
+use Rattle.rr_object.specs.declared.class.Class.TheVariants as class
+use Rattle.rr_object.specs.declared.key.Key.{Key}
+use Rattle.rr_object.specs.declared.key.Key.TheVariants.{Mntner, AsBlock, Inetnum}
+use Rattle.rr_object.specs.declared.kind.Kind.TheVariants.{MntBy, Source, Auth, MntLower, MntRoutes, Members, MbrsByRef, MemberOf}
+use Rattle.rr_desk.specs.Opening.{addresses_fields, auth_line, field, four_octets_fields, numbers_fields, owned, root_fields}
+use Rattle.rr_desk.specs.Settings.{IsSettings, SettingsParts}
+use Rattle.rr_desk.proofs.PlainTexts.{shown_meaning}
+use Rattle.rr_desk.proofs.OpeningLines.{auth_read, equal_texts, maintainer_read, one_item, plain_name, shown_auth, shown_name}
+
+-- a paragraph without a fault is the object of its key
+read_as : (fields : List Field) (source : List ℕ) (key : Key) → key_of fields ≡ Ok key → is_miscounted (class_of key) fields ≡ false
+    → has_bad_value (class_of key) fields ≡ false → is_from source fields ≡ true → object_of fields source ≡ Ok (obj_at key fields)
+unfolding object_of obj_of
+read_as fields source key read counted spelled own = rw (read, counted, spelled, own) refl
+
+-- the attributes of an opening object: its own, and those that it ends in
+abbrev pub span_fields : List ℕ → List ℕ → SettingsParts → List Field
+span_fields name line s = field name line ∷ owned s
+
+root_means : (s : SettingsParts) → IsSettings s → value_meaning (s.root ∷ []) ≡ s.root
+root_means s is = shown_meaning s.root (shown_name s.root is.root.spelled)
+
+source_means : (s : SettingsParts) → IsSettings s → value_meaning (s.source ∷ []) ≡ s.source
+source_means s is = shown_meaning s.source (shown_name s.source is.source.spelled)
+
+auth_means : (s : SettingsParts) → IsSettings s → value_meaning (auth_line s.auth ∷ []) ≡ auth_line s.auth
+auth_means s is = shown_meaning (auth_line s.auth) (shown_auth s.auth is.auth)
+
+-- the items of the root maintainer
+root_maintained : (s : SettingsParts) → IsSettings s → items_of MntBy (root_fields s) ≡ s.root ∷ []
+unfolding items_of
+root_maintained s is = rw (root_means s is, one_item s.root (plain_name s.root is.root.spelled)) refl
+
+root_sources : (s : SettingsParts) → IsSettings s → items_of Source (root_fields s) ≡ s.source ∷ []
+unfolding items_of
+root_sources s is = rw (source_means s is, one_item s.source (plain_name s.source is.source.spelled)) refl
+
+root_auths : (s : SettingsParts) → IsSettings s → items_of Auth (root_fields s) ≡ auth_line s.auth ∷ []
+unfolding items_of
+root_auths s is = rw (auth_means s is) refl
+
+root_source : (s : SettingsParts) → IsSettings s → source_of (root_fields s) ≡ Some s.source
+root_source s is = rw (source_means s is, name_of-upper_name s.source is.source) refl
+
+root_key : (s : SettingsParts) → IsSettings s → key_of (root_fields s) ≡ Ok (Mntner s.root)
+unfolding key_of key_at key_of_text
+root_key s is = rw (root_means s is, maintainer_read s.root is.root is.maintainer) refl
+
+root_counted : (s : SettingsParts) → IsSettings s → is_miscounted class.Mntner (root_fields s) ≡ false
+unfolding is_miscounted occurs
+root_counted s is = rw (root_maintained s is, root_sources s is, root_auths s is) refl
+
+root_texts : (s : SettingsParts) → IsSettings s → has_bad_text (root_fields s) ≡ false
+unfolding has_bad_text
+root_texts s is = rw (root_source s is) refl
+
+root_authority : (s : SettingsParts) → IsSettings s → has_bad_authority class.Mntner (root_fields s) ≡ false
+unfolding has_bad_authority items_read occurs entries_behind
+root_authority s is =
+    rw (root_maintained s is, root_auths s is, maintainer_read s.root is.root is.maintainer, auth_read s.auth is.auth) refl
+
+root_memberships : (s : SettingsParts) → has_bad_membership class.Mntner (root_fields s) ≡ false
+unfolding has_bad_membership items_read occurs
+root_memberships s = refl
+
+root_spelled : (s : SettingsParts) → IsSettings s → has_bad_value class.Mntner (root_fields s) ≡ false
+unfolding has_bad_value
+root_spelled s is = rw (root_texts s is, root_authority s is, root_memberships s) refl
+
+root_own : (s : SettingsParts) → IsSettings s → is_from s.source (root_fields s) ≡ true
+root_own s is = rw (root_source s is) (equal_texts s.source)
+
+-- the root maintainer's paragraph is the mntner of its name
+abbrev pub root_object : SettingsParts → Obj
+root_object s = obj_at (Mntner s.root) (root_fields s)
+
+pub root_read : (s : SettingsParts) → IsSettings s → object_of (root_fields s) s.source ≡ Ok (root_object s)
+root_read s is = read_as (root_fields s) s.source (Mntner s.root) (root_key s is) (root_counted s is) (root_spelled s is) (root_own s is)
+
+pub root_named : (s : SettingsParts) → IsSettings s → names_of (root_object s) ≡ s.root ∷ []
+unfolding obj_at items_read occurs entries_behind
+root_named s is = rw (root_maintained s is, maintainer_read s.root is.root is.maintainer) refl
+
+-- the items of an opening object of another class
+span_maintained : (name line : List ℕ) (s : SettingsParts) → IsSettings s → bytes_eq name (codes "mnt-by") ≡ false → items_of MntBy (span_fields name line s) ≡ s.root ∷ []
+unfolding items_of
+span_maintained name line s is other = rw (other, root_means s is, one_item s.root (plain_name s.root is.root.spelled)) refl
+
+span_sources : (name line : List ℕ) (s : SettingsParts) → IsSettings s → bytes_eq name (codes "source") ≡ false → items_of Source (span_fields name line s) ≡ s.source ∷ []
+unfolding items_of
+span_sources name line s is other = rw (other, source_means s is, one_item s.source (plain_name s.source is.source.spelled)) refl
+
+span_source : (name line : List ℕ) (s : SettingsParts) → IsSettings s → bytes_eq name (codes "source") ≡ false → source_of (span_fields name line s) ≡ Some s.source
+span_source name line s is other = rw (other, source_means s is, name_of-upper_name s.source is.source) refl
+
+-- a block of AS numbers
+abbrev pub block_fields : List ℕ → SettingsParts → List Field
+block_fields line s = span_fields (codes "as-block") line s
+
+block_maintained : (line : List ℕ) (s : SettingsParts) → IsSettings s → items_of MntBy (block_fields line s) ≡ s.root ∷ []
+block_maintained line s is = span_maintained (codes "as-block") line s is refl
+
+block_lower : (line : List ℕ) (s : SettingsParts) → items_of MntLower (block_fields line s) ≡ []
+unfolding items_of items
+block_lower line s = refl
+
+block_counted : (line : List ℕ) (s : SettingsParts) → IsSettings s → is_miscounted class.AsBlock (block_fields line s) ≡ false
+unfolding is_miscounted occurs
+block_counted line s is = rw (block_maintained line s is, span_sources (codes "as-block") line s is refl) refl
+
+block_texts : (line : List ℕ) (s : SettingsParts) → IsSettings s → has_bad_text (block_fields line s) ≡ false
+unfolding has_bad_text
+block_texts line s is = rw (span_source (codes "as-block") line s is refl) refl
+
+block_authority : (line : List ℕ) (s : SettingsParts) → IsSettings s → has_bad_authority class.AsBlock (block_fields line s) ≡ false
+unfolding has_bad_authority items_read occurs entries_behind
+block_authority line s is =
+    rw (block_maintained line s is, block_lower line s, maintainer_read s.root is.root is.maintainer) refl
+
+block_memberships : (line : List ℕ) (s : SettingsParts) → has_bad_membership class.AsBlock (block_fields line s) ≡ false
+unfolding has_bad_membership items_read occurs
+block_memberships line s = refl
+
+block_spelled : (line : List ℕ) (s : SettingsParts) → IsSettings s → has_bad_value class.AsBlock (block_fields line s) ≡ false
+unfolding has_bad_value
+block_spelled line s is = rw (block_texts line s is, block_authority line s is, block_memberships line s) refl
+
+block_own : (line : List ℕ) (s : SettingsParts) → IsSettings s → is_from s.source (block_fields line s) ≡ true
+block_own line s is = rw (span_source (codes "as-block") line s is refl) (equal_texts s.source)
+
+-- a block's paragraph is its object
+abbrev pub block_object : Ends → List ℕ → SettingsParts → Obj
+block_object block line s = obj_at (AsBlock block) (block_fields line s)
+
+block_read : (block : Ends) (line : List ℕ) (s : SettingsParts) → IsSettings s → key_of (block_fields line s) ≡ Ok (AsBlock block)
+    → object_of (block_fields line s) s.source ≡ Ok (block_object block line s)
+block_read block line s is key =
+    read_as (block_fields line s) s.source (AsBlock block) key (block_counted line s is) (block_spelled line s is) (block_own line s is)
+
+pub block_named : (block : Ends) (line : List ℕ) (s : SettingsParts) → IsSettings s → names_of (block_object block line s) ≡ s.root ∷ []
+unfolding obj_at items_read occurs entries_behind
+block_named block line s is =
+    rw (block_maintained line s is, block_lower line s, maintainer_read s.root is.root is.maintainer) refl
+
+-- the two blocks
+abbrev pub numbers : Ends
+numbers = record { first = 0; last = 65535 }
+
+abbrev pub four_octets : Ends
+four_octets = record { first = 65536; last = 4294967295 }
+
+numbers_key : (s : SettingsParts) → key_of (numbers_fields s) ≡ Ok (AsBlock numbers)
+unfolding key_of key_at key_of_text value_meaning trim_end trim_start as_span_of ends_between dashed_of cut_at as_number_of number_of
+numbers_key s = refl
+
+four_octets_key : (s : SettingsParts) → key_of (four_octets_fields s) ≡ Ok (AsBlock four_octets)
+unfolding key_of key_at key_of_text value_meaning trim_end trim_start as_span_of ends_between dashed_of cut_at as_number_of number_of
+four_octets_key s = refl
+
+pub numbers_read : (s : SettingsParts) → IsSettings s → object_of (numbers_fields s) s.source ≡ Ok (block_object numbers (codes "AS0 - AS65535") s)
+numbers_read s is = block_read numbers (codes "AS0 - AS65535") s is (numbers_key s)
+
+pub four_octets_read : (s : SettingsParts) → IsSettings s → object_of (four_octets_fields s) s.source ≡ Ok (block_object four_octets (codes "AS65536 - AS4294967295") s)
+four_octets_read s is = block_read four_octets (codes "AS65536 - AS4294967295") s is (four_octets_key s)
+
+-- the span of all addresses
+addresses_maintained : (s : SettingsParts) → IsSettings s → items_of MntBy (addresses_fields s) ≡ s.root ∷ []
+addresses_maintained s is = span_maintained (codes "inetnum") (codes "0.0.0.0 - 255.255.255.255") s is refl
+
+addresses_source : (s : SettingsParts) → IsSettings s → source_of (addresses_fields s) ≡ Some s.source
+addresses_source s is = span_source (codes "inetnum") (codes "0.0.0.0 - 255.255.255.255") s is refl
+
+addresses_lower : (s : SettingsParts) → items_of MntLower (addresses_fields s) ≡ []
+unfolding items_of items
+addresses_lower s = refl
+
+addresses_routes : (s : SettingsParts) → items_of MntRoutes (addresses_fields s) ≡ []
+unfolding items_of items
+addresses_routes s = refl
+
+addresses_counted : (s : SettingsParts) → IsSettings s → is_miscounted class.Inetnum (addresses_fields s) ≡ false
+unfolding is_miscounted occurs
+addresses_counted s is =
+    rw (addresses_maintained s is, span_sources (codes "inetnum") (codes "0.0.0.0 - 255.255.255.255") s is refl) refl
+
+addresses_texts : (s : SettingsParts) → IsSettings s → has_bad_text (addresses_fields s) ≡ false
+unfolding has_bad_text
+addresses_texts s is = rw (addresses_source s is) refl
+
+addresses_authority : (s : SettingsParts) → IsSettings s → has_bad_authority class.Inetnum (addresses_fields s) ≡ false
+unfolding has_bad_authority items_read occurs entries_behind
+addresses_authority s is =
+    rw (addresses_maintained s is, addresses_lower s, addresses_routes s, maintainer_read s.root is.root is.maintainer) refl
+
+addresses_memberships : (s : SettingsParts) → has_bad_membership class.Inetnum (addresses_fields s) ≡ false
+unfolding has_bad_membership items_read occurs
+addresses_memberships s = refl
+
+addresses_spelled : (s : SettingsParts) → IsSettings s → has_bad_value class.Inetnum (addresses_fields s) ≡ false
+unfolding has_bad_value
+addresses_spelled s is = rw (addresses_texts s is, addresses_authority s is, addresses_memberships s) refl
+
+addresses_own : (s : SettingsParts) → IsSettings s → is_from s.source (addresses_fields s) ≡ true
+addresses_own s is = rw (addresses_source s is) (equal_texts s.source)
+
+abbrev pub addresses : Ends
+addresses = record { first = 0; last = 4294967295 }
+
+addresses_key : (s : SettingsParts) → key_of (addresses_fields s) ≡ Ok (Inetnum addresses)
+unfolding key_of key_at key_of_text value_meaning trim_end trim_start spelled_span ends_between dashed_of cut_at address_of joined_of number_of
+addresses_key s = refl
+
+abbrev pub addresses_object : SettingsParts → Obj
+addresses_object s = obj_at (Inetnum addresses) (addresses_fields s)
+
+pub addresses_read : (s : SettingsParts) → IsSettings s → object_of (addresses_fields s) s.source ≡ Ok (addresses_object s)
+addresses_read s is =
+    read_as (addresses_fields s) s.source (Inetnum addresses) (addresses_key s) (addresses_counted s is) (addresses_spelled s is) (addresses_own s is)
+
+pub addresses_named : (s : SettingsParts) → IsSettings s → names_of (addresses_object s) ≡ s.root ∷ []
+unfolding obj_at items_read occurs entries_behind
+addresses_named s is =
+    rw (addresses_maintained s is, addresses_lower s, addresses_routes s, maintainer_read s.root is.root is.maintainer) refl

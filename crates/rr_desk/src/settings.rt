@@ -1,0 +1,219 @@
+//! Settings: what a registry opens with, and how far expansions of sets go (profile).
+
+ghost use Rattle.std.specs.Prelude.{◌≡◌, ◌≢◌, IfErr, IfOk, IfSome, None, Ok, Some};
+ghost use Rattle.std.specs.Option.{option_copied};
+ghost use Rattle.std.specs.Result.{result_ok};
+ghost use Rattle.rr_number.specs.Names.{maintainer_name_of, name_of};
+ghost use Rattle.rr_desk.specs.Settings.{IsDigest, IsSettings, built_in, digest_of, limit_of, needed, settings_of};
+ghost use Rattle.rr_desk.specs.declared.settings.SettingsFault.TheVariants.{Memory};
+ghost use Rattle.rr_desk.specs.declared.settings.Setting.TheVariants as settings;
+
+use rr_number::Name;
+use rr_object::{Auth, ObjectFault};
+use std::alloc::{AllocError, Global};
+use std::marker::Model;
+use thiserror::Error;
+
+/// The most names that an expansion may be let reach (profile).
+pub const GREATEST_LIMIT: u64 = 1_000_000;
+
+/// The settings by name.
+#[derive(Clone, Copy, Debug, PartialEq, Eq)]
+pub enum Setting {
+    /// The name of the registry: the `source` of its objects.
+    Source,
+    /// The name of the root maintainer.
+    Root,
+    /// The `auth` of the root maintainer.
+    Auth,
+    /// The most names that an expansion may reach.
+    Limit,
+}
+
+/// Why there are no settings.
+#[derive(Clone, Copy, Debug, PartialEq, Eq, Error)]
+pub enum SettingsFault {
+    /// This setting, the first in the order of `Setting`, is missing or bad.
+    #[error("a setting is missing or bad")]
+    Bad(Setting),
+    /// Memory ran out.
+    #[error("out of memory")]
+    Memory,
+}
+
+impl From<AllocError> for SettingsFault {
+    ghost from_gives = { λ _ fault. fault ≡ Memory };
+
+    fn from(_error: AllocError) -> SettingsFault {
+        SettingsFault::Memory
+    }
+}
+
+/// What a registry opens with: its source, its root maintainer with the digest of its secret; and the most names, 1 to
+/// 1,000,000, that an expansion of a set may reach (profile).
+#[derive(Debug, Drop)]
+pub struct Settings {
+    source: Name,
+    root: Name,
+    auth: Auth,
+    limit: u64,
+}
+
+impl Model for Settings {
+    ghost use Rattle.rr_desk.specs.Settings.{IsSettings, SettingsParts};
+
+    ghost Value = { SettingsParts };
+
+    ghost view = { λ s. record { source = s.source; root = s.root; auth = s.auth; limit = s.limit } };
+
+    ghost invariant = { λ s. IsSettings (record { source = s.source; root = s.root; auth = s.auth; limit = s.limit }) };
+}
+
+impl Settings {
+    /// The settings that these values are: a name, a maintainer's name, a value of `auth` of the scheme `SHA256-PW`, and a
+    /// limit of 1 to 1,000,000. `None` where one of them is not good; the error is want of memory.
+    pub fn new(
+        alloc: Global,
+        source: &str,
+        root: &str,
+        auth: &str,
+        limit: u64,
+    ) -> Result<Option<Settings>, AllocError>
+        ensures { IfOk result (λ read. read ≡ result_ok (settings_of (Some source.now) (Some root.now) (Some auth.now) (Some limit))) }
+    {
+        match Settings::read(alloc, Some(source), Some(root), Some(auth), Some(limit)) {
+            Ok(settings) => Ok(Some(settings)),
+            Err(SettingsFault::Bad(_)) => Ok(None),
+            Err(SettingsFault::Memory) => Err(AllocError),
+        }
+    }
+
+    /// The same of values some of which may be missing. The fault is the first setting, in the order of `Setting`, that is
+    /// missing or bad, or want of memory.
+    #[tactic(auto, unfolding(crate::specs::Settings::settings_of), using(crate::proofs::GoodSettings::good_settings))]
+    pub fn read(
+        alloc: Global,
+        source: Option<&str>,
+        root: Option<&str>,
+        auth: Option<&str>,
+        limit: Option<u64>,
+    ) -> Result<Settings, SettingsFault>
+        ensures ok { IfOk result (λ read. settings_of (option_copied source.entry) (option_copied root.entry) (option_copied auth.entry) limit ≡ Ok read) }
+        ensures fault { IfErr result (λ fault. fault ≢ Memory
+            → settings_of (option_copied source.entry) (option_copied root.entry) (option_copied auth.entry) limit ≡ Err fault) }
+    {
+        let source = read_source(alloc, source)?;
+        let root = read_root(alloc, root)?;
+        let auth = read_digest(alloc, auth)?;
+        let limit = read_limit(limit)?;
+        Ok(Settings {
+            source,
+            root,
+            auth,
+            limit,
+        })
+    }
+
+    /// The settings of the program without words (profile); the error is want of memory.
+    #[tactic(auto, using(crate::proofs::GoodSettings::built_in_read))]
+    pub fn built_in(alloc: Global) -> Result<Settings, AllocError>
+        ensures { IfOk result (λ settings. settings ≡ built_in) }
+    {
+        match Settings::new(alloc, "TEST", "ROOT-MNT", BUILT_IN_AUTH, 10_000)? {
+            Some(settings) => Ok(settings),
+            None => unreachable!(),
+        }
+    }
+
+    /// The source of the registry.
+    pub fn source(&self) -> &Name
+        ensures { result.now ≡ self.now.source }
+    {
+        &self.source
+    }
+
+    /// The name of the root maintainer.
+    pub fn root(&self) -> &Name
+        ensures { result.now ≡ self.now.root }
+    {
+        &self.root
+    }
+
+    /// The digest of the root's secret.
+    pub fn auth(&self) -> &Auth
+        ensures { result.now ≡ self.now.auth }
+    {
+        &self.auth
+    }
+
+    /// The most names that an expansion may reach, 1 to 1,000,000.
+    pub fn limit(&self) -> u64
+        ensures { result ≡ self.now.limit }
+    {
+        self.limit
+    }
+
+    /// Tells a caller's proof that the settings are good; it does nothing.
+    pub fn are_good(&self)
+        ensures { IsSettings self.now }
+    {
+        let _limit = self.limit;
+    }
+}
+
+/// The `auth` of the root of the program without words: the salt `a`, and the SHA-256 digest of `abc` (FIPS 180-4).
+const BUILT_IN_AUTH: &str =
+    "SHA256-PW a:ba7816bf8f01cfea414140de5dae2223b00361a396177a9cb410ff61f20015ad";
+
+/// The name of a source.
+fn read_source(alloc: Global, given: Option<&str>) -> Result<Name, SettingsFault>
+    ensures ok { IfOk result (λ name. needed settings.Source name_of (option_copied given.entry) ≡ Ok name) }
+    ensures fault { IfErr result (λ fault. fault ≢ Memory → needed settings.Source name_of (option_copied given.entry) ≡ Err fault) }
+{
+    let Some(text) = given else {
+        return Err(SettingsFault::Bad(Setting::Source));
+    };
+    match Name::read(alloc, text.as_bytes())? {
+        Some(name) => Ok(name),
+        None => Err(SettingsFault::Bad(Setting::Source)),
+    }
+}
+
+/// The name of a maintainer.
+fn read_root(alloc: Global, given: Option<&str>) -> Result<Name, SettingsFault>
+    ensures ok { IfOk result (λ name. needed settings.Root maintainer_name_of (option_copied given.entry) ≡ Ok name) }
+    ensures fault { IfErr result (λ fault. fault ≢ Memory → needed settings.Root maintainer_name_of (option_copied given.entry) ≡ Err fault) }
+{
+    let Some(text) = given else {
+        return Err(SettingsFault::Bad(Setting::Root));
+    };
+    match Name::read_maintainer(alloc, text.as_bytes())? {
+        Some(name) => Ok(name),
+        None => Err(SettingsFault::Bad(Setting::Root)),
+    }
+}
+
+/// The digest of a secret.
+fn read_digest(alloc: Global, given: Option<&str>) -> Result<Auth, SettingsFault>
+    ensures ok { IfOk result (λ auth. needed settings.Auth digest_of (option_copied given.entry) ≡ Ok auth) }
+    ensures fault { IfErr result (λ fault. fault ≢ Memory → needed settings.Auth digest_of (option_copied given.entry) ≡ Err fault) }
+{
+    let Some(text) = given else {
+        return Err(SettingsFault::Bad(Setting::Auth));
+    };
+    match rr_object::read_auth(alloc, text.as_bytes()) {
+        Ok(Some(auth)) => Ok(auth),
+        Err(ObjectFault::Memory) => Err(SettingsFault::Memory),
+        _ => Err(SettingsFault::Bad(Setting::Auth)),
+    }
+}
+
+/// A limit within its bounds.
+fn read_limit(given: Option<u64>) -> Result<u64, SettingsFault>
+    ensures { result ≡ needed settings.Limit limit_of given }
+{
+    match given {
+        Some(limit) if limit >= 1 && limit <= GREATEST_LIMIT => Ok(limit),
+        _ => Err(SettingsFault::Bad(Setting::Limit)),
+    }
+}

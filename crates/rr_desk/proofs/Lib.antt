@@ -3,3 +3,4 @@ pub mod PlainTexts
 pub mod OpeningLines
 pub mod OpeningReads
 pub mod OpeningRegistry
+pub mod Following

@@ -1,5 +1,7 @@
+pub mod Checks
 pub mod Empty
 pub mod Faults
 pub mod Kept
+pub mod Namings
 pub mod Reading
 pub mod Versions

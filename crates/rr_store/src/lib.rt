@@ -2,6 +2,7 @@
 #![tactic(auto)]
 
 mod bodies;
+mod checks;
 mod columns;
 mod creating;
 mod entry;
@@ -9,8 +10,10 @@ mod fault;
 mod filling;
 mod making;
 mod names;
+mod namings;
 mod objects;
 mod reading;
+mod settings;
 mod statements;
 mod store;
 mod tidy;

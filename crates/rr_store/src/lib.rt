@@ -2,6 +2,7 @@
 #![tactic(auto)]
 
 mod bodies;
+mod checks;
 mod columns;
 mod creating;
 mod entry;
@@ -10,8 +11,10 @@ mod filling;
 mod making;
 mod migrating;
 mod names;
+mod namings;
 mod objects;
 mod reading;
+mod settings;
 mod statements;
 mod store;
 mod tidy;

@@ -10,3 +10,4 @@ pub mod EntryLemmas
 pub mod MapKeys
 pub mod MapEntries
 pub mod MapRows
+pub mod MapLists

@@ -3,20 +3,20 @@ use Rattle.std.proofs.Common.{◌≡◌, Bool, true, false, cond, not, ◌&&◌,
 use Rattle.std.specs.List.{AllByRecursion}
 use Rattle.std.specs.Ordering.{eq_by_cmp, is_eq, is_lt}
 use Rattle.std.specs.Cmp.{IsTotalOrder, Equal-is, tied_itself, eq_by_cmp_equiv}
-use Rattle.std.specs.FinMap.{FinMap, IsAntisymmetric, insert, remove, values, entries, entries_sorted, entries-insert, get-entries, get-remove, is_sorted, find}
+use Rattle.std.specs.FinMap.{FinMap, IsAntisymmetric, get, insert, remove, values, entries, entries_sorted, entries-insert, get-entries, get-remove, is_sorted, find}
 use Rattle.std.specs.FinMap.Entries.{below_all, by_order, find-where_key, is_sorted-where_key, put, same_entries, where_key}
 use Rattle.std.proofs.lemmas.List.Sorted.{IsPermutation-refl, IsPermutation-cons, IsPermutation-trans, IsPermutation-middle}
 use Rattle.sqlite_trees.proofs.ListLemmas.{IsPermutation-same}
 
-first_part : (a b : Bool) → T (a && b) → T a
+pub first_part : (a b : Bool) → T (a && b) → T a
 first_part true b h = tt
 first_part false b h = absurd h
 
-second_part : (a b : Bool) → T (a && b) → T b
+pub second_part : (a b : Bool) → T (a && b) → T b
 second_part true b h = h
 second_part false b h = absurd h
 
-is_less : (o : Ordering) → T (is_lt o) → o ≡ Less
+pub is_less : (o : Ordering) → T (is_lt o) → o ≡ Less
 is_less Less h = refl
 is_less Equal h = absurd h
 is_less Greater h = absurd h
@@ -100,3 +100,16 @@ module _ {K X : Type 0} {R : K → K → Ordering} (order : IsTotalOrder R) wher
     values_with m k v =
         subst (λ es. IsPermutation (v ∷ map (λ e. e.1) es) (values (insert m k v))) (sym (entries_without m k))
         (subst (λ es. IsPermutation (v ∷ map (λ e. e.1) (others k (entries m))) (map (λ e. e.1) es)) (sym (entries-insert order m k v)) (put_permutes k v (entries m) (entries_sorted m)))
+
+  -- nothing is taken out where the key is not found
+  none_without : (k : K) (es : List (K × X)) → find R k es ≡ None → others k es ≡ es
+  none_without k [] h = refl
+  none_without k (e ∷ es) h =
+      elim (eq_by_cmp R k e.0) as (λ b. eq_by_cmp R k e.0 ≡ b → cond b (Some e.1) (find R k es) ≡ None → cond (not b) (e ∷ others k es) (others k es) ≡ e ∷ es)
+      [ true ↦ λ t is. absurd (cc) | false ↦ λ t is. ap (λ l. e ∷ l) (none_without k es is) ] refl h
+
+  -- a value of a new key stands in front of the others, but for the order
+  pub values_with_new : IsAntisymmetric R → (m : FinMap R X) (k : K) (v : X) → get m k ≡ None → IsPermutation (v ∷ values m) (values (insert m k v))
+  values_with_new exact m k v none =
+      subst (λ es. IsPermutation (v ∷ map (λ e. e.1) es) (values (insert m k v)))
+      (entries_without exact m k ∙ none_without k (entries m) (sym (get-entries m k) ∙ none)) (values_with exact m k v)

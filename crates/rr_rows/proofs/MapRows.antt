@@ -49,7 +49,7 @@ module _ (key : Key) (formed : HasKeyParts key) where
       ∙ ap (map entry_of) (filter_same _ _ os (all_weaker _ _ (λ o f. ap not (same_at o f)) os all))
 
 module _ (objects : FinMap key_cmp Obj) (keyed : IsKeyed objects) where
-  keys_told : AllByRecursion (λ (e : Key × Obj). e.1.key ≡ e.0) (entries objects)
+  pub keys_told : AllByRecursion (λ (e : Key × Obj). e.1.key ≡ e.0) (entries objects)
   keys_told = each_entry keys_total (λ k o. o.key ≡ k) (entries objects) (entries_sorted objects) (λ k o found. keyed.keyed k o (get-entries objects k ∙ found))
 
   -- what holds of each object that is found holds of each value
@@ -91,7 +91,7 @@ after_insert P objects new fits old k o is =
       | false ↦ λ t found. old k o found
     ] refl (sym (get-insert keys_total objects new.key new k) ∙ is)
 
-put_keyed : (objects : FinMap key_cmp Obj) (new : Obj) → IsKeyValue new.key → IsObject new → IsKeyed objects → IsKeyed (insert objects new.key new)
+pub put_keyed : (objects : FinMap key_cmp Obj) (new : Obj) → IsKeyValue new.key → IsObject new → IsKeyed objects → IsKeyed (insert objects new.key new)
 put_keyed objects new formed read keyed = record {
   keyed = after_insert (λ k o. o.key ≡ k) objects new refl keyed.keyed;
   formed = after_insert (λ k o. IsKeyValue k) objects new formed keyed.formed;

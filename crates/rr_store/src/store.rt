@@ -8,6 +8,7 @@ ghost use Rattle.rr_object.specs.Classes.{class_number};
 ghost use Rattle.rr_object.specs.Keys.{class_of};
 ghost use Rattle.rr_object.specs.KeyTexts.{key_bytes};
 ghost use Rattle.rr_rows.specs.Entries.{IsPut, IsTaken, TreesOf, entry_of};
+ghost use Rattle.rr_rows.specs.Maps.{Puts, Takes};
 
 use crate::fault::StoreFault;
 use crate::names::maintainers_of;
@@ -42,6 +43,20 @@ impl<S: Alter> Store<S> {
     /// Puts the rows of the object in place of those of its key. After a fault the rows are as they were.
     pub fn put(&mut self, alloc: Global, object: &Object) -> Result<(), StoreFault>
         ensures ok { HasCleanDisk (state S.Store self.new) → OnOk result (IsPut (entry_of object.now) (state S.Store self.old).now (state S.Store self.new).now) }
+        ensures puts { HasCleanDisk (state S.Store self.new) → OnOk result (Puts object.now.key object.now (state S.Store self.old).now (state S.Store self.new).now) }
+        ensures is_open { HasCleanDisk (state S.Store self.new) → OnOk result (IsTrue (state S.Store self.new).is_open) }
+        ensures err { HasCleanDisk (state S.Store self.new) → IsTrue (state S.Store self.new).is_open → OnErr result ((state S.Store self.new).now ≡ (state S.Store self.old).now) }
+        ensures crash { Survives (state S.Store self.old) (state S.Store self.new) (TreesOf (IsPut (entry_of object.now) (state S.Store self.old).now)) }
+        ensures crash_puts { Survives (state S.Store self.old) (state S.Store self.new) (TreesOf (Puts object.now.key object.now (state S.Store self.old).now)) }
+    {
+        object.key_is_well_formed();
+        object.is_read_from_its_paragraph();
+        let _attributes = object.paragraph().attributes();
+        self.put_rows_of(alloc, object)
+    }
+
+    fn put_rows_of(&mut self, alloc: Global, object: &Object) -> Result<(), StoreFault>
+        ensures ok { HasCleanDisk (state S.Store self.new) → OnOk result (IsPut (entry_of object.now) (state S.Store self.old).now (state S.Store self.new).now) }
         ensures is_open { HasCleanDisk (state S.Store self.new) → OnOk result (IsTrue (state S.Store self.new).is_open) }
         ensures err { HasCleanDisk (state S.Store self.new) → IsTrue (state S.Store self.new).is_open → OnErr result ((state S.Store self.new).now ≡ (state S.Store self.old).now) }
         ensures crash { Survives (state S.Store self.old) (state S.Store self.new) (TreesOf (IsPut (entry_of object.now) (state S.Store self.old).now)) }
@@ -58,6 +73,18 @@ impl<S: Alter> Store<S> {
 
     /// Takes out the rows of the object with this key, if there is one. After a fault the rows are as they were.
     pub fn remove(&mut self, alloc: Global, key: &Key) -> Result<(), StoreFault>
+        ensures ok { HasCleanDisk (state S.Store self.new) → OnOk result (IsTaken (class_number (class_of key.now)) (key_bytes key.now) (state S.Store self.old).now (state S.Store self.new).now) }
+        ensures takes { HasCleanDisk (state S.Store self.new) → OnOk result (Takes key.now (state S.Store self.old).now (state S.Store self.new).now) }
+        ensures is_open { HasCleanDisk (state S.Store self.new) → OnOk result (IsTrue (state S.Store self.new).is_open) }
+        ensures err { HasCleanDisk (state S.Store self.new) → IsTrue (state S.Store self.new).is_open → OnErr result ((state S.Store self.new).now ≡ (state S.Store self.old).now) }
+        ensures crash { Survives (state S.Store self.old) (state S.Store self.new) (TreesOf (IsTaken (class_number (class_of key.now)) (key_bytes key.now) (state S.Store self.old).now)) }
+        ensures crash_takes { Survives (state S.Store self.old) (state S.Store self.new) (TreesOf (Takes key.now (state S.Store self.old).now)) }
+    {
+        key.is_within_bounds();
+        self.remove_rows_of(alloc, key)
+    }
+
+    fn remove_rows_of(&mut self, alloc: Global, key: &Key) -> Result<(), StoreFault>
         ensures ok { HasCleanDisk (state S.Store self.new) → OnOk result (IsTaken (class_number (class_of key.now)) (key_bytes key.now) (state S.Store self.old).now (state S.Store self.new).now) }
         ensures is_open { HasCleanDisk (state S.Store self.new) → OnOk result (IsTrue (state S.Store self.new).is_open) }
         ensures err { HasCleanDisk (state S.Store self.new) → IsTrue (state S.Store self.new).is_open → OnErr result ((state S.Store self.new).now ≡ (state S.Store self.old).now) }

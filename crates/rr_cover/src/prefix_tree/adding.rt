@@ -203,7 +203,7 @@ pub(super) fn set<T: Drop>(
     }
 }
 
-/// Puts the value at the prefix, which the root covers.
+/// Puts the value at the prefix, which the root covers: so there is one.
 #[cycle(insertion)]
 fn set_below<T: Drop>(
     tree: &mut Tree<T>,

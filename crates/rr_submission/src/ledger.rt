@@ -5,13 +5,8 @@ ghost use Rattle.rr_auth.specs.Registries.{Reg, Sound};
 ghost use Rattle.rr_auth.specs.declared.item.Item.{Item};
 ghost use Rattle.rr_registry.specs.Runs.{IsStep};
 
-<<<<<<< HEAD
 use rr_auth::{Book, Item, Secrets};
-use rr_registry::{Outcome, Registry};
-=======
-use rr_auth::{Item, Secrets};
 use rr_registry::{Keeper, Outcome, Registry};
->>>>>>> e4e92226a91d1b7af547b7dafb8af3e9c6a02ec7
 use std::alloc::Global;
 
 /// A ledger came to a halt at an item: it decides no more.

@@ -96,6 +96,10 @@ impl<S: Alter> Ledger for Stored<S> {
 
     ghost Halts = { λ old secrets item new. IsHalted old.registry secrets item new.registry new.stopped (state S.Store new.store) };
 
+    fn sound(&self) {
+        self.registry.sound();
+    }
+
     fn decide(&mut self, alloc: Global, secrets: &Secrets, item: Item) -> Result<Outcome, Halted> {
         let Ok(key) = copied_key(alloc, &item) else {
             return Ok(Outcome::Refused(Code::E90));

@@ -1,5 +1,5 @@
 //! Desks and registries of given texts.
-use rr_desk::{PlainDesk, opening};
+use rr_desk::{PlainDesk, Settings};
 use rr_io::Counted;
 use rr_object::Object;
 use rr_registry::{LoadFault, PlainBook, Registry};
@@ -34,14 +34,14 @@ pub fn expect_report<R: Abort + AllocGlobal>(
 
 /// The objects of a text.
 pub fn objects(alloc: Global, text: &str) -> Result<Vec<Object>, Fail> {
-    let source = opening::read_source(alloc)?;
+    let settings = Settings::built_in(alloc)?;
     let mut objects = Vec::new(alloc);
     let mut rest = text.as_bytes();
     for _paragraph in 0..text.len() {
         let Some((paragraph, next)) = next_paragraph(alloc, rest, 0)? else {
             break;
         };
-        objects.push(Object::read(alloc, paragraph, &source)?)?;
+        objects.push(Object::read(alloc, paragraph, settings.source())?)?;
         let Some(behind) = rest.get(next..) else {
             break;
         };

@@ -1,7 +1,9 @@
 //! Lists of objects taken as registries.
 use crate::desks::loaded;
-use rr_desk::{PlainDesk, opening};
-use rr_io::{Counted, write_all};
+use crate::texts::OPENING;
+use rr_answer::dump;
+use rr_desk::PlainDesk;
+use rr_io::Counted;
 use rr_registry::LoadFault;
 use std::test::Fail;
 
@@ -24,14 +26,13 @@ source: TEST
 
 #[test]
 fn a_list_that_is_no_registry_has_its_fault(rt: HostRuntime) -> Result<(), Fail> {
-    let opening = opening::text();
     for (first, second, fault) in [
         ("", BLOCK, Some(LoadFault::Unnamed(1))),
-        (opening, opening, Some(LoadFault::Duplicate(5))),
-        (opening, CROSSING_BLOCK, Some(LoadFault::Overlap(5))),
-        (opening, CROSSING, Some(LoadFault::Overlap(6))),
-        (CROSSING, opening, Some(LoadFault::Overlap(2))),
-        (opening, "", None),
+        (OPENING, OPENING, Some(LoadFault::Duplicate(5))),
+        (OPENING, CROSSING_BLOCK, Some(LoadFault::Overlap(5))),
+        (OPENING, CROSSING, Some(LoadFault::Overlap(6))),
+        (CROSSING, OPENING, Some(LoadFault::Overlap(2))),
+        (OPENING, "", None),
     ] {
         let text = format!(in rt.alloc(); "{first}\n{second}")?;
         let found = loaded(rt.alloc(), text.as_str())?.err();
@@ -41,19 +42,11 @@ fn a_list_that_is_no_registry_has_its_fault(rt: HostRuntime) -> Result<(), Fail>
 }
 
 #[test]
-fn the_desk_opens_with_all_numbers_and_addresses(rt: HostRuntime) -> Result<(), Fail> {
+fn a_dump_of_a_new_desk_has_the_opening_objects(rt: HostRuntime) -> Result<(), Fail> {
     let desk = PlainDesk::new(rt.alloc())?;
-    let mut keys = Counted::new(Vec::new(rt.alloc()));
-    for object in &desk.registry().objects(rt.alloc())? {
-        object.key().print_to(&mut keys)?;
-        write_all(&mut keys, b"\n")?;
-    }
-    let wanted = "\
-ROOT-MNT
-AS0 - AS65535
-AS65536 - AS4294967295
-0.0.0.0 - 255.255.255.255
-";
-    assert_eq!(rt; keys.into_inner().as_slice(), wanted.as_bytes());
+    let mut writer = Counted::new(Vec::new(rt.alloc()));
+    assert_eq!(rt; dump(rt.alloc(), desk.registry(), &mut writer, true)?, 4);
+    let wanted = format!(in rt.alloc(); "{OPENING}% end 4\n")?;
+    assert_eq!(rt; writer.into_inner().as_slice(), wanted.as_bytes());
     Ok(())
 }

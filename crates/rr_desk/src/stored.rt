@@ -10,8 +10,8 @@ ghost use Rattle.rr_desk.specs.Private.{Follows, FollowsGain, key_of};
 ghost use Rattle.rr_desk.specs.Rows.{Holds};
 
 use rr_auth::{Book, Item, Secrets};
-use rr_object::{Code, Key};
 use rr_index::IndexedBook;
+use rr_object::{Code, Key};
 use rr_registry::{Outcome, Registry};
 use rr_store::{Store, StoreFault};
 use rr_submission::{Halted, Ledger};
@@ -95,6 +95,10 @@ impl<S: Alter> Ledger for Stored<S> {
     ghost Ready = { λ s. s.stopped ≡ false };
 
     ghost Halts = { λ old secrets item new. IsHalted old.registry secrets item new.registry new.stopped (state S.Store new.store) };
+
+    fn sound(&self) {
+        self.registry.sound();
+    }
 
     fn decide(&mut self, alloc: Global, secrets: &Secrets, item: Item) -> Result<Outcome, Halted> {
         let Ok(key) = copied_key(alloc, &item) else {

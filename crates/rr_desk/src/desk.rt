@@ -9,9 +9,9 @@ ghost use Rattle.rr_desk.specs.Rows.{Holds};
 ghost use Rattle.rr_desk.specs.Stocks.{stock_ledger};
 
 use crate::stored::Stored;
+use rr_index::IndexedBook;
 use rr_io::{Sink, Source};
 use rr_number::Name;
-use rr_index::IndexedBook;
 use rr_registry::Registry;
 use rr_submission::{DeskFault, Done};
 use sqlite::{Alter, Connection};

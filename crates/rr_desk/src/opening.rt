@@ -5,9 +5,9 @@ ghost use Rattle.rr_text.specs.Fields.{AreFields, IsField};
 ghost use Rattle.rr_desk.specs.Opening.{AreOpening, IsObjectOf, IsOpened, IsReadable, addresses_fields, auth_line, field, four_octets_fields, numbers_fields, owned, root_fields};
 
 use crate::settings::Settings;
+use rr_index::IndexedBook;
 use rr_number::Name;
 use rr_object::{Auth, Object, ObjectFault};
-use rr_index::IndexedBook;
 use rr_registry::{LoadFault, Registry};
 use rr_text::{Attribute, Paragraph, Text};
 use std::alloc::{AllocError, Global};
@@ -39,7 +39,10 @@ fn with(mut objects: Vec<Object>, object: Object) -> Result<Vec<Object>, AllocEr
 
 /// The registry of these objects alone; the error is want of memory.
 #[tactic(auto, using(crate::proofs::OpeningRegistry::opening_faultless))]
-pub fn opening_registry(alloc: Global, settings: &Settings) -> Result<Registry<IndexedBook>, AllocError>
+pub fn opening_registry(
+    alloc: Global,
+    settings: &Settings,
+) -> Result<Registry<IndexedBook>, AllocError>
     ensures { IfOk result (IsOpened settings.now) }
 {
     settings.are_good();

@@ -10,8 +10,8 @@ ghost use Rattle.rr_desk.specs.Private.{Follows, FollowsGain, key_of};
 ghost use Rattle.rr_desk.specs.Rows.{Holds};
 
 use rr_auth::{Book, Item, Secrets};
-use rr_object::{Code, Key};
 use rr_index::IndexedBook;
+use rr_object::{Code, Key};
 use rr_registry::{Outcome, Registry};
 use rr_store::{Store, StoreFault};
 use rr_submission::{Halted, Ledger};

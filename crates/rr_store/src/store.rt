@@ -101,7 +101,7 @@ impl<S: Alter> Store<S> {
     /// Opens the store as [`Store::open_all`] does, without the objects.
     pub fn open(
         alloc: Global,
-        mut conn: Connection<S>,
+        conn: Connection<S>,
         source: &Name,
     ) -> Result<Store<S>, (OpenFault, Connection<S>)>
         requires autocommit { conn.in_transaction ≡ false }
@@ -115,9 +115,9 @@ impl<S: Alter> Store<S> {
         ensures err_crash { IfErr result (λ fault. Survives (state S.Store conn) (state S.Store fault.1) (λ _. (state S.Store conn).is_open ≡ false)) }
         ensures err_autocommit { IfErr result (λ fault. fault.1.in_transaction ≡ false) }
     {
-        match stored_objects(&mut conn, alloc, source, Version::This) {
-            Ok(_) => Ok(Store { conn }),
-            Err(fault) => Err((fault, conn)),
+        match Store::open_all(alloc, conn, source) {
+            Ok((store, _objects)) => Ok(store),
+            Err(refused) => Err(refused),
         }
     }
 

@@ -11,6 +11,7 @@ mod making;
 mod migrating;
 mod names;
 mod objects;
+mod opening;
 mod reading;
 mod statements;
 mod store;

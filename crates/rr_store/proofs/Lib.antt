@@ -8,4 +8,5 @@ pub mod ObjectLemmas
 pub mod OrderLemmas
 pub mod TidyLemmas
 pub mod UpperLemmas
+pub mod MigratedLemmas
 pub mod MigrateLemmas

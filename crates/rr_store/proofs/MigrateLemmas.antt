@@ -12,6 +12,7 @@ use Rattle.rr_rows.specs.Made.{IsBare}
 use Rattle.rr_rows.specs.Maps.{AreOldStored}
 use Rattle.rr_store.specs.Kept.{IsLeft}
 use Rattle.rr_store.specs.Migrating.{IsMigrated, IsRewritten, has_mntner}
+use Rattle.rr_store.proofs.MigratedLemmas.{migrated}
 use Rattle.rr_store.proofs.BodyLemmas.{none_two, none_four, two_four}
 
 no_contents : (rows : List Row) → contents rows ≡ [] → rows ≡ []
@@ -35,4 +36,4 @@ pub migrated_left : (root source : List ℕ) (objects : List Obj) (a b c : State
     → Survives a b (λ _. a.is_open ≡ false) → Survives b c (TreesOf (IsRewritten root source objects)) → Survives a c (IsLeft a.is_open (IsMigrated root source a.now))
 migrated_left root source objects a b c before registered one two =
     survives_then a b c (λ _. a.is_open ≡ false) (TreesOf (IsRewritten root source objects)) (IsLeft a.is_open (IsMigrated root source a.now)) (λ clean trees off. inl off)
-    (λ clean trees left. inr (left.0, record { objects = objects; before = before (omega (arith, two.clean)); registered = registered; after = left.1 }, left.2)) one two
+    (λ clean trees left. inr (left.0, migrated root source objects a.now left.0 (before (omega (arith, two.clean))) registered left.1, left.2)) one two

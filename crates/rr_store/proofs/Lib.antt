@@ -9,7 +9,9 @@ pub mod ObjectLemmas
 pub mod NamingLemmas
 pub mod OrderLemmas
 pub mod SortedLemmas
+pub mod StoredLemmas
 pub mod TidyLemmas
 pub mod UpperLemmas
+pub mod MigratedLemmas
 pub mod MigrateLemmas
 pub mod VersionLemmas

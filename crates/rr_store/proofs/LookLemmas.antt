@@ -49,6 +49,23 @@ module _ (sql : List ℕ) (params : Row) (old new : State) where
         go (Some what) (inl f) = f.1.0.now_is
         go (Some what) (inr f) = fails_same _ e f
 
+  module _ (on : IsTrue new.is_open) where
+    unrun_open : (e : Error) → IsNotRun old new sql params e → IsTrue old.is_open
+    unfolding IsNotRun
+    unrun_open e (inl h) = h.1.0.was_open
+    unrun_open e (inr h) = h.3.was_open on
+
+    -- a query that failed leaves a connection open only where it was
+    pub failed_open : (e : Error) → FailsToQuery sql params old new e → IsTrue old.is_open
+    unfolding FailsToQuery
+    failed_open e (inl h) = unrun_open e h
+    failed_open e (inr h) = go h.0.returning h.2
+      where
+        go : (o : Option Returning) → FailsToShow old new sql h.0 (timed params h.0.formats h.1.now) e o → IsTrue old.is_open
+        go None f = f.3.0.was_open
+        go (Some what) (inl f) = f.1.0.was_open
+        go (Some what) (inr f) = f.3.was_open on
+
   pub looks : (HasCleanDisk old → IsTrue old.is_open → IsPlain (understood old.now.schema sql)) → Survives old new (CommitsShowing sql params old) → Survives old new (λ _. old.is_open ≡ false)
   looks plain h = survives_weaker old new (CommitsShowing sql params old) (λ _. old.is_open ≡ false) (λ clean db made. elim (cases_Bool old.is_open) [
     | inl on ↦ absurd (never_commits sql params old db (plain (omega (arith, h.clean)) on) made)
@@ -89,3 +106,7 @@ module _ (P : Database → Type 0) where
 
   pub quiet_made : (a b c : State) → Survives a b (λ _. a.is_open ≡ false) → Survives b c (TreesOf P) → Survives a c (IsLeft a.is_open P)
   quiet_made a b c one two = survives_then a b c (λ _. a.is_open ≡ false) (TreesOf P) (IsLeft a.is_open P) (λ clean db off. inl off) (λ clean db made. inr made) one two
+
+pub of_both : {X E : Type 0} (r : Result X E) (Q : Type 0) → OnOk r Q → OnErr r Q → Q
+of_both (Ok x) Q h k = h
+of_both (Err e) Q h k = k

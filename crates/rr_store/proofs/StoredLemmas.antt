@@ -77,7 +77,7 @@ says_other version db Store told number is = absurd (cc)
 says_other version db Memory told number is = absurd (cc)
 
 module _ (form : KeyForm) (source : List ℕ) where
-  read_rows : (rows : List Row) (objects : List Obj) → AreRead form source rows objects → rows ≡ map (λ o. object_row (entry_in form o)) objects
+  pub read_rows : (rows : List Row) (objects : List Obj) → AreRead form source rows objects → rows ≡ map (λ o. object_row (entry_in form o)) objects
   read_rows [] [] read = refl
   read_rows [] (o ∷ os) read = absurd read
   read_rows (r ∷ rows) [] read = absurd read
@@ -89,7 +89,7 @@ module _ (form : KeyForm) (source : List ℕ) where
   read_formed (r ∷ rows) [] read = absurd read
   read_formed (r ∷ rows) (o ∷ os) read = (ap is_some read.0.1.formed, read_formed rows os read.1)
 
-  read_objects : (rows : List Row) (objects : List Obj) → AreRead form source rows objects → AllByRecursion (IsObjectOf source) objects
+  pub read_objects : (rows : List Row) (objects : List Obj) → AreRead form source rows objects → AllByRecursion (IsObjectOf source) objects
   read_objects [] [] read = tt
   read_objects [] (o ∷ os) read = absurd read
   read_objects (r ∷ rows) [] read = absurd read

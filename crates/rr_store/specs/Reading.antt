@@ -1,12 +1,13 @@
 -- The objects that rows are read as.
-use Rattle.std.specs.Prelude.{◌≡◌, ℕ, List, [], ◌∷◌, Some, ⊤, Bool, true}
+use Rattle.std.specs.Prelude.{◌≡◌, ℕ, List, [], ◌∷◌, Some, ⊤, Bool, true, bytes_eq}
+use Rattle.std.specs.List.{list_any}
 use Rattle.std.specs.Ordering.{is_lt}
 use Rattle.sqlite_value.specs.Order.{Row}
 use Rattle.rr_text.specs.CanonicalText.{canonical}
 use Rattle.rr_object.specs.Classes.{class_number}
 use Rattle.rr_object.specs.KeyOrders.{key_cmp}
 use Rattle.rr_object.specs.Keys.{class_of}
-use Rattle.rr_object.specs.Objects.{Obj}
+use Rattle.rr_object.specs.Objects.{Obj, names_of}
 use Rattle.rr_rows.specs.Contents.{object_values}
 use Rattle.rr_rows.specs.Maps.{IsObjectOf, KeyForm}
 
@@ -27,3 +28,7 @@ AreRead form source (row ∷ rows) (object ∷ objects) = (IsObjectOf source obj
 abbrev pub is_below : Obj → List Obj → Bool
 is_below object [] = true
 is_below object (other ∷ others) = is_lt (key_cmp object.key other.key)
+
+-- an object names a maintainer (RFC 2622, 3.1)
+abbrev pub names_it : List ℕ → Obj → Bool
+names_it name object = list_any (λ n. bytes_eq n name) (names_of object)

@@ -4,9 +4,9 @@ ghost use Rattle.std.specs.Prelude.{◌≡◌, ℕ, [], ◌∷◌, codes, false,
 ghost use Rattle.std.specs.List.{flat_map};
 ghost use Rattle.sqlite.specs.Held.{state};
 ghost use Rattle.sqlite.specs.State.{HasCleanDisk, IsUnchanged, Survives};
-ghost use Rattle.rr_rows.specs.Contents.{by_three, contents, setting, settings};
+ghost use Rattle.rr_rows.specs.Contents.{by_three, contents, pointed, setting, settings};
 ghost use Rattle.rr_rows.specs.Entries.{named_rows};
-ghost use Rattle.rr_rows.specs.Maps.{AreInOrder, entry_in};
+ghost use Rattle.rr_rows.specs.Maps.{AreInOrder, entry_in, this_form};
 ghost use Rattle.rr_rows.specs.Tables.{HasTables};
 ghost use Rattle.rr_store.specs.Checks.{AreNone, HoldsNone, HoldsObjects, IsVersionFault};
 ghost use Rattle.rr_store.specs.Reading.{AreRead};
@@ -16,7 +16,7 @@ ghost use Rattle.rr_store.specs.declared.fault.OpenFault.TheVariants.{BadRow, Wr
 use crate::fault::OpenFault;
 use crate::namings::are_named;
 use crate::objects::{are_in_order, read_objects};
-use crate::reading::{meta_rows, named_rows, object_rows};
+use crate::reading::{meta_rows, named_rows, naming_rows, object_rows};
 use crate::settings::{other_version, says_version};
 use crate::version::Version;
 use rr_number::Name;
@@ -99,6 +99,7 @@ pub(crate) fn check_objects<S: Alter>(
     ensures no_other { IfErr result (λ fault. (number : ℕ) → fault ≡ WrongVersion number → ⊥) }
     ensures same { HasCleanDisk (state S.Store conn.new) → OnOk result (IsUnchanged (state S.Store conn.old) (state S.Store conn.new)) }
     ensures err { HasCleanDisk (state S.Store conn.new) → IsTrue (state S.Store conn.new).is_open → OnErr result ((state S.Store conn.new).now ≡ (state S.Store conn.old).now) }
+    ensures opened { HasCleanDisk (state S.Store conn.new) → IsTrue (state S.Store conn.new).is_open → IsTrue (state S.Store conn.old).is_open }
     ensures crash { Survives (state S.Store conn.old) (state S.Store conn.new) (λ _. (state S.Store conn.old).is_open ≡ false) }
 {
     match object_rows(conn) {
@@ -144,6 +145,28 @@ pub(crate) fn check_names<S: Alter>(
 {
     match named_rows(conn) {
         Ok(rows) => judge_names(alloc, &rows, objects, version),
+        Err(_) => Err(OpenFault::Store),
+    }
+}
+
+/// The objects that name a maintainer, in order of class and key.
+pub(crate) fn naming_objects<S: Alter>(
+    conn: &mut Connection<S>,
+    alloc: Global,
+    source: &Name,
+    name: &Name,
+) -> Result<Vec<Object>, OpenFault>
+    requires autocommit { conn.old.in_transaction ≡ false }
+    requires tables { HasCleanDisk (state S.Store conn.old) → IsTrue (state S.Store conn.old).is_open → HasTables (state S.Store conn.old).now.schema }
+    ensures autocommit { conn.new.in_transaction ≡ false }
+    ensures ok { HasCleanDisk (state S.Store conn.new) → IfOk result (λ objects. HoldsObjects this_form source.now objects.items (pointed name.now (contents ((state S.Store conn.old).now.trees 4)) (contents ((state S.Store conn.old).now.trees 2)))) }
+    ensures same { HasCleanDisk (state S.Store conn.new) → OnOk result (IsUnchanged (state S.Store conn.old) (state S.Store conn.new)) }
+    ensures err { HasCleanDisk (state S.Store conn.new) → IsTrue (state S.Store conn.new).is_open → OnErr result ((state S.Store conn.new).now ≡ (state S.Store conn.old).now) }
+    ensures opened { HasCleanDisk (state S.Store conn.new) → IsTrue (state S.Store conn.new).is_open → IsTrue (state S.Store conn.old).is_open }
+    ensures crash { Survives (state S.Store conn.old) (state S.Store conn.new) (λ _. (state S.Store conn.old).is_open ≡ false) }
+{
+    match naming_rows(conn, name.as_bytes()) {
+        Ok(rows) => judge_objects(alloc, &rows, source, Version::This),
         Err(_) => Err(OpenFault::Store),
     }
 }

@@ -1,24 +1,28 @@
 //! The store.
 
-ghost use Rattle.std.specs.Prelude.{◌≡◌, ℕ, List, false, map, IfErr, IfOk, IsTrue, OnErr, OnOk};
+ghost use Rattle.std.specs.Prelude.{◌≡◌, ℕ, List, false, filter, map, IfErr, IfOk, IsTrue, OnErr, OnOk};
 ghost use Rattle.sqlite.specs.Held.{state};
 ghost use Rattle.sqlite.specs.State.{HasCleanDisk, IsUnchanged, Survives};
 ghost use Rattle.sqlite_trees.specs.Tree.{Trees};
 ghost use Rattle.rr_object.specs.Classes.{class_number};
+ghost use Rattle.std.specs.FinMap.{FinMap, values};
+ghost use Rattle.rr_object.specs.KeyOrders.{key_cmp};
 ghost use Rattle.rr_object.specs.Keys.{class_of};
 ghost use Rattle.rr_object.specs.KeyTexts.{key_bytes};
 ghost use Rattle.rr_rows.specs.Entries.{IsPut, IsTaken, TreesOf, entry_of};
 ghost use Rattle.rr_rows.specs.Made.{HasRow, IsVacant};
 ghost use Rattle.rr_object.specs.Objects.{Obj};
-ghost use Rattle.rr_rows.specs.Maps.{AreInOrder, AreOldStored, AreStored, IsFilled, Puts, Takes};
+ghost use Rattle.rr_rows.specs.Maps.{AreInOrder, AreOldStored, AreStored, HasRows, IsFilled, Puts, Takes};
 ghost use Rattle.rr_rows.specs.Tables.{HasTables};
 ghost use Rattle.rr_store.specs.Kept.{IsLeft};
 ghost use Rattle.rr_store.specs.Migrating.{HasNoRoot, IsMigrated};
 ghost use Rattle.rr_store.specs.Opening.{IsOtherVersion, IsNotOld, IsReadable, IsUnreadable};
+ghost use Rattle.rr_store.specs.Reading.{names_it};
 ghost use Rattle.rr_store.specs.declared.fault.CreateFault.TheVariants.{NotEmpty};
 ghost use Rattle.rr_store.specs.declared.fault.MigrateFault.TheVariants.{BadRow as UnreadRow, NoRoot, WrongVersion as NotOld};
 ghost use Rattle.rr_store.specs.declared.fault.OpenFault.TheVariants.{BadRow, WrongVersion};
 
+use crate::checks::{check_objects, naming_objects};
 use crate::creating::create_where_vacant;
 use crate::fault::{CreateFault, MigrateFault, OpenFault, StoreFault};
 use crate::migrating::migrate_rows;
@@ -225,6 +229,40 @@ impl<S: Alter> Store<S> {
         let bytes = key.bytes(alloc)?;
         match remove_entry(&mut self.conn, class, &bytes) {
             Ok(()) => Ok(()),
+            Err(_) => Err(StoreFault::Store),
+        }
+    }
+
+    /// All objects, in order of class and key. The source is that of the objects; a row that is none of one of it is a fault of
+    /// the store. Nothing changes.
+    pub fn all(&mut self, alloc: Global, source: &Name) -> Result<Vec<Object>, StoreFault>
+        ensures ok { HasCleanDisk (state S.Store self.new) → IfOk result (λ all. (objects : FinMap key_cmp Obj) → HasRows objects (state S.Store self.old).now → all.items ≡ values objects) }
+        ensures same { HasCleanDisk (state S.Store self.new) → OnOk result (IsUnchanged (state S.Store self.old) (state S.Store self.new)) }
+        ensures err { HasCleanDisk (state S.Store self.new) → IsTrue (state S.Store self.new).is_open → OnErr result ((state S.Store self.new).now ≡ (state S.Store self.old).now) }
+        ensures crash { Survives (state S.Store self.old) (state S.Store self.new) (λ _. (state S.Store self.old).is_open ≡ false) }
+    {
+        match check_objects(&mut self.conn, alloc, source, Version::This) {
+            Ok(objects) => Ok(objects),
+            Err(OpenFault::Memory) => Err(StoreFault::Memory),
+            Err(_) => Err(StoreFault::Store),
+        }
+    }
+
+    /// The objects that name the maintainer, as [`Store::all`] gives all.
+    pub fn naming(
+        &mut self,
+        alloc: Global,
+        source: &Name,
+        name: &Name,
+    ) -> Result<Vec<Object>, StoreFault>
+        ensures ok { HasCleanDisk (state S.Store self.new) → IfOk result (λ those. (objects : FinMap key_cmp Obj) → HasRows objects (state S.Store self.old).now → those.items ≡ filter (names_it name.now) (values objects)) }
+        ensures same { HasCleanDisk (state S.Store self.new) → OnOk result (IsUnchanged (state S.Store self.old) (state S.Store self.new)) }
+        ensures err { HasCleanDisk (state S.Store self.new) → IsTrue (state S.Store self.new).is_open → OnErr result ((state S.Store self.new).now ≡ (state S.Store self.old).now) }
+        ensures crash { Survives (state S.Store self.old) (state S.Store self.new) (λ _. (state S.Store self.old).is_open ≡ false) }
+    {
+        match naming_objects(&mut self.conn, alloc, source, name) {
+            Ok(objects) => Ok(objects),
+            Err(OpenFault::Memory) => Err(StoreFault::Memory),
             Err(_) => Err(StoreFault::Store),
         }
     }

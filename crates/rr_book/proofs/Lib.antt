@@ -1,6 +1,5 @@
 pub mod Crossing
 pub mod KeysUnderSets
-pub mod Names
 pub mod Order
 pub mod Origins
 pub mod Places

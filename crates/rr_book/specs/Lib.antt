@@ -1,4 +1,5 @@
 pub mod Books
+pub mod Listings
 pub mod Private
 pub mod SetIndexes
 pub mod SetLists

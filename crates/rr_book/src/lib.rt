@@ -3,10 +3,13 @@
 #![tactic(auto)]
 
 mod closest;
+mod keeper;
 mod keys;
+pub mod listings;
 pub mod lists;
 mod plain_book;
-mod set_book;
-mod set_index;
+pub mod set_book;
+pub mod set_index;
 
+pub use keeper::Keeper;
 pub use plain_book::PlainBook;

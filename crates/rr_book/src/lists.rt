@@ -1,6 +1,6 @@
 //! Scans of lists of objects.
 
-ghost use Rattle.std.specs.Prelude.{◌≡◌, ◌<◌, ◌≤◌, ◌++◌, map, not, true, find, filter, length, OnOk, OnErr, IfOk, IfErr, IsTrue};
+ghost use Rattle.std.specs.Prelude.{◌≡◌, ◌<◌, ◌≤◌, not, true, find, filter, length, OnOk, OnErr, IfOk, IfErr, IsTrue};
 ghost use Rattle.std.specs.List.{list_any};
 ghost use Rattle.std.specs.Option.{option_copied};
 ghost use Rattle.std.specs.Ordering.{eq_by_cmp, is_gt};
@@ -14,7 +14,7 @@ ghost use Rattle.rr_book.specs.Private.{is_span, place_of, stands_at};
 
 use crate::keys::{compare, is_same};
 use rr_number::{AsNumber, Name, Prefix};
-use rr_object::{Grant, Key, Object};
+use rr_object::{Key, Object};
 use std::alloc::{AllocError, AllocFailed, Global};
 use std::mem;
 
@@ -125,47 +125,18 @@ pub(crate) fn some_names(objects: &[Object], name: &Name) -> bool
     objects.iter().any(|object| names_another(object, name))
 }
 
-fn names_another(object: &Object, name: &Name) -> bool
+/// Whether the object is not the maintainer of the name, and names it.
+pub fn names_another(object: &Object, name: &Name) -> bool
     ensures { result ≡ names_another name.now object.now }
 {
     !is_mntner_of(object.key(), name) && object_names(object, name)
 }
 
 /// Whether the object names the maintainer.
-#[tactic(auto, using(crate::proofs::Names::any_name_append))]
 fn object_names(object: &Object, name: &Name) -> bool
     ensures { result ≡ list_any (λ n. bytes_eq n name.now) (names_of object.now) }
 {
-    names_in_routes(object, name) || is_among(object.by_ref().names(), name)
-}
-
-/// Whether the object names the maintainer in mnt-by, mnt-lower or mnt-routes.
-#[tactic(auto, using(crate::proofs::Names::any_name_routes))]
-fn names_in_routes(object: &Object, name: &Name) -> bool
-    ensures { result ≡ list_any (λ n. bytes_eq n name.now)
-        ((object.now.maintainers ++ object.now.lower) ++ map (λ g. g.name) object.now.routes) }
-{
-    names_in_lower(object, name) || some_entry_names(object.routes(), name)
-}
-
-/// Whether the object names the maintainer in mnt-by or mnt-lower.
-#[tactic(auto, using(crate::proofs::Names::any_name_append))]
-fn names_in_lower(object: &Object, name: &Name) -> bool
-    ensures { result ≡ list_any (λ n. bytes_eq n name.now) (object.now.maintainers ++ object.now.lower) }
-{
-    is_among(object.maintainers(), name) || is_among(object.lower(), name)
-}
-
-fn is_among(names: &[Name], name: &Name) -> bool
-    ensures { result ≡ list_any (λ n. bytes_eq n name.now) names.now }
-{
-    names.iter().any(|own| own == name)
-}
-
-fn some_entry_names(entries: &[Grant], name: &Name) -> bool
-    ensures { result ≡ list_any (λ g. bytes_eq g.name name.now) entries.now }
-{
-    entries.iter().any(|entry| entry.name() == name)
+    object.maintainers_named().any(|own| own == name)
 }
 
 /// The origins of the routes of the prefix, in the order of the objects.
@@ -182,7 +153,8 @@ pub(crate) fn origins(
         .collect(alloc)
 }
 
-fn origin_at(key: &Key, prefix: Prefix) -> Option<AsNumber>
+/// The origin of the key, where it is that of a route of the prefix.
+pub fn origin_at(key: &Key, prefix: Prefix) -> Option<AsNumber>
     ensures { result ≡ origin_at prefix key.now }
 {
     match key {

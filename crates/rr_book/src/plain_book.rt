@@ -1,13 +1,13 @@
 //! A registry as a list of objects in the order of their keys.
 
-ghost use Rattle.std.specs.Prelude.{◌≡◌, IfOk, OnOk, OnErr};
-ghost use Rattle.std.specs.FinMap.{empty, insert, remove, values};
-ghost use Rattle.rr_auth.specs.Registries.{Sound};
+ghost use Rattle.std.specs.Prelude.{◌≡◌, IfOk};
+ghost use Rattle.std.specs.FinMap.{values};
 ghost use Rattle.rr_sets.specs.Lists.{IsReferrer, ListsOnce};
 
 use crate::closest::{closest, closest_routes};
-use crate::lists;
+use crate::keeper::Keeper;
 use crate::set_index::{SetIndex, objects_of, sets_named};
+use crate::{listings, lists};
 use rr_auth::Book;
 use rr_number::{AsNumber, Name, Prefix, SetName, Span};
 use rr_object::{Class, Key, Object};
@@ -41,69 +41,6 @@ impl Model for PlainBook {
 }
 
 impl PlainBook {
-    ghost use Rattle.rr_book.specs.Books.{book_of, IsBook};
-
-    /// A book of no objects.
-    #[tactic(auto, using(crate::proofs::Order::empty_is_book, crate::proofs::Order::empty_book))]
-    pub fn new(alloc: Global) -> PlainBook
-        ensures { result ≡ empty }
-    {
-        PlainBook {
-            objects: Vec::new(alloc),
-            referrers: SetIndex::new(alloc),
-        }
-    }
-
-    /// The book of these objects; the error is want of memory.
-    pub fn of(alloc: Global, objects: Vec<Object>) -> Result<PlainBook, AllocError>
-        requires { IsBook objects.items }
-        ensures { IfOk result (λ book. book ≡ book_of objects.items) }
-    {
-        let referrers = SetIndex::of(alloc, &objects)?;
-        Ok(PlainBook { objects, referrers })
-    }
-
-    /// The objects in the order of class and key.
-    #[tactic(auto, using(crate::proofs::Order::values_of_book))]
-    pub fn objects(&self) -> &[Object]
-        ensures { result.now ≡ values self.now }
-    {
-        self.objects.as_slice()
-    }
-
-    /// Puts the object under its key, in place of one that stood there. The registry has to stay sound. The error is
-    /// want of memory and leaves the book as it was.
-    pub fn put(&mut self, alloc: Global, object: Object) -> Result<(), AllocError>
-        requires { Sound (insert self.old object.key object) }
-        ensures ok { OnOk result (self.new ≡ insert self.old object.key object) }
-        ensures err { OnErr result (self.new ≡ self.old) }
-    {
-        let before = sets_named(alloc, lists::find_key(&self.objects, object.key()))?;
-        let after = sets_named(alloc, Some(&object))?;
-        self.referrers.add(alloc, &object, &before)?;
-        match lists::put(&mut self.objects, object) {
-            Ok(Some(old)) => {
-                self.referrers.take(&old, &after);
-                Ok(())
-            }
-            Ok(None) => Ok(()),
-            Err(refused) => {
-                self.referrers.take(&refused.value, &before);
-                Err(AllocError)
-            }
-        }
-    }
-
-    /// Takes the object of the key out, if there is one. The registry has to stay sound.
-    pub fn remove(&mut self, key: &Key)
-        requires { Sound (remove self.old key.now) }
-        ensures { self.new ≡ remove self.old key.now }
-    {
-        if let Some(old) = lists::remove(&mut self.objects, key) {
-            self.referrers.take_all(&old);
-        }
-    }
-
     /// The objects whose `member-of` names the set, in the order of class and key; the error is want of memory. It takes
     /// O(k log n) steps for k of n objects.
     pub(crate) fn objects_that_name(
@@ -117,6 +54,14 @@ impl PlainBook {
             Some(keys) => objects_of(alloc, &self.objects, keys),
             None => Ok(Vec::new(alloc)),
         }
+    }
+
+    /// The objects in the order of class and key.
+    #[tactic(auto, using(crate::proofs::Order::values_of_book))]
+    pub(crate) fn as_slice(&self) -> &[Object]
+        ensures { result.now ≡ values self.now }
+    {
+        self.objects.as_slice()
     }
 }
 
@@ -157,5 +102,55 @@ impl Book for PlainBook {
 
     fn names_maintainer(&self, name: &Name) -> bool {
         lists::some_names(&self.objects, name)
+    }
+}
+
+impl Keeper for PlainBook {
+    #[tactic(auto, using(crate::proofs::Order::empty_is_book, crate::proofs::Order::empty_book))]
+    fn new(alloc: Global) -> PlainBook {
+        PlainBook {
+            objects: Vec::new(alloc),
+            referrers: SetIndex::new(alloc),
+        }
+    }
+
+    fn of(alloc: Global, objects: Vec<Object>) -> Result<PlainBook, AllocError> {
+        let referrers = SetIndex::of(alloc, &objects)?;
+        Ok(PlainBook { objects, referrers })
+    }
+
+    fn insert(&mut self, alloc: Global, object: Object) -> Result<(), AllocError> {
+        let before = sets_named(alloc, lists::find_key(&self.objects, object.key()))?;
+        let after = sets_named(alloc, Some(&object))?;
+        self.referrers.add(alloc, &object, &before)?;
+        match lists::put(&mut self.objects, object) {
+            Ok(Some(old)) => {
+                self.referrers.take(&old, &after);
+                Ok(())
+            }
+            Ok(None) => Ok(()),
+            Err(refused) => {
+                self.referrers.take(&refused.value, &before);
+                Err(AllocError)
+            }
+        }
+    }
+
+    fn remove(&mut self, key: &Key) {
+        if let Some(old) = lists::remove(&mut self.objects, key) {
+            self.referrers.take_all(&old);
+        }
+    }
+
+    fn objects(&self, alloc: Global) -> Result<Vec<&Object>, AllocError> {
+        listings::all(alloc, self.as_slice())
+    }
+
+    fn covering(&self, alloc: Global, span: Span) -> Result<Vec<&Object>, AllocError> {
+        listings::covering(alloc, self.as_slice(), span)
+    }
+
+    fn inside(&self, alloc: Global, span: Span) -> Result<Vec<&Object>, AllocError> {
+        listings::inside(alloc, self.as_slice(), span)
     }
 }

@@ -14,12 +14,12 @@ use std::alloc::{AllocError, Global};
 impl SetBook for PlainBook {
     fn aut_nums(&self, alloc: Global) -> Result<Vec<&Object>, AllocError> {
         self.sound();
-        objects_of_class(alloc, self.objects(), Class::AutNum)
+        objects_of_class(alloc, self.as_slice(), Class::AutNum)
     }
 
     fn routes(&self, alloc: Global) -> Result<Vec<&Object>, AllocError> {
         self.sound();
-        objects_of_class(alloc, self.objects(), Class::Route)
+        objects_of_class(alloc, self.as_slice(), Class::Route)
     }
 
     fn referrers(&self, alloc: Global, name: &SetName) -> Result<Vec<&Object>, AllocError> {
@@ -42,7 +42,8 @@ fn objects_of_class<'a>(
         .collect(alloc)
 }
 
-fn is_of_class(object: &Object, class: Class) -> bool
+/// Whether the object is of the class.
+pub fn is_of_class(object: &Object, class: Class) -> bool
     ensures { result ≡ is_of_class class object.now }
 {
     object.key().class() == class

@@ -25,13 +25,13 @@ use std::collections::{BTreeMap, BTreeSet};
 
 /// Keys of objects, under the sets that these name in their `member-of`.
 #[derive(Drop)]
-pub(crate) struct SetIndex {
+pub struct SetIndex {
     keys: BTreeMap<SetName, BTreeSet<Key>>,
 }
 
 impl SetIndex {
     /// No keys.
-    pub(crate) fn new(alloc: Global) -> SetIndex
+    pub fn new(alloc: Global) -> SetIndex
         ensures { (name : List ℕ) (key : Key) → stands_under result.keys name key ≡ false }
     {
         SetIndex {
@@ -40,7 +40,7 @@ impl SetIndex {
     }
 
     /// The keys of the objects, under the sets that these name.
-    pub(crate) fn of(alloc: Global, objects: &[Object]) -> Result<SetIndex, AllocError>
+    pub fn of(alloc: Global, objects: &[Object]) -> Result<SetIndex, AllocError>
         ensures { IfOk result (λ referrers. (name : List ℕ) (key : Key) → stands_under referrers.keys name key ≡
             list_any (λ o. names_set name o && eq_by_cmp key_cmp o.key key) objects.now) }
     {
@@ -53,7 +53,7 @@ impl SetIndex {
     }
 
     /// The keys under the set, if there are any.
-    pub(crate) fn keys(&self, name: &SetName) -> Option<&BTreeSet<Key>>
+    pub fn keys(&self, name: &SetName) -> Option<&BTreeSet<Key>>
         ensures { option_copied result ≡ get (slice_cmp nat_cmp) self.now.keys name.now }
     {
         self.keys.get(name)
@@ -61,7 +61,7 @@ impl SetIndex {
 
     /// Puts the object's key, which stands under none of them, under each set that it names, save the others. The error is
     /// want of memory and changes nothing.
-    pub(crate) fn add(
+    pub fn add(
         &mut self,
         alloc: Global,
         object: &Object,
@@ -124,7 +124,7 @@ impl SetIndex {
     }
 
     /// Takes the object's key from under each set that it names, save the others.
-    pub(crate) fn take(&mut self, object: &Object, others: &BTreeSet<SetName>)
+    pub fn take(&mut self, object: &Object, others: &BTreeSet<SetName>)
         ensures { (name : List ℕ) (key : Key) → stands_under self.new.keys name key ≡
             (stands_under self.old.keys name key && not (is_meant object.now (contains (slice_cmp nat_cmp) others.now) name key)) }
     {
@@ -136,7 +136,7 @@ impl SetIndex {
     }
 
     /// Takes the object's key from under each set that it names.
-    pub(crate) fn take_all(&mut self, object: &Object)
+    pub fn take_all(&mut self, object: &Object)
         ensures { (name : List ℕ) (key : Key) → stands_under self.new.keys name key ≡
             (stands_under self.old.keys name key && not (is_meant object.now (λ other. false) name key)) }
     {
@@ -172,10 +172,7 @@ impl SetIndex {
 }
 
 /// The sets that the object names in its `member-of`; none without an object.
-pub(crate) fn sets_named(
-    alloc: Global,
-    object: Option<&Object>,
-) -> Result<BTreeSet<SetName>, AllocError>
+pub fn sets_named(alloc: Global, object: Option<&Object>) -> Result<BTreeSet<SetName>, AllocError>
     ensures { IfOk result (λ sets. (name : List ℕ) → contains (slice_cmp nat_cmp) sets name ≡
         option_map_or (names_set name) (option_copied object.entry) false) }
 {

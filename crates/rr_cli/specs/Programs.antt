@@ -2,7 +2,6 @@
 use Rattle.std.specs.Prelude.{◌≡◌, ℕ, ◌==◌, ◌⊎◌, Option, None, Some, Result, Ok, Err, if◌then◌else◌}
 use Rattle.rr_io.specs.Told.{Told}
 use Rattle.rr_io.specs.Sending.{TakesSome}
-use Rattle.rr_text.specs.Entries.{entries}
 use Rattle.rr_auth.specs.Registries.{Reg}
 use Rattle.rr_submission.specs.declared.submission.Done.{Done}
 use Rattle.rr_submission.specs.declared.submission.DeskFault.{DeskFault}
@@ -10,7 +9,8 @@ use Rattle.rr_submission.specs.Ledgers.{registry_ledger}
 use Rattle.rr_submission.specs.Submissions.{Submits}
 use Rattle.rr_cli.specs.declared.program_fault.ProgramFault.{ProgramFault}
 use Rattle.rr_cli.specs.declared.program_fault.ProgramFault.TheVariants.{OpeningMemory, Submission}
-use Rattle.rr_desk.specs.Opening.{IsOpened, built_in_source, opening_text}
+use Rattle.rr_desk.specs.Opening.{IsOpened}
+use Rattle.rr_desk.specs.Settings.{built_in}
 use Rattle.rr_cli.specs.ProgramFaults.{fault_line, fault_status}
 
 -- standard input, standard output and standard error, before and after
@@ -37,8 +37,8 @@ pub record IsUnbegun (fault : ProgramFault) (streams : Streams) (status : ℕ) :
 pub record HasSubmitted (streams : Streams) (result : Result Done DeskFault) : Type 0 where
   pub opened : Reg
   pub after : Reg
-  pub opens : IsOpened built_in_source (entries opening_text) opened
-  pub submits : Submits registry_ledger built_in_source (record {
+  pub opens : IsOpened built_in opened
+  pub submits : Submits registry_ledger built_in.source (record {
     source_before = streams.input_before;
     source_after = streams.input_after;
     sink_before = streams.output_before;

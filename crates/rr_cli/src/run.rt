@@ -1,8 +1,8 @@
 //! A run of the program, over its arguments and its three streams.
 
 ghost use Rattle.std.specs.Prelude.{◌≡◌};
-ghost use Rattle.rr_text.specs.Entries.{entries};
-ghost use Rattle.rr_desk.specs.Opening.{IsOpened, built_in_source, opening_text};
+ghost use Rattle.rr_desk.specs.Opening.{IsOpened};
+ghost use Rattle.rr_desk.specs.Settings.{built_in};
 ghost use Rattle.rr_cli.specs.ProgramFaults.{arguments_fault};
 ghost use Rattle.rr_cli.specs.Programs.{RunsProgram, SubmitsTo, done_status};
 
@@ -55,7 +55,7 @@ fn submit<R: Source, W: Sink, E: Sink>(
     output: &mut W,
     errors: &mut E,
 ) -> u8
-    requires { IsOpened built_in_source (entries opening_text) desk }
+    requires { IsOpened built_in desk }
     ensures runs { SubmitsTo (record {
       input_before = R.told input.old;
       input_after = R.told input.new;

@@ -9,3 +9,10 @@ pub mod NestOrder
 pub mod NestTurns
 pub mod Ordered
 pub mod Places
+pub mod TreeAdded
+pub mod TreeChanged
+pub mod TreeHalves
+pub mod TreeHeld
+pub mod TreeLists
+pub mod TreeModel
+pub mod TreeParting

@@ -43,7 +43,7 @@ module _ {T : Type 0} where
   this_or true own rest low high is both = is.1 ∙ sym (ap (λ o. option_or o high) is.1)
   this_or false own rest low high is both = both
 
-  find_both : (s : Ends) (es fs : List (Ends × T)) → find span_cmp s (es ++ fs) ≡ option_or (find span_cmp s es) (find span_cmp s fs)
+  pub find_both : (s : Ends) (es fs : List (Ends × T)) → find span_cmp s (es ++ fs) ≡ option_or (find span_cmp s es) (find span_cmp s fs)
   find_both s [] fs = refl
   find_both s (e ∷ es) fs = this_or (eq_by_cmp span_cmp s e.0) (Some e.1) (find span_cmp s (es ++ fs)) (find span_cmp s es) (find span_cmp s fs) (e.1, refl) (find_both s es fs)
 

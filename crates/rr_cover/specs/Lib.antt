@@ -1,6 +1,8 @@
 pub mod InsertFaults
 pub mod NestParts
+pub mod PrefixTrees
 pub mod SpanLists
 pub mod SpanMapLaws
 pub mod SpanMaps
 pub mod SpanNests
+pub mod TreeParts

@@ -4,11 +4,13 @@
 mod in_order;
 mod insert_fault;
 pub mod laws;
+mod prefix_tree;
 #[cfg(test)]
 mod sequence_tests;
 mod span_list;
 mod span_nest;
 
 pub use insert_fault::InsertFault;
+pub use prefix_tree::PrefixTree;
 pub use span_list::SpanList;
 pub use span_nest::SpanNest;

@@ -22,7 +22,7 @@ use Rattle.rr_registry.specs.Loading.{clash, clash_of, gathered, is_crossed_by_s
 use Rattle.rr_rows.specs.Maps.{AreApart, AreInOrder, AreStored, HasRows, IsKeyed, IsObjectOf}
 use Rattle.rr_rows.proofs.MapLists.{one_map, put_all, stored_rows, values_in_order}
 use Rattle.rr_rows.proofs.MapRows.{each_value}
-use Rattle.rr_store.specs.Agreed.{IsUnreadable}
+use Rattle.rr_store.specs.Opening.{IsUnreadable}
 use Rattle.rr_desk.specs.Opened.{HasNoRegistry, IsUnsound}
 use Rattle.rr_desk.proofs.ListRows.{gathered_is}
 

@@ -1,12 +1,16 @@
 -- The paragraphs of the opening objects are read as objects.
-use Rattle.std.proofs.Common.{◌≡◌, ℕ, Bool, true, false, not, ◌&&◌, ◌||◌, List, [], ◌∷◌, ◌++◌, Option, Some, None, Result, Ok, Err, refl, sym, ap, ◌∙◌, codes}
+use Rattle.std.proofs.Common.{◌≡◌, ℕ, Bool, true, false, not, ◌&&◌, ◌||◌, List, [], ◌∷◌, ◌++◌, Option, Some, None, Result, Ok, Err, refl, sym, ap, ◌∙◌, codes, arith, IfOk}
 use Rattle.std.specs.Prelude.{is_some}
+use Rattle.std.specs.List.{list_any}
+use Rattle.rr_bytes.specs.Blanks.{is_blank_or_line_feed, is_line_feed}
+use Rattle.rr_bytes.specs.NameBytes.{is_attribute_name}
+use Rattle.rr_text.specs.Bytes.{is_refused}
 use Rattle.std.specs.Result.{is_ok}
 use Rattle.std.specs.Str.{bytes_eq}
 use Rattle.rr_bytes.specs.Cuts.{cut_at}
-use Rattle.rr_bytes.specs.LetterCase.{is_keyword, upper}
+use Rattle.rr_bytes.specs.LetterCase.{is_keyword, lowered, upper}
 use Rattle.rr_bytes.specs.NameBytes.{is_name}
-use Rattle.rr_bytes.specs.Trims.{trim_end, trim_start}
+use Rattle.rr_bytes.specs.Trims.{trim, trim_end, trim_start}
 use Rattle.rr_number.specs.Addresses.{address_of, joined_of}
 use Rattle.rr_number.specs.AsNumbers.{as_number_of}
 use Rattle.rr_number.specs.AsSpans.{as_span_of}
@@ -17,7 +21,7 @@ use Rattle.rr_number.specs.Numerals.{number_of}
 use Rattle.rr_number.specs.Spans.{Ends}
 use Rattle.rr_number.specs.SpanTexts.{spelled_span}
 use Rattle.rr_number.proofs.NameLemmas.{name_of-upper_name}
-use Rattle.rr_text.specs.Fields.{Field}
+use Rattle.rr_text.specs.Fields.{AreFields, Field, IsField, IsLine}
 use Rattle.rr_text.specs.Meanings.{value_meaning}
 use Rattle.rr_object.specs.Auths.{auth_item}
 use Rattle.rr_object.specs.Grants.{entries_behind}
@@ -32,9 +36,9 @@ use Rattle.rr_object.specs.declared.class.Class.TheVariants as class
 use Rattle.rr_object.specs.declared.key.Key.{Key}
 use Rattle.rr_object.specs.declared.key.Key.TheVariants.{Mntner, AsBlock, Inetnum}
 use Rattle.rr_object.specs.declared.kind.Kind.TheVariants.{MntBy, Source, Auth, MntLower, MntRoutes, Members, MbrsByRef, MemberOf}
-use Rattle.rr_desk.specs.Opening.{addresses_fields, auth_line, field, four_octets_fields, numbers_fields, owned, root_fields}
+use Rattle.rr_desk.specs.Opening.{AreOpening, IsObjectOf, IsReadable, addresses_fields, auth_line, field, four_octets_fields, numbers_fields, owned, root_fields}
 use Rattle.rr_desk.specs.Settings.{IsSettings, SettingsParts}
-use Rattle.rr_desk.proofs.PlainTexts.{shown_meaning}
+use Rattle.rr_desk.proofs.PlainTexts.{IsShown, shown_line, shown_meaning}
 use Rattle.rr_desk.proofs.OpeningLines.{auth_read, equal_texts, maintainer_read, one_item, plain_name, shown_auth, shown_name}
 
 -- a paragraph without a fault is the object of its key
@@ -251,3 +255,76 @@ pub addresses_named : (s : SettingsParts) → IsSettings s → names_of (address
 unfolding obj_at items_read occurs entries_behind
 addresses_named s is =
     rw (addresses_maintained s is, addresses_lower s, addresses_routes s, maintainer_read s.root is.root is.maintainer) refl
+
+-- what a function answers of a paragraph, it answers of its fields
+pub read_back : {E : Type 0} (source other : List ℕ) (fields given : List Field) (answer : Result Obj E) → fields ≡ given → source ≡ other
+    → IfOk answer (IsObjectOf source fields) → IfOk answer (IsObjectOf other given)
+read_back source other fields given (Ok object) same_fields same_source is = record { read = rw (← same_fields, ← same_source) is.read }
+read_back source other fields given (Err fault) same_fields same_source is = tt
+
+readable_at : (source other : List ℕ) (fields given : List Field) (object : Obj) → fields ≡ given → source ≡ other → object_of given other ≡ Ok object → IsReadable source fields
+readable_at source other fields given object same_fields same_source is = record { object = object; read = rw (same_fields, same_source) is }
+
+pub root_readable : (s : SettingsParts) (source : List ℕ) (fields : List Field) → IsSettings s → fields ≡ root_fields s → source ≡ s.source → IsReadable source fields
+root_readable s source fields is same own = readable_at source s.source fields (root_fields s) (root_object s) same own (root_read s is)
+
+pub numbers_readable : (s : SettingsParts) (source : List ℕ) (fields : List Field) → IsSettings s → fields ≡ numbers_fields s → source ≡ s.source → IsReadable source fields
+numbers_readable s source fields is same own = readable_at source s.source fields (numbers_fields s) _ same own (numbers_read s is)
+
+pub four_octets_readable : (s : SettingsParts) (source : List ℕ) (fields : List Field) → IsSettings s → fields ≡ four_octets_fields s → source ≡ s.source → IsReadable source fields
+four_octets_readable s source fields is same own = readable_at source s.source fields (four_octets_fields s) _ same own (four_octets_read s is)
+
+pub addresses_readable : (s : SettingsParts) (source : List ℕ) (fields : List Field) → IsSettings s → fields ≡ addresses_fields s → source ≡ s.source → IsReadable source fields
+addresses_readable s source fields is same own = readable_at source s.source fields (addresses_fields s) _ same own (addresses_read s is)
+
+-- an attribute of one line is one where its name is good
+one_line : (name line : List ℕ) → is_attribute_name name ≡ true → lowered name ≡ name → IsLine line → IsField (field name line)
+one_line name line named lower good = record { named = named; lower = lower; some = omega arith; good = (good, tt) }
+
+literal_line : (line : List ℕ) → trim is_blank_or_line_feed line ≡ line → not (list_any is_line_feed line) ≡ true → not (list_any is_refused line) ≡ true → IsLine line
+literal_line line trimmed unbroken clean = record { trimmed = trimmed; unbroken = unbroken; clean = clean }
+
+pub numbers_line : IsField (field (codes "as-block") (codes "AS0 - AS65535"))
+unfolding trim_start trim_end
+numbers_line = one_line (codes "as-block") (codes "AS0 - AS65535") refl refl (literal_line (codes "AS0 - AS65535") refl refl refl)
+
+pub four_octets_line : IsField (field (codes "as-block") (codes "AS65536 - AS4294967295"))
+unfolding trim_start trim_end
+four_octets_line = one_line (codes "as-block") (codes "AS65536 - AS4294967295") refl refl (literal_line (codes "AS65536 - AS4294967295") refl refl refl)
+
+pub addresses_line : IsField (field (codes "inetnum") (codes "0.0.0.0 - 255.255.255.255"))
+unfolding trim_start trim_end
+addresses_line = one_line (codes "inetnum") (codes "0.0.0.0 - 255.255.255.255") refl refl (literal_line (codes "0.0.0.0 - 255.255.255.255") refl refl refl)
+
+-- the attributes of the root, and those that each opening object ends in, are attributes
+pub named_line : (name line : List ℕ) → is_attribute_name name ≡ true → lowered name ≡ name → IsShown line → IsField (field name line)
+named_line name line named lower shown = one_line name line named lower (shown_line line shown)
+
+behind_fields : (front back : List Field) → AreFields front → AreFields back → AreFields (front ++ back)
+behind_fields [] back front_good back_good = back_good
+behind_fields (f ∷ front) back front_good back_good = (front_good.0, behind_fields front back front_good.1 back_good)
+
+pub owned_good : (front : List Field) (s : SettingsParts) → AreFields front → IsSettings s → AreFields (front ++ owned s)
+owned_good front s good is =
+    behind_fields front (owned s) good (
+      named_line (codes "mnt-by") s.root refl refl (shown_name s.root is.root.spelled),
+      (named_line (codes "source") s.source refl refl (shown_name s.source is.source.spelled), tt),
+    )
+
+pub root_good : (s : SettingsParts) → IsSettings s → AreFields (field (codes "mntner") s.root ∷ (field (codes "auth") (auth_line s.auth) ∷ []))
+root_good s is = (
+  named_line (codes "mntner") s.root refl refl (shown_name s.root is.root.spelled),
+  (named_line (codes "auth") (auth_line s.auth) refl refl (shown_auth s.auth is.auth), tt),
+)
+
+-- four objects read so are the opening objects
+pub four_open : (s : SettingsParts) (a b c d : Obj) (objects : List Obj) → objects ≡ a ∷ (b ∷ (c ∷ (d ∷ [])))
+    → IsObjectOf s.source (root_fields s) a → IsObjectOf s.source (numbers_fields s) b
+    → IsObjectOf s.source (four_octets_fields s) c → IsObjectOf s.source (addresses_fields s) d → AreOpening s objects
+four_open s a b c d objects same first second third last =
+    record { read = rw (same, first.read, second.read, third.read, last.read) refl }
+
+-- put behind each other they stand in order
+pub in_order : (none one two three all : List Obj) (a b c d : Obj) → none ≡ [] → one ≡ none ++ a ∷ [] → two ≡ one ++ b ∷ [] → three ≡ two ++ c ∷ []
+    → all ≡ three ++ d ∷ [] → all ≡ a ∷ (b ∷ (c ∷ (d ∷ [])))
+in_order none one two three all a b c d e0 e1 e2 e3 e4 = rw (e4, e3, e2, e1, e0) refl

@@ -5,7 +5,8 @@ ghost use Rattle.sqlite.specs.Held.{state};
 ghost use Rattle.sqlite.specs.State.{HasCleanDisk, Survives};
 ghost use Rattle.rr_rows.specs.Made.{HasRow, IsVacant};
 ghost use Rattle.rr_rows.specs.Maps.{HasRows};
-ghost use Rattle.rr_store.specs.Agreed.{IsOtherVersion};
+ghost use Rattle.rr_store.specs.Opening.{IsOtherVersion};
+ghost use Rattle.rr_rows.specs.Tables.{HasTables};
 ghost use Rattle.rr_store.specs.Kept.{IsLeft};
 ghost use Rattle.rr_store.specs.declared.fault.CreateFault.TheVariants.{NotEmpty};
 ghost use Rattle.rr_store.specs.declared.fault.OpenFault.TheVariants.{BadRow, WrongVersion};
@@ -19,8 +20,9 @@ ghost use Rattle.rr_desk.specs.Stocks.{stock_ledger};
 use crate::opened::{create_stored, open_stored, opening};
 use crate::settings::Settings;
 use crate::stored::Stored;
+use rr_index::IndexedBook;
 use rr_io::{Sink, Source};
-use rr_registry::{PlainBook, Registry};
+use rr_registry::Registry;
 use rr_store::{CreateFault, OpenFault};
 use rr_submission::{DeskFault, Done};
 use sqlite::{Alter, Connection};
@@ -50,7 +52,7 @@ impl<S: Alter> Desk<S> {
         ensures vacant { IfOk result (λ d. HasCleanDisk (state S.Store d.stored.store) → IsVacant (state S.Store conn).now) }
         ensures crash { IfOk result (λ d. Survives (state S.Store conn) (state S.Store d.stored.store) (IsLeft (state S.Store conn).is_open (HasOpeningRows settings))) }
         ensures err { IfErr result (λ e. HasCleanDisk (state S.Store e.1) → IsTrue (state S.Store e.1).is_open → (state S.Store e.1).now ≡ (state S.Store conn).now) }
-        ensures not_empty { IfErr result (λ e. HasCleanDisk (state S.Store e.1) → e.0 ≡ NotEmpty → HasRow (state S.Store conn).now) }
+        ensures not_empty { IfErr result (λ e. HasCleanDisk (state S.Store e.1) → e.0 ≡ NotEmpty → HasTables (state S.Store conn).now.schema × HasRow (state S.Store conn).now) }
         ensures err_crash { IfErr result (λ e. Survives (state S.Store conn) (state S.Store e.1) (IsLeft (state S.Store conn).is_open (HasOpeningRows settings))) }
         ensures err_autocommit { IfErr result (λ e. e.1.in_transaction ≡ false) }
     {
@@ -167,14 +169,14 @@ impl<S: Alter> Desk<S> {
     }
 
     /// The registry.
-    pub fn registry(&self) -> &Registry
+    pub fn registry(&self) -> &Registry<IndexedBook>
         ensures { result.now ≡ self.now.stored.registry }
     {
         self.stored.registry()
     }
 
     /// The book of the registry.
-    pub fn book(&self) -> &PlainBook
+    pub fn book(&self) -> &IndexedBook
         ensures { result.now ≡ self.now.stored.registry }
     {
         self.stored.registry().book()

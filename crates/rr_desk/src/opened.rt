@@ -8,7 +8,8 @@ ghost use Rattle.sqlite.specs.State.{HasCleanDisk, Survives};
 ghost use Rattle.rr_rows.specs.Entries.{entry_of};
 ghost use Rattle.rr_rows.specs.Made.{HasRow, IsVacant};
 ghost use Rattle.rr_rows.specs.Maps.{HasRows, IsFilled, IsObject};
-ghost use Rattle.rr_store.specs.Agreed.{IsOtherVersion};
+ghost use Rattle.rr_store.specs.Opening.{IsOtherVersion};
+ghost use Rattle.rr_rows.specs.Tables.{HasTables};
 ghost use Rattle.rr_store.specs.Kept.{IsLeft};
 ghost use Rattle.rr_store.specs.declared.fault.CreateFault.TheVariants.{NotEmpty};
 ghost use Rattle.rr_store.specs.declared.fault.OpenFault.TheVariants.{BadRow, WrongVersion};
@@ -18,6 +19,7 @@ ghost use Rattle.rr_desk.specs.Opening.{IsOpened};
 use crate::opening::{opening_objects, opening_registry};
 use crate::settings::Settings;
 use crate::stored::Stored;
+use rr_index::IndexedBook;
 use rr_number::Name;
 use rr_object::Object;
 use rr_registry::{LoadFault, Registry};
@@ -67,7 +69,7 @@ fn refused(fault: LoadFault) -> OpenFault
 pub(crate) fn create_stored<S: Alter>(
     alloc: Global,
     conn: Connection<S>,
-    registry: Registry,
+    registry: Registry<IndexedBook>,
     objects: &[Object],
 ) -> Result<Stored<S>, (CreateFault, Connection<S>)>
     requires autocommit { conn.in_transaction ≡ false }
@@ -77,7 +79,7 @@ pub(crate) fn create_stored<S: Alter>(
     ensures vacant { IfOk result (λ s. HasCleanDisk (state S.Store s.store) → IsVacant (state S.Store conn).now) }
     ensures crash { IfOk result (λ s. Survives (state S.Store conn) (state S.Store s.store) (IsLeft (state S.Store conn).is_open (HasRows registry))) }
     ensures err { IfErr result (λ e. HasCleanDisk (state S.Store e.1) → IsTrue (state S.Store e.1).is_open → (state S.Store e.1).now ≡ (state S.Store conn).now) }
-    ensures not_empty { IfErr result (λ e. HasCleanDisk (state S.Store e.1) → e.0 ≡ NotEmpty → HasRow (state S.Store conn).now) }
+    ensures not_empty { IfErr result (λ e. HasCleanDisk (state S.Store e.1) → e.0 ≡ NotEmpty → HasTables (state S.Store conn).now.schema × HasRow (state S.Store conn).now) }
     ensures err_crash { IfErr result (λ e. Survives (state S.Store conn) (state S.Store e.1) (IsLeft (state S.Store conn).is_open (HasRows registry))) }
     ensures err_autocommit { IfErr result (λ e. e.1.in_transaction ≡ false) }
 {
@@ -92,7 +94,7 @@ pub(crate) fn create_stored<S: Alter>(
 pub(crate) fn opening(
     alloc: Global,
     settings: &Settings,
-) -> Result<(Registry, Vec<Object>), AllocError>
+) -> Result<(Registry<IndexedBook>, Vec<Object>), AllocError>
     ensures opened { IfOk result (λ opening. IsOpened settings.now opening.0) }
     ensures rows { IfOk result (λ opening. (db : Database) → IsFilled (map entry_of opening.1.items) db → HasRows opening.0 db) }
 {

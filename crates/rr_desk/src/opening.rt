@@ -1,46 +1,45 @@
 //! The objects that a registry opens with.
 
-ghost use Rattle.std.specs.Prelude.{◌≡◌, [], ◌∷◌, ◌++◌, Ok, IfOk, true};
-ghost use Rattle.std.specs.Result.{is_ok};
-ghost use Rattle.rr_text.specs.Fields.{AreFields, IsField, IsLine};
-ghost use Rattle.rr_object.specs.Readings.{object_of};
-ghost use Rattle.rr_desk.specs.Opening.{AreOpening, IsOpened, auth_line, field, owned, root_fields};
+ghost use Rattle.std.specs.Prelude.{◌≡◌, [], ◌∷◌, ◌++◌, IfOk};
+ghost use Rattle.rr_text.specs.Fields.{AreFields, IsField};
+ghost use Rattle.rr_desk.specs.Opening.{AreOpening, IsObjectOf, IsOpened, IsReadable, addresses_fields, auth_line, field, four_octets_fields, numbers_fields, owned, root_fields};
 
 use crate::settings::Settings;
+use rr_number::Name;
 use rr_object::{Auth, Object, ObjectFault};
+use rr_index::IndexedBook;
 use rr_registry::{LoadFault, Registry};
 use rr_text::{Attribute, Paragraph, Text};
 use std::alloc::{AllocError, Global};
-
-/// The block of all AS numbers of two octets.
-const NUMBERS: &[u8] = b"AS0 - AS65535";
-
-/// The block of the other AS numbers of four octets (RFC 6793).
-const FOUR_OCTETS: &[u8] = b"AS65536 - AS4294967295";
-
-/// The span of all addresses.
-const ADDRESSES: &[u8] = b"0.0.0.0 - 255.255.255.255";
 
 /// The objects that a registry of these settings opens with: the root maintainer, the blocks of AS numbers of two and of
 /// four octets, and the span of all addresses, each maintained by the root (profile). The error is want of memory.
 pub fn opening_objects(alloc: Global, settings: &Settings) -> Result<Vec<Object>, AllocError>
     ensures { IfOk result (λ objects. AreOpening settings.now objects.items) }
 {
+    let objects = Vec::with_capacity(alloc, 4)?;
     let root = root_object(alloc, settings)?;
-    let numbers = span_object(alloc, settings, b"as-block", NUMBERS)?;
-    let four_octets = span_object(alloc, settings, b"as-block", FOUR_OCTETS)?;
-    let addresses = span_object(alloc, settings, b"inetnum", ADDRESSES)?;
-    let mut objects = Vec::with_capacity(alloc, 4)?;
-    objects.push(root)?;
-    objects.push(numbers)?;
-    objects.push(four_octets)?;
-    objects.push(addresses)?;
+    let objects = with(objects, root)?;
+    let numbers = numbers_object(alloc, settings)?;
+    let objects = with(objects, numbers)?;
+    let four_octets = four_octets_object(alloc, settings)?;
+    let objects = with(objects, four_octets)?;
+    let addresses = addresses_object(alloc, settings)?;
+    let objects = with(objects, addresses)?;
+    Ok(objects)
+}
+
+/// The objects with one more behind them.
+fn with(mut objects: Vec<Object>, object: Object) -> Result<Vec<Object>, AllocError>
+    ensures { IfOk result (λ made. made.items ≡ objects.items ++ object ∷ []) }
+{
+    objects.push(object)?;
     Ok(objects)
 }
 
 /// The registry of these objects alone; the error is want of memory.
 #[tactic(auto, using(crate::proofs::OpeningRegistry::opening_faultless))]
-pub fn opening_registry(alloc: Global, settings: &Settings) -> Result<Registry, AllocError>
+pub fn opening_registry(alloc: Global, settings: &Settings) -> Result<Registry<IndexedBook>, AllocError>
     ensures { IfOk result (IsOpened settings.now) }
 {
     settings.are_good();
@@ -53,8 +52,47 @@ pub fn opening_registry(alloc: Global, settings: &Settings) -> Result<Registry, 
 }
 
 /// The root maintainer.
+#[tactic(auto, using(crate::proofs::OpeningReads::root_readable, crate::proofs::OpeningReads::read_back))]
 fn root_object(alloc: Global, settings: &Settings) -> Result<Object, AllocError>
-    ensures { IfOk result (λ object. object_of (root_fields settings.now) settings.now.source ≡ Ok object) }
+    ensures { IfOk result (IsObjectOf settings.now.source (root_fields settings.now)) }
+{
+    settings.are_good();
+    let paragraph = root_paragraph(alloc, settings)?;
+    read_object(alloc, paragraph, settings.source())
+}
+
+/// The block of all AS numbers of two octets.
+#[tactic(auto, using(crate::proofs::OpeningReads::numbers_readable, crate::proofs::OpeningReads::read_back))]
+fn numbers_object(alloc: Global, settings: &Settings) -> Result<Object, AllocError>
+    ensures { IfOk result (IsObjectOf settings.now.source (numbers_fields settings.now)) }
+{
+    settings.are_good();
+    let paragraph = numbers_paragraph(alloc, settings)?;
+    read_object(alloc, paragraph, settings.source())
+}
+
+/// The block of the other AS numbers of four octets (RFC 6793).
+#[tactic(auto, using(crate::proofs::OpeningReads::four_octets_readable, crate::proofs::OpeningReads::read_back))]
+fn four_octets_object(alloc: Global, settings: &Settings) -> Result<Object, AllocError>
+    ensures { IfOk result (IsObjectOf settings.now.source (four_octets_fields settings.now)) }
+{
+    settings.are_good();
+    let paragraph = four_octets_paragraph(alloc, settings)?;
+    read_object(alloc, paragraph, settings.source())
+}
+
+/// The span of all addresses.
+#[tactic(auto, using(crate::proofs::OpeningReads::addresses_readable, crate::proofs::OpeningReads::read_back))]
+fn addresses_object(alloc: Global, settings: &Settings) -> Result<Object, AllocError>
+    ensures { IfOk result (IsObjectOf settings.now.source (addresses_fields settings.now)) }
+{
+    settings.are_good();
+    let paragraph = addresses_paragraph(alloc, settings)?;
+    read_object(alloc, paragraph, settings.source())
+}
+
+fn root_paragraph(alloc: Global, settings: &Settings) -> Result<Paragraph, AllocError>
+    ensures { IfOk result (λ paragraph. paragraph ≡ root_fields settings.now) }
 {
     settings.are_good();
     let root = attribute(alloc, b"mntner", settings.root().as_bytes())?;
@@ -63,41 +101,54 @@ fn root_object(alloc: Global, settings: &Settings) -> Result<Object, AllocError>
     let mut attributes = Vec::with_capacity(alloc, 4)?;
     attributes.push(root)?;
     attributes.push(auth)?;
-    read(alloc, attributes, settings)
+    owned(alloc, attributes, settings)
 }
 
-/// The object of a span of numbers or addresses.
-fn span_object(
+fn numbers_paragraph(alloc: Global, settings: &Settings) -> Result<Paragraph, AllocError>
+    ensures { IfOk result (λ paragraph. paragraph ≡ numbers_fields settings.now) }
+{
+    span_paragraph(alloc, settings, b"as-block", b"AS0 - AS65535")
+}
+
+fn four_octets_paragraph(alloc: Global, settings: &Settings) -> Result<Paragraph, AllocError>
+    ensures { IfOk result (λ paragraph. paragraph ≡ four_octets_fields settings.now) }
+{
+    span_paragraph(alloc, settings, b"as-block", b"AS65536 - AS4294967295")
+}
+
+fn addresses_paragraph(alloc: Global, settings: &Settings) -> Result<Paragraph, AllocError>
+    ensures { IfOk result (λ paragraph. paragraph ≡ addresses_fields settings.now) }
+{
+    span_paragraph(alloc, settings, b"inetnum", b"0.0.0.0 - 255.255.255.255")
+}
+
+/// The paragraph of a span of numbers or addresses.
+fn span_paragraph(
     alloc: Global,
     settings: &Settings,
     class: &[u8],
     span: &[u8],
-) -> Result<Object, AllocError>
-    requires field { IsField (field class.now span.now) }
-    requires readable { is_ok (object_of (field class.now span.now ∷ owned settings.now) settings.now.source) ≡ true }
-    ensures { IfOk result (λ object. object_of (field class.now span.now ∷ owned settings.now) settings.now.source ≡ Ok object) }
+) -> Result<Paragraph, AllocError>
+    requires { IsField (field class.now span.now) }
+    ensures { IfOk result (λ paragraph. paragraph ≡ field class.now span.now ∷ owned settings.now) }
 {
     let class = attribute(alloc, class, span)?;
     let mut attributes = Vec::with_capacity(alloc, 3)?;
     attributes.push(class)?;
-    read(alloc, attributes, settings)
+    owned(alloc, attributes, settings)
 }
 
-/// The object of these attributes that is maintained by the root.
-fn read(
-    alloc: Global,
-    attributes: Vec<Attribute>,
-    settings: &Settings,
-) -> Result<Object, AllocError>
-    requires fields { AreFields attributes.items }
-    requires readable { is_ok (object_of (attributes.items ++ owned settings.now) settings.now.source) ≡ true }
-    ensures { IfOk result (λ object. object_of (attributes.items ++ owned settings.now) settings.now.source ≡ Ok object) }
+/// The object that a paragraph is; the error is want of memory.
+fn read_object(alloc: Global, paragraph: Paragraph, source: &Name) -> Result<Object, AllocError>
+    requires { IsReadable source.now paragraph }
+    ensures { IfOk result (IsObjectOf source.now paragraph) }
 {
-    let paragraph = owned(alloc, attributes, settings)?;
-    match Object::read(alloc, paragraph, settings.source()) {
+    match Object::read(alloc, paragraph, source) {
         Ok(object) => Ok(object),
-        Err(ObjectFault::Memory) => Err(AllocError),
-        Err(_) => unreachable!(),
+        Err(fault) => match fault {
+            ObjectFault::Memory => Err(AllocError),
+            _ => unreachable!(),
+        },
     }
 }
 

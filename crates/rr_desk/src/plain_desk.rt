@@ -8,6 +8,7 @@ ghost use Rattle.rr_desk.specs.Settings.{built_in};
 
 use crate::opening::opening_registry;
 use crate::settings::Settings;
+use rr_index::IndexedBook;
 use rr_io::{Sink, Source};
 use rr_registry::Registry;
 use rr_submission::{DeskFault, Done};
@@ -17,7 +18,7 @@ use std::marker::Model;
 /// A desk over a registry in memory. Contracts see the registry.
 #[derive(Drop)]
 pub struct PlainDesk {
-    registry: Registry,
+    registry: Registry<IndexedBook>,
     settings: Settings,
 }
 
@@ -49,7 +50,7 @@ impl PlainDesk {
     }
 
     /// The registry.
-    pub fn registry(&self) -> &Registry
+    pub fn registry(&self) -> &Registry<IndexedBook>
         ensures { result.now ≡ self.now }
     {
         &self.registry

@@ -11,6 +11,7 @@ ghost use Rattle.rr_desk.specs.Rows.{Holds};
 
 use rr_auth::{Book, Item, Secrets};
 use rr_object::{Code, Key};
+use rr_index::IndexedBook;
 use rr_registry::{Outcome, Registry};
 use rr_store::{Store, StoreFault};
 use rr_submission::{Halted, Ledger};
@@ -22,7 +23,7 @@ use std::marker::Model;
 /// the store holds the rows of the registry.
 #[derive(Drop)]
 pub struct Stored<S: Alter> {
-    registry: Registry,
+    registry: Registry<IndexedBook>,
     store: Store<S>,
     stopped: bool,
 }
@@ -41,7 +42,7 @@ impl<S: Alter> Model for Stored<S> {
 
 impl<S: Alter> Stored<S> {
     /// A registry with a store that holds its rows.
-    pub(crate) fn of(registry: Registry, store: Store<S>) -> Stored<S>
+    pub(crate) fn of(registry: Registry<IndexedBook>, store: Store<S>) -> Stored<S>
         requires is_open { HasCleanDisk (state S.Store store) → IsTrue (state S.Store store).is_open }
         requires rows { HasCleanDisk (state S.Store store) → HasRows registry (state S.Store store).now }
         ensures registry { result.registry ≡ registry }
@@ -64,7 +65,7 @@ impl<S: Alter> Stored<S> {
     }
 
     /// The registry.
-    pub fn registry(&self) -> &Registry
+    pub fn registry(&self) -> &Registry<IndexedBook>
         ensures { result.now ≡ self.now.registry }
     {
         &self.registry
@@ -126,7 +127,7 @@ fn copied_key(alloc: Global, item: &Item) -> Result<Key, AllocError>
 /// Makes the rows those of the registry after the item about this key that had this outcome.
 fn follow<S: Alter>(
     alloc: Global,
-    registry: &Registry,
+    registry: &Registry<IndexedBook>,
     store: &mut Store<S>,
     key: &Key,
     outcome: Outcome,
@@ -147,7 +148,7 @@ fn follow<S: Alter>(
 /// Puts the rows of the object that stands under the key in the registry.
 fn put_stored<S: Alter>(
     alloc: Global,
-    registry: &Registry,
+    registry: &Registry<IndexedBook>,
     store: &mut Store<S>,
     key: &Key,
 ) -> Result<(), StoreFault>

@@ -10,5 +10,5 @@ mod run;
 pub use load::LoadFault;
 pub use outcome::Outcome;
 pub use registry::Registry;
-pub use rr_book::PlainBook;
+pub use rr_book::{Keeper, PlainBook};
 pub use run::Submitted;

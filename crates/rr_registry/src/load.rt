@@ -1,6 +1,6 @@
 //! Lists of objects taken as registries.
 
-ghost use Rattle.std.specs.Prelude.{◌≡◌, ◌⊎◌, [], ◌++◌, ◌<◌, Some, IfErr, IfSome, MatchResult, OnOk, find, is_none, length, map, position};
+ghost use Rattle.std.specs.Prelude.{◌≡◌, ◌⊎◌, [], ◌<◌, Some, IfErr, IfSome, MatchResult, OnOk, find, is_none, length, position};
 ghost use Rattle.std.specs.List.{list_any};
 ghost use Rattle.rr_object.specs.Objects.{names_of};
 ghost use Rattle.rr_auth.specs.Registries.{is_mntner_of};
@@ -8,9 +8,8 @@ ghost use Rattle.rr_registry.specs.Loading.{clash, clash_of};
 ghost use Rattle.rr_registry.specs.Private.{IsApart, IsGathered, IsTakenIn};
 
 use crate::registry::Registry;
-use rr_book::{PlainBook, lists};
-use rr_number::Name;
-use rr_object::{Grant, Object};
+use rr_book::{Keeper, lists};
+use rr_object::Object;
 use std::alloc::{AllocError, AllocFailed, Global};
 
 /// Why a list of objects is not taken as a registry. Objects are counted from 1.
@@ -48,13 +47,13 @@ impl<T: Drop> From<AllocFailed<T>> for LoadFault {
     }
 }
 
-impl Registry {
+impl<B: Keeper> Registry<B> {
     ghost use Rattle.rr_registry.specs.Loading.{IsFaultOf, IsTaken};
 
     /// The registry of these objects. The fault is the first key that stands twice or span that crosses one before it,
     /// else the first object that names a maintainer who is not in the list, or want of memory (profile).
     #[tactic(auto, using(crate::proofs::Gathering::clash_is_fault))]
-    pub fn from_objects(alloc: Global, objects: Vec<Object>) -> Result<Registry, LoadFault>
+    pub fn from_objects(alloc: Global, objects: Vec<Object>) -> Result<Registry<B>, LoadFault>
         ensures { MatchResult result (IsTaken objects.items) (IsFaultOf objects.items) }
     {
         let unnamed = first_unnamed(&objects);
@@ -62,7 +61,7 @@ impl Registry {
             Err(fault) => Err(fault),
             Ok(gathered) => match unnamed {
                 Some(i) => Err(LoadFault::Unnamed(i as u64 + 1)),
-                None => Ok(Registry::of(PlainBook::of(alloc, gathered)?)),
+                None => Ok(Registry::of(B::of(alloc, gathered)?)),
             },
         }
     }
@@ -82,36 +81,8 @@ fn first_unnamed(objects: &[Object]) -> Option<usize>
 fn names_nobody(objects: &[Object], object: &Object) -> bool
     ensures { result ≡ list_any (λ n. is_none (find (λ x. is_mntner_of n x.key) objects.now)) (names_of object.now) }
 {
-    some_unknown_in_routes(objects, object) || some_unknown(objects, object.by_ref().names())
-}
-
-/// Whether mnt-by, mnt-lower or mnt-routes names such a maintainer.
-fn some_unknown_in_routes(objects: &[Object], object: &Object) -> bool
-    ensures { result ≡ list_any (λ n. is_none (find (λ x. is_mntner_of n x.key) objects.now))
-        ((object.now.maintainers ++ object.now.lower) ++ map (λ g. g.name) object.now.routes) }
-{
-    some_unknown_in_lower(objects, object) || some_entry_unknown(objects, object.routes())
-}
-
-/// Whether mnt-by or mnt-lower names such a maintainer.
-fn some_unknown_in_lower(objects: &[Object], object: &Object) -> bool
-    ensures { result ≡ list_any (λ n. is_none (find (λ x. is_mntner_of n x.key) objects.now))
-        (object.now.maintainers ++ object.now.lower) }
-{
-    some_unknown(objects, object.maintainers()) || some_unknown(objects, object.lower())
-}
-
-fn some_entry_unknown(objects: &[Object], entries: &[Grant]) -> bool
-    ensures { result ≡ list_any (λ g. is_none (find (λ x. is_mntner_of g.name x.key) objects.now)) entries.now }
-{
-    entries.iter().any(|entry| lists::find_mntner(objects, entry.name()).is_none())
-}
-
-fn some_unknown(objects: &[Object], names: &[Name]) -> bool
-    ensures { result ≡ list_any (λ n. is_none (find (λ x. is_mntner_of n x.key) objects.now)) names.now }
-{
-    names
-        .iter()
+    object
+        .maintainers_named()
         .any(|name| lists::find_mntner(objects, name).is_none())
 }
 

@@ -1,6 +1,6 @@
 //! Registries, and what items do to them.
 
-ghost use Rattle.std.specs.Prelude.{◌≡◌, ◌⊎◌, true};
+ghost use Rattle.std.specs.Prelude.{◌≡◌, ◌⊎◌, true, IfOk};
 ghost use Rattle.std.specs.FinMap.{empty, insert, remove, values};
 ghost use Rattle.rr_auth.specs.declared.verdict.Verdict.TheVariants.{Add, Change, Delete};
 ghost use Rattle.rr_auth.specs.Verdicts.{is_met_by};
@@ -9,19 +9,20 @@ ghost use Rattle.rr_confinement.specs.Laws.{LeavesOthers};
 ghost use Rattle.rr_registry.specs.Runs.{IsCarriedOut, IsStep, IsWant};
 
 use crate::outcome::Outcome;
-use rr_auth::{Book, Item, Secrets, Verdict, judge};
-use rr_book::PlainBook;
+use rr_auth::{Item, Secrets, Verdict, judge};
+use rr_book::Keeper;
+use rr_number::Span;
 use rr_object::{Code, Key, Object};
-use std::alloc::Global;
+use std::alloc::{AllocError, Global};
 use std::marker::Model;
 
-/// A registry; contracts see the finite map from keys to objects. It is always sound.
+/// A registry, kept in a book; contracts see the finite map from keys to objects. It is always sound.
 #[derive(Drop)]
-pub struct Registry {
-    book: PlainBook,
+pub struct Registry<B: Keeper> {
+    book: B,
 }
 
-impl Model for Registry {
+impl<B: Keeper> Model for Registry<B> {
     ghost use Rattle.rr_auth.specs.Registries.{Reg};
     ghost use Rattle.std.specs.FinMap as map;
     ghost use Rattle.rr_object.specs.contracts.key.Key as key;
@@ -31,40 +32,58 @@ impl Model for Registry {
 
     ghost coded = { map.code (key.the_row).coded (object.the_row).coded };
 
-    ghost view = { λ a. a.book };
+    ghost view = { λ a. B.contents a.book };
 }
 
-impl Registry {
+impl<B: Keeper> Registry<B> {
     ghost use Rattle.rr_auth.specs.Registries.{Sound};
+    ghost use Rattle.rr_book.specs.Listings.{covering, inside};
+    ghost use Rattle.rr_sets.specs.Lists.{lent};
 
     /// A registry of no objects.
-    pub fn new(alloc: Global) -> Registry
+    pub fn new(alloc: Global) -> Registry<B>
         ensures { result ≡ empty }
     {
         Registry {
-            book: PlainBook::new(alloc),
+            book: B::new(alloc),
         }
     }
 
     /// The registry of this book.
-    pub(crate) fn of(book: PlainBook) -> Registry
-        ensures { result ≡ book }
+    pub(crate) fn of(book: B) -> Registry<B>
+        ensures { result ≡ B.contents book }
     {
         Registry { book }
     }
 
     /// The book of the registry, over which other questions can be asked.
-    pub fn book(&self) -> &PlainBook
-        ensures { result.now ≡ self.now }
+    pub fn book(&self) -> &B
+        ensures { B.contents result.now ≡ self.now }
     {
         &self.book
     }
 
-    /// The objects in the order of class and key.
-    pub fn objects(&self) -> &[Object]
-        ensures { result.now ≡ values self.now }
+    /// The objects in the order of class and key; the error is want of memory.
+    pub fn objects(&self, alloc: Global) -> Result<Vec<&Object>, AllocError>
+        ensures { IfOk result (λ objects. lent objects.items ≡ values self.now) }
     {
-        self.book.objects()
+        self.book.objects(alloc)
+    }
+
+    /// The inetnums and routes whose addresses cover the span, in the order of class and key; equal ones count. The error
+    /// is want of memory.
+    pub fn covering(&self, alloc: Global, span: Span) -> Result<Vec<&Object>, AllocError>
+        ensures { IfOk result (λ found. lent found.items ≡ covering self.now span) }
+    {
+        self.book.covering(alloc, span)
+    }
+
+    /// The inetnums and routes whose addresses lie inside the span, in the order of class and key; equal ones count. The
+    /// error is want of memory.
+    pub fn inside(&self, alloc: Global, span: Span) -> Result<Vec<&Object>, AllocError>
+        ensures { IfOk result (λ found. lent found.items ≡ inside self.now span) }
+    {
+        self.book.inside(alloc, span)
     }
 
     /// Tells a caller's proof that the registry is sound; it does nothing.
@@ -125,7 +144,7 @@ impl Registry {
         requires { Sound (insert self.old object.key object) }
         ensures { ((result ≡ done) × (self.new ≡ insert self.old object.key object)) ⊎ IsWant self.old result self.new }
     {
-        match self.book.put(alloc, object) {
+        match self.book.insert(alloc, object) {
             Ok(()) => done,
             Err(_) => Outcome::Refused(Code::E90),
         }

@@ -5,6 +5,7 @@ ghost use Rattle.std.specs.Prelude.{◌≡◌, IfOk, OnOk, OnErr};
 use crate::outcome::Outcome;
 use crate::registry::{Registry, is_well_formed};
 use rr_auth::{Item, Secrets};
+use rr_book::Keeper;
 use rr_object::Code;
 use std::alloc::{AllocError, Global};
 
@@ -17,7 +18,7 @@ pub struct Submitted {
     pub action: Result<Item, Code>,
 }
 
-impl Registry {
+impl<B: Keeper> Registry<B> {
     ghost use Rattle.rr_auth.specs.Laws.{IsItem};
     ghost use Rattle.rr_registry.specs.Confined.{Confines};
     ghost use Rattle.rr_registry.specs.RunLaws.{AreFormed};

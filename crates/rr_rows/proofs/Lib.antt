@@ -12,3 +12,4 @@ pub mod MapEntries
 pub mod MapRows
 pub mod MapLists
 pub mod AddedLemmas
+pub mod MapNaming

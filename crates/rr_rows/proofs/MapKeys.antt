@@ -90,6 +90,9 @@ pub old_form_keeps_order : KeepsOrder old_key_bytes
 old_form_keeps_order = old_bytes_keep_order
 
 -- `=` of two values
+abbrev pub is_same : Value → Value → Bool
+is_same a b = is_true (binary (Compare Eq Binary) a b)
+
 is_true_test : (b : Bool) → (a c : Value) → is_null a ≡ false → is_null c ≡ false → is_eq (value_cmp a c) ≡ b → is_true (binary (Compare Eq Binary) a c) ≡ b
 unfolding binary
 is_true_test true a c p q e = rw (p, q, e) refl
@@ -101,7 +104,7 @@ tie_as_numbers m n = grind (arith, nat_tests)
 numbers_tie : (m n : ℕ) → is_true (binary (Compare Eq Binary) (Int (pos m)) (Int (pos n))) ≡ is_eq (nat_cmp m n)
 numbers_tie m n = is_true_test (is_eq (nat_cmp m n)) (Int (pos m)) (Int (pos n)) refl refl (ap is_eq (value_cmp-Int (pos m) (pos n)) ∙ tie_as_numbers m n)
 
-texts_tie : (x y : List ℕ) → is_true (binary (Compare Eq Binary) (Text x) (Text y)) ≡ is_eq (slice_cmp nat_cmp x y)
+pub texts_tie : (x y : List ℕ) → is_true (binary (Compare Eq Binary) (Text x) (Text y)) ≡ is_eq (slice_cmp nat_cmp x y)
 texts_tie x y = is_true_test (is_eq (slice_cmp nat_cmp x y)) (Text x) (Text y) refl refl (ap is_eq (value_cmp-Text x y))
 
 both_tie : (a b : Ordering) → (is_eq a && (is_eq b && true)) ≡ is_eq (ordering_then a b)

@@ -1,13 +1,14 @@
 -- Lists of objects and the finite maps that they are.
-use Rattle.std.proofs.Common.{◌≡◌, ◌≢◌, ◌⊎◌, inl, inr, ℕ, true, false, cond, T, List, [], ◌∷◌, ◌++◌, map, length, Some, None, Ok, arith, refl, sym, ap, subst, ◌∙◌, Less, IsPermutation}
+use Rattle.std.proofs.Common.{◌≡◌, ◌≢◌, ◌⊎◌, inl, inr, ℕ, true, false, cond, T, List, [], ◌∷◌, ◌++◌, map, length, Some, None, Ok, arith, refl, sym, ap, subst, ◌∙◌, Less, Equal, IsPermutation}
 use Rattle.std.specs.List.{AllByRecursion}
+use Rattle.std.specs.Cmp.{tied_itself}
 use Rattle.std.specs.Ordering.{eq_by_cmp, is_lt}
 use Rattle.std.specs.FinMap.{FinMap, empty, entries, entries_sorted, get, insert, is_sorted, same_entries_map, values, get-empty, get-insert, len-empty, len-entries}
 use Rattle.std.specs.FinMap.Entries.{below_all}
 use Rattle.std.proofs.lemmas.List.Sorted.{IsPermutation-append_left, IsPermutation-map, IsPermutation-middle, IsPermutation-refl, IsPermutation-sym, IsPermutation-trans}
 use Rattle.sqlite_value.specs.Order.{Row}
 use Rattle.sqlite_trees.specs.Tree.{IsAscending}
-use Rattle.sqlite_trees.proofs.ListLemmas.{all-permutation, all_of, all_weaker, map-map, pull_back}
+use Rattle.sqlite_trees.proofs.ListLemmas.{all-permutation, all_of, all_weaker, ascending_weaker, map-map, pull_back}
 use Rattle.sqlite.specs.Effect.{Database}
 use Rattle.rr_text.specs.CanonicalText.{canonical}
 use Rattle.rr_text.proofs.RoundTrip.{canonical_determines}
@@ -108,14 +109,14 @@ module _ {X : Type 0} where
   is_in_longer y [] ys all = tt
   is_in_longer y (x ∷ xs) ys all = (inr all.0, is_in_longer y xs ys all.1)
 
-  in_itself : (xs : List X) → AllByRecursion (λ x. IsIn x xs) xs
+  pub in_itself : (xs : List X) → AllByRecursion (λ x. IsIn x xs) xs
   in_itself [] = tt
   in_itself (x ∷ xs) = (inl refl, is_in_longer x xs xs (in_itself xs))
 
   in_permuted : (xs ys : List X) → IsPermutation xs ys → AllByRecursion (λ x. IsIn x xs) ys
   in_permuted xs ys same = all-permutation (λ x. IsIn x xs) xs ys same (in_itself xs)
 
-  of_each : (P : X → Type 0) (x : X) (xs : List X) → AllByRecursion P xs → IsIn x xs → P x
+  pub of_each : (P : X → Type 0) (x : X) (xs : List X) → AllByRecursion P xs → IsIn x xs → P x
   of_each P x [] all is = absurd is
   of_each P x (y ∷ ys) all (inl same) = subst P (sym same) all.0
   of_each P x (y ∷ ys) all (inr is) = of_each P x ys all.1 is
@@ -145,6 +146,11 @@ module _ {X : Type 0} where
         first (inl same) other = same
         first (inr is) (inl same) = sym same
         first (inr is) (inr other) = absurd (one_way x y (of_each (R x) y xs up.0 other) (of_each (R y) x ys down.0 is))
+
+pub in_order_apart : (os : List Obj) → AreInOrder os → AreApart os
+in_order_apart os up = ascending_weaker (λ a b. key_cmp a.key b.key ≡ Less) (λ a b. a.key ≢ b.key) (λ a b less same.
+    let tie : key_cmp a.key b.key ≡ Equal = ap (key_cmp a.key) (sym same) ∙ tied_itself keys_total a.key in
+    cc) os up
 
 one_way : (a b : Obj) → key_cmp a.key b.key ≡ Less → key_cmp b.key a.key ≡ Less → ⊥
 one_way a b p q = let turned = keys_total.antisymm a.key b.key in cc

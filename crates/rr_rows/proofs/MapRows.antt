@@ -36,7 +36,7 @@ abbrev pub of_others : Key → List Obj → List Obj
 of_others key = filter (λ o. not (eq_by_cmp key_cmp key o.key))
 
 module _ (key : Key) (formed : HasKeyParts key) where
-  same_at : (o : Obj) → IsKeyValue o.key → is_at (class_number (class_of key)) (key_bytes key) (entry_of o) ≡ eq_by_cmp key_cmp key o.key
+  pub same_at : (o : Obj) → IsKeyValue o.key → is_at (class_number (class_of key)) (key_bytes key) (entry_of o) ≡ eq_by_cmp key_cmp key o.key
   same_at o f =
       at_ties (class_number (class_of key)) (key_bytes key) (entry_of o)
       ∙ ap is_eq (sym (ordered_as_bytes o.key key (has_parts o.key f) formed))

@@ -14,16 +14,16 @@ pub then_ok : {X E P Q : Type 0} (r : Result X E) → OnOk r P → (P → Q) →
 then_ok (Ok x) p f = f p
 then_ok (Err e) p f = tt
 
-two_four : ◌≢◌ {A = ℕ} 2 4
+pub two_four : ◌≢◌ {A = ℕ} 2 4
 two_four h = omega arith
 
 four_two : ◌≢◌ {A = ℕ} 4 2
 four_two h = omega arith
 
-none_two : ◌≢◌ {A = ℕ} 0 2
+pub none_two : ◌≢◌ {A = ℕ} 0 2
 none_two h = omega arith
 
-none_four : ◌≢◌ {A = ℕ} 0 4
+pub none_four : ◌≢◌ {A = ℕ} 0 4
 none_four h = omega arith
 
 two_none : ◌≢◌ {A = ℕ} 2 0

@@ -2,8 +2,14 @@ pub mod CallLemmas
 pub mod AddingLemmas
 pub mod FillLemmas
 pub mod BodyLemmas
+pub mod CheckLemmas
 pub mod CommitLemmas
 pub mod LookLemmas
 pub mod ObjectLemmas
+pub mod NamingLemmas
 pub mod OrderLemmas
+pub mod SortedLemmas
 pub mod TidyLemmas
+pub mod UpperLemmas
+pub mod MigrateLemmas
+pub mod VersionLemmas

@@ -1,7 +1,11 @@
 -- Rows and the objects that they are read as.
-use Rattle.std.proofs.Common.{◌≡◌, ℕ, zero, suc, ◌<◌, List, [], ◌∷◌, ◌++◌, length, get_or, Ok, Err, refl, sym, ap, subst, ◌∙◌, arith}
+use Rattle.std.proofs.Common.{◌≡◌, Option, Some, None, Result, IfOk, IfSome, IsSome, ℕ, zero, suc, ◌<◌, List, [], ◌∷◌, ◌++◌, length, get_or, Ok, Err, refl, sym, ap, subst, ◌∙◌, arith}
 use Rattle.sqlite_value.specs.Order.{Row}
-use Rattle.rr_text.specs.Fields.{Field}
+use Rattle.rr_text.specs.Fields.{Field, AreFields}
+use Rattle.rr_text.specs.CanonicalText.{canonical}
+use Rattle.rr_text.proofs.RoundTrip.{canonical_determines}
+use Rattle.sqlite_value.specs.declared.value.Value.TheVariants.{Blob}
+use Rattle.sqlite_value.specs.Order.{column}
 use Rattle.rr_object.specs.Objects.{Obj}
 use Rattle.rr_object.specs.Readings.{object_of, obj_of, ReadsAs}
 use Rattle.rr_object.specs.KeySpellings.{key_of}
@@ -21,7 +25,7 @@ module _ (form : KeyForm) (source : List ℕ) where
   pub read_at : (rows : List Row) (objects : List Obj) (i : ℕ) (d : Row) → AreRead form source rows objects → i < length rows → (object : Obj) × IsObjectOf source object × IsRowOf form object (get_or rows i d)
   read_at [] objects i d read low = absurd (omega arith)
   read_at (r ∷ rows) [] i d read low = absurd read
-  read_at (r ∷ rows) (o ∷ os) zero d read low = (o, read.0)
+  read_at (r ∷ rows) (o ∷ os) zero d read low = (o, read.0.0, read.0.1)
   read_at (r ∷ rows) (o ∷ os) (suc i) d read low = read_at rows os i d read.1 (omega arith)
 
 no_key : (key : Key) → key_of [] ≡ Ok key → ⊥
@@ -32,3 +36,37 @@ no_key key e = cc
 pub has_attribute : (fields : List Field) (source : List ℕ) (object : Obj) → object_of fields source ≡ Ok object → 0 < length fields
 has_attribute [] source object e = absurd (no_key object.key (kept_its_key [] object (of_any_source [] source object e)))
 has_attribute (field ∷ fields) source object e = omega arith
+
+-- a paragraph that reads as an object is the object's
+pub read_whole : (source text : List ℕ) (fields : List Field) (object : Obj) → ReadsAs source fields object → AreFields fields → canonical fields ≡ text → IsObjectOf source object × (canonical object.paragraph ≡ text)
+read_whole source text fields object read good same =
+    let kept : object.paragraph ≡ fields = kept_paragraph fields object (of_any_source fields source object read) in
+    (record { fields = subst AreFields (sym kept) good; read = subst (λ fs. ReadsAs source fs object) (sym kept) read }, ap canonical kept ∙ same)
+
+pub each_whole : (source text : List ℕ) (fields : List Field) (read : Option Obj) → IfSome read (λ object. ReadsAs source fields object) → AreFields fields → canonical fields ≡ text
+    → IfSome read (λ object. IsObjectOf source object × (canonical object.paragraph ≡ text))
+each_whole source text fields (Some object) h good same = read_whole source text fields object h good same
+each_whole source text fields None h good same = tt
+
+-- objects of one source that have one text are one
+pub same_object : (source : List ℕ) (a b : Obj) → IsObjectOf source a → IsObjectOf source b → canonical a.paragraph ≡ canonical b.paragraph → a ≡ b
+same_object source a b p q same =
+    let one : a.paragraph ≡ b.paragraph = canonical_determines a.paragraph b.paragraph p.fields q.fields same in
+    let both : ◌≡◌ {A = Result Obj _} (Ok a) (Ok b) = sym p.read ∙ ap (λ fs. object_of fs source) one ∙ q.read in
+    cc
+
+-- the text in an object's row
+pub text_of_row : (form : KeyForm) (object : Obj) (row : Row) (text : List ℕ) → IsRowOf form object row → column row 2 ≡ Blob text → canonical object.paragraph ≡ text
+text_of_row form object row text of third = let both : Blob (canonical object.paragraph) ≡ Blob text = ap (λ r. column r 2) (sym of.is) ∙ third in cc
+
+-- rows are those of one list of objects alone
+pub one_list : (form : KeyForm) (source : List ℕ) (rows : List Row) (objects others : List Obj) → AreRead form source rows objects → AreRead form source rows others → objects ≡ others
+one_list form source [] [] [] p q = refl
+one_list form source [] [] (x ∷ xs) p q = absurd q
+one_list form source [] (o ∷ os) others p q = absurd p
+one_list form source (r ∷ rows) [] others p q = absurd p
+one_list form source (r ∷ rows) (o ∷ os) [] p q = absurd q
+one_list form source (r ∷ rows) (o ∷ os) (x ∷ xs) p q =
+    let both : Blob (canonical o.paragraph) ≡ Blob (canonical x.paragraph) = ap (λ row. column row 2) (sym p.0.1.is ∙ q.0.1.is) in
+    let one = same_object source o x p.0.0 q.0.0 (cc) in
+    λ i. one i ∷ one_list form source rows os xs p.1 q.1 i

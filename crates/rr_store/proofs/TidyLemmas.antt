@@ -14,7 +14,7 @@ pub keyed_as : {E : Type 0} (r : Result Bool E) (rows answer : List Row) → IsP
 keyed_as (Ok b) rows answer same h = λ is. keyed_by rows answer same (h is)
 keyed_as (Err e) rows answer same h = tt
 
-none_of_length : {X : Type 0} (xs : List X) → length xs ≡ 0 → xs ≡ []
+pub none_of_length : {X : Type 0} (xs : List X) → length xs ≡ 0 → xs ≡ []
 none_of_length [] h = refl
 none_of_length (x ∷ xs) h = absurd (omega arith)
 

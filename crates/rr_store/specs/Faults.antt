@@ -5,6 +5,8 @@ use Rattle.rr_store.specs.declared.fault.CreateFault.{CreateFault}
 use Rattle.rr_store.specs.declared.fault.CreateFault.TheVariants as create
 use Rattle.rr_store.specs.declared.fault.OpenFault.{OpenFault}
 use Rattle.rr_store.specs.declared.fault.OpenFault.TheVariants as opened
+use Rattle.rr_store.specs.declared.fault.MigrateFault.{MigrateFault}
+use Rattle.rr_store.specs.declared.fault.MigrateFault.TheVariants as migrated
 
 abbrev pub create_fault : StoreFault → CreateFault
 create_fault Store = create.Store
@@ -13,3 +15,13 @@ create_fault Memory = create.Memory
 abbrev pub open_fault : StoreFault → OpenFault
 open_fault Store = opened.Store
 open_fault Memory = opened.Memory
+
+abbrev pub migrate_fault : StoreFault → MigrateFault
+migrate_fault Store = migrated.Store
+migrate_fault Memory = migrated.Memory
+
+abbrev pub unread_fault : OpenFault → MigrateFault
+unread_fault (opened.WrongVersion number) = migrated.WrongVersion number
+unread_fault opened.BadRow = migrated.BadRow
+unread_fault opened.Store = migrated.Store
+unread_fault opened.Memory = migrated.Memory

@@ -85,3 +85,48 @@ impl From<StoreFault> for OpenFault {
         }
     }
 }
+
+/// Why tables were not migrated. No row was changed.
+#[derive(Clone, Copy, Debug, PartialEq, Eq)]
+pub enum MigrateFault {
+    /// The tables are of the version of this number, which is not 1.
+    WrongVersion(u32),
+    /// The rows are not those of objects of the source in tables of version 1.
+    BadRow,
+    /// The root's mntner is not among the objects.
+    NoRoot,
+    /// The database refused, for want of memory too, or has other tables in place of the three.
+    Store,
+    /// Memory was wanting.
+    Memory,
+}
+
+impl From<StoreFault> for MigrateFault {
+    ghost use Rattle.std.specs.Prelude.{◌≡◌};
+    ghost use Rattle.rr_store.specs.Faults.{migrate_fault};
+
+    ghost from_gives = { λ refused fault. fault ≡ migrate_fault refused };
+
+    fn from(refused: StoreFault) -> MigrateFault {
+        match refused {
+            StoreFault::Store => MigrateFault::Store,
+            StoreFault::Memory => MigrateFault::Memory,
+        }
+    }
+}
+
+impl From<OpenFault> for MigrateFault {
+    ghost use Rattle.std.specs.Prelude.{◌≡◌};
+    ghost use Rattle.rr_store.specs.Faults.{unread_fault};
+
+    ghost from_gives = { λ refused fault. fault ≡ unread_fault refused };
+
+    fn from(refused: OpenFault) -> MigrateFault {
+        match refused {
+            OpenFault::WrongVersion(number) => MigrateFault::WrongVersion(number),
+            OpenFault::BadRow => MigrateFault::BadRow,
+            OpenFault::Store => MigrateFault::Store,
+            OpenFault::Memory => MigrateFault::Memory,
+        }
+    }
+}

@@ -2,21 +2,26 @@
 #![tactic(auto)]
 
 mod bodies;
+mod checks;
 mod columns;
 mod creating;
 mod entry;
 mod fault;
 mod filling;
 mod making;
+mod migrating;
 mod names;
+mod namings;
 mod objects;
 mod reading;
+mod settings;
 mod statements;
 mod store;
 mod tidy;
+mod upper;
 mod vacancy;
 mod version;
 mod writes;
 
-pub use fault::{CreateFault, OpenFault, StoreFault};
+pub use fault::{CreateFault, MigrateFault, OpenFault, StoreFault};
 pub use store::Store;

@@ -4,6 +4,7 @@ ghost use Rattle.std.specs.Prelude.{◌≡◌, IfOk, IfSome, IsSome, IsTrue, Som
 ghost use Rattle.rr_text.specs.CanonicalText.{canonical};
 ghost use Rattle.rr_object.specs.Classes.{class_number};
 ghost use Rattle.rr_object.specs.Keys.{class_of};
+ghost use Rattle.rr_object.specs.Readings.{ReadsAs};
 ghost use Rattle.rr_rows.specs.Contents.{object_values};
 ghost use Rattle.rr_rows.specs.Maps.{AreInOrder, IsObjectOf};
 ghost use Rattle.rr_store.specs.Reading.{AreRead, IsRowOf, is_below};
@@ -12,23 +13,37 @@ ghost use Rattle.rr_store.specs.Versions.{form_of};
 use crate::columns::{is_object_row, third_bytes};
 use crate::version::Version;
 use rr_number::Name;
+use rr_object::laws::keys_compare_by_their_parts;
 use rr_object::{Object, ObjectFault};
-use rr_text::read_canonical;
+use rr_text::{Paragraph, read_canonical};
 use sqlite::Row;
 use std::alloc::{AllocError, Global};
+use std::cmp::Ordering;
+
+/// The object of the source that a paragraph is, if it is one.
+fn read_paragraph(
+    alloc: Global,
+    paragraph: Paragraph,
+    source: &Name,
+) -> Result<Option<Object>, AllocError>
+    ensures found { IfOk result (λ read. IfSome read (λ object. ReadsAs source.now paragraph object)) }
+    ensures only { IfOk result (λ read. (object : _) → ReadsAs source.now paragraph object → IsSome read) }
+{
+    match Object::read(alloc, paragraph, source) {
+        Ok(object) => Ok(Some(object)),
+        Err(ObjectFault::Memory) => Err(AllocError),
+        Err(_) => Ok(None),
+    }
+}
 
 /// The object of the source whose canonical text this is, if it is that of one.
 fn read_text(alloc: Global, text: &[u8], source: &Name) -> Result<Option<Object>, AllocError>
     ensures found { IfOk result (λ read. IfSome read (λ object. IsObjectOf source.now object × (canonical object.paragraph ≡ text.now))) }
     ensures only { IfOk result (λ read. (object : _) → IsObjectOf source.now object → canonical object.paragraph ≡ text.now → IsSome read) }
 {
-    let Some(paragraph) = read_canonical(alloc, text)? else {
-        return Ok(None);
-    };
-    match Object::read(alloc, paragraph, source) {
-        Ok(object) => Ok(Some(object)),
-        Err(ObjectFault::Memory) => Err(AllocError),
-        Err(_) => Ok(None),
+    match read_canonical(alloc, text)? {
+        Some(paragraph) => Ok(read_paragraph(alloc, paragraph, source)?),
+        None => Ok(None),
     }
 }
 
@@ -98,7 +113,10 @@ fn is_below(object: &Object, others: &[Object]) -> bool
     ensures { result ≡ is_below object.now others.now }
 {
     match others {
-        [other, ..] => object.key() < other.key(),
+        [other, ..] => {
+            keys_compare_by_their_parts();
+            object.key().cmp(other.key()) == Ordering::Less
+        }
         [] => true,
     }
 }

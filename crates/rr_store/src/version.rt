@@ -1,6 +1,6 @@
 //! The versions of tables.
 
-ghost use Rattle.std.specs.Prelude.{◌≡◌, ◌<◌, ◌^◌, decimal, IfOk, IfSome, Some};
+ghost use Rattle.std.specs.Prelude.{◌≡◌, ◌<◌, ◌^◌, decimal, IfOk, IfSome, IsTrue, None, Some};
 ghost use Rattle.std.specs.Option.{option_map};
 ghost use Rattle.rr_store.specs.Versions.{form_of, version_number, version_text};
 
@@ -48,17 +48,58 @@ impl Version {
     }
 }
 
+fn text_of(bytes: &[u8]) -> Option<&str>
+    ensures found { IfSome result (λ text. text.now ≡ bytes.now) }
+    ensures only { (n : _) → n < 2 ^ 32 → bytes.now ≡ decimal n → result ≡ None → ⊥ }
+{
+    match std::str::from_utf8(bytes) {
+        Ok(text) => Some(text),
+        Err(_) => None,
+    }
+}
+
+#[tactic(auto, using(crate::proofs::VersionLemmas::decimal_is_read))]
+fn parsed(text: &str) -> Option<u32>
+    ensures { (n : _) → n < 2 ^ 32 → text.now ≡ decimal n → result ≡ Some n }
+{
+    match text.parse::<u32>() {
+        Ok(number) => Some(number),
+        Err(_) => None,
+    }
+}
+
+fn is_decimal(bytes: &[u8], number: u32) -> bool
+    ensures is { IsTrue result → bytes.now ≡ decimal number }
+    ensures only { bytes.now ≡ decimal number → IsTrue result }
+{
+    let mut buffer = Buffer::new();
+    buffer.format(number).as_bytes() == bytes
+}
+
+fn number_of_text(bytes: &[u8], text: &str) -> Option<u32>
+    requires { text.now ≡ bytes.now }
+    ensures found { IfSome result (λ n. bytes.now ≡ decimal n) }
+    ensures only { (n : _) → n < 2 ^ 32 → bytes.now ≡ decimal n → result ≡ Some n }
+{
+    match parsed(text) {
+        Some(number) => {
+            if is_decimal(bytes, number) {
+                Some(number)
+            } else {
+                None
+            }
+        }
+        None => None,
+    }
+}
+
 /// The number that bytes write in decimal digits without leading zeros, if they do.
 pub(crate) fn number_of(bytes: &[u8]) -> Option<u32>
     ensures found { IfSome result (λ n. bytes.now ≡ decimal n) }
     ensures only { (n : _) → n < 2 ^ 32 → bytes.now ≡ decimal n → result ≡ Some n }
 {
-    let text = std::str::from_utf8(bytes).ok()?;
-    let number = text.parse::<u32>().ok()?;
-    let mut buffer = Buffer::new();
-    if buffer.format(number).as_bytes() == bytes {
-        Some(number)
-    } else {
-        None
+    match text_of(bytes) {
+        Some(text) => number_of_text(bytes, text),
+        None => None,
     }
 }

@@ -16,6 +16,7 @@ use Rattle.rr_registry.specs.declared.outcome.Outcome.{Outcome}
 use Rattle.rr_registry.proofs.Confined.{runs_confine}
 use Rattle.rr_submission.proofs.Asking.{AreItems-read}
 use Rattle.rr_submission.specs.SubmissionItems.{AreItems, Asked, submitted}
+use Rattle.rr_submission.specs.SubmissionLaws.{ConfinesTexts}
 
 -- an item that is read is well formed
 formed_action : (source : List ℕ) (action : Result Item Code) → IfOk action (IsReadIn source) → IfOk action IsItem
@@ -27,8 +28,7 @@ formed_items : (source : List ℕ) (items later : List Asked) → AreReadIn sour
 formed_items source [] later read = tt
 formed_items source (i ∷ is) later read = (formed_action source i.request.action read.0, formed_items source is later read.1)
 
--- a run of the first items of a text confines what is foreign
-pub items_are_confined : (source : List ℕ) (entries : List (Result (List Field) TextFault)) (items later : List Asked) (r s : Reg) (outcomes : List Outcome)
-    → Sound r → AreItems source [] entries (items ++ later) → Run r (map submitted items) outcomes s → Confines r (map submitted items) outcomes s
-items_are_confined source entries items later r s outcomes sound are run =
+-- from a sound registry a run of the first items of a text confines what is foreign
+pub items_are_confined : (source : List ℕ) (r : Reg) → Sound r → ConfinesTexts source r
+items_are_confined source r sound entries items later s outcomes are run =
     λ h held listed. runs_confine r s (map submitted items) outcomes sound (formed_items source items later (AreItems-read source are)) run h held listed

@@ -15,10 +15,14 @@ ItemsKeepTheSource =
     (source : List ℕ) (entries : List (Result (List Field) TextFault)) (items : List Asked) (r s : Reg) (outcomes : List Outcome)
     → IsRegistryOf source r → AreItems source [] entries items → Run r (map submitted items) outcomes s → IsRegistryOf source s
 
--- a run of the first items of a text, from a sound registry, answers the holders of a prefix as if nobody else had submitted
--- anything, and leaves what they hold to them
-abbrev pub ItemsAreConfined : Type 0
-ItemsAreConfined =
-    (source : List ℕ) (entries : List (Result (List Field) TextFault)) (items later : List Asked) (r s : Reg) (outcomes : List Outcome)
-    → Sound r → AreItems source [] entries (items ++ later) → Run r (map submitted items) outcomes s
+-- from this registry a run of the first items of a text answers the holders of a prefix as if nobody else had submitted anything,
+-- and leaves what they hold to them
+abbrev pub ConfinesTexts : List ℕ → Reg → Type 0
+ConfinesTexts source r =
+    (entries : List (Result (List Field) TextFault)) (items later : List Asked) (s : Reg) (outcomes : List Outcome)
+    → AreItems source [] entries (items ++ later) → Run r (map submitted items) outcomes s
     → Confines r (map submitted items) outcomes s
+
+-- from a sound registry each text's items are confined
+abbrev pub ItemsAreConfined : Type 0
+ItemsAreConfined = (source : List ℕ) (r : Reg) → Sound r → ConfinesTexts source r

@@ -1,12 +1,12 @@
 //! Ledgers: what keeps a registry and decides items.
 
 ghost use Rattle.std.specs.Prelude.{◌≡◌, ℕ, List, IfOk, OnOk, OnErr};
-ghost use Rattle.rr_auth.specs.Registries.{Reg};
+ghost use Rattle.rr_auth.specs.Registries.{Reg, Sound};
 ghost use Rattle.rr_auth.specs.declared.item.Item.{Item};
 ghost use Rattle.rr_registry.specs.Runs.{IsStep};
 
-use rr_auth::{Item, Secrets};
-use rr_registry::{Outcome, Registry};
+use rr_auth::{Book, Item, Secrets};
+use rr_registry::{Keeper, Outcome, Registry};
 use std::alloc::Global;
 
 /// A ledger came to a halt at an item: it decides no more.
@@ -24,6 +24,10 @@ pub trait Ledger {
     // What a halt leaves: of the ledger before it, the secrets, the item, and the ledger after it.
     ghost Halts: { Self → List (List ℕ) → Item → Self → Type 0 };
 
+    /// Tells a caller's proof that the registry is sound; it does nothing.
+    fn sound(&self)
+        ensures { Sound (registry self.now) };
+
     /// Decides an item that was given with these secrets.
     fn decide(&mut self, alloc: Global, secrets: &Secrets, item: Item) -> Result<Outcome, Halted>
         requires { Ready self.old }
@@ -33,12 +37,16 @@ pub trait Ledger {
 }
 
 /// A registry in memory decides each item by itself, and never comes to a halt.
-impl Ledger for Registry {
+impl<B: Keeper> Ledger for Registry<B> {
     ghost registry = { λ kept. kept };
 
     ghost Ready = { λ kept. Unit {0} };
 
     ghost Halts = { λ before secrets item after. ⊥ };
+
+    fn sound(&self) {
+        self.book().sound();
+    }
 
     fn decide(&mut self, alloc: Global, secrets: &Secrets, item: Item) -> Result<Outcome, Halted> {
         Ok(self.apply(alloc, secrets, item))

@@ -7,6 +7,7 @@ ghost use Rattle.rr_registry.specs.Runs.{Decides};
 ghost use Rattle.rr_submission.specs.Refusals.{is_refusal};
 ghost use Rattle.rr_submission.specs.Reports.{stop_lines};
 ghost use Rattle.rr_submission.specs.Served.{HaltsAt, Serves, ServesOne, UnlessHalted};
+ghost use Rattle.rr_submission.specs.SubmissionLaws.{ConfinesTexts};
 ghost use Rattle.rr_submission.specs.Submissions.{Submits, UnlessStoreFault};
 
 use crate::ending::{Ending, write_last_line};
@@ -26,9 +27,10 @@ use std::alloc::Global;
 use std::io;
 
 /// Submits what the reader gives to a ledger with a registry of this source, and writes the report. The items are read,
-/// decided and reported one by one, in order, in memory that does not grow with the text. Where the line of an item cannot be
-/// written, that item and those before it stand, and those behind it are not read. Where the ledger comes to a halt at an item, those before it stand, the item has a line
-/// with the code E91, and a last line follows.
+/// decided and reported one by one, in order, in memory that does not grow with the text. Where the line of an item cannot
+/// be written, that item and those before it stand, and those behind it are not read. Where the ledger comes to a halt at
+/// an item, those before it stand, the item has a line with the code E91, and a last line follows. What the holders of a
+/// prefix hold is changed by nobody else.
 pub fn submit<L: Ledger, R: Source, W: Sink>(
     alloc: Global,
     ledger: &mut L,
@@ -46,9 +48,11 @@ pub fn submit<L: Ledger, R: Source, W: Sink>(
       after = L.registry ledger.new;
     }) ledger.old ledger.new result }
     ensures ready { UnlessStoreFault result (L.Ready ledger.new) }
+    ensures confined { ConfinesTexts source.now (L.registry ledger.old) }
     ensures reader_aside { R.aside reader.new ≡ R.aside reader.old }
     ensures writer_aside { W.aside writer.new ≡ W.aside writer.old }
 {
+    ledger.sound();
     match Paragraphs::new(alloc) {
         Ok(mut paragraphs) => report(alloc, ledger, source, &mut paragraphs, reader, writer),
         Err(_) => {

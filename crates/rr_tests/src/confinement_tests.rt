@@ -2,7 +2,6 @@
 use crate::desks::{expect_report, submitted};
 use crate::texts::{HELD, HOLDERS};
 use rr_number::Span;
-use rr_object::{Key, Object};
 use rr_text::print;
 use std::alloc::Global;
 use std::test::Fail;
@@ -113,27 +112,15 @@ fn the_holder_may_add_as_if_no_stranger_had_come(rt: HostRuntime) -> Result<(), 
     expect_report(&rt, &[HOLDERS, HELD, HOLDING, HOSTILE, AFTERWARDS], report)
 }
 
-/// The texts of the inetnums and routes inside the prefix.
-fn texts_inside(alloc: Global, objects: &[Object], prefix: Span) -> Result<Vec<u8>, Fail> {
-    let mut texts = Vec::new(alloc);
-    for object in objects {
-        let inside = match object.key() {
-            Key::Inetnum(span) => prefix.covers(*span),
-            Key::Route(route, _) => prefix.covers(route.span()),
-            _ => false,
-        };
-        if inside {
-            texts.extend_from_slice(print(alloc, object.paragraph())?.as_slice())?;
-        }
-    }
-    Ok(texts)
-}
-
 /// The texts of the inetnums and routes inside the held prefix, after these submissions.
 fn held_after(alloc: Global, submissions: &[&str]) -> Result<Vec<u8>, Fail> {
     let prefix = Span::read(b"10.1.0.0/16").ok_or("no span")?;
     let (desk, _) = submitted(alloc, submissions)?;
-    texts_inside(alloc, desk.registry().objects(), prefix)
+    let mut texts = Vec::new(alloc);
+    for object in &desk.registry().inside(alloc, prefix)? {
+        texts.extend_from_slice(print(alloc, object.paragraph())?.as_slice())?;
+    }
+    Ok(texts)
 }
 
 #[test]

@@ -2,7 +2,7 @@
 use rr_desk::{PlainDesk, opening};
 use rr_io::Counted;
 use rr_object::Object;
-use rr_registry::{LoadFault, Registry};
+use rr_registry::{LoadFault, PlainBook, Registry};
 use rr_text::next_paragraph;
 use std::alloc::Global;
 use std::process::Abort;
@@ -56,6 +56,6 @@ pub fn object(alloc: Global, text: &str) -> Result<Object, Fail> {
 }
 
 /// The registry of a text's objects, or why there is none.
-pub fn loaded(alloc: Global, text: &str) -> Result<Result<Registry, LoadFault>, Fail> {
+pub fn loaded(alloc: Global, text: &str) -> Result<Result<Registry<PlainBook>, LoadFault>, Fail> {
     Ok(Registry::from_objects(alloc, objects(alloc, text)?))
 }

@@ -4,7 +4,7 @@ use rr_auth::{Book, Item, Secrets, Verdict, judge, route_names};
 use rr_io::{Counted, write_all};
 use rr_number::{Prefix, SetName};
 use rr_object::{Code, Object};
-use rr_registry::{Outcome, Registry, Submitted};
+use rr_registry::{Outcome, PlainBook, Registry, Submitted};
 use rr_sets::SetBook;
 use std::alloc::Global;
 use std::fmt::Write;
@@ -75,7 +75,7 @@ fn item(alloc: Global, deletes: bool, text: &str) -> Result<Item, Fail> {
     }
 }
 
-fn registry(alloc: Global, text: &str) -> Result<Registry, Fail> {
+fn registry(alloc: Global, text: &str) -> Result<Registry<PlainBook>, Fail> {
     match loaded(alloc, text)? {
         Ok(registry) => Ok(registry),
         Err(_) => Err("no registry".into()),
@@ -101,7 +101,7 @@ const TAKING: &str = "route-set: RS-C\nmbrs-by-ref: C-MNT\nmnt-by: A-MNT\nsource
 /// The verdict on an object or its deletion, with this secret.
 fn verdict(
     alloc: Global,
-    registry: &Registry,
+    registry: &Registry<PlainBook>,
     secret: &str,
     deletes: bool,
     text: &str,
@@ -249,13 +249,13 @@ fn keys(alloc: Global, objects: &[&Object]) -> Result<Vec<u8>, Fail> {
 }
 
 /// The keys of the objects whose `member-of` names the set.
-fn referrers(alloc: Global, registry: &Registry, set: &str) -> Result<Vec<u8>, Fail> {
+fn referrers(alloc: Global, registry: &Registry<PlainBook>, set: &str) -> Result<Vec<u8>, Fail> {
     let set = SetName::read(alloc, set.as_bytes())?.ok_or("no name of a set")?;
     keys(alloc, &registry.book().referrers(alloc, &set)?)
 }
 
 /// The origins of the routes of the prefix.
-fn origins(alloc: Global, registry: &Registry, prefix: &str) -> Result<String, Fail> {
+fn origins(alloc: Global, registry: &Registry<PlainBook>, prefix: &str) -> Result<String, Fail> {
     let prefix = Prefix::read(prefix.as_bytes()).ok_or("no prefix")?;
     let mut text = String::new(alloc);
     for origin in &registry.book().origins(alloc, prefix)? {

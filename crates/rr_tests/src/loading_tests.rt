@@ -44,7 +44,7 @@ fn a_list_that_is_no_registry_has_its_fault(rt: HostRuntime) -> Result<(), Fail>
 fn the_desk_opens_with_all_numbers_and_addresses(rt: HostRuntime) -> Result<(), Fail> {
     let desk = PlainDesk::new(rt.alloc())?;
     let mut keys = Counted::new(Vec::new(rt.alloc()));
-    for object in desk.registry().objects() {
+    for object in &desk.registry().objects(rt.alloc())? {
         object.key().print_to(&mut keys)?;
         write_all(&mut keys, b"\n")?;
     }

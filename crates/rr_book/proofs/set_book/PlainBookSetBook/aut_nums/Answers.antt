@@ -9,5 +9,5 @@ use Rattle.rr_book.proofs.set_book.PlainBookSetBook.aut_nums.Goals as goal
 pub returns : goal.returns
 returns c =
     IfOk-weaker c.objects_of_class.result _ _
-    (λ found is. lists_aut_nums c.args.self.now c.sound.ensures found.items (is ∙ ap (filter (is_of_class AutNum)) c.objects.ensures))
+    (λ found is. lists_aut_nums c.args.self.now c.sound.ensures found.items (is ∙ ap (filter (is_of_class AutNum)) c.as_slice.ensures))
     c.objects_of_class.ensures

@@ -1,6 +1,6 @@
 use Rattle.std.proofs.Common.{◌≡◌, true, sym, ◌∙◌}
 use Rattle.rr_cover.specs.SpanNests.{is_ahead, at_span, standing}
-use Rattle.rr_cover.proofs.NestTurns.{Split, only_rest, first_of_all, only_made, behind_chain, split_all}
+use Rattle.rr_cover.proofs.NestTurns.{only_rest, first_of_all, only_made, behind_chain, split_all}
 use Rattle.rr_cover.proofs.span_nest.changes.+split_first.Goals as goal
 
 pub balance-rest-requires-clause-fits : goal.balance-rest-requires-clause-fits

@@ -1,7 +1,7 @@
 use Rattle.std.proofs.Common.{ap, sym, ◌∙◌}
 use Rattle.std.specs.Option.{option_or}
 use Rattle.rr_cover.specs.SpanNests.{is_ahead, at_span, standing}
-use Rattle.rr_cover.proofs.NestTurns.{fits_first, fits_between, low_of, high_of, only_none, turned_first, turned_first_twice}
+use Rattle.rr_cover.proofs.NestTurns.{fits_first, fits_between, high_of, turned_first, turned_first_twice}
 use Rattle.rr_cover.proofs.span_nest.changes.lift_before.Goals as goal
 
 pub fork-requires-then-height-clause-fits : goal.fork-requires-then-height-clause-fits

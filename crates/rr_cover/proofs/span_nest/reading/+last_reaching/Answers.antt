@@ -1,4 +1,4 @@
-use Rattle.std.proofs.Common.{refl, ap, subst}
+use Rattle.std.proofs.Common.{ap, subst}
 use Rattle.rr_cover.specs.SpanNests.{standing, IsNest}
 use Rattle.rr_cover.proofs.NestHeld.{reaching_high}
 use Rattle.rr_cover.proofs.span_nest.reading.+last_reaching.Goals as goal

@@ -5,7 +5,7 @@ use Rattle.rr_registry.proofs.Running.{formed_more, run_more}
 use Rattle.rr_registry.proofs.registry.Registry.run_each.Goals as goal
 
 pub loop-submitted-preserved : goal.loop-submitted-preserved
-loop-submitted-preserved c =
+loop-submitted-preserved g c =
     let before = c.loop-submitted.invariant in
     let steps = c.in-Some.ensures.steps in
     let item = c.in-Some.submitted in

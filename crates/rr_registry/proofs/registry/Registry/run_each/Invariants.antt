@@ -5,7 +5,7 @@ use Rattle.rr_registry.specs.Runs.{Run}
 use Rattle.rr_registry.proofs.registry.Registry.run_each.Given as goal
 
 abbrev pub invariant-loop-submitted : goal.invariant-loop-submitted
-invariant-loop-submitted l =
+invariant-loop-submitted g l =
     Run l.fn.self l.yielded l.outcomes.items l.self
     × (l.yielded ++ into_iter_items l.submitted-iterator ≡ l.fn.items.items)
     × (into_iter_len l.submitted-iterator ≡ length (into_iter_items l.submitted-iterator))

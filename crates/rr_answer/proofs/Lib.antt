@@ -1,0 +1,12 @@
+pub mod Alike
+pub mod Dumped
+pub mod Expanded
+pub mod Lists
+pub mod Routes
+pub mod Rows
+pub mod Secrets
+pub mod Seen
+pub mod Selected
+pub mod SetsAlike
+pub mod Sorted
+pub mod Weaker

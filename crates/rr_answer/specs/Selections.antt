@@ -1,0 +1,55 @@
+-- Which objects of a registry a query asks for.
+use Rattle.std.specs.Prelude.{ℕ, Bool, false, ◌==◌, ◌&&◌, List, [], filter, Option, None, Some, is_some}
+use Rattle.std.specs.List.{cons_option, list_any}
+use Rattle.std.specs.Option.{option_map_or}
+use Rattle.std.specs.FinMap.{get, values}
+use Rattle.std.specs.Str.{bytes_eq}
+use Rattle.rr_number.specs.Prefixes.{PrefixParts, span_of}
+use Rattle.rr_number.specs.Spans.{Ends}
+use Rattle.rr_object.specs.declared.key.Key.{Key}
+use Rattle.rr_object.specs.declared.key.Key.TheVariants as key
+use Rattle.rr_object.specs.Objects.{Obj, names_of}
+use Rattle.rr_auth.specs.Closest.{closest_inetnum, closest_routes, origin_at}
+use Rattle.rr_auth.specs.Registries.{Reg}
+use Rattle.rr_book.specs.Listings.{covering, covers_span, inside, lies_in}
+use Rattle.rr_answer.specs.declared.query.Query.{Query}
+use Rattle.rr_answer.specs.declared.query.Query.TheVariants.{Object, Exact, Closest, Less, More, Naming, Originated, Expand, Prefixes}
+
+-- The object is an inetnum or a route of exactly this span (profile).
+abbrev pub is_at : Ends → Obj → Bool
+is_at s o = covers_span s o && lies_in s o
+
+-- The object is a route of this prefix (RFC 2622, 4).
+abbrev pub is_route_of : PrefixParts → Obj → Bool
+is_route_of p o = is_some (origin_at p o.key)
+
+-- The object names the maintainer in an interpreted attribute (profile).
+abbrev pub names : List ℕ → Obj → Bool
+names name o = list_any (λ n. bytes_eq n name) (names_of o)
+
+-- The origin of a route's key (RFC 2622, 4).
+abbrev pub origin_of : Key → Option ℕ
+origin_of (key.Route p n) = Some n
+origin_of _ = None
+
+-- The object is a route of this origin (RFC 2622, 4).
+abbrev pub is_originated : ℕ → Obj → Bool
+is_originated n o = option_map_or (λ origin. origin == n) (origin_of o.key) false
+
+-- The routes of the closest prefix to this one (RFC 2725, 9).
+abbrev pub routes_closest : Reg → PrefixParts → List Obj
+routes_closest r p = option_map_or (λ closest. filter (is_route_of closest) (values r)) (closest_routes r p) []
+
+-- The objects that a query asks for, by class and key: the object of a key; inetnums and routes of exactly a prefix, the
+-- closest to it, all that cover it, or all inside it; the objects that name a maintainer; the routes of an origin. An
+-- expansion asks for none (profile; closest: RFC 2725, 9).
+abbrev pub asked : Query → Reg → List Obj
+asked (Object k) r = cons_option (get r k) []
+asked (Exact p) r = filter (is_at (span_of p)) (values r)
+asked (Closest p) r = cons_option (closest_inetnum r (span_of p)) (routes_closest r p)
+asked (Less p) r = covering r (span_of p)
+asked (More p) r = inside r (span_of p)
+asked (Naming name) r = filter (names name) (values r)
+asked (Originated n) r = filter (is_originated n) (values r)
+asked (Expand name) r = []
+asked (Prefixes name) r = []

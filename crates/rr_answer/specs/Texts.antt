@@ -1,0 +1,32 @@
+-- The texts of objects and of expansions.
+use Rattle.std.specs.Prelude.{ℕ, List, [], ◌∷◌, ◌++◌, codes}
+use Rattle.std.specs.List.{flat_map}
+use Rattle.rr_text.specs.CanonicalText.{canonical, ended}
+use Rattle.rr_object.specs.Objects.{Obj}
+use Rattle.rr_object.specs.Readings.{public_of}
+
+-- An object as it is answered: its public canonical text and an empty line (profile).
+abbrev pub public_text : Obj → List ℕ
+public_text o = ended (canonical (public_of o))
+
+-- A text, or another where it is empty (profile).
+abbrev pub or_else : List ℕ → List ℕ → List ℕ
+or_else other [] = other
+or_else other (b ∷ bs) = b ∷ bs
+
+-- The answer that there is no object, or no set (profile).
+abbrev pub no_entries : List ℕ
+no_entries = ended (codes "% no entries")
+
+-- Objects as they are answered (profile).
+unfoldable pub objects_text : List Obj → List ℕ
+objects_text os = or_else no_entries (flat_map public_text os)
+
+-- The line of a name that is reached and not registered (profile).
+abbrev pub missing_line : List ℕ → List ℕ
+missing_line name = ended (codes "% missing " ++ name)
+
+-- An expansion as it is answered: a line for each AS number or range, then one for each missing name (profile).
+unfoldable pub members_text : {X : Type 0} → (X → List ℕ) → List X → List (List ℕ) → List ℕ
+members_text line found missing =
+    or_else (ended (codes "% empty")) (flat_map (λ x. ended (line x)) found ++ flat_map missing_line missing)

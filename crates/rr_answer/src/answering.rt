@@ -1,0 +1,69 @@
+//! Answers.
+
+ghost use Rattle.std.specs.Prelude.{◌≡◌, ◌≢◌, Err, IfErr, IfOk, Ok};
+ghost use Rattle.rr_answer.specs.declared.fault.QueryFault.TheVariants.{Memory};
+ghost use Rattle.rr_number.specs.SetNames.{kind_of};
+ghost use Rattle.rr_answer.specs.Answers.{IsAnswer, IsAnswerTo, IsExpanded};
+
+use crate::expansion::{numbers, ranges};
+use crate::fault::QueryFault;
+use crate::query::Query;
+use crate::reading::read_query;
+use crate::selection::asked;
+use crate::text::objects_text;
+use rr_book::Keeper;
+use rr_number::{SetKind, SetName};
+use rr_registry::Registry;
+use rr_sets::SetBook;
+use std::alloc::Global;
+
+/// The answer to a query: the objects that it asks for, or the members of a set, `limit` bounding its expansion. The fault
+/// is `TooMany` for an expansion over the limit, or want of memory.
+pub fn answer<B: Keeper>(
+    alloc: Global,
+    registry: &Registry<B>,
+    limit: usize,
+    query: &Query,
+) -> Result<Vec<u8>, QueryFault>
+    ensures ok { IfOk result (λ text. IsAnswer registry.now limit query.now (Ok text.items)) }
+    ensures fault { IfErr result (λ fault. fault ≢ Memory → IsAnswer registry.now limit query.now (Err fault)) }
+{
+    match query {
+        Query::Expand(name) => expanded(alloc, registry.book(), name, limit),
+        Query::Prefixes(name) => ranges(alloc, registry.book(), name, limit),
+        _ => {
+            let objects = asked(alloc, registry, query)?;
+            Ok(objects_text(alloc, &objects)?)
+        }
+    }
+}
+
+/// The members of a set, by its kind.
+fn expanded<B: SetBook>(
+    alloc: Global,
+    book: &B,
+    name: &SetName,
+    limit: usize,
+) -> Result<Vec<u8>, QueryFault>
+    ensures ok { IfOk result (λ text. IsExpanded (kind_of name.now) (B.contents book.now) limit name.now (Ok text.items)) }
+    ensures fault { IfErr result (λ fault. fault ≢ Memory → IsExpanded (kind_of name.now) (B.contents book.now) limit name.now (Err fault)) }
+{
+    match name.kind() {
+        SetKind::AsSet => numbers(alloc, book, name, limit),
+        SetKind::RouteSet => ranges(alloc, book, name, limit),
+    }
+}
+
+/// The answer to the text of a query. The fault is the first of `TooLong`, `Bad` and `TooMany` that fits, or want of memory.
+pub fn answer_to<B: Keeper>(
+    alloc: Global,
+    registry: &Registry<B>,
+    limit: usize,
+    text: &[u8],
+) -> Result<Vec<u8>, QueryFault>
+    ensures ok { IfOk result (λ answered. IsAnswerTo registry.now limit text.now (Ok answered.items)) }
+    ensures fault { IfErr result (λ fault. fault ≢ Memory → IsAnswerTo registry.now limit text.now (Err fault)) }
+{
+    let query = read_query(alloc, text)?;
+    answer(alloc, registry, limit, &query)
+}

@@ -1,0 +1,136 @@
+//! Dumps.
+
+ghost use Rattle.std.specs.Prelude.{◌≡◌, ◌++◌, IfOk, length};
+ghost use Rattle.std.specs.FinMap.{values};
+ghost use Rattle.std.specs.List.{flat_map};
+ghost use Rattle.rr_sets.specs.Lists.{lent};
+ghost use Rattle.rr_answer.specs.Dumps.{WritesDump, dump, dumped, end_line};
+
+use crate::text::{push_paragraph, push_public};
+use rr_book::Keeper;
+use rr_io::{Sink, write_all};
+use rr_object::Object;
+use rr_registry::Registry;
+use std::alloc::{AllocError, AllocFailed, Global};
+use std::io;
+use thiserror::Error;
+
+/// Why a dump was cut short.
+#[derive(Clone, Copy, Debug, PartialEq, Eq, Error)]
+pub enum DumpFault {
+    /// A write failed.
+    #[error("write failed")]
+    Write,
+    /// Memory was refused.
+    #[error("out of memory")]
+    Memory,
+}
+
+impl From<io::Error> for DumpFault {
+    ghost use Rattle.std.specs.Prelude.{◌≡◌};
+    ghost use Rattle.rr_answer.specs.declared.dumping.DumpFault.TheVariants.{Write};
+
+    ghost from_gives = { λ _ fault. fault ≡ Write };
+
+    fn from(_failed: io::Error) -> DumpFault {
+        DumpFault::Write
+    }
+}
+
+impl From<AllocError> for DumpFault {
+    ghost use Rattle.std.specs.Prelude.{◌≡◌};
+    ghost use Rattle.rr_answer.specs.declared.dumping.DumpFault.TheVariants.{Memory};
+
+    ghost from_gives = { λ _ fault. fault ≡ Memory };
+
+    fn from(_refused: AllocError) -> DumpFault {
+        DumpFault::Memory
+    }
+}
+
+/// Writes the objects by class and key, each with an empty line, and a last line that counts them; `full` says whether
+/// with all their text, or as they are answered (profile). It answers their number. Each object is written by itself:
+/// after a fault the writer has taken a front of these bytes.
+pub fn dump<B: Keeper, W: Sink>(
+    alloc: Global,
+    registry: &Registry<B>,
+    writer: &mut W,
+    full: bool,
+) -> Result<usize, DumpFault>
+    ensures writes { WritesDump (dump full registry.now) (W.told writer.old) (W.told writer.new) result }
+    ensures count { IfOk result (λ count. count ≡ length (values registry.now)) }
+    ensures aside { W.aside writer.new ≡ W.aside writer.old }
+{
+    let objects = registry.objects(alloc)?;
+    dump_listed(alloc, &objects, writer, full)
+}
+
+/// Writes the objects and the last line.
+fn dump_listed<W: Sink>(
+    alloc: Global,
+    objects: &[&Object],
+    writer: &mut W,
+    full: bool,
+) -> Result<usize, DumpFault>
+    ensures writes { WritesDump (flat_map (dumped full) (lent objects.now) ++ end_line (length objects.now)) (W.told writer.old) (W.told writer.new) result }
+    ensures count { IfOk result (λ count. count ≡ length objects.now) }
+    ensures aside { W.aside writer.new ≡ W.aside writer.old }
+{
+    dump_objects(alloc, objects, writer, full)?;
+    dump_end(alloc, writer, objects.len())?;
+    Ok(objects.len())
+}
+
+/// Writes the objects.
+fn dump_objects<W: Sink>(
+    alloc: Global,
+    objects: &[&Object],
+    writer: &mut W,
+    full: bool,
+) -> Result<(), DumpFault>
+    ensures writes { WritesDump (flat_map (dumped full) (lent objects.now)) (W.told writer.old) (W.told writer.new) result }
+    ensures aside { W.aside writer.new ≡ W.aside writer.old }
+{
+    'objects: for object in objects {
+        dump_object(alloc, object, writer, full)?;
+    }
+    Ok(())
+}
+
+/// Writes one object.
+fn dump_object<W: Sink>(
+    alloc: Global,
+    object: &Object,
+    writer: &mut W,
+    full: bool,
+) -> Result<(), DumpFault>
+    ensures writes { WritesDump (dumped full object.now) (W.told writer.old) (W.told writer.new) result }
+    ensures aside { W.aside writer.new ≡ W.aside writer.old }
+{
+    let text = dumped(alloc, object, full)?;
+    write_all(writer, &text)?;
+    Ok(())
+}
+
+/// An object as it stands in a dump.
+fn dumped(alloc: Global, object: &Object, full: bool) -> Result<Vec<u8>, AllocError>
+    ensures { IfOk result (λ text. text.items ≡ dumped full object.now) }
+{
+    let mut text = Vec::new(alloc);
+    if full {
+        push_paragraph(alloc, &mut text, object.paragraph())?;
+    } else {
+        push_public(alloc, &mut text, object)?;
+    }
+    Ok(text)
+}
+
+/// Writes the last line.
+fn dump_end<W: Sink>(alloc: Global, writer: &mut W, count: usize) -> Result<(), DumpFault>
+    ensures writes { WritesDump (end_line count) (W.told writer.old) (W.told writer.new) result }
+    ensures aside { W.aside writer.new ≡ W.aside writer.old }
+{
+    let line = format!(in alloc; "% end {count}\n")?;
+    write_all(writer, line.as_bytes())?;
+    Ok(())
+}

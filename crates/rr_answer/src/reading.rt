@@ -1,0 +1,206 @@
+//! Queries read from texts.
+
+ghost use Rattle.std.specs.Prelude.{◌≡◌, ◌≢◌, ◌∷◌, Err, IfErr, IfOk, Ok, map};
+ghost use Rattle.std.specs.List.{join_with_byte, list_any};
+ghost use Rattle.rr_object.specs.Items.{words};
+ghost use Rattle.rr_answer.specs.declared.fault.QueryFault.TheVariants.{Memory};
+ghost use Rattle.rr_answer.specs.Queries as queries;
+
+use crate::fault::QueryFault;
+use crate::query::Query;
+use rr_bytes::{ByteSet, is_keyword, parts_between, to_lower};
+use rr_number::{Address, AsNumber, Name, Prefix, SetName};
+use rr_object::{Class, Key};
+use std::alloc::{AllocError, Global};
+
+/// The most bytes of a query.
+const MOST_BYTES: usize = 1_024;
+
+/// Whether the text is longer than a query may be, which is 1,024 bytes.
+pub fn is_too_long(text: &[u8]) -> bool
+    ensures { result ≡ queries.is_too_long text.now }
+{
+    text.len() > MOST_BYTES
+}
+
+/// The query that a text is; letter case is ignored (profile). The fault is `TooLong`, `Bad`, or want of memory.
+#[tactic(auto, unfolding(crate::specs::Queries::query_of))]
+pub fn read_query(alloc: Global, text: &[u8]) -> Result<Query, QueryFault>
+    ensures ok { IfOk result (λ query. queries.query_of text.now ≡ Ok query) }
+    ensures fault { IfErr result (λ fault. fault ≢ Memory → queries.query_of text.now ≡ Err fault) }
+{
+    if is_too_long(text) {
+        return Err(QueryFault::TooLong);
+    }
+    if has_unreadable(text) {
+        return Err(QueryFault::Bad);
+    }
+    match query_of_text(alloc, text)? {
+        Some(query) => Ok(query),
+        None => Err(QueryFault::Bad),
+    }
+}
+
+/// Whether the text has a byte that no query has.
+fn has_unreadable(text: &[u8]) -> bool
+    ensures { result ≡ list_any queries.is_unreadable text.now }
+{
+    text.iter().any(|b| is_unreadable(*b))
+}
+
+fn is_unreadable(b: u8) -> bool
+    ensures { result ≡ queries.is_unreadable b }
+{
+    b == b'\n' || (b.is_ascii_control() && !ByteSet::BlanksAndLineFeeds.has(b))
+}
+
+/// The query of a text's words.
+fn query_of_text(alloc: Global, text: &[u8]) -> Result<Option<Query>, AllocError>
+    ensures { IfOk result (λ query. query ≡ queries.query_of_words (words text.now)) }
+{
+    let words = words(alloc, text)?;
+    query_of_words(alloc, &words)
+}
+
+/// The words of a text, which blanks separate.
+#[tactic(auto, unfolding(rr_object::specs::Items::words))]
+fn words(alloc: Global, text: &[u8]) -> Result<Vec<&[u8]>, AllocError>
+    ensures { IfOk result (λ found. map (λ word. word.now) found.items ≡ words text.now) }
+{
+    parts_between(alloc, text, ByteSet::Blanks)
+}
+
+/// The query that the words are, if they are one.
+fn query_of_words(alloc: Global, words: &[&[u8]]) -> Result<Option<Query>, AllocError>
+    ensures { IfOk result (λ query. query ≡ queries.query_of_words (map (λ word. word.now) words.now)) }
+{
+    match words {
+        [] => Ok(None),
+        [word] => query_of_word(alloc, word),
+        [verb, word] => query_of_two(alloc, verb, word),
+        [verb, second, third, others @ ..] => query_of_more(alloc, verb, second, third, others),
+    }
+}
+
+/// The query that one word is.
+fn query_of_word(alloc: Global, word: &[u8]) -> Result<Option<Query>, AllocError>
+    ensures { IfOk result (λ query. query ≡ queries.query_of_word word.now) }
+{
+    if let Some(key) = Key::read(alloc, Class::AutNum, word)? {
+        return Ok(Some(Query::Object(key)));
+    }
+    if let Some(place) = place_of(word) {
+        return Ok(Some(Query::Closest(place)));
+    }
+    if let Some(key) = set_key_of(alloc, word)? {
+        return Ok(Some(Query::Object(key)));
+    }
+    Ok(Key::read(alloc, Class::Mntner, word)?.map(Query::Object))
+}
+
+/// The prefix that a word spells, or that of the one address that it spells.
+fn place_of(word: &[u8]) -> Option<Prefix>
+    ensures { result ≡ queries.place_of word.now }
+{
+    if let Some(prefix) = Prefix::read(word) {
+        return Some(prefix);
+    }
+    let address = Address::read(word)?;
+    Some(Prefix::new(address, 32))
+}
+
+/// The key of a set of either kind.
+fn set_key_of(alloc: Global, word: &[u8]) -> Result<Option<Key>, AllocError>
+    ensures { IfOk result (λ key. key ≡ queries.set_key_of word.now) }
+{
+    if let Some(key) = Key::read(alloc, Class::AsSet, word)? {
+        return Ok(Some(key));
+    }
+    Key::read(alloc, Class::RouteSet, word)
+}
+
+/// The query that two words are.
+fn query_of_two(alloc: Global, verb: &[u8], word: &[u8]) -> Result<Option<Query>, AllocError>
+    ensures { IfOk result (λ query. query ≡ queries.query_of_two verb.now word.now) }
+{
+    if is_keyword(verb, b"exact") {
+        Ok(place_of(word).map(Query::Exact))
+    } else if is_keyword(verb, b"closest") {
+        Ok(place_of(word).map(Query::Closest))
+    } else if is_keyword(verb, b"less") {
+        Ok(place_of(word).map(Query::Less))
+    } else if is_keyword(verb, b"more") {
+        Ok(place_of(word).map(Query::More))
+    } else if is_keyword(verb, b"expand") {
+        Ok(SetName::read(alloc, word)?.map(Query::Expand))
+    } else if is_keyword(verb, b"prefixes") {
+        Ok(SetName::read(alloc, word)?.map(Query::Prefixes))
+    } else {
+        Ok(None)
+    }
+}
+
+/// The query that three words or more are.
+#[tactic(auto, unfolding(crate::specs::Queries::query_of_more))]
+fn query_of_more(
+    alloc: Global,
+    verb: &[u8],
+    second: &[u8],
+    third: &[u8],
+    others: &[&[u8]],
+) -> Result<Option<Query>, AllocError>
+    ensures { IfOk result (λ query. query ≡ queries.query_of_more verb.now second.now (third.now ∷ map (λ word. word.now) others.now)) }
+{
+    if is_keyword(verb, b"object") {
+        Ok(key_of_words(alloc, second, third, others)?.map(Query::Object))
+    } else if is_keyword(verb, b"inverse") && others.is_empty() {
+        inverse_of(alloc, second, third)
+    } else {
+        Ok(None)
+    }
+}
+
+/// The key of the class that the words spell.
+fn key_of_words(
+    alloc: Global,
+    class: &[u8],
+    first: &[u8],
+    others: &[&[u8]],
+) -> Result<Option<Key>, AllocError>
+    ensures { IfOk result (λ key. key ≡ queries.key_of_words class.now (first.now ∷ map (λ word. word.now) others.now)) }
+{
+    let lowered = to_lower(alloc, class)?;
+    match Class::named(&lowered) {
+        Some(class) => {
+            let text = joined(alloc, first, others)?;
+            Key::read(alloc, class, &text)
+        }
+        None => Ok(None),
+    }
+}
+
+/// The words with a space between each two.
+#[tactic(auto, using(crate::proofs::Lists::joined_words))]
+fn joined(alloc: Global, first: &[u8], others: &[&[u8]]) -> Result<Vec<u8>, AllocError>
+    ensures { IfOk result (λ text. text.items ≡ join_with_byte 32 (first.now ∷ map (λ word. word.now) others.now)) }
+{
+    let mut text = Vec::from_slice(alloc, first)?;
+    for word in others {
+        text.push(b' ')?;
+        text.extend_from_slice(word)?;
+    }
+    Ok(text)
+}
+
+/// The query that asks for what names a maintainer, or comes from an AS.
+fn inverse_of(alloc: Global, attribute: &[u8], word: &[u8]) -> Result<Option<Query>, AllocError>
+    ensures { IfOk result (λ query. query ≡ queries.inverse_of attribute.now word.now) }
+{
+    if is_keyword(attribute, b"mnt") {
+        Ok(Name::read_maintainer(alloc, word)?.map(Query::Naming))
+    } else if is_keyword(attribute, b"origin") {
+        Ok(AsNumber::read(word).map(Query::Originated))
+    } else {
+        Ok(None)
+    }
+}

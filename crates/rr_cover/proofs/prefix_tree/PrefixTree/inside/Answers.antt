@@ -1,0 +1,16 @@
+use Rattle.std.proofs.Common.{◌&&◌, sym, ap, ◌∙◌}
+use Rattle.std.specs.FinMap.{contains_key}
+use Rattle.rr_number.specs.Spans.{covers}
+use Rattle.rr_cover.proofs.Ordered.{whole_list}
+use Rattle.rr_cover.proofs.TreeLists.{listed_spans}
+use Rattle.rr_cover.proofs.TreeModel.{held_map}
+use Rattle.rr_cover.proofs.prefix_tree.PrefixTree.inside.Goals as goal
+
+pub returns : goal.returns
+returns g c =
+    let listed = c.in_ok-push_inside.ensures.ok in
+    whole_list c.args.self.now (λ u. covers c.args.span u) _ c.put_in_order.ensures.rising (λ u.
+    listed_spans c.put_in_order.new.prefixes.items u
+    ∙ c.put_in_order.ensures.same u
+    ∙ rw c.new-prefixes.ensures.items at (listed u)
+    ∙ ap (λ b. b && covers c.args.span u) (sym (held_map c.self.inside.root u) ∙ ap (λ m. contains_key m u) c.self.view_is))

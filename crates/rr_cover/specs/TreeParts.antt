@@ -1,0 +1,58 @@
+-- What the parts of a tree of prefixes answer and leave. No public contract cites these.
+use Rattle.std.specs.Prelude.{◌≡◌, ℕ, ◌≤◌, Bool, true, false, not, ◌&&◌, ◌||◌, if◌then◌else◌, List, Option, None, Some, is_some}
+use Rattle.std.specs.List.{list_any}
+use Rattle.std.specs.Ordering.{eq_by_cmp}
+use Rattle.rr_number.specs.Prefixes.{PrefixParts, IsMasked, span_of}
+use Rattle.rr_number.specs.Spans.{Ends, covers, size, span_cmp}
+use Rattle.rr_cover.specs.PrefixTrees.{standing, in_upper, lies_on}
+use Rattle.rr_cover.specs.declared.prefix_tree.Tree.{Tree}
+use Rattle.rr_cover.specs.declared.prefix_tree.Tree.TheVariants.{Empty, Fork'}
+
+-- The side of a node on which a span would stand.
+abbrev pub side_of : {T : Type 0} → PrefixParts → Tree T → Tree T → Ends → Tree T
+side_of prefix lower upper s = if in_upper prefix s then upper else lower
+
+-- The smallest span of a tree that covers s, with its value.
+pub record IsSmallestCover {T : Type 0} (tree : Tree T) (s t : Ends) (value : T) : Type 0 where
+  pub held : standing tree t ≡ Some value
+  pub above : covers t s ≡ true
+  pub least : (u : Ends) → is_some (standing tree u) ≡ true → covers u s ≡ true → size t ≤ size u
+
+-- No span of a tree covers s.
+pub record NoCover {T : Type 0} (tree : Tree T) (s : Ends) : Type 0 where
+  pub none : (u : Ends) → is_some (standing tree u) ≡ true → covers u s ≡ false
+
+-- The prefix at the root of a tree covers s.
+abbrev pub is_above : {T : Type 0} → Tree T → Ends → Bool
+is_above Empty s = false
+is_above (Fork' p prefix value lower upper) s = covers (span_of prefix) s
+
+-- Two prefixes lie in different halves of a prefix.
+pub record IsParting (p a b : PrefixParts) : Type 0 where
+  pub side : Bool
+  pub masked : IsMasked p
+  pub one : lies_on p side (span_of a) ≡ true
+  pub other : lies_on p (not side) (span_of b) ≡ true
+
+-- A tree has no root.
+abbrev pub is_empty : {T : Type 0} → Tree T → Bool
+is_empty Empty = true
+is_empty (Fork' p prefix value lower upper) = false
+
+-- A node has no value, and a prefix on one side at most.
+abbrev pub is_idle : {T : Type 0} → Option T → Tree T → Tree T → Bool
+is_idle value lower upper = not (is_some value) && (is_empty lower || is_empty upper)
+
+-- The side that is not empty, if one is empty.
+abbrev pub only_side : {T : Type 0} → Tree T → Tree T → Tree T
+only_side Empty upper = upper
+only_side (Fork' p prefix value lower upper) other = Fork' p prefix value lower upper
+
+-- The prefix at the root of a tree.
+abbrev pub root_of : {T : Type 0} → Tree T → Option PrefixParts
+root_of Empty = None
+root_of (Fork' p prefix value lower upper) = Some prefix
+
+-- A span is that of a prefix of a list.
+abbrev pub is_listed : List PrefixParts → Ends → Bool
+is_listed prefixes u = list_any (λ p. eq_by_cmp span_cmp u (span_of p)) prefixes

@@ -1,0 +1,149 @@
+//! Prefixes in a binary tree.
+
+ghost use Rattle.std.specs.Prelude.{◌≡◌, map, IfOk, IfErr, IfSome, IfNone, OnOk, OnErr};
+ghost use Rattle.std.specs.Option.{option_copied};
+ghost use Rattle.std.specs.FinMap as span_map;
+ghost use Rattle.rr_number.specs.Prefixes.{span_of};
+ghost use Rattle.rr_cover.specs.SpanMaps.{covering, inside, NoneCross, IsClosest, NoneCovers};
+ghost use Rattle.rr_cover.specs.declared.insert_fault.InsertFault.TheVariants.{Memory};
+
+mod adding;
+mod changes;
+mod lists;
+mod parting;
+mod reading;
+
+use crate::insert_fault::InsertFault;
+use adding::set;
+use changes::take;
+use lists::{push_covering, push_inside, put_in_order};
+use reading::{find, smallest_cover};
+use rr_number::{Prefix, Span};
+use std::alloc::{AllocError, Global};
+use std::marker::Model;
+
+/// Values kept by prefix: a binary tree in which each prefix has those of its lower half on one side and those of its
+/// upper half on the other. It has a node for each prefix held and for each at which two of them part, and at most 33
+/// levels.
+#[derive(Drop)]
+pub struct PrefixTree<T> {
+    root: Tree<T>,
+    alloc: Global,
+}
+
+/// A tree of prefixes.
+#[derive(Drop)]
+#[cycle(tree)]
+enum Tree<T> {
+    Empty,
+    Fork(Box<Node<T>>),
+}
+
+/// A prefix with its value, or one at which two others part, and the trees of the prefixes in its halves.
+#[derive(Drop)]
+#[cycle(tree)]
+struct Node<T> {
+    prefix: Prefix,
+    value: Option<T>,
+    lower: Tree<T>,
+    upper: Tree<T>,
+}
+
+impl<T> Model for PrefixTree<T> {
+    ghost use Rattle.std.specs.FinMap as span_map;
+    ghost use Rattle.rr_number.specs.Spans.{ends_code};
+    ghost use Rattle.rr_cover.specs.SpanMaps.{SpanMap};
+
+    ghost Value = { SpanMap T };
+
+    ghost coded = { span_map.code ends_code T.code };
+
+    ghost use Rattle.rr_cover.specs.PrefixTrees.{held_by, IsTree};
+
+    ghost view = { λ a. held_by a.root };
+
+    ghost invariant = { λ a. IsTree a.root };
+}
+
+impl<T> PrefixTree<T> {
+    /// A tree of no prefix.
+    pub fn new(alloc: Global) -> Self
+        ensures { result ≡ span_map.empty }
+    {
+        PrefixTree {
+            root: Tree::Empty,
+            alloc,
+        }
+    }
+
+    /// Tells a caller's proof that no two spans of the tree cross.
+    pub fn apart(&self)
+        ensures { NoneCross self.now }
+    {
+        let _root = &self.root;
+    }
+
+    /// The value that stands at the prefix.
+    pub fn get(&self, prefix: Prefix) -> Option<&T>
+        ensures { option_copied result ≡ span_map.get self.now (span_of prefix) }
+    {
+        find(&self.root, prefix)
+    }
+
+    /// The longest prefix held that covers the prefix, with its value; an equal one counts (RFC 2725, 9).
+    pub fn closest(&self, prefix: Prefix) -> Option<(Prefix, &T)>
+        ensures found { IfSome result (λ p. IsClosest self.now (span_of prefix) (span_of p.0) p.1.now) }
+        ensures none { IfNone result (NoneCovers self.now (span_of prefix)) }
+    {
+        smallest_cover(&self.root, prefix)
+    }
+
+    /// The prefixes held that cover the span, in order of first, then last address.
+    pub fn covering(&self, alloc: Global, span: Span) -> Result<Vec<Prefix>, AllocError>
+        ensures { IfOk result (λ prefixes. map span_of prefixes.items ≡ covering self.now span) }
+    {
+        let mut prefixes = Vec::new(alloc);
+        push_covering(&self.root, span, &mut prefixes)?;
+        put_in_order(&mut prefixes);
+        Ok(prefixes)
+    }
+
+    /// The prefixes held that lie inside the span, in order of first, then last address.
+    pub fn inside(&self, alloc: Global, span: Span) -> Result<Vec<Prefix>, AllocError>
+        ensures { IfOk result (λ prefixes. map span_of prefixes.items ≡ inside self.now span) }
+    {
+        let mut prefixes = Vec::new(alloc);
+        push_inside(&self.root, span, &mut prefixes)?;
+        put_in_order(&mut prefixes);
+        Ok(prefixes)
+    }
+}
+
+impl<T: Drop> PrefixTree<T> {
+    /// Puts the value at the prefix, and gives back the value that stood there. Where memory is refused, nothing
+    /// changes and the value comes back.
+    pub fn insert(&mut self, prefix: Prefix, value: T) -> Result<Option<T>, InsertFault<T>>
+        ensures stood { IfOk result (λ old. old ≡ span_map.get self.old (span_of prefix)) }
+        ensures ok { OnOk result (self.new ≡ span_map.insert self.old (span_of prefix) value) }
+        ensures err { OnErr result (self.new ≡ self.old) }
+        ensures back { IfErr result (λ fault. fault ≡ Memory value) }
+    {
+        let _length = prefix.length();
+        let alloc = self.alloc;
+        match set(&mut self.root, alloc, prefix, value) {
+            Ok(old) => Ok(old),
+            Err(value) => Err(InsertFault::Memory(value)),
+        }
+    }
+
+    /// Takes the value out that stands at the prefix. The prefixes inside it stay.
+    pub fn remove(&mut self, prefix: Prefix) -> Option<T>
+        ensures value { result ≡ span_map.get self.old (span_of prefix) }
+        ensures rest { self.new ≡ span_map.remove self.old (span_of prefix) }
+    {
+        take(&mut self.root, prefix)
+    }
+}
+
+#[cfg(test)]
+mod tests;

@@ -1,0 +1,237 @@
+//! Putting prefixes into a tree.
+
+ghost use Rattle.std.specs.Prelude.{◌≡◌, Bool, true, false, None, Some, IfOk, IfErr, IfSome, OnOk, OnErr, if◌then◌else◌};
+ghost use Rattle.std.specs.Option.{option_or};
+ghost use Rattle.std.specs.Ordering.{eq_by_cmp};
+ghost use Rattle.rr_number.specs.Prefixes.{PrefixParts, IsMasked, span_of};
+ghost use Rattle.rr_number.specs.Spans.{Ends, covers, span_cmp};
+ghost use Rattle.rr_cover.specs.PrefixTrees.{own, standing, lies_on, IsFork, IsRootedOn, IsTree};
+ghost use Rattle.rr_cover.specs.TreeParts.{is_above, root_of, IsParting};
+
+use super::parting::parting;
+use super::reading::{is_same, is_upper};
+use super::{Node, Tree};
+use rr_number::Prefix;
+use std::alloc::Global;
+use std::mem;
+
+/// A node of the prefix with no value and nothing below it, if memory is had.
+fn bare<T: Drop>(alloc: Global, prefix: Prefix) -> Option<Box<Node<T>>>
+    ensures { IfSome result (λ node. node.value.prefix ≡ prefix) }
+{
+    let node = Node {
+        prefix,
+        value: None,
+        lower: Tree::Empty,
+        upper: Tree::Empty,
+    };
+    match Box::new(alloc, node) {
+        Ok(node) => Some(node),
+        Err(_) => None,
+    }
+}
+
+/// The node with a value over two sides.
+fn hang<T: Drop>(
+    mut node: Box<Node<T>>,
+    value: Option<T>,
+    lower: Tree<T>,
+    upper: Tree<T>,
+) -> Tree<T>
+    requires { IsFork node.value.prefix lower upper × (IsTree lower × IsTree upper) }
+    ensures all { (s : Ends) → standing result s
+        ≡ option_or (own node.value.prefix value s) (option_or (standing lower s) (standing upper s)) }
+    ensures tree { IsTree result }
+    ensures root { root_of result ≡ Some node.value.prefix }
+{
+    node.value = value;
+    node.lower = lower;
+    node.upper = upper;
+    Tree::Fork(node)
+}
+
+/// The prefix at the root of a tree.
+fn root<T>(tree: &Tree<T>) -> Option<Prefix>
+    ensures { result ≡ root_of tree.now }
+{
+    match tree {
+        Tree::Empty => None,
+        Tree::Fork(node) => Some(node.prefix),
+    }
+}
+
+/// Whether the root of a tree covers the prefix.
+fn is_above<T>(tree: &Tree<T>, prefix: Prefix) -> bool
+    ensures { result ≡ is_above tree.now (span_of prefix) }
+{
+    match tree {
+        Tree::Empty => false,
+        Tree::Fork(node) => node.prefix.covers(prefix),
+    }
+}
+
+/// The node with a value above a tree, all of whose prefixes lie in one half of its prefix.
+fn above<T: Drop>(node: Box<Node<T>>, value: T, root: Prefix, tree: Tree<T>) -> Tree<T>
+    requires masked { IsMasked node.value.prefix }
+    requires tree { IsTree tree }
+    requires root { root_of tree ≡ Some root }
+    requires covered { covers (span_of node.value.prefix) (span_of root) ≡ true }
+    requires short { covers (span_of root) (span_of node.value.prefix) ≡ false }
+    ensures all { (s : Ends) → standing result s
+        ≡ (if eq_by_cmp span_cmp s (span_of node.value.prefix) then Some value else standing tree s) }
+    ensures tree { IsTree result }
+    ensures root { root_of result ≡ Some node.value.prefix }
+{
+    if is_upper(node.prefix, root.span()) {
+        hang(node, Some(value), Tree::Empty, tree)
+    } else {
+        hang(node, Some(value), tree, Tree::Empty)
+    }
+}
+
+/// The node with a value beside a tree, both below a node for the prefix at which they part.
+fn beside<T: Drop>(
+    node: Box<Node<T>>,
+    value: T,
+    fork: Box<Node<T>>,
+    root: Prefix,
+    tree: Tree<T>,
+) -> Tree<T>
+    requires masked { IsMasked node.value.prefix }
+    requires tree { IsTree tree }
+    requires root { root_of tree ≡ Some root }
+    requires parted { IsParting fork.value.prefix node.value.prefix root }
+    ensures all { (s : Ends) → standing result s
+        ≡ (if eq_by_cmp span_cmp s (span_of node.value.prefix) then Some value else standing tree s) }
+    ensures tree { IsTree result }
+    ensures root { root_of result ≡ Some fork.value.prefix }
+{
+    let upper = is_upper(fork.prefix, node.prefix.span());
+    let leaf = hang(node, Some(value), Tree::Empty, Tree::Empty);
+    if upper {
+        hang(fork, None, tree, leaf)
+    } else {
+        hang(fork, None, leaf, tree)
+    }
+}
+
+/// The node with a value beside the tree, where neither root covers the other. Where memory is refused, nothing changes
+/// and the value comes back.
+fn part<T: Drop>(
+    tree: &mut Tree<T>,
+    alloc: Global,
+    root: Prefix,
+    node: Box<Node<T>>,
+    value: T,
+) -> Result<(), T>
+    requires order { IsTree tree.old }
+    requires masked { IsMasked node.value.prefix }
+    requires root { root_of tree.old ≡ Some root }
+    requires one { covers (span_of node.value.prefix) (span_of root) ≡ false }
+    requires other { covers (span_of root) (span_of node.value.prefix) ≡ false }
+    ensures all { OnOk result ((s : Ends) → standing tree.new s
+        ≡ (if eq_by_cmp span_cmp s (span_of node.value.prefix) then Some value else standing tree.old s)) }
+    ensures err { OnErr result (tree.new ≡ tree.old) }
+    ensures back { IfErr result (λ given. given ≡ value) }
+    ensures tree { IsTree tree.new }
+    ensures root { (p : PrefixParts) (side : Bool) → IsMasked p → lies_on p side (span_of node.value.prefix) ≡ true
+        → IsRootedOn p side tree.old → IsRootedOn p side tree.new }
+{
+    let Some(fork) = bare(alloc, parting(node.prefix, node.prefix, root)) else {
+        return Err(value);
+    };
+    let whole = mem::replace(tree, Tree::Empty);
+    *tree = beside(node, value, fork, root, whole);
+    Ok(())
+}
+
+/// Puts a value at a prefix that the root does not cover. Where memory is refused, nothing changes and the value comes
+/// back.
+fn place<T: Drop>(tree: &mut Tree<T>, alloc: Global, prefix: Prefix, value: T) -> Result<(), T>
+    requires order { IsTree tree.old }
+    requires masked { IsMasked prefix }
+    requires short { is_above tree.old (span_of prefix) ≡ false }
+    ensures all { OnOk result ((s : Ends) → standing tree.new s
+        ≡ (if eq_by_cmp span_cmp s (span_of prefix) then Some value else standing tree.old s)) }
+    ensures err { OnErr result (tree.new ≡ tree.old) }
+    ensures back { IfErr result (λ given. given ≡ value) }
+    ensures tree { IsTree tree.new }
+    ensures root { (p : PrefixParts) (side : Bool) → IsMasked p → lies_on p side (span_of prefix) ≡ true
+        → IsRootedOn p side tree.old → IsRootedOn p side tree.new }
+{
+    let Some(node) = bare(alloc, prefix) else {
+        return Err(value);
+    };
+    let Some(root) = root(tree) else {
+        *tree = hang(node, Some(value), Tree::Empty, Tree::Empty);
+        return Ok(());
+    };
+    if !prefix.covers(root) {
+        return part(tree, alloc, root, node, value);
+    }
+    let whole = mem::replace(tree, Tree::Empty);
+    *tree = above(node, value, root, whole);
+    Ok(())
+}
+
+/// Puts the value at the prefix, and gives back the one that stood there. Where memory is refused, nothing changes and
+/// the value comes back.
+#[cycle(insertion)]
+pub(super) fn set<T: Drop>(
+    tree: &mut Tree<T>,
+    alloc: Global,
+    prefix: Prefix,
+    value: T,
+) -> Result<Option<T>, T>
+    requires order { IsTree tree.old }
+    requires masked { IsMasked prefix }
+    ensures stood { IfOk result (λ old. old ≡ standing tree.old (span_of prefix)) }
+    ensures all { OnOk result ((s : Ends) → standing tree.new s
+        ≡ (if eq_by_cmp span_cmp s (span_of prefix) then Some value else standing tree.old s)) }
+    ensures err { OnErr result (tree.new ≡ tree.old) }
+    ensures back { IfErr result (λ given. given ≡ value) }
+    ensures tree { IsTree tree.new }
+    ensures root { (p : PrefixParts) (side : Bool) → IsMasked p → lies_on p side (span_of prefix) ≡ true
+        → IsRootedOn p side tree.old → IsRootedOn p side tree.new }
+{
+    if is_above(tree, prefix) {
+        return set_below(tree, alloc, prefix, value);
+    }
+    match place(tree, alloc, prefix, value) {
+        Ok(()) => Ok(None),
+        Err(value) => Err(value),
+    }
+}
+
+/// Puts the value at the prefix, which the root covers: so there is one.
+#[cycle(insertion)]
+fn set_below<T: Drop>(
+    tree: &mut Tree<T>,
+    alloc: Global,
+    prefix: Prefix,
+    value: T,
+) -> Result<Option<T>, T>
+    requires order { IsTree tree.old }
+    requires masked { IsMasked prefix }
+    requires over { is_above tree.old (span_of prefix) ≡ true }
+    ensures stood { IfOk result (λ old. old ≡ standing tree.old (span_of prefix)) }
+    ensures all { OnOk result ((s : Ends) → standing tree.new s
+        ≡ (if eq_by_cmp span_cmp s (span_of prefix) then Some value else standing tree.old s)) }
+    ensures err { OnErr result (tree.new ≡ tree.old) }
+    ensures back { IfErr result (λ given. given ≡ value) }
+    ensures tree { IsTree tree.new }
+    ensures root { (p : PrefixParts) (side : Bool) → IsRootedOn p side tree.old → IsRootedOn p side tree.new }
+{
+    match tree {
+        Tree::Empty => Err(value),
+        Tree::Fork(node) => {
+            if is_same(prefix, node.prefix) {
+                Ok(mem::replace(&mut node.value, Some(value)))
+            } else if is_upper(node.prefix, prefix.span()) {
+                set(&mut node.upper, alloc, prefix, value)
+            } else {
+                set(&mut node.lower, alloc, prefix, value)
+            }
+        }
+    }
+}

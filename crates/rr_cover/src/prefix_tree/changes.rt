@@ -1,0 +1,97 @@
+//! Changing a tree of prefixes.
+
+ghost use Rattle.std.specs.Prelude.{◌≡◌, true, Bool, None, if◌then◌else◌};
+ghost use Rattle.std.specs.Ordering.{eq_by_cmp};
+ghost use Rattle.rr_number.specs.Prefixes.{PrefixParts, span_of};
+ghost use Rattle.rr_number.specs.Spans.{Ends, span_cmp};
+ghost use Rattle.rr_cover.specs.PrefixTrees.{standing, IsRootedOn, IsTree};
+ghost use Rattle.rr_cover.specs.TreeParts.{is_empty, is_idle, only_side};
+
+use super::reading::{is_same, is_upper};
+use super::{Node, Tree};
+use rr_number::Prefix;
+use std::mem;
+
+/// Whether a node has no value and a prefix on one side at most, so that the tree can do without it.
+fn is_idle<T>(node: &Node<T>) -> bool
+    ensures { result ≡ is_idle node.now.value node.now.lower node.now.upper }
+{
+    node.value.is_none() && (is_empty(&node.lower) || is_empty(&node.upper))
+}
+
+fn is_empty<T>(tree: &Tree<T>) -> bool
+    ensures { result ≡ is_empty tree.now }
+{
+    matches!(tree, Tree::Empty)
+}
+
+/// The one side of an idle node that may have prefixes.
+fn only_side<T: Drop>(node: Node<T>) -> Tree<T>
+    requires { is_idle node.value node.lower node.upper ≡ true }
+    ensures { result ≡ only_side node.lower node.upper }
+{
+    let Node { lower, upper, .. } = node;
+    match lower {
+        Tree::Empty => upper,
+        Tree::Fork(_) => lower,
+    }
+}
+
+/// The tree without its root, where that is idle.
+fn tidy<T: Drop>(tree: Tree<T>) -> Tree<T>
+    requires { IsTree tree }
+    ensures all { (s : Ends) → standing result s ≡ standing tree s }
+    ensures tree { IsTree result }
+    ensures root { (p : PrefixParts) (side : Bool) → IsRootedOn p side tree → IsRootedOn p side result }
+{
+    match tree {
+        Tree::Empty => Tree::Empty,
+        Tree::Fork(node) => {
+            if is_idle(&node) {
+                only_side(Box::into_inner(node))
+            } else {
+                Tree::Fork(node)
+            }
+        }
+    }
+}
+
+/// Takes out the value that stands at the prefix.
+#[cycle(removal)]
+pub(super) fn take<T: Drop>(tree: &mut Tree<T>, prefix: Prefix) -> Option<T>
+    requires { IsTree tree.old }
+    ensures value { result ≡ standing tree.old (span_of prefix) }
+    ensures all { (s : Ends) → standing tree.new s
+        ≡ (if eq_by_cmp span_cmp s (span_of prefix) then None else standing tree.old s) }
+    ensures tree { IsTree tree.new }
+    ensures root { (p : PrefixParts) (side : Bool) → IsRootedOn p side tree.old → IsRootedOn p side tree.new }
+{
+    let value = take_below(tree, prefix);
+    let whole = mem::replace(tree, Tree::Empty);
+    *tree = tidy(whole);
+    value
+}
+
+/// Takes out the value that stands at the prefix. The root stays, even if the tree can do without it.
+#[cycle(removal)]
+fn take_below<T: Drop>(tree: &mut Tree<T>, prefix: Prefix) -> Option<T>
+    requires { IsTree tree.old }
+    ensures value { result ≡ standing tree.old (span_of prefix) }
+    ensures all { (s : Ends) → standing tree.new s
+        ≡ (if eq_by_cmp span_cmp s (span_of prefix) then None else standing tree.old s) }
+    ensures tree { IsTree tree.new }
+    ensures root { (p : PrefixParts) (side : Bool) → IsRootedOn p side tree.old → IsRootedOn p side tree.new }
+{
+    match tree {
+        Tree::Empty => None,
+        Tree::Fork(node) => {
+            if is_same(prefix, node.prefix) {
+                node.value.take()
+            } else if is_upper(node.prefix, prefix.span()) {
+                take(&mut node.upper, prefix)
+            } else {
+                take(&mut node.lower, prefix)
+            }
+        }
+    }
+}

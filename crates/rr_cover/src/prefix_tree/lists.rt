@@ -1,0 +1,86 @@
+//! Listing the prefixes of a tree.
+
+ghost use Rattle.std.specs.Prelude.{◌≡◌, ◌||◌, ◌&&◌, is_some, map, OnOk};
+ghost use Rattle.std.specs.List.Sorted.{IsStrictlySortedBy};
+ghost use Rattle.std.specs.Ordering.{eq_by_cmp};
+ghost use Rattle.rr_number.specs.Prefixes.{span_of};
+ghost use Rattle.rr_number.specs.Spans.{Ends, covers, span_cmp};
+ghost use Rattle.rr_cover.specs.PrefixTrees.{standing, IsTree};
+ghost use Rattle.rr_cover.specs.TreeParts.{is_listed};
+
+use super::{Node, Tree};
+use rr_number::{Prefix, Span};
+use std::alloc::AllocError;
+
+/// Puts the prefix at the end of the list, where it is wanted.
+fn push_if(wanted: bool, prefix: Prefix, out: &mut Vec<Prefix>) -> Result<(), AllocError>
+    ensures ok { OnOk result ((u : Ends) → is_listed out.new.items u
+        ≡ (is_listed out.old.items u || (eq_by_cmp span_cmp u (span_of prefix) && wanted))) }
+{
+    if wanted {
+        out.push(prefix)?;
+    }
+    Ok(())
+}
+
+/// Puts the list in order of first, then last address, each prefix once.
+pub(super) fn put_in_order(prefixes: &mut Vec<Prefix>)
+    ensures rising { IsStrictlySortedBy span_cmp (map span_of prefixes.new.items) }
+    ensures same { (u : Ends) → is_listed prefixes.new.items u ≡ is_listed prefixes.old.items u }
+{
+    prefixes.sort_unstable_by_key(|prefix| prefix.span());
+    prefixes.dedup_by_key(|prefix| prefix.span());
+}
+
+/// Lists the prefixes that cover the span. A part whose root does not cover it has none.
+pub(super) fn push_covering<T>(
+    tree: &Tree<T>,
+    span: Span,
+    out: &mut Vec<Prefix>,
+) -> Result<(), AllocError>
+    requires { IsTree tree.now }
+    ensures ok { OnOk result ((u : Ends) → is_listed out.new.items u
+        ≡ (is_listed out.old.items u || (is_some (standing tree.now u) && covers u span))) }
+{
+    match tree {
+        Tree::Empty => Ok(()),
+        Tree::Fork(node) => {
+            if !node.prefix.span().covers(span) {
+                return Ok(());
+            }
+            push_if(node.value.is_some(), node.prefix, out)?;
+            push_covering(&node.lower, span, out)?;
+            push_covering(&node.upper, span, out)
+        }
+    }
+}
+
+/// Whether the node has a value, and its prefix lies inside the span.
+fn has_inside<T>(node: &Node<T>, span: Span) -> bool
+    ensures { result ≡ (is_some node.now.value && covers span (span_of node.now.prefix)) }
+{
+    node.value.is_some() && span.covers(node.prefix.span())
+}
+
+/// Lists the prefixes that lie inside the span. A part whose root does not meet it has none.
+pub(super) fn push_inside<T>(
+    tree: &Tree<T>,
+    span: Span,
+    out: &mut Vec<Prefix>,
+) -> Result<(), AllocError>
+    requires { IsTree tree.now }
+    ensures ok { OnOk result ((u : Ends) → is_listed out.new.items u
+        ≡ (is_listed out.old.items u || (is_some (standing tree.now u) && covers span u))) }
+{
+    match tree {
+        Tree::Empty => Ok(()),
+        Tree::Fork(node) => {
+            if !node.prefix.span().meets(span) {
+                return Ok(());
+            }
+            push_if(has_inside(node, span), node.prefix, out)?;
+            push_inside(&node.lower, span, out)?;
+            push_inside(&node.upper, span, out)
+        }
+    }
+}

@@ -1,0 +1,79 @@
+//! Looking prefixes up in a tree.
+
+ghost use Rattle.std.specs.Prelude.{◌≡◌, IfSome, IfNone};
+ghost use Rattle.std.specs.Option.{option_copied};
+ghost use Rattle.std.specs.Ordering.{eq_by_cmp};
+ghost use Rattle.rr_number.specs.Prefixes.{span_of, IsMasked};
+ghost use Rattle.rr_number.specs.Spans.{span_cmp};
+ghost use Rattle.rr_cover.specs.PrefixTrees.{in_upper, own, standing, IsTree};
+ghost use Rattle.rr_cover.specs.TreeParts.{side_of, IsSmallestCover, NoCover};
+
+use super::{Node, Tree};
+use rr_number::{Prefix, Span};
+
+/// Whether two prefixes have the same addresses.
+pub(super) fn is_same(prefix: Prefix, other: Prefix) -> bool
+    ensures { result ≡ eq_by_cmp span_cmp (span_of prefix) (span_of other) }
+{
+    prefix.span() == other.span()
+}
+
+/// Whether a span lies in the upper half of another one that has the addresses of a prefix.
+pub(super) fn is_upper(prefix: Prefix, span: Span) -> bool
+    ensures { result ≡ in_upper prefix span }
+{
+    let whole = prefix.span();
+    let half = whole.size() / 2;
+    u64::from(whole.last()) < u64::from(span.first()) + half && span.last() <= whole.last()
+}
+
+/// The side of a node on which a prefix would stand.
+fn side<T>(node: &Node<T>, prefix: Prefix) -> &Tree<T>
+    ensures { result.now ≡ side_of node.now.prefix node.now.lower node.now.upper (span_of prefix) }
+{
+    if is_upper(node.prefix, prefix.span()) {
+        &node.upper
+    } else {
+        &node.lower
+    }
+}
+
+/// The value that stands at the prefix.
+pub(super) fn find<T>(tree: &Tree<T>, prefix: Prefix) -> Option<&T>
+    requires { IsTree tree.now }
+    ensures { option_copied result ≡ standing tree.now (span_of prefix) }
+{
+    match tree {
+        Tree::Empty => None,
+        Tree::Fork(node) => {
+            if is_same(prefix, node.prefix) {
+                node.value.as_ref()
+            } else {
+                find(side(node, prefix), prefix)
+            }
+        }
+    }
+}
+
+/// The smallest prefix held that covers the prefix.
+pub(super) fn smallest_cover<T>(tree: &Tree<T>, prefix: Prefix) -> Option<(Prefix, &T)>
+    requires { IsTree tree.now }
+    ensures found { IfSome result (λ p. IsSmallestCover tree.now (span_of prefix) (span_of p.0) p.1.now) }
+    ensures none { IfNone result (NoCover tree.now (span_of prefix)) }
+{
+    match tree {
+        Tree::Empty => None,
+        Tree::Fork(node) => {
+            if !node.prefix.covers(prefix) {
+                return None;
+            }
+            match smallest_cover(side(node, prefix), prefix) {
+                Some(found) => Some(found),
+                None => match &node.value {
+                    Some(value) => Some((node.prefix, value)),
+                    None => None,
+                },
+            }
+        }
+    }
+}

@@ -1,0 +1,11 @@
+use Rattle.std.proofs.Common.{◌≡◌, ◌++◌, arith, subst, sym}
+use Rattle.std.proofs.lemmas.Grind.{common_steps}
+use Rattle.rr_text.specs.Fields.{AreFields, Field}
+use Rattle.rr_desk.specs.Opening.{owned}
+use Rattle.rr_desk.proofs.OpeningReads.{owned_good}
+use Rattle.rr_desk.proofs.opening.owned.Goals as goal
+
+pub new-requires : goal.new-requires
+new-requires c =
+    let same : c.push-2.new.self.items ≡ c.args.attributes.items ++ owned c.args.settings.now = grind (arith, common_steps) in
+    subst AreFields (sym same) (owned_good c.args.attributes.items c.args.settings.now c.requires c.are_good.ensures)

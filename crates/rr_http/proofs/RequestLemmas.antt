@@ -1,0 +1,59 @@
+-- Lemmas on what a request asks.
+use Rattle.std.proofs.Common.{◌≡◌, ℕ, ◌+◌, ◌-◌, ◌*◌, ◌≤◌, ◌<◌, Bool, true, false, List, ◌∷◌, length, take, get_or, Some, None, arith, refl, ap, cond, subst, length-append}
+use Rattle.std.specs.Prelude.{min, nat_eq, codes}
+use Rattle.std.specs.List.{list_all, starts_with}
+use Rattle.std.specs.Char.{is_ascii_digit}
+use Rattle.std.specs.Int.{IsInRange}
+use Rattle.std.specs.Str.Parse.{digits_value}
+use Rattle.std.proofs.lemmas.Bool.{and_parts}
+use Rattle.std.proofs.lemmas.Bool.Decides.{Decides-eqb, nat_tests}
+use Rattle.std.proofs.lemmas.Slice.Eq.{starts_is}
+use Rattle.std.proofs.lemmas.List.Folds.{list_all_at}
+use Rattle.std.proofs.lemmas.Int.Digits.{digits_value_more}
+use Rattle.std.proofs.lemmas.Str.{digit_value_digit}
+use Rattle.std.specs.Prelude.{All}
+use Rattle.std.proofs.lemmas.List.Elements.{All-tail}
+use Rattle.httparse.specs.Spans.{IsHeaderWithin, header_bytes}
+use Rattle.httparse.specs.declared.spans.HeaderSpan.{HeaderSpan}
+use Rattle.rr_http.specs.Asked.{parts_of}
+use Rattle.rr_http.specs.declared.asking.Page.TheVariants as page
+use Rattle.rr_http.specs.Requests.{page_of, is_named, values_of}
+
+-- a field of another name has no value of this one
+pub values_passed : (name head : List ℕ) (rest behind : List HeaderSpan) (field : HeaderSpan) → rest ≡ field ∷ behind →
+    is_named name (header_bytes head field) ≡ false → values_of name (parts_of head rest) ≡ values_of name (parts_of head behind)
+values_passed name head rest behind field cut other = rw cut (rw other refl)
+
+-- what holds of the spans holds of those behind the first
+pub within_behind : (n : ℕ) (rest behind : List HeaderSpan) (field : HeaderSpan) → rest ≡ field ∷ behind → All (IsHeaderWithin n) rest → All (IsHeaderWithin n) behind
+within_behind n rest behind field cut within = All-tail (IsHeaderWithin n) field behind (subst (λ spans. All (IsHeaderWithin n) spans) cut within)
+
+not_false : (b : Bool) → (b ≡ false → ⊥) → b ≡ true
+not_false true h = refl
+not_false false h = absurd (h refl)
+
+digit_at : (ds : List ℕ) (i : ℕ) → list_all is_ascii_digit ds ≡ true → i < length ds → is_ascii_digit (get_or ds i 0) ≡ true
+digit_at ds i all h = not_false _ (λ e. let f : list_all is_ascii_digit ds ≡ false = list_all_at is_ascii_digit ds i 0 h e in cc)
+
+-- a number read on by one digit, as far as its bound
+pub capped_more : (ds : List ℕ) (i size : ℕ) → list_all is_ascii_digit ds ≡ true → i < length ds → size ≡ min (digits_value 10 (take i ds)) 1048577 →
+    min (size * 10 + (get_or ds i 0 - 48)) 1048577 ≡ min (digits_value 10 (take (i + 1) ds)) 1048577
+capped_more ds i size all h so_far =
+    let digit = digit_at ds i all h in
+    let within : IsInRange 48 57 (get_or ds i 0) = grind (arith, nat_tests) in
+    let worth = digit_value_digit (get_or ds i 0) within in
+    omega (arith, digits_value_more 10 ds i h)
+
+last_of : (a b q : Bool) → cond a (Some page.Submissions) (cond b (Some page.Dump) (cond q (Some page.Query) None)) ≡ Some page.Query → q ≡ true
+last_of true b q e = cc
+last_of false true q e = cc
+last_of false false true e = refl
+last_of false false false e = cc
+
+-- the path of a query has seven bytes before the query
+pub query_behind : (path : List ℕ) → page_of path ≡ Some page.Query → 7 ≤ length path
+unfolding page_of
+query_behind path e =
+    let begins = and_parts _ _ (last_of _ _ _ e) in
+    let cut = (starts_is Decides-eqb path (codes "/query/") (starts_with nat_eq path (codes "/query/")) refl).0 begins.0 in
+    omega (arith, simp length-append at (ap length cut))

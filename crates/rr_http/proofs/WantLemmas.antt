@@ -1,0 +1,179 @@
+-- Lemmas on what a connection wants: its front says it.
+use Rattle.std.proofs.Common.{◌≡◌, ℕ, suc, ◌+◌, ◌-◌, ◌<◌, ◌≤◌, inl, inr, Bool, true, false, ◌==◌, ◌&&◌, List, [], ◌∷◌, ◌++◌, length, take, Option, None, Some, arith, refl, ap, sym, ◌∙◌, subst, length-append, if◌then◌else◌}
+use Rattle.std.specs.Prelude.{nat_lt, nat_le, is_some, IfSome}
+use Rattle.std.specs.Option.{option_map}
+use Rattle.std.proofs.lemmas.Bool.{and_parts, and_right, le-leb, ltb-true, or_left, or_right}
+use Rattle.std.proofs.lemmas.Bool.Decides.{nat_tests}
+use Rattle.std.proofs.lemmas.List.Folds.{list_any-append}
+use Rattle.std.proofs.lemmas.List.{append-nil, take-append-le, take_all}
+use Rattle.std.proofs.Math.Seq.{take-append-add}
+use Rattle.rr_bytes.specs.Blanks.{is_blank, is_line_feed}
+use Rattle.rr_bytes.specs.Trims.{trim_end}
+use Rattle.rr_http.specs.declared.fronts.Goal.TheVariants.{Line, Head}
+use Rattle.rr_http.specs.Fronts.{head_length, has_line_feed, is_reached, line_end}
+use Rattle.rr_http.specs.FrontLines.{line_of, names_version, speaks_http, whois_query}
+use Rattle.rr_http.specs.Wants.{FrontWants, HeadWants, IsParsed, Wants, WantsByItsFront, whois}
+
+line_of_feed : (b : ℕ) (bs : List ℕ) → (b == 10) ≡ true → line_of (b ∷ bs) ≡ []
+line_of_feed b bs e = rw e refl
+
+one_more : (b : ℕ) (bs : List ℕ) (n : ℕ) → take (1 + n) (b ∷ bs) ≡ b ∷ take n bs
+one_more b bs n = ap (λ k. take k (b ∷ bs)) (let more : 1 + n ≡ suc n = omega arith in more)
+
+line_of_on : (b : ℕ) (bs : List ℕ) → (b == 10) ≡ false → line_of (b ∷ bs) ≡ b ∷ line_of bs
+line_of_on b bs e = rw e (one_more b bs _)
+
+feed_behind : (b : ℕ) (bs : List ℕ) → (b == 10) ≡ false → has_line_feed (b ∷ bs) ≡ true → has_line_feed bs ≡ true
+feed_behind b bs e h = rw e at h
+
+line_of_step : (b : ℕ) (bs more : List ℕ) (t : Bool) → (b == 10) ≡ t → (has_line_feed bs ≡ true → line_of (bs ++ more) ≡ line_of bs) →
+    has_line_feed (b ∷ bs) ≡ true → line_of (b ∷ (bs ++ more)) ≡ line_of (b ∷ bs)
+line_of_step b bs more true e rec h = line_of_feed b (bs ++ more) e ∙ sym (line_of_feed b bs e)
+line_of_step b bs more false e rec h =
+    line_of_on b (bs ++ more) e ∙ (ap (λ line. b ∷ line) (rec (feed_behind b bs e h)) ∙ sym (line_of_on b bs e))
+
+-- the first line ends at the first LF, whatever follows
+pub line_of-append : (text more : List ℕ) → has_line_feed text ≡ true → line_of (text ++ more) ≡ line_of text
+line_of-append [] more h = cc
+line_of-append (b ∷ bs) more h = line_of_step b bs more (b == 10) refl (line_of-append bs more) h
+
+pub has_line_feed-append : (text more : List ℕ) → has_line_feed text ≡ true → has_line_feed (text ++ more) ≡ true
+has_line_feed-append text more h = list_any-append is_line_feed text more ∙ rw h refl
+
+pub speaks_http-append : (text more : List ℕ) → has_line_feed text ≡ true → speaks_http (text ++ more) ≡ speaks_http text
+speaks_http-append text more h = ap (λ line. names_version (trim_end is_blank line)) (line_of-append text more h)
+
+pub whois_query-append : (text more : List ℕ) → has_line_feed text ≡ true → whois_query (text ++ more) ≡ whois_query text
+whois_query-append text more h = rw (has_line_feed-append text more h, h, line_of-append text more h) refl
+
+no_line_end : (b : ℕ) (t : Bool) → is_line_feed b ≡ t → (t ≡ true → ⊥) → line_end (b ∷ []) ≡ 0
+no_line_end b true e h = absurd (h refl)
+no_line_end b false e h = rw e (rw (and_right (b == 13) false refl) refl)
+
+line_end_kept : (text more : List ℕ) → 0 < line_end text → line_end (text ++ more) ≡ line_end text
+line_end_kept [] more h = absurd (omega arith)
+line_end_kept (b ∷ []) more h = line_end_one b more (is_line_feed b) refl h
+  where
+    line_end_one : (b : ℕ) (more : List ℕ) (t : Bool) → is_line_feed b ≡ t → 0 < line_end (b ∷ []) → line_end (b ∷ more) ≡ line_end (b ∷ [])
+    line_end_one b more true e h = rw e refl
+    line_end_one b more false e h = let none : line_end (b ∷ []) ≡ 0 = no_line_end b false e (λ f. let g : false ≡ true = f in cc) in absurd (omega arith)
+line_end_kept (b ∷ c ∷ cs) more h = refl
+
+line_end_within : (text : List ℕ) → line_end text ≤ length text
+line_end_within [] = omega arith
+line_end_within (b ∷ []) = one (is_line_feed b) refl
+  where
+    one : (t : Bool) → is_line_feed b ≡ t → line_end (b ∷ []) ≤ 1
+    one true e = rw e (omega arith)
+    one false e = let none : line_end (b ∷ []) ≡ 0 = no_line_end b false e (λ f. let g : false ≡ true = f in cc) in omega arith
+line_end_within (b ∷ c ∷ cs) = grind (arith, nat_tests)
+
+-- where a text has a whole head, its line ends are those of any longer text
+long_enough : (text more : List ℕ) → is_some (head_length text) ≡ true → line_end (text ++ more) ≡ line_end text
+unfolding head_length
+long_enough [] more h = cc
+long_enough (b ∷ []) more h = let none : (is_line_feed b && nat_lt 0 0) ≡ false = and_right (is_line_feed b) false refl in let g = rw none at h in cc
+long_enough (b ∷ c ∷ cs) more h = refl
+
+none_at_all : is_some (head_length []) ≡ false
+unfolding head_length
+none_at_all = refl
+
+head_at : (b : ℕ) (bs : List ℕ) → (is_line_feed b && nat_lt 0 (line_end bs)) ≡ true → head_length (b ∷ bs) ≡ Some (1 + line_end bs)
+unfolding head_length
+head_at b bs e = rw e refl
+
+head_behind : (b : ℕ) (bs : List ℕ) → (is_line_feed b && nat_lt 0 (line_end bs)) ≡ false → head_length (b ∷ bs) ≡ option_map (λ n. 1 + n) (head_length bs)
+unfolding head_length
+head_behind b bs e = rw e refl
+
+mapped_some : (found : Option ℕ) → is_some (option_map (λ n. 1 + n) found) ≡ true → is_some found ≡ true
+mapped_some None h = h
+mapped_some (Some n) h = refl
+
+head_step : (b : ℕ) (bs more : List ℕ) (t : Bool) → (is_line_feed b && nat_lt 0 (line_end bs)) ≡ t →
+    (is_some (head_length bs) ≡ true → head_length (bs ++ more) ≡ head_length bs) →
+    is_some (head_length (b ∷ bs)) ≡ true → head_length (b ∷ (bs ++ more)) ≡ head_length (b ∷ bs)
+head_step b bs more true e rec h =
+    let kept = line_end_kept bs more (ltb-true 0 (line_end bs) (and_parts _ _ e).1) in
+    let there : (is_line_feed b && nat_lt 0 (line_end (bs ++ more))) ≡ true = ap (λ n. is_line_feed b && nat_lt 0 n) kept ∙ e in
+    head_at b (bs ++ more) there ∙ (ap (λ n. Some (1 + n)) kept ∙ sym (head_at b bs e))
+head_step b bs more false e rec h =
+    let rest = mapped_some (head_length bs) (rw (head_behind b bs e) at h) in
+    let there : (is_line_feed b && nat_lt 0 (line_end (bs ++ more))) ≡ false = ap (λ n. is_line_feed b && nat_lt 0 n) (long_enough bs more rest) ∙ e in
+    head_behind b (bs ++ more) there ∙ (ap (λ found. option_map (λ n. 1 + n) found) (rec rest) ∙ sym (head_behind b bs e))
+
+-- a head that is whole ends where it does, whatever follows
+pub head_length-append : (text more : List ℕ) → is_some (head_length text) ≡ true → head_length (text ++ more) ≡ head_length text
+head_length-append [] more h = let g = none_at_all in cc
+head_length-append (b ∷ bs) more h = head_step b bs more (is_line_feed b && nat_lt 0 (line_end bs)) refl (head_length-append bs more) h
+
+-- a text with a whole head has an LF
+feed_step : (b : ℕ) (bs : List ℕ) (t : Bool) → (is_line_feed b && nat_lt 0 (line_end bs)) ≡ t → (is_some (head_length bs) ≡ true → has_line_feed bs ≡ true) →
+    is_some (head_length (b ∷ bs)) ≡ true → has_line_feed (b ∷ bs) ≡ true
+feed_step b bs true e rec h = or_left (is_line_feed b) (has_line_feed bs) (and_parts (is_line_feed b) (nat_lt 0 (line_end bs)) e).0
+feed_step b bs false e rec h = or_right (is_line_feed b) (has_line_feed bs) (rec (mapped_some (head_length bs) (rw (head_behind b bs e) at h)))
+
+head_has_feed : (text : List ℕ) → is_some (head_length text) ≡ true → has_line_feed text ≡ true
+head_has_feed [] h = let g = none_at_all in cc
+head_has_feed (b ∷ bs) h = feed_step b bs (is_line_feed b && nat_lt 0 (line_end bs)) refl (head_has_feed bs) h
+
+-- a head is a part of the text
+mapped_within : (n : ℕ) (found : Option ℕ) → IfSome found (λ place. place ≤ n) → IfSome (option_map (λ place. 1 + place) found) (λ place. place ≤ suc n)
+mapped_within n None h = tt
+mapped_within n (Some place) h = omega arith
+
+head_within : (text : List ℕ) → IfSome (head_length text) (λ place. place ≤ length text)
+unfolding head_length
+head_within [] = tt
+head_within (b ∷ bs) = within_step b bs (is_line_feed b && nat_lt 0 (line_end bs)) refl (head_within bs)
+  where
+    within_step : (b : ℕ) (bs : List ℕ) (t : Bool) → (is_line_feed b && nat_lt 0 (line_end bs)) ≡ t → IfSome (head_length bs) (λ place. place ≤ length bs) →
+        IfSome (head_length (b ∷ bs)) (λ place. place ≤ length (b ∷ bs))
+    within_step b bs true e rec = rw (head_at b bs e) (omega (arith, line_end_within bs))
+    within_step b bs false e rec = rw (head_behind b bs e) (mapped_within (length bs) (head_length bs) rec)
+
+-- what a whole head asks does not depend on what follows
+head_kept : (found : Option ℕ) (front more : List ℕ) (full wide : Bool) (wants : Wants) → is_some found ≡ true → IfSome found (λ place. place ≤ length front) →
+    HeadWants found front full wants → HeadWants found (front ++ more) wide wants
+head_kept None front more full wide wants h within asked = cc
+head_kept (Some place) front more full wide wants h within asked =
+    (asked.0, subst (λ head. IsParsed head asked.0) (sym (take-append-le place front more within)) asked.1, asked.2)
+
+-- a front that has what it was read for wants the same with more behind it
+reached_on : (front more : List ℕ) (speaks full wide : Bool) (wants : Wants) → speaks_http front ≡ speaks →
+    is_reached (if speaks then Head else Line) front ≡ true → FrontWants speaks front full wants → FrontWants (speaks_http (front ++ more)) (front ++ more) wide wants
+reached_on front more false full wide wants is h asked =
+    subst (λ speaks. FrontWants speaks (front ++ more) wide wants) (sym (speaks_http-append front more h ∙ is))
+    (asked ∙ ap whois (sym (whois_query-append front more h)))
+reached_on front more true full wide wants is h asked =
+    subst (λ speaks. FrontWants speaks (front ++ more) wide wants) (sym (speaks_http-append front more (head_has_feed front h) ∙ is))
+    (subst (λ found. HeadWants found (front ++ more) wide wants) (sym (head_length-append front more h))
+    (head_kept (head_length front) front more full wide wants h (head_within front) asked))
+
+same_wants : (front text : List ℕ) (full wide : Bool) (wants : Wants) → front ≡ text → full ≡ wide → FrontWants (speaks_http front) front full wants →
+    FrontWants (speaks_http text) text wide wants
+same_wants front text full wide wants e f asked =
+    subst (λ xs. FrontWants (speaks_http xs) xs wide wants) e (subst (λ b. FrontWants (speaks_http front) front b wants) f asked)
+
+-- the first 8,192 bytes are the front and some of what follows
+front_of_all : (front more : List ℕ) → length front ≤ 8192 → take 8192 (front ++ more) ≡ front ++ take (8192 - length front) more
+front_of_all front more short =
+    let all : length front + (8192 - length front) ≡ 8192 = omega arith in
+    ap (λ n. take n (front ++ more)) (sym all) ∙ take-append-add front more (8192 - length front)
+
+full_front : (front more : List ℕ) → length front ≡ 8192 → front ≡ take 8192 (front ++ more)
+full_front front more full = sym (front_of_all front more (omega arith) ∙ (ap (λ n. front ++ take n more) (let none : 8192 - length front ≡ 0 = omega arith in none) ∙ append-nil front))
+
+pub wants_kept : WantsByItsFront
+wants_kept front more ended wants short (inl reached) done asked =
+    subst (λ xs. FrontWants (speaks_http xs) xs (nat_le 8192 (length (front ++ more))) wants) (sym (front_of_all front more short))
+    (reached_on front (take (8192 - length front) more) (speaks_http front) (nat_le 8192 (length front)) (nat_le 8192 (length (front ++ more))) wants refl reached asked)
+wants_kept front more ended wants short (inr (inl full)) done asked =
+    let at_front : nat_le 8192 (length front) ≡ true = le-leb 8192 (length front) (omega arith) in
+    let at_all : nat_le 8192 (length (front ++ more)) ≡ true = le-leb 8192 (length (front ++ more)) (omega (arith, length-append front more)) in
+    same_wants front _ _ _ wants (full_front front more full) (at_front ∙ sym at_all) asked
+wants_kept front more ended wants short (inr (inr over)) done asked =
+    let whole : front ++ more ≡ front = ap (λ xs. front ++ xs) (done over) ∙ append-nil front in
+    let cut : take 8192 (front ++ more) ≡ front = ap (take 8192) whole ∙ take_all 8192 front short in
+    same_wants front _ _ _ wants (sym cut) (ap (λ xs. nat_le 8192 (length {A = ℕ} xs)) (sym whole)) asked

@@ -1,0 +1,11 @@
+pub mod Asked
+pub mod Fronts
+pub mod FrontLines
+pub mod Requests
+pub mod Replies
+pub mod Wants
+pub mod Wanted
+pub mod Bodies
+pub mod BodyReaders
+pub mod Answering
+pub mod Serving

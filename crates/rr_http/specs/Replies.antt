@@ -1,0 +1,58 @@
+-- The bytes of replies (RFC 9112, 4; profile).
+use Rattle.std.specs.Prelude.{ℕ, ◌+◌, List, [], ◌++◌, length, codes, decimal}
+use Rattle.http.specs.StatusCode.{code_digits}
+use Rattle.rr_http.specs.declared.asking.Refusal.{Refusal}
+use Rattle.rr_http.specs.declared.asking.Refusal.TheVariants.{HeadTooLarge, BadRequest, NotImplemented, NotFound, MethodNotAllowed, LengthRequired, PayloadTooLarge, Unavailable}
+use Rattle.rr_http.specs.Requests.{method_of}
+
+-- the status code of a refusal (RFC 9110, 15; RFC 6585, 5)
+abbrev pub status_of : Refusal → ℕ
+status_of HeadTooLarge = 431
+status_of BadRequest = 400
+status_of NotImplemented = 501
+status_of NotFound = 404
+status_of (MethodNotAllowed page) = 405
+status_of LengthRequired = 411
+status_of PayloadTooLarge = 413
+status_of Unavailable = 503
+
+-- its reason words (RFC 9110, 15; for 413 those of RFC 7231, 6.5.11)
+abbrev pub reason_of : Refusal → List ℕ
+reason_of HeadTooLarge = codes "Request Header Fields Too Large"
+reason_of BadRequest = codes "Bad Request"
+reason_of NotImplemented = codes "Not Implemented"
+reason_of NotFound = codes "Not Found"
+reason_of (MethodNotAllowed page) = codes "Method Not Allowed"
+reason_of LengthRequired = codes "Length Required"
+reason_of PayloadTooLarge = codes "Payload Too Large"
+reason_of Unavailable = codes "Service Unavailable"
+
+-- the code and the reason words
+unfoldable pub status_words : Refusal → List ℕ
+status_words refusal = code_digits (status_of refusal) ++ (codes " " ++ reason_of refusal)
+
+-- where the method is refused, the one of the page is named (RFC 9110, 10.2.1)
+abbrev pub allow_line : Refusal → List ℕ
+allow_line HeadTooLarge = []
+allow_line BadRequest = []
+allow_line NotImplemented = []
+allow_line NotFound = []
+allow_line (MethodNotAllowed page) = codes "Allow: " ++ (method_of page ++ codes "\r\n")
+allow_line LengthRequired = []
+allow_line PayloadTooLarge = []
+allow_line Unavailable = []
+
+-- the fields of a refusal, with the length of its body, and the empty line behind them (RFC 9112, 2.1; profile)
+abbrev pub refusal_fields : Refusal → List ℕ
+refusal_fields refusal =
+    codes "\r\nContent-Type: text/plain\r\nContent-Length: " ++ (decimal (length (status_words refusal) + 1)
+    ++ (codes "\r\nConnection: close\r\n" ++ (allow_line refusal ++ codes "\r\n")))
+
+-- the reply to a request that is refused: its body is the status in words, and an LF (profile)
+unfoldable pub refusal_reply : Refusal → List ℕ
+refusal_reply refusal =
+    codes "HTTP/1.1 " ++ (status_words refusal ++ (refusal_fields refusal ++ (status_words refusal ++ codes "\n")))
+
+-- the head of a reply whose body is what was asked: the body ends with the connection (RFC 9112, 6.3)
+unfoldable pub given_head : List ℕ
+given_head = codes "HTTP/1.1 200 OK\r\nContent-Type: text/plain\r\nConnection: close\r\n\r\n"

@@ -1,0 +1,135 @@
+//! What each thing that a connection wants is answered.
+
+ghost use Rattle.std.specs.Prelude.{◌≡◌, ◌≤◌, ◌⊎◌, [], Err, IfOk, false, length};
+ghost use Rattle.percent_encoding.specs.Percent.{percent_decode};
+ghost use Rattle.rr_http.specs.Answering.{AnswersDump, AnswersQuery, IsAnswered, IsHeadCut, SubmitsBody, Tells, dump_answer};
+ghost use Rattle.rr_http.specs.Replies.{given_head, refusal_reply};
+
+use crate::asking::{BODY_SIZE, Refusal};
+use crate::body::Body;
+use crate::desk::{ConnFault, Desk, DumpFault};
+use crate::replying::{write_given_head, write_refusal};
+use percent_encoding::percent_decode;
+use rr_io::Sink;
+use rr_submission::{DeskFault, Done};
+use std::alloc::{AllocError, Global};
+
+/// Refuses a request.
+pub fn refuse<W: Sink>(writer: &mut W, refusal: Refusal) -> Result<(), ConnFault>
+    ensures tells { Tells (refusal_reply refusal) (W.told writer.old) (W.told writer.new) result }
+    ensures aside { W.aside writer.new ≡ W.aside writer.old }
+{
+    match write_refusal(writer, refusal) {
+        Ok(()) => Ok(()),
+        Err(_) => Err(ConnFault::Write),
+    }
+}
+
+/// Answers a query by whois (RFC 3912, 2).
+pub fn answer_whois<D: Desk, W: Sink>(
+    alloc: Global,
+    desk: &mut D,
+    query: &[u8],
+    writer: &mut W,
+) -> Result<(), ConnFault>
+    ensures answers { IsAnswered D.Answers [] query.now desk.old desk.new (W.told writer.old) (W.told writer.new) result }
+    ensures aside { W.aside writer.new ≡ W.aside writer.old }
+{
+    match desk.answer(alloc, query, writer) {
+        Ok(()) => Ok(()),
+        Err(_) => Err(ConnFault::Write),
+    }
+}
+
+/// Answers a query by HTTP, whose percent escapes are read first (RFC 3986, 2.1).
+pub fn answer_query<D: Desk, W: Sink>(
+    alloc: Global,
+    desk: &mut D,
+    escaped: &[u8],
+    writer: &mut W,
+) -> Result<(), ConnFault>
+    ensures answers { AnswersQuery D.Answers (D.stops desk.old) (percent_decode escaped.now) desk.old desk.new (W.told writer.old) (W.told writer.new) result }
+    ensures aside { W.aside writer.new ≡ W.aside writer.old }
+{
+    if desk.stopped() {
+        return refuse(writer, Refusal::Unavailable);
+    }
+    match decoded(alloc, escaped) {
+        Ok(query) => give_answer(alloc, desk, &query, writer),
+        Err(_) => refuse(writer, Refusal::Unavailable),
+    }
+}
+
+/// The bytes with their percent escapes read (RFC 3986, 2.1).
+fn decoded(alloc: Global, escaped: &[u8]) -> Result<Vec<u8>, AllocError>
+    ensures { IfOk result (λ query. query.items ≡ percent_decode escaped.now) }
+{
+    let mut query = Vec::new(alloc);
+    percent_decode(escaped).append_to(&mut query)?;
+    Ok(query)
+}
+
+/// Writes the head of a reply, and behind it the answer to a query.
+fn give_answer<D: Desk, W: Sink>(
+    alloc: Global,
+    desk: &mut D,
+    query: &[u8],
+    writer: &mut W,
+) -> Result<(), ConnFault>
+    ensures answers { IsHeadCut desk.old desk.new (W.told writer.old) (W.told writer.new) result
+        ⊎ IsAnswered D.Answers given_head query.now desk.old desk.new (W.told writer.old) (W.told writer.new) result }
+    ensures aside { W.aside writer.new ≡ W.aside writer.old }
+{
+    match write_given_head(writer) {
+        Ok(()) => answer_whois(alloc, desk, query, writer),
+        Err(_) => Err(ConnFault::Write),
+    }
+}
+
+/// Gives the public dump by HTTP.
+pub fn give_dump<D: Desk, W: Sink>(
+    alloc: Global,
+    desk: &mut D,
+    writer: &mut W,
+) -> Result<(), ConnFault>
+    ensures dumps { AnswersDump (D.dumped desk.old) (D.stops desk.old) desk.old desk.new (W.told writer.old) (W.told writer.new) result }
+    ensures aside { W.aside writer.new ≡ W.aside writer.old }
+{
+    if desk.stopped() {
+        return refuse(writer, Refusal::Unavailable);
+    }
+    match write_given_head(writer) {
+        Ok(()) => match desk.dump(alloc, writer) {
+            Ok(()) => Ok(()),
+            Err(fault) => dump_answer(fault),
+        },
+        Err(_) => Err(ConnFault::Write),
+    }
+}
+
+/// What a connection is answered whose dump was cut short.
+fn dump_answer(fault: DumpFault) -> Result<(), ConnFault>
+    ensures { result ≡ dump_answer (Err fault) }
+{
+    match fault {
+        DumpFault::Write => Err(ConnFault::Write),
+        DumpFault::Memory | DumpFault::Stopped => Ok(()),
+    }
+}
+
+/// Submits a body of which these bytes came, and `missing` more did not.
+pub fn submit_body<D: Desk, W: Sink>(
+    alloc: Global,
+    desk: &mut D,
+    bytes: &[u8],
+    missing: usize,
+    writer: &mut W,
+) -> Result<Done, DeskFault>
+    requires small { length bytes.now ≤ BODY_SIZE }
+    requires running { D.stops desk.old ≡ false }
+    ensures submits { SubmitsBody D.ledger (D.source desk.old) bytes.now missing desk.old desk.new (W.told writer.old) (W.told writer.new) result }
+    ensures aside { W.aside writer.new ≡ W.aside writer.old }
+{
+    let mut body = Body::new(bytes, missing);
+    desk.submit(alloc, &mut body, writer)
+}

@@ -1,0 +1,214 @@
+//! What a request asks: its page, its method, and the size of its body.
+
+ghost use Rattle.std.specs.Prelude.{◌≡◌, ◌≤◌, ◌∷◌, [], IfOk, Some, codes, length, true, min, All, IfSome, MatchOption};
+ghost use Rattle.std.specs.List.{list_all};
+ghost use Rattle.std.specs.Str.{bytes_eq};
+ghost use Rattle.std.specs.Str.Parse.{digits_value};
+ghost use Rattle.std.specs.Char.{is_ascii_digit};
+ghost use Rattle.httparse.specs.Spans.{IsHeaderWithin, header_bytes};
+ghost use Rattle.rr_http.specs.Asked.{parts_of, seen};
+ghost use Rattle.rr_http.specs.Requests.{HasSmallSize, asks_of, asks_page, is_length, is_named, method_of, page_of, path_of, size_of, sized, values_of};
+
+use crate::routing::find_page;
+use http::Method;
+use httparse::spans::HeaderSpan;
+use rr_bytes::{cut_before, is_keyword};
+
+/// How many bytes the body of a request has at most (profile).
+pub const BODY_SIZE: usize = 1_048_576;
+
+/// What stands at a path.
+#[derive(Clone, Copy, Debug, PartialEq, Eq)]
+pub enum Page {
+    /// The report on a body that is submitted, by `POST /submissions`.
+    Submissions,
+    /// The answer to a query, by `GET /query/{query}`.
+    Query,
+    /// The public dump, by `GET /dump`.
+    Dump,
+}
+
+impl Page {
+    /// Whether this is the method of the page (RFC 9110, 9.3).
+    fn takes(self, method: &[u8]) -> bool
+        ensures { result ≡ bytes_eq method.now (method_of self) }
+    {
+        match self {
+            Page::Submissions => method == Method::POST.as_str().as_bytes(),
+            Page::Query | Page::Dump => method == Method::GET.as_str().as_bytes(),
+        }
+    }
+}
+
+/// Why a request is refused.
+#[derive(Clone, Copy, Debug, PartialEq, Eq)]
+pub enum Refusal {
+    /// 8,192 bytes have no empty line: 431.
+    HeadTooLarge,
+    /// The head is none, or the length of the body is bad or given twice: 400.
+    BadRequest,
+    /// The body has a transfer coding: 501.
+    NotImplemented,
+    /// No page stands at the path: 404.
+    NotFound,
+    /// The page has another method: 405.
+    MethodNotAllowed(Page),
+    /// The body has no length: 411.
+    LengthRequired,
+    /// The body is larger than 1,048,576 bytes: 413.
+    PayloadTooLarge,
+    /// The desk is stopped, or memory was refused: 503.
+    Unavailable,
+}
+
+/// What a request asks.
+#[derive(Clone, Copy, Debug, PartialEq, Eq)]
+pub enum Asked<'a> {
+    /// Nothing that is done: it is refused.
+    Refused(Refusal),
+    /// The report on its body, which has so many bytes.
+    Submission(usize),
+    /// The answer to the query with these percent escapes.
+    Query(&'a [u8]),
+    /// The public dump.
+    Dump,
+}
+
+/// What a request of this method, target and fields asks (RFC 9110; profile). The spans of the fields are of `head`.
+#[tactic(auto, unfolding(crate::specs::Requests::asks_of))]
+pub fn read_request<'a>(
+    method: &[u8],
+    target: &'a [u8],
+    head: &[u8],
+    fields: &[HeaderSpan],
+) -> Asked<'a>
+    requires { All (IsHeaderWithin (length head.now)) fields.now }
+    ensures asks { seen result ≡ asks_of method.now target.now (parts_of head.now fields.now) }
+    ensures small { HasSmallSize (seen result) }
+{
+    if find_value(head, fields, b"Transfer-Encoding").is_some() {
+        return Asked::Refused(Refusal::NotImplemented);
+    }
+    let path = path_of(target);
+    match find_page(path) {
+        None => Asked::Refused(Refusal::NotFound),
+        Some(page) => {
+            if page.takes(method) {
+                read_page(path, page, head, fields)
+            } else {
+                Asked::Refused(Refusal::MethodNotAllowed(page))
+            }
+        }
+    }
+}
+
+/// What a request by the method of the page asks.
+#[tactic(auto, using(crate::proofs::RequestLemmas::query_behind))]
+fn read_page<'a>(path: &'a [u8], page: Page, head: &[u8], fields: &[HeaderSpan]) -> Asked<'a>
+    requires at_page { page_of path.now ≡ Some page }
+    requires within { All (IsHeaderWithin (length head.now)) fields.now }
+    ensures asks { seen result ≡ asks_page path.now (parts_of head.now fields.now) page }
+    ensures small { HasSmallSize (seen result) }
+{
+    match page {
+        Page::Submissions => match read_size(head, fields) {
+            Ok(size) => Asked::Submission(size),
+            Err(refusal) => Asked::Refused(refusal),
+        },
+        Page::Query => Asked::Query(&path[7..]),
+        Page::Dump => Asked::Dump,
+    }
+}
+
+/// The path of a target, which ends before its first `?`.
+fn path_of(target: &[u8]) -> &[u8]
+    ensures { result.now ≡ path_of target.now }
+{
+    let (path, _) = cut_before(target, b'?');
+    path
+}
+
+/// The size of the body that the fields tell (RFC 9110, 8.6).
+fn read_size(head: &[u8], fields: &[HeaderSpan]) -> Result<usize, Refusal>
+    requires { All (IsHeaderWithin (length head.now)) fields.now }
+    ensures sized { result ≡ sized (values_of (codes "Content-Length") (parts_of head.now fields.now)) }
+    ensures small { IfOk result (λ size. size ≤ 1048576) }
+{
+    match find_value(head, fields, b"Content-Length") {
+        None => Err(Refusal::LengthRequired),
+        Some((value, behind)) => match find_value(head, behind, b"Content-Length") {
+            None => size_of(value),
+            Some(_) => Err(Refusal::BadRequest),
+        },
+    }
+}
+
+/// The value of the first field of this name, and the fields behind it.
+fn find_value<'a, 'f>(
+    head: &'a [u8],
+    fields: &'f [HeaderSpan],
+    name: &[u8],
+) -> Option<(&'a [u8], &'f [HeaderSpan])>
+    requires { All (IsHeaderWithin (length head.now)) fields.now }
+    ensures value { MatchOption result (values_of name.now (parts_of head.now fields.now) ≡ [])
+        (λ found. values_of name.now (parts_of head.now fields.now) ≡ found.0.now ∷ values_of name.now (parts_of head.now found.1.now)) }
+    ensures within { IfSome result (λ found. All (IsHeaderWithin (length head.now)) found.1.now) }
+{
+    let mut rest = fields;
+    'fields: while let Some((field, behind)) = rest.split_first() {
+        if is_named(head, field, name) {
+            return Some((field.value.of(head), behind));
+        }
+        rest = behind;
+    }
+    None
+}
+
+/// Whether the field has this name, in any case of letters (RFC 9110, 5.1).
+fn is_named(head: &[u8], field: &HeaderSpan, name: &[u8]) -> bool
+    requires { IsHeaderWithin (length head.now) field.now }
+    ensures { result ≡ is_named name.now (header_bytes head.now field.now) }
+{
+    is_keyword(field.name.of(head), name)
+}
+
+/// The size that the text spells (RFC 9110, 8.6).
+#[tactic(auto, unfolding(crate::specs::Requests::size_of))]
+fn size_of(text: &[u8]) -> Result<usize, Refusal>
+    ensures size { result ≡ size_of text.now }
+    ensures small { IfOk result (λ size. size ≤ 1048576) }
+{
+    if !is_length(text) {
+        return Err(Refusal::BadRequest);
+    }
+    let size = capped_size(text);
+    if size <= BODY_SIZE {
+        Ok(size)
+    } else {
+        Err(Refusal::PayloadTooLarge)
+    }
+}
+
+fn is_length(text: &[u8]) -> bool
+    ensures { result ≡ is_length text.now }
+{
+    !text.is_empty() && are_digits(text)
+}
+
+fn are_digits(text: &[u8]) -> bool
+    ensures { result ≡ list_all is_ascii_digit text.now }
+{
+    text.iter().all(|byte| byte.is_ascii_digit())
+}
+
+/// The number that the digits spell, or one more than a body may have where it is larger.
+fn capped_size(digits: &[u8]) -> usize
+    requires { list_all is_ascii_digit digits.now ≡ true }
+    ensures { result ≡ min (digits_value 10 digits.now) 1048577 }
+{
+    let mut size = 0;
+    'digits: for digit in digits {
+        size = (size * 10 + usize::from(*digit - b'0')).min(BODY_SIZE + 1);
+    }
+    size
+}

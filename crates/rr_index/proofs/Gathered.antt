@@ -1,0 +1,77 @@
+-- Objects in order that are put in one after the other.
+use Rattle.std.proofs.Common.{◌≡◌, Bool, true, false, cond, T, List, [], ◌∷◌, ◌++◌, map, append_assoc, refl, sym, ap, subst, ◌∙◌}
+use Rattle.std.specs.Prelude.{Option, None, Some, ◌&&◌}
+use Rattle.std.specs.FinMap.{get, insert, from_sorted, is_sorted, get-from_sorted, get-insert, same_map, find as find_entry}
+use Rattle.std.specs.FinMap.Entries.{below_all, find-append}
+use Rattle.std.specs.Ordering.{eq_by_cmp, is_eq, is_lt, ordering_reverse}
+use Rattle.std.specs.declared.cmp.Ordering.{Ordering}
+use Rattle.std.specs.declared.cmp.Ordering.TheVariants.{Less, Equal, Greater}
+use Rattle.rr_auth.proofs.KeyLaws.{keys_exact, keys_total}
+use Rattle.rr_book.specs.Books.{book_of, entry, is_in_order}
+use Rattle.rr_object.specs.declared.key.Key.{Key}
+use Rattle.rr_object.specs.KeyOrders.{key_cmp}
+use Rattle.rr_object.specs.Objects.{Obj}
+
+T_of : {b : Bool} → b ≡ true → T b
+T_of e = subst T (sym e) tt
+
+first_of : (a b : Bool) → T (a && b) → T a
+first_of true b h = tt
+first_of false b h = h
+
+second_of : (a b : Bool) → T (a && b) → T b
+second_of true b h = h
+second_of false b h = absurd h
+
+both : (a b : Bool) → T a → T b → T (a && b)
+both true b p q = q
+both false b p q = p
+
+less : (r : Ordering) → T (is_lt r) → r ≡ Less
+less Less h = refl
+less Equal h = absurd h
+less Greater h = absurd h
+
+below_there : (k : Key) (ys : List Obj) (o : Obj) (rest : List Obj) → T (below_all key_cmp k (map entry (ys ++ o ∷ rest))) → key_cmp k o.key ≡ Less
+below_there k [] o rest h = less _ (first_of _ _ h)
+below_there k (y ∷ ys) o rest h = below_there k ys o rest (second_of (is_lt (key_cmp k y.key)) _ h)
+
+below_front : (k : Key) (ys rest : List Obj) → T (below_all key_cmp k (map entry (ys ++ rest))) → T (below_all key_cmp k (map entry ys))
+below_front k [] rest h = tt
+below_front k (y ∷ ys) rest h = both _ _ (first_of _ _ h) (below_front k ys rest (second_of (is_lt (key_cmp k y.key)) _ h))
+
+front : (ys rest : List Obj) → T (is_sorted key_cmp (map entry (ys ++ rest))) → T (is_sorted key_cmp (map entry ys))
+front [] rest h = tt
+front (y ∷ ys) rest h = both _ _ (below_front y.key ys rest (first_of _ _ h)) (front ys rest (second_of (below_all key_cmp y.key (map entry (ys ++ rest))) _ h))
+
+free_behind : (ys : List Obj) (o : Obj) (rest : List Obj) → T (is_sorted key_cmp (map entry (ys ++ o ∷ rest))) → find_entry key_cmp o.key (map entry ys) ≡ None
+free_behind [] o rest h = refl
+free_behind (y ∷ ys) o rest h =
+    let below = below_there y.key ys o rest (first_of _ _ h) in
+    ap (λ r. cond (is_eq r) (Some y) (find_entry key_cmp o.key (map entry ys))) (keys_total.antisymm o.key y.key ∙ ap ordering_reverse below)
+    ∙ free_behind ys o rest (second_of (below_all key_cmp y.key (map entry (ys ++ o ∷ rest))) _ h)
+
+entries_end : (ys : List Obj) (o : Obj) → map entry (ys ++ o ∷ []) ≡ map entry ys ++ (o.key, o) ∷ []
+entries_end [] o = refl
+entries_end (y ∷ ys) o = ap (λ es. entry y ∷ es) (entries_end ys o)
+
+module _ (all ys left rest : List Obj) (o : Obj) (order : is_in_order all ≡ true) (whole : ys ++ left ≡ all) (step : left ≡ o ∷ rest) where
+  sorted : T (is_sorted key_cmp (map entry (ys ++ o ∷ rest)))
+  sorted = subst (λ (xs : List Obj). T (is_sorted key_cmp (map entry xs))) (sym whole ∙ ap (λ xs. ys ++ xs) step) (T_of order)
+
+  -- the key of the next object is free
+  pub next_free : get (book_of ys) o.key ≡ None
+  next_free = get-from_sorted key_cmp (map entry ys) o.key (front ys (o ∷ rest) sorted) ∙ free_behind ys o rest sorted
+
+  -- what is to come, behind one more
+  pub next_whole : (ys ++ o ∷ []) ++ rest ≡ all
+  next_whole = append_assoc ys (o ∷ []) rest ∙ ap (λ xs. ys ++ xs) (sym step) ∙ whole
+
+  -- one more object
+  pub next_book : insert (book_of ys) o.key o ≡ book_of (ys ++ o ∷ [])
+  next_book = same_map keys_total keys_exact _ _ (λ q.
+      get-insert keys_total (book_of ys) o.key o q
+      ∙ ap (cond (eq_by_cmp key_cmp q o.key) (Some o)) (get-from_sorted key_cmp (map entry ys) q (front ys (o ∷ rest) sorted))
+      ∙ sym (find-append key_cmp keys_total (map entry ys) o.key o q (free_behind ys o rest sorted))
+      ∙ ap (find_entry key_cmp q) (sym (entries_end ys o))
+      ∙ sym (get-from_sorted key_cmp (map entry (ys ++ o ∷ [])) q (front (ys ++ o ∷ []) rest (subst (λ (xs : List Obj). T (is_sorted key_cmp (map entry xs))) (sym (next_whole ∙ sym whole ∙ ap (λ xs. ys ++ xs) step)) sorted))))

@@ -1,0 +1,165 @@
+-- A map of objects by key and the registry that it is.
+use Rattle.std.proofs.Common.{◌≡◌, Bool, true, false, cond, T, List, [], ◌∷◌, ◌++◌, Bor, map, refl, sym, ap, subst, ◌∙◌}
+use Rattle.std.specs.Prelude.{Option, None, Some, ◌&&◌, ◌||◌}
+use Rattle.std.specs.BTreeMap.{BTreeMap, Updates, get as at_key, is_at}
+use Rattle.std.specs.FinMap.{empty, get, insert, remove, values, from_sorted, is_sorted, entries-from_sorted, get-from_sorted, get-insert, get-remove, get-empty, same_map, find as find_entry}
+use Rattle.std.specs.FinMap.Entries.{below_all}
+use Rattle.std.specs.List.{AllByRecursion, cons_option, filter, filter_map, list_any}
+use Rattle.std.specs.List.Sorted.{IsStrictlySortedBy}
+use Rattle.std.specs.Map.{keys_of, lookup, values_of}
+use Rattle.std.specs.Cmp.{eq_by_cmp_equiv}
+use Rattle.std.specs.declared.cmp.Ordering.{Ordering}
+use Rattle.std.specs.declared.cmp.Ordering.TheVariants.{Less}
+use Rattle.std.specs.Ordering.{eq_by_cmp, is_lt}
+use Rattle.rr_auth.proofs.KeyLaws.{keys_total, keys_exact}
+use Rattle.rr_auth.specs.Registries.{Reg}
+use Rattle.rr_object.proofs.DerivedOrder.{derived_order}
+use Rattle.rr_object.specs.contracts.key.KeyOrd.TheImpl as derived
+use Rattle.rr_object.specs.declared.key.Key.{Key}
+use Rattle.rr_object.specs.KeyOrders.{key_cmp}
+use Rattle.rr_object.specs.Objects.{Obj}
+use Rattle.rr_sets.specs.Lists.{lent}
+use Rattle.rr_index.specs.ObjectMaps.{registry_of, IsRising}
+
+-- the derived order of keys is their order
+pub one_order : (derived.ghosts).cmp ≡ key_cmp
+one_order = λ i a b. derived_order a b i
+
+T_of : {b : Bool} → b ≡ true → T b
+T_of e = subst T (sym e) tt
+
+is_less : (r : Ordering) → r ≡ Less → is_lt r ≡ true
+is_less r e = ap is_lt e
+
+below_rising : (k : Key) (es : List (Key × Obj)) → AllByRecursion (λ y. key_cmp k y ≡ Less) (keys_of es) → below_all key_cmp k es ≡ true
+below_rising k [] h = refl
+below_rising k (e ∷ es) h = ap (λ b. b && below_all key_cmp k es) (is_less _ h.0) ∙ below_rising k es h.1
+
+sorted_rising : (es : List (Key × Obj)) → IsStrictlySortedBy key_cmp (keys_of es) → is_sorted key_cmp es ≡ true
+unfolding IsStrictlySortedBy
+sorted_rising [] h = refl
+sorted_rising (e ∷ es) h = ap (λ b. b && is_sorted key_cmp es) (below_rising e.0 es h.0) ∙ sorted_rising es h.1
+
+-- the keys of a map rise
+pub rising : (m : BTreeMap Key Obj) → IsStrictlySortedBy (derived.ghosts).cmp (keys_of m.entries) → IsRising m
+rising m h = sorted_rising m.entries (subst (λ (cmp : Key → Key → Ordering). IsStrictlySortedBy cmp (keys_of m.entries)) one_order h)
+
+scan : (k : Key) (es : List (Key × Obj)) → lookup (is_at (key_cmp k)) es ≡ find_entry key_cmp k es
+scan k [] = refl
+scan k (e ∷ es) = ap (cond (eq_by_cmp key_cmp k e.0) (Some e.1)) (scan k es)
+
+-- what a look-up finds
+pub looked_up : (m : BTreeMap Key Obj) (k : Key) → IsRising m → at_key (derived.ghosts).cmp m k ≡ get (registry_of m) k
+looked_up m k rise =
+    ap (λ (cmp : Key → Key → Ordering). at_key cmp m k) one_order
+    ∙ scan k m.entries
+    ∙ sym (get-from_sorted key_cmp m.entries k (T_of rise))
+
+changed : (old new : BTreeMap Key Obj) (k : Key) (w : Option Obj) → IsRising old → IsRising new → Updates (derived.ghosts).cmp old new k w
+    → (q : Key) → get (registry_of new) q ≡ cond (eq_by_cmp key_cmp q k) w (get (registry_of old) q)
+changed old new k w before after update q =
+    sym (looked_up new q after)
+    ∙ update.0 q
+    ∙ (λ i. cond (is_at (one_order i k) q) w (looked_up old q before i))
+    ∙ ap (λ b. cond b w (get (registry_of old) q)) ((eq_by_cmp_equiv keys_total).symm k q)
+
+-- one more entry
+pub registry_inserted : (old new : BTreeMap Key Obj) (k : Key) (o : Obj) → IsRising old → IsRising new → Updates (derived.ghosts).cmp old new k (Some o)
+    → registry_of new ≡ insert (registry_of old) k o
+registry_inserted old new k o before after update =
+    same_map keys_total keys_exact _ _ (λ q. changed old new k (Some o) before after update q ∙ sym (get-insert keys_total (registry_of old) k o q))
+
+-- one entry less
+pub registry_removed : (old new : BTreeMap Key Obj) (k : Key) → IsRising old → IsRising new → Updates (derived.ghosts).cmp old new k None
+    → registry_of new ≡ remove (registry_of old) k
+registry_removed old new k before after update =
+    same_map keys_total keys_exact _ _ (λ q. changed old new k None before after update q ∙ sym (get-remove keys_total (registry_of old) k q))
+
+-- an object in place of another
+pub registry_replaced : (old new : BTreeMap Key Obj) (given k : Key) (placed o : Obj) → IsRising old → IsRising new → given ≡ k → placed ≡ o
+    → ((q : Key) → at_key (derived.ghosts).cmp new q ≡ cond (is_at ((derived.ghosts).cmp given) q) (Some placed) (at_key (derived.ghosts).cmp old q))
+    → registry_of new ≡ insert (registry_of old) k o
+registry_replaced old new given k placed o before after same_key same_object update =
+    same_map keys_total keys_exact _ _ (λ q.
+    sym (looked_up new q after)
+    ∙ update q
+    ∙ (λ i. cond (is_at (one_order i (same_key i)) q) (Some (same_object i)) (looked_up old q before i))
+    ∙ ap (λ b. cond b (Some o) (get (registry_of old) q)) ((eq_by_cmp_equiv keys_total).symm k q)
+    ∙ sym (get-insert keys_total (registry_of old) k o q))
+
+-- the values of the entries are the objects
+pub registry_values : (m : BTreeMap Key Obj) → IsRising m → values (registry_of m) ≡ values_of m.entries
+registry_values m rise = ap values_of (entries-from_sorted key_cmp m.entries (T_of rise))
+
+-- the same entries
+pub same_registry : (old new : BTreeMap Key Obj) → new.entries ≡ old.entries → registry_of new ≡ registry_of old
+same_registry old new e = ap (λ (es : List (Key × Obj)). from_sorted {R = key_cmp} es) e
+
+pub same_rising : (old new : BTreeMap Key Obj) → new.entries ≡ old.entries → IsRising old → IsRising new
+same_rising old new e rise = ap (is_sorted key_cmp) e ∙ rise
+
+-- no entries
+pub registry_empty : (m : BTreeMap Key Obj) → m.entries ≡ [] → registry_of m ≡ empty
+registry_empty m e =
+    ap (λ (es : List (Key × Obj)). from_sorted {R = key_cmp} es) e
+    ∙ same_map keys_total keys_exact _ _ (λ q. get-from_sorted key_cmp [] q tt ∙ sym (get-empty key_cmp q))
+
+-- one more object was found
+pub found_one : (found more : List (Bor Obj)) (o : Bor Obj) (os left rest : List Obj) → lent found ++ left ≡ os → left ≡ o.now ∷ rest → more ≡ found ++ o ∷ []
+    → lent more ++ rest ≡ os
+found_one found more o os left rest before step put =
+    ap (λ (xs : List (Bor Obj)). lent xs ++ rest) put ∙ pushed found ∙ ap (λ (xs : List Obj). lent found ++ xs) (sym step) ∙ before
+  where
+    pushed : (xs : List (Bor Obj)) → lent (xs ++ o ∷ []) ++ rest ≡ lent xs ++ o.now ∷ rest
+    pushed [] = refl
+    pushed (x ∷ xs) = ap (λ ys. x.now ∷ ys) (pushed xs)
+
+-- a pass over the objects, by what is left of them
+pub passed_by : (p : Obj → Bool) (all left rest : List Obj) (o : Obj) → list_any p all ≡ list_any p left → left ≡ o ∷ rest → p o ≡ false → list_any p all ≡ list_any p rest
+passed_by p all left rest o before step fails = before ∙ ap (list_any p) step ∙ ap (λ b. b || list_any p rest) fails
+
+pub come_to : (p : Obj → Bool) (all left rest : List Obj) (o : Obj) → list_any p all ≡ list_any p left → left ≡ o ∷ rest → p o ≡ true → true ≡ list_any p all
+come_to p all left rest o before step passes = sym (before ∙ ap (list_any p) step ∙ ap (λ b. b || list_any p rest) passes)
+
+pub come_to_none : (p : Obj → Bool) (all left : List Obj) → list_any p all ≡ list_any p left → left ≡ [] → false ≡ list_any p all
+come_to_none p all left before step = sym (before ∙ ap (list_any p) step)
+
+pub given_more : {X : Type 0} (f : Obj → Option X) (all left rest : List Obj) (found more : List X) (o : Obj) (x : X) → found ++ filter_map f left ≡ filter_map f all → left ≡ o ∷ rest
+    → f o ≡ Some x → more ≡ found ++ x ∷ [] → more ++ filter_map f rest ≡ filter_map f all
+given_more f all left rest found more o x before step gives put =
+    ap (λ xs. xs ++ filter_map f rest) put
+    ∙ pushed found
+    ∙ ap (λ v. found ++ cons_option v (filter_map f rest)) (sym gives)
+    ∙ ap (λ os. found ++ filter_map f os) (sym step)
+    ∙ before
+  where
+    pushed : (xs : List _) → (xs ++ x ∷ []) ++ filter_map f rest ≡ xs ++ x ∷ filter_map f rest
+    pushed [] = refl
+    pushed (y ∷ xs) = ap (λ ys. y ∷ ys) (pushed xs)
+
+pub given_none : {X : Type 0} (f : Obj → Option X) (all left rest : List Obj) (found : List X) (o : Obj) → found ++ filter_map f left ≡ filter_map f all → left ≡ o ∷ rest
+    → f o ≡ None → found ++ filter_map f rest ≡ filter_map f all
+given_none f all left rest found o before step gives =
+    ap (λ v. found ++ cons_option v (filter_map f rest)) (sym gives) ∙ ap (λ os. found ++ filter_map f os) (sym step) ∙ before
+
+pub taken_in : (p : Obj → Bool) (all left rest : List Obj) (found more : List (Bor Obj)) (o : Bor Obj) → lent found ++ filter p left ≡ filter p all → left ≡ o.now ∷ rest
+    → p o.now ≡ true → more ≡ found ++ o ∷ [] → lent more ++ filter p rest ≡ filter p all
+taken_in p all left rest found more o before step passes put =
+    ap (λ (xs : List (Bor Obj)). lent xs ++ filter p rest) put
+    ∙ pushed found
+    ∙ ap (λ b. lent found ++ cond b (o.now ∷ filter p rest) (filter p rest)) (sym passes)
+    ∙ ap (λ os. lent found ++ filter p os) (sym step)
+    ∙ before
+  where
+    pushed : (xs : List (Bor Obj)) → lent (xs ++ o ∷ []) ++ filter p rest ≡ lent xs ++ o.now ∷ filter p rest
+    pushed [] = refl
+    pushed (x ∷ xs) = ap (λ ys. x.now ∷ ys) (pushed xs)
+
+pub left_out : (p : Obj → Bool) (all left rest : List Obj) (found : List (Bor Obj)) (o : Obj) → lent found ++ filter p left ≡ filter p all → left ≡ o ∷ rest
+    → p o ≡ false → lent found ++ filter p rest ≡ filter p all
+left_out p all left rest found o before step fails =
+    ap (λ b. lent found ++ cond b (o ∷ filter p rest) (filter p rest)) (sym fails) ∙ ap (λ os. lent found ++ filter p os) (sym step) ∙ before
+
+-- what a pass over the values begins with
+pub values_first : (m : BTreeMap Key Obj) (r : Reg) (given begun : List Obj) → IsRising m → registry_of m ≡ r → given ≡ values_of m.entries → begun ≡ given → begun ≡ values r
+values_first m r given begun rise is rest start = start ∙ rest ∙ sym (registry_values m rise) ∙ ap values is

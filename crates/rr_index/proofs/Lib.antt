@@ -1,0 +1,9 @@
+pub mod Changes
+pub mod Gathered
+pub mod Kept
+pub mod Listed
+pub mod MntnerNames
+pub mod Questions
+pub mod Referrers
+pub mod Routed
+pub mod Spans

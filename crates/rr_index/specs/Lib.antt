@@ -1,0 +1,4 @@
+pub mod Indexes
+pub mod NameIndexes
+pub mod ObjectMaps
+pub mod SpanIndexes

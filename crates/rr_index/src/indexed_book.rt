@@ -1,0 +1,209 @@
+//! A registry as objects by key, with what answers questions about spans, sets and maintainers beside them.
+
+ghost use Rattle.std.specs.Prelude.{◌≡◌, OnErr, OnOk, None};
+ghost use Rattle.std.specs.FinMap.{get, insert};
+ghost use Rattle.rr_auth.specs.Registries.{Sound};
+
+use crate::indexes::Indexes;
+use crate::object_map::ObjectMap;
+use rr_auth::Book;
+use rr_book::Keeper;
+use rr_book::set_index::sets_named;
+use rr_number::{AsNumber, AsSpan, Name, Prefix, SetName, Span};
+use rr_object::{Class, Key, Object};
+use rr_sets::SetBook;
+use std::alloc::{AllocError, Global};
+use std::marker::Model;
+
+/// Objects by key in a balanced tree, their spans in nests, the names of the maintainers, and the keys under the sets that
+/// they name in `member-of`; contracts see the finite map from keys to objects. It is always sound. A key, a maintainer,
+/// a closest inetnum, as-block or route, and a crossing are found in O(log n) steps for n objects, the k referrers of a set
+/// in O(k log n), and each other answer by one pass over the objects.
+#[derive(Drop)]
+pub struct IndexedBook {
+    objects: ObjectMap,
+    indexes: Indexes,
+}
+
+impl Model for IndexedBook {
+    ghost use Rattle.rr_auth.specs.Registries.{Reg};
+    ghost use Rattle.std.specs.FinMap as map;
+    ghost use Rattle.rr_object.specs.contracts.key.Key as key;
+    ghost use Rattle.rr_object.specs.contracts.object.Object as object;
+
+    ghost Value = { Reg };
+
+    ghost coded = { map.code (key.the_row).coded (object.the_row).coded };
+
+    ghost use Rattle.rr_index.specs.Indexes.{IsKept};
+
+    ghost view = { λ b. b.objects };
+
+    ghost invariant = { λ b. IsKept b.objects b.indexes };
+}
+
+impl IndexedBook {
+    /// Puts an object in place of the one of its key.
+    fn change(&mut self, alloc: Global, object: Object) -> Result<(), AllocError>
+        requires { Sound (insert self.old object.key object) }
+        ensures ok { OnOk result (self.new ≡ insert self.old object.key object) }
+        ensures err { OnErr result (self.new ≡ self.old) }
+    {
+        let before = sets_named(alloc, self.objects.get(object.key()))?;
+        let after = sets_named(alloc, Some(&object))?;
+        self.indexes.referrers.add(alloc, &object, &before)?;
+        match self.objects.replace(object) {
+            Ok(old) => {
+                self.indexes.referrers.take(&old, &after);
+                Ok(())
+            }
+            Err(object) => {
+                self.indexes.referrers.take(&object, &before);
+                Err(AllocError)
+            }
+        }
+    }
+
+    /// Puts an object of a key under which none stands.
+    fn add(&mut self, alloc: Global, object: Object) -> Result<(), AllocError>
+        requires sound { Sound (insert self.old object.key object) }
+        requires free { get self.old object.key ≡ None }
+        ensures ok { OnOk result (self.new ≡ insert self.old object.key object) }
+        ensures err { OnErr result (self.new ≡ self.old) }
+    {
+        self.indexes.enter(alloc, &self.objects, &object)?;
+        match self.objects.add(alloc, object) {
+            Ok(()) => Ok(()),
+            Err(refused) => {
+                self.indexes.leave(&self.objects, &refused.value);
+                Err(AllocError)
+            }
+        }
+    }
+}
+
+impl Book for IndexedBook {
+    ghost contents = { λ b. b };
+
+    fn sound(&self) {
+        let _objects = &self.objects;
+    }
+
+    fn get(&self, key: &Key) -> Option<&Object> {
+        self.objects.get(key)
+    }
+
+    fn maintainer(&self, name: &Name) -> Option<&Object> {
+        match self.indexes.names.key(name) {
+            Some(key) => self.objects.get(key),
+            None => None,
+        }
+    }
+
+    fn closest_inetnum(&self, span: Span) -> Option<&Object> {
+        span.ordered();
+        match self.indexes.spans.closest_inetnum(span) {
+            Some(own) => self.objects.get(&Key::Inetnum(own)),
+            None => None,
+        }
+    }
+
+    fn closest_block(&self, span: Span) -> Option<&Object> {
+        span.ordered();
+        match self.indexes.spans.closest_block(span) {
+            Some(own) => self.objects.get(&Key::AsBlock(block_of(own))),
+            None => None,
+        }
+    }
+
+    fn closest_routes(&self, prefix: Prefix) -> Option<Prefix> {
+        self.indexes.spans.closest_routes(prefix)
+    }
+
+    fn origins(&self, alloc: Global, prefix: Prefix) -> Result<Vec<AsNumber>, AllocError> {
+        self.objects.origins(alloc, prefix)
+    }
+
+    fn crosses(&self, key: &Key) -> bool {
+        self.indexes.spans.crosses(key)
+    }
+
+    fn names_maintainer(&self, name: &Name) -> bool {
+        self.objects.some_names(name)
+    }
+}
+
+impl SetBook for IndexedBook {
+    fn aut_nums(&self, alloc: Global) -> Result<Vec<&Object>, AllocError> {
+        self.sound();
+        self.objects.of_class(alloc, Class::AutNum)
+    }
+
+    fn routes(&self, alloc: Global) -> Result<Vec<&Object>, AllocError> {
+        self.sound();
+        self.objects.of_class(alloc, Class::Route)
+    }
+
+    fn referrers(&self, alloc: Global, name: &SetName) -> Result<Vec<&Object>, AllocError> {
+        match self.indexes.referrers.keys(name) {
+            Some(keys) => self.objects.at_keys(alloc, keys),
+            None => Ok(Vec::new(alloc)),
+        }
+    }
+}
+
+impl Keeper for IndexedBook {
+    fn new(alloc: Global) -> IndexedBook {
+        IndexedBook {
+            objects: ObjectMap::new(alloc),
+            indexes: Indexes::new(alloc),
+        }
+    }
+
+    fn of(alloc: Global, objects: Vec<Object>) -> Result<IndexedBook, AllocError> {
+        let mut kept = ObjectMap::new(alloc);
+        let mut indexes = Indexes::new(alloc);
+        for object in objects {
+            indexes.enter(alloc, &kept, &object)?;
+            kept.add(alloc, object)?;
+        }
+        Ok(IndexedBook {
+            objects: kept,
+            indexes,
+        })
+    }
+
+    fn insert(&mut self, alloc: Global, object: Object) -> Result<(), AllocError> {
+        if self.objects.get(object.key()).is_some() {
+            self.change(alloc, object)
+        } else {
+            self.add(alloc, object)
+        }
+    }
+
+    fn remove(&mut self, key: &Key) {
+        if let Some(old) = self.objects.remove(key) {
+            self.indexes.leave(&self.objects, &old);
+        }
+    }
+
+    fn objects(&self, alloc: Global) -> Result<Vec<&Object>, AllocError> {
+        self.objects.all(alloc)
+    }
+
+    fn covering(&self, alloc: Global, span: Span) -> Result<Vec<&Object>, AllocError> {
+        self.objects.covering(alloc, span)
+    }
+
+    fn inside(&self, alloc: Global, span: Span) -> Result<Vec<&Object>, AllocError> {
+        self.objects.inside(alloc, span)
+    }
+}
+
+/// The block of AS numbers from the first number of the span to its last.
+fn block_of(span: Span) -> AsSpan
+    ensures { result ≡ span }
+{
+    span.ordered();
+    AsSpan::new(AsNumber::new(span.first()), AsNumber::new(span.last()))
+}

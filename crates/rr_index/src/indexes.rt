@@ -1,0 +1,101 @@
+//! What is kept beside the objects of a registry.
+
+ghost use Rattle.std.specs.Prelude.{◌≡◌, None, Some, OnErr, OnOk};
+ghost use Rattle.std.specs.FinMap.{empty, get, insert, remove};
+ghost use Rattle.rr_auth.specs.Registries.{Reg, Sound};
+ghost use Rattle.rr_index.specs.Indexes.{HasIndexes};
+ghost use Rattle.rr_index.specs.NameIndexes.{HasNames};
+ghost use Rattle.rr_index.specs.SpanIndexes.{HasSpans};
+
+use crate::name_index::NameIndex;
+use crate::object_map::ObjectMap;
+use crate::span_index::SpanIndex;
+use rr_book::set_index::SetIndex;
+use rr_object::Object;
+use std::alloc::{AllocError, Global};
+use std::collections::BTreeSet;
+
+/// The spans of the objects, the names of the mntners, and the keys under the sets that the objects name in `member-of`.
+#[derive(Drop)]
+pub(crate) struct Indexes {
+    pub(crate) spans: SpanIndex,
+    pub(crate) names: NameIndex,
+    pub(crate) referrers: SetIndex,
+}
+
+impl Indexes {
+    /// Those of no objects.
+    pub(crate) fn new(alloc: Global) -> Indexes
+        ensures { HasIndexes empty result }
+    {
+        Indexes {
+            spans: SpanIndex::new(alloc),
+            names: NameIndex::new(alloc),
+            referrers: SetIndex::new(alloc),
+        }
+    }
+
+    /// Enters an object of a key that is not among these objects. The error is want of memory, and leaves the indexes
+    /// those of the objects.
+    pub(crate) fn enter(
+        &mut self,
+        alloc: Global,
+        objects: &ObjectMap,
+        object: &Object,
+    ) -> Result<(), AllocError>
+        requires indexed { HasIndexes objects.now self.old }
+        requires free { get objects.now object.now.key ≡ None }
+        ensures ok { OnOk result (HasIndexes (insert objects.now object.now.key object.now) self.new) }
+        ensures err { OnErr result (HasIndexes objects.now self.new) }
+    {
+        let none = BTreeSet::new(alloc);
+        self.referrers.add(alloc, object, &none)?;
+        match self.enter_key(alloc, objects, object) {
+            Ok(()) => Ok(()),
+            Err(refused) => {
+                self.referrers.take_all(object);
+                Err(refused)
+            }
+        }
+    }
+
+    /// Enters the name and the span of the object.
+    fn enter_key(
+        &mut self,
+        alloc: Global,
+        objects: &ObjectMap,
+        object: &Object,
+    ) -> Result<(), AllocError>
+        requires spans { HasSpans objects.now self.old.spans.inetnums self.old.spans.blocks self.old.spans.routes }
+        requires names { HasNames objects.now self.old.names.keys }
+        requires free { get objects.now object.now.key ≡ None }
+        ensures ok { OnOk result (HasSpans (insert objects.now object.now.key object.now) self.new.spans.inetnums self.new.spans.blocks self.new.spans.routes
+            × HasNames (insert objects.now object.now.key object.now) self.new.names.keys) }
+        ensures err { OnErr result (HasSpans objects.now self.new.spans.inetnums self.new.spans.blocks self.new.spans.routes
+            × HasNames objects.now self.new.names.keys) }
+        ensures aside { self.new.referrers ≡ self.old.referrers }
+    {
+        let key = object.key();
+        self.names.add(alloc, key)?;
+        match self.spans.add(key) {
+            Ok(()) => Ok(()),
+            Err(refused) => {
+                self.names.take(key);
+                Err(refused)
+            }
+        }
+    }
+
+    /// Takes out an object that is no longer among these objects.
+    pub(crate) fn leave(&mut self, objects: &ObjectMap, object: &Object)
+        requires { Sound objects.now }
+        ensures { (r : Reg) → HasIndexes r self.old → get r object.now.key ≡ Some object.now → objects.now ≡ remove r object.now.key
+            → HasIndexes objects.now self.new }
+    {
+        let key = object.key();
+        let is_routed = objects.is_routed(key);
+        self.spans.take(key, is_routed);
+        self.names.take(key);
+        self.referrers.take_all(object);
+    }
+}

@@ -1,0 +1,11 @@
+//! The book of a large registry: objects by key in a balanced tree, and beside it what answers questions about spans,
+//! sets and maintainers without a look at all objects.
+#![tactic(auto)]
+
+mod indexed_book;
+mod indexes;
+mod name_index;
+mod object_map;
+mod span_index;
+
+pub use indexed_book::IndexedBook;

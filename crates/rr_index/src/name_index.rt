@@ -1,0 +1,73 @@
+//! The maintainers of a registry, by name.
+
+ghost use Rattle.std.specs.Prelude.{◌≡◌, OnErr, OnOk};
+ghost use Rattle.std.specs.BTreeMap.{get as key_at};
+ghost use Rattle.std.specs.Cmp.Lexicographic.{slice_cmp};
+ghost use Rattle.std.specs.FinMap.{empty, insert, remove};
+ghost use Rattle.std.specs.Option.{option_copied};
+ghost use Rattle.std.specs.Ordering.{nat_cmp};
+ghost use Rattle.rr_object.specs.declared.key.Key.TheVariants.{Mntner};
+ghost use Rattle.rr_object.specs.Objects.{Obj};
+ghost use Rattle.rr_auth.specs.Registries.{Reg};
+ghost use Rattle.rr_index.specs.NameIndexes.{HasNames};
+
+use rr_number::Name;
+use rr_object::Key;
+use std::alloc::{AllocError, Global};
+use std::collections::BTreeMap;
+
+/// The keys of the registered mntners, by name: a mntner is found by its name without a key that owns memory.
+#[derive(Drop)]
+pub(crate) struct NameIndex {
+    keys: BTreeMap<Name, Key>,
+}
+
+impl NameIndex {
+    /// No names.
+    pub(crate) fn new(alloc: Global) -> NameIndex
+        ensures { HasNames empty result.keys }
+    {
+        NameIndex {
+            keys: BTreeMap::new(alloc),
+        }
+    }
+
+    /// The key of the mntner of the name.
+    pub(crate) fn key(&self, name: &Name) -> Option<&Key>
+        ensures { option_copied result ≡ key_at (slice_cmp nat_cmp) self.now.keys name.now }
+    {
+        self.keys.get(name)
+    }
+
+    /// Enters the key of an object that is registered. The error is want of memory and changes nothing.
+    pub(crate) fn add(&mut self, alloc: Global, key: &Key) -> Result<(), AllocError>
+        ensures ok { OnOk result ((r : Reg) (o : Obj) → HasNames r self.old.keys → HasNames (insert r key.now o) self.new.keys) }
+        ensures err { OnErr result ((r : Reg) → HasNames r self.old.keys → HasNames r self.new.keys) }
+    {
+        match key {
+            Key::Mntner(name) => self.put(alloc, name, key),
+            _ => Ok(()),
+        }
+    }
+
+    /// Puts the key under the name.
+    fn put(&mut self, alloc: Global, name: &Name, key: &Key) -> Result<(), AllocError>
+        requires { key.now ≡ Mntner name.now }
+        ensures ok { OnOk result ((r : Reg) (o : Obj) → HasNames r self.old.keys → HasNames (insert r (Mntner name.now) o) self.new.keys) }
+        ensures err { OnErr result ((r : Reg) → HasNames r self.old.keys → HasNames r self.new.keys) }
+    {
+        let under = name.copy(alloc)?;
+        let kept = key.copy(alloc)?;
+        self.keys.insert(under, kept)?;
+        Ok(())
+    }
+
+    /// Takes out the key of an object that was registered.
+    pub(crate) fn take(&mut self, key: &Key)
+        ensures { (r : Reg) → HasNames r self.old.keys → HasNames (remove r key.now) self.new.keys }
+    {
+        if let Key::Mntner(name) = key {
+            self.keys.remove(name);
+        }
+    }
+}

@@ -1,0 +1,222 @@
+//! Objects by key.
+
+ghost use Rattle.std.specs.Prelude.{◌≡◌, None, Some, filter, is_some, IfErr, IfOk, OnErr, OnOk};
+ghost use Rattle.std.specs.FinMap.{empty, get, insert, remove, values};
+ghost use Rattle.std.specs.List.{filter_map, list_any};
+ghost use Rattle.std.specs.List.Sorted.{IsStrictlySortedBy};
+ghost use Rattle.std.specs.Option.{option_copied};
+ghost use Rattle.rr_auth.specs.Closest.{origin_at, origins_among};
+ghost use Rattle.rr_auth.specs.Registries.{Reg, Sound, names_another};
+ghost use Rattle.rr_book.specs.Listings.{covers_span, lies_in};
+ghost use Rattle.rr_book.specs.SetLists.{is_of_class};
+ghost use Rattle.rr_sets.specs.Lists.{lent};
+ghost use Rattle.rr_index.specs.SpanIndexes.{IsTold};
+
+use rr_book::listings::{covers_span, lies_in};
+use rr_book::lists::{names_another, origin_at};
+use rr_book::set_book::is_of_class;
+use rr_number::{AsNumber, Name, Prefix, Span};
+use rr_object::{Class, Key, Object};
+use std::alloc::{AllocError, AllocFailed, Global};
+use std::collections::{BTreeMap, BTreeSet};
+use std::marker::Model;
+use std::mem;
+
+/// Objects, each under its key; contracts see the finite map from keys to objects.
+#[derive(Drop)]
+pub(crate) struct ObjectMap {
+    entries: BTreeMap<Key, Object>,
+}
+
+impl Model for ObjectMap {
+    ghost use Rattle.rr_auth.specs.Registries.{Reg};
+    ghost use Rattle.std.specs.FinMap as map;
+    ghost use Rattle.rr_object.specs.contracts.key.Key as key;
+    ghost use Rattle.rr_object.specs.contracts.object.Object as object;
+
+    ghost Value = { Reg };
+
+    ghost coded = { map.code (key.the_row).coded (object.the_row).coded };
+
+    ghost use Rattle.rr_index.specs.ObjectMaps.{registry_of, IsRising};
+
+    ghost view = { λ m. registry_of m.entries };
+
+    ghost invariant = { λ m. IsRising m.entries };
+}
+
+impl ObjectMap {
+    /// No objects.
+    pub(crate) fn new(alloc: Global) -> ObjectMap
+        ensures { result ≡ empty }
+    {
+        ObjectMap {
+            entries: BTreeMap::new(alloc),
+        }
+    }
+
+    /// The object of the key.
+    pub(crate) fn get(&self, key: &Key) -> Option<&Object>
+        ensures { option_copied result ≡ get self.now key.now }
+    {
+        self.entries.get(key)
+    }
+
+    /// Puts the object under its key. The error is want of memory, changes nothing, and gives the object back.
+    pub(crate) fn add(&mut self, alloc: Global, object: Object) -> Result<(), AllocFailed<Object>>
+        ensures ok { OnOk result (self.new ≡ insert self.old object.key object) }
+        ensures err { OnErr result (self.new ≡ self.old) }
+        ensures returned { IfErr result (λ refused. refused.value ≡ object) }
+    {
+        match object.key().copy(alloc) {
+            Ok(key) => match self.entries.insert(key, object) {
+                Ok(_) => Ok(()),
+                Err(refused) => {
+                    let (_, object) = refused.value;
+                    Err(AllocFailed { value: object })
+                }
+            },
+            Err(_) => Err(AllocFailed { value: object }),
+        }
+    }
+
+    /// Puts the object in place of the one of its key, which is given back; it takes no memory. Where there is none, the
+    /// object comes back.
+    pub(crate) fn replace(&mut self, object: Object) -> Result<Object, Object>
+        ensures ok { OnOk result (self.new ≡ insert self.old object.key object) }
+        ensures old { IfOk result (λ old. get self.old object.key ≡ Some old) }
+        ensures err { OnErr result (self.new ≡ self.old) }
+        ensures none { OnErr result (get self.old object.key ≡ None) }
+        ensures back { IfErr result (λ back. back ≡ object) }
+    {
+        match self.entries.get_mut(object.key()) {
+            Some(place) => Ok(mem::replace(place, object)),
+            None => Err(object),
+        }
+    }
+
+    /// Takes the object of the key out, if there is one.
+    pub(crate) fn remove(&mut self, key: &Key) -> Option<Object>
+        ensures rest { self.new ≡ remove self.old key.now }
+        ensures old { result ≡ get self.old key.now }
+    {
+        self.entries.remove(key)
+    }
+
+    /// The objects in the order of class and key; the error is want of memory.
+    pub(crate) fn all(&self, alloc: Global) -> Result<Vec<&Object>, AllocError>
+        ensures { IfOk result (λ found. lent found.items ≡ values self.now) }
+    {
+        let mut found = Vec::new(alloc);
+        for object in self.entries.values() {
+            found.push(object)?;
+        }
+        Ok(found)
+    }
+
+    /// The objects of the keys, in the order of class and key; the error is want of memory.
+    pub(crate) fn at_keys(
+        &self,
+        alloc: Global,
+        keys: &BTreeSet<Key>,
+    ) -> Result<Vec<&Object>, AllocError>
+        ensures found { IfOk result (λ found. lent found.items ≡ filter_map (λ key. get self.now key) keys.now.keys) }
+        ensures ordered { IsStrictlySortedBy ⟦<Key as Ord>⟧.cmp keys.now.keys }
+    {
+        let mut found = Vec::new(alloc);
+        for key in keys {
+            if let Some(object) = self.get(key) {
+                found.push(object)?;
+            }
+        }
+        Ok(found)
+    }
+
+    /// The objects of the class, in the order of their keys, by a pass over all; the error is want of memory.
+    pub(crate) fn of_class(&self, alloc: Global, class: Class) -> Result<Vec<&Object>, AllocError>
+        ensures { IfOk result (λ found. lent found.items ≡ filter (is_of_class class) (values self.now)) }
+    {
+        let mut found = Vec::new(alloc);
+        for object in self.entries.values() {
+            if is_of_class(object, class) {
+                found.push(object)?;
+            }
+        }
+        Ok(found)
+    }
+
+    /// The inetnums and routes that cover the span, in the order of class and key, by a pass over all; the error is want of
+    /// memory.
+    pub(crate) fn covering(&self, alloc: Global, span: Span) -> Result<Vec<&Object>, AllocError>
+        ensures { IfOk result (λ found. lent found.items ≡ filter (covers_span span) (values self.now)) }
+    {
+        let mut found = Vec::new(alloc);
+        for object in self.entries.values() {
+            if covers_span(object, span) {
+                found.push(object)?;
+            }
+        }
+        Ok(found)
+    }
+
+    /// The inetnums and routes that lie inside the span, in the order of class and key, by a pass over all; the error is
+    /// want of memory.
+    pub(crate) fn inside(&self, alloc: Global, span: Span) -> Result<Vec<&Object>, AllocError>
+        ensures { IfOk result (λ found. lent found.items ≡ filter (lies_in span) (values self.now)) }
+    {
+        let mut found = Vec::new(alloc);
+        for object in self.entries.values() {
+            if lies_in(object, span) {
+                found.push(object)?;
+            }
+        }
+        Ok(found)
+    }
+
+    /// The origins of the routes of the prefix, by a pass over all objects; the error is want of memory.
+    pub(crate) fn origins(&self, alloc: Global, prefix: Prefix) -> Result<Vec<AsNumber>, AllocError>
+        ensures { IfOk result (λ v. v.items ≡ origins_among (values self.now) prefix) }
+    {
+        let mut origins = Vec::new(alloc);
+        for object in self.entries.values() {
+            if let Some(origin) = origin_at(object.key(), prefix) {
+                origins.push(origin)?;
+            }
+        }
+        Ok(origins)
+    }
+
+    /// Whether an object other than the maintainer of the name names it, by a pass over all.
+    pub(crate) fn some_names(&self, name: &Name) -> bool
+        ensures { result ≡ list_any (names_another name.now) (values self.now) }
+    {
+        for object in self.entries.values() {
+            if names_another(object, name) {
+                return true;
+            }
+        }
+        false
+    }
+
+    /// Whether a route of the key's prefix is there, by a pass over all; no for a key that is no route's.
+    pub(crate) fn is_routed(&self, key: &Key) -> bool
+        ensures { (r : Reg) → Sound self.now → self.now ≡ remove r key.now → IsTold r key.now result }
+    {
+        match key {
+            Key::Route(prefix, _) => self.has_route(*prefix),
+            _ => false,
+        }
+    }
+
+    /// Whether a route of the prefix is there.
+    fn has_route(&self, prefix: Prefix) -> bool
+        ensures { result ≡ list_any (λ o. is_some (origin_at prefix o.key)) (values self.now) }
+    {
+        for object in self.entries.values() {
+            if origin_at(object.key(), prefix).is_some() {
+                return true;
+            }
+        }
+        false
+    }
+}

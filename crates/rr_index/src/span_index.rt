@@ -1,0 +1,147 @@
+//! The spans of registered objects.
+
+ghost use Rattle.std.specs.Prelude.{◌≡◌, Some, None, OnErr, OnOk, IfSome, IfNone, cond, ℕ, false};
+ghost use Rattle.std.specs.FinMap.{contains_key, empty, insert, remove};
+ghost use Rattle.rr_number.specs.Prefixes.{span_of};
+ghost use Rattle.rr_object.specs.declared.key.Key.TheVariants.{Route};
+ghost use Rattle.rr_cover.specs.SpanMaps.{IsClosest, NoneCovers, crosses_some};
+ghost use Rattle.rr_object.specs.Objects.{Obj};
+ghost use Rattle.rr_auth.specs.Registries.{Reg, Sound};
+ghost use Rattle.rr_auth.specs.Closest.{closest_routes};
+ghost use Rattle.rr_auth.specs.Conditions.{crosses_some as crosses_key};
+ghost use Rattle.rr_index.specs.SpanIndexes.{HasSpans, IsTold};
+
+use rr_cover::SpanNest;
+use rr_number::{Prefix, Span};
+use rr_object::Key;
+use std::alloc::{AllocError, Global};
+
+/// The spans of the inetnums and of the as-blocks, and the prefixes of the routes by their spans.
+#[derive(Drop)]
+pub(crate) struct SpanIndex {
+    inetnums: SpanNest<()>,
+    blocks: SpanNest<()>,
+    routes: SpanNest<Prefix>,
+}
+
+impl SpanIndex {
+    /// No spans.
+    pub(crate) fn new(alloc: Global) -> SpanIndex
+        ensures { HasSpans empty result.inetnums result.blocks result.routes }
+    {
+        SpanIndex {
+            inetnums: SpanNest::new(alloc),
+            blocks: SpanNest::new(alloc),
+            routes: SpanNest::new(alloc),
+        }
+    }
+
+    /// Enters the span of an object that is registered under the key. The error is want of memory and changes nothing.
+    pub(crate) fn add(&mut self, key: &Key) -> Result<(), AllocError>
+        ensures ok { OnOk result ((r : Reg) (o : Obj) → HasSpans r self.old.inetnums self.old.blocks self.old.routes
+            → HasSpans (insert r key.now o) self.new.inetnums self.new.blocks self.new.routes) }
+        ensures err { OnErr result ((r : Reg) → HasSpans r self.old.inetnums self.old.blocks self.old.routes
+            → HasSpans r self.new.inetnums self.new.blocks self.new.routes) }
+    {
+        match key {
+            Key::Inetnum(span) => hold(&mut self.inetnums, *span),
+            Key::AsBlock(block) => hold(&mut self.blocks, block.span()),
+            Key::Route(prefix, _) => {
+                prefix.length();
+                hold_prefix(&mut self.routes, *prefix)
+            }
+            _ => Ok(()),
+        }
+    }
+
+    /// Takes out the span of the object that was registered under the key; the prefix of a route stays where another route
+    /// of it does.
+    pub(crate) fn take(&mut self, key: &Key, is_routed: bool)
+        ensures { (r : Reg) → HasSpans r self.old.inetnums self.old.blocks self.old.routes → IsTold r key.now is_routed
+            → HasSpans (remove r key.now) self.new.inetnums self.new.blocks self.new.routes }
+    {
+        match key {
+            Key::Inetnum(span) => {
+                self.inetnums.remove(*span);
+            }
+            Key::AsBlock(block) => {
+                self.blocks.remove(block.span());
+            }
+            Key::Route(prefix, _) => {
+                prefix.length();
+                if !is_routed {
+                    self.routes.remove(prefix.span());
+                }
+            }
+            _ => {}
+        }
+    }
+
+    /// The span of the closest inetnum to the span.
+    pub(crate) fn closest_inetnum(&self, span: Span) -> Option<Span>
+        ensures found { IfSome result (λ own. IsClosest self.now.inetnums span own tt) }
+        ensures none { IfNone result (NoneCovers self.now.inetnums span) }
+    {
+        match self.inetnums.closest(span) {
+            Some((own, _)) => Some(own),
+            None => None,
+        }
+    }
+
+    /// The span of the closest as-block to the span.
+    pub(crate) fn closest_block(&self, span: Span) -> Option<Span>
+        ensures found { IfSome result (λ own. IsClosest self.now.blocks span own tt) }
+        ensures none { IfNone result (NoneCovers self.now.blocks span) }
+    {
+        match self.blocks.closest(span) {
+            Some((own, _)) => Some(own),
+            None => None,
+        }
+    }
+
+    /// The prefix of the closest routes to the prefix.
+    pub(crate) fn closest_routes(&self, prefix: Prefix) -> Option<Prefix>
+        ensures { (r : Reg) → Sound r → HasSpans r self.now.inetnums self.now.blocks self.now.routes → result ≡ closest_routes r prefix }
+    {
+        match self.routes.closest(prefix.span()) {
+            Some((_, own)) => Some(*own),
+            None => None,
+        }
+    }
+
+    /// Whether an inetnum or an as-block crosses the key, being of its class.
+    pub(crate) fn crosses(&self, key: &Key) -> bool
+        ensures { (r : Reg) → Sound r → HasSpans r self.now.inetnums self.now.blocks self.now.routes → result ≡ crosses_key r key.now }
+    {
+        match key {
+            Key::Inetnum(span) => self.inetnums.crosses(*span),
+            Key::AsBlock(block) => self.blocks.crosses(block.span()),
+            _ => false,
+        }
+    }
+}
+
+/// Puts the span into the nest; the error is want of memory and changes nothing.
+fn hold(nest: &mut SpanNest<()>, span: Span) -> Result<(), AllocError>
+    ensures ok { OnOk result (nest.new ≡ insert nest.old span tt) }
+    ensures err { OnErr result (nest.new ≡ nest.old) }
+{
+    match nest.insert(span, ()) {
+        Ok(_) => Ok(()),
+        Err(_) => Err(AllocError),
+    }
+}
+
+/// Puts the prefix at its span into the nest, if none is there; the error is want of memory and changes nothing.
+fn hold_prefix(nest: &mut SpanNest<Prefix>, prefix: Prefix) -> Result<(), AllocError>
+    ensures ok { OnOk result (nest.new ≡ cond (contains_key nest.old (span_of prefix)) nest.old (insert nest.old (span_of prefix) prefix)) }
+    ensures err { OnErr result (nest.new ≡ nest.old) }
+{
+    if nest.get(prefix.span()).is_some() {
+        return Ok(());
+    }
+    match nest.insert(prefix.span(), prefix) {
+        Ok(_) => Ok(()),
+        Err(_) => Err(AllocError),
+    }
+}

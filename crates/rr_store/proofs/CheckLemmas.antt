@@ -1,0 +1,25 @@
+-- What an answer in order says of the rows of a table.
+use Rattle.std.proofs.Common.{◌≡◌, List, [], ◌∷◌, Ok, Err, Result, IfErr, sym, subst, ◌∙◌, codes, IsPermutation}
+use Rattle.std.proofs.lemmas.List.Sorted.{IsPermutation-sym, Contains-permutation}
+use Rattle.sqlite_value.specs.Order.{Row}
+use Rattle.sqlite.proofs.Callers.{one_permutation}
+use Rattle.rr_store.specs.declared.version.Version.{Version}
+use Rattle.rr_store.specs.declared.fault.OpenFault.{OpenFault}
+use Rattle.rr_store.specs.declared.fault.OpenFault.TheVariants.{WrongVersion, BadRow, Store, Memory}
+use Rattle.rr_store.specs.Checks.{IsVersionFault}
+
+pub each_err : {X E : Type 0} (r : Result X E) (P Q : E → Type 0) → IfErr r P → ((e : E) → P e → Q e) → IfErr r Q
+each_err (Ok x) P Q h f = tt
+each_err (Err e) P Q h f = f e h
+
+pub only_row : (x : Row) (rows held : List Row) → IsPermutation held rows → rows ≡ x ∷ [] → held ≡ x ∷ []
+only_row x rows held same is = one_permutation x held (subst (λ l. IsPermutation l held) is (IsPermutation-sym held rows same))
+
+pub fault_of_held : (version : Version) (rows held : List Row) → IsPermutation held rows → (fault : OpenFault) → IsVersionFault version rows fault → IsVersionFault version held fault
+fault_of_held version rows held same (WrongVersion n) h = (h.0, Contains-permutation rows held _ (IsPermutation-sym held rows same) h.1)
+fault_of_held version rows held same BadRow h = record {
+  no_other = λ n low says. h.no_other n low (Contains-permutation held rows _ same says);
+  bad = λ is. h.bad (only_row _ held rows (IsPermutation-sym held rows same) is);
+}
+fault_of_held version rows held same Store h = tt
+fault_of_held version rows held same Memory h = tt

@@ -1,0 +1,44 @@
+-- Faults that the rows of the three tables show.
+use Rattle.std.specs.Prelude.{◌≡◌, ◌≢◌, ℕ, ◌<◌, ◌^◌, List, [], ◌∷◌, Contains, codes, decimal}
+use Rattle.sqlite_value.specs.Order.{Row}
+use Rattle.rr_object.specs.Objects.{Obj}
+use Rattle.rr_rows.specs.Contents.{IsListing, by_two, setting}
+use Rattle.rr_rows.specs.Maps.{AreInOrder, KeyForm}
+use Rattle.rr_store.specs.Reading.{AreRead}
+use Rattle.rr_store.specs.Versions.{version_number, version_text}
+use Rattle.rr_store.specs.declared.version.Version.{Version}
+use Rattle.rr_store.specs.declared.fault.OpenFault.{OpenFault}
+use Rattle.rr_store.specs.declared.fault.OpenFault.TheVariants.{WrongVersion, BadRow, Store, Memory}
+
+-- some setting says that the tables are of the version of this number (profile)
+abbrev pub SaysVersion : ℕ → List Row → Type 0
+SaysVersion n rows = Contains rows (setting (codes "version") (decimal n))
+
+-- no setting says another version, and they are not the one that says this (profile)
+pub record IsBadVersion (version : Version) (rows : List Row) : Type 0 where
+  pub no_other : (n : ℕ) → n < 2 ^ 32 → SaysVersion n rows → n ≡ version_number version
+  pub bad : rows ≢ setting (codes "version") (version_text version) ∷ []
+
+-- a fault of the version is told where the settings have it (profile)
+abbrev pub IsVersionFault : Version → List Row → OpenFault → Type 0
+IsVersionFault version rows (WrongVersion n) = (n ≢ version_number version) × SaysVersion n rows
+IsVersionFault version rows BadRow = IsBadVersion version rows
+IsVersionFault version rows Store = Unit {0}
+IsVersionFault version rows Memory = Unit {0}
+
+-- rows are those of no objects of a source in order (profile)
+abbrev pub AreNone : KeyForm → List ℕ → List Row → Type 0
+AreNone form source rows = (objects : List Obj) → AreRead form source rows objects → AreInOrder objects → ⊥
+
+-- rows, in some order of classes and keys, are those of these objects (profile)
+pub record HoldsObjects (form : KeyForm) (source : List ℕ) (objects : List Obj) (held : List Row) : Type 0 where
+  pub rows : List Row
+  pub listing : IsListing by_two held rows
+  pub read : AreRead form source rows objects
+  pub order : AreInOrder objects
+
+-- and are those of none
+pub record HoldsNone (form : KeyForm) (source : List ℕ) (held : List Row) : Type 0 where
+  pub rows : List Row
+  pub listing : IsListing by_two held rows
+  pub none : AreNone form source rows

@@ -1,0 +1,56 @@
+-- What migration makes of tables of version 1.
+use Rattle.std.specs.Prelude.{◌≡◌, ℕ, Bool, true, false, List, [], ◌∷◌, ◌++◌, codes, map}
+use Rattle.std.specs.List.{list_any}
+use Rattle.std.specs.Str.{bytes_eq}
+use Rattle.sqlite.specs.Effect.{Database}
+use Rattle.rr_text.specs.Fields.{Field}
+use Rattle.rr_object.specs.declared.key.Key.{Key}
+use Rattle.rr_object.specs.declared.key.Key.TheVariants.{Mntner, AsBlock, AutNum, Inetnum, Route, AsSet, RouteSet}
+use Rattle.rr_object.specs.Objects.{Obj}
+use Rattle.rr_rows.specs.Entries.{entry_of}
+use Rattle.rr_rows.specs.Maps.{AreOldStored, IsFilled, IsObjectOf}
+use Rattle.rr_object.specs.Readings.{ReadsAs}
+
+-- an attribute with a value of one line (RFC 2622, 2)
+abbrev pub one_line : List ℕ → List ℕ → Field
+one_line name line = record { name = name; lines = line ∷ [] }
+
+-- the block of the AS numbers of more than two octets (RFC 6793), which the root maintains (profile)
+abbrev pub upper_block : List ℕ → List ℕ → List Field
+upper_block root source =
+    one_line (codes "as-block") (codes "AS65536 - AS4294967295") ∷ (one_line (codes "mnt-by") root ∷ (one_line (codes "source") source ∷ []))
+
+-- a key is that of the mntner of a name (RFC 2622, 3)
+abbrev pub is_mntner_of : List ℕ → Key → Bool
+is_mntner_of name (Mntner other) = bytes_eq name other
+is_mntner_of name (AsBlock block) = false
+is_mntner_of name (AutNum number) = false
+is_mntner_of name (Inetnum span) = false
+is_mntner_of name (Route prefix origin) = false
+is_mntner_of name (AsSet set) = false
+is_mntner_of name (RouteSet set) = false
+
+-- one of the objects is the mntner of a name
+abbrev pub has_mntner : List ℕ → List Obj → Bool
+has_mntner name objects = list_any (λ object. is_mntner_of name object.key) objects
+
+-- the tables are of version 2 and hold the rows of the objects and of that block (profile)
+pub record IsRewritten (root source : List ℕ) (objects : List Obj) (db : Database) : Type 0 where
+  pub block : Obj
+  pub of_source : IsObjectOf source block
+  pub read : ReadsAs source (upper_block root source) block
+  pub filled : IsFilled (map entry_of (objects ++ block ∷ [])) db
+
+-- tables of version 1 held objects of the source, the root's mntner among them; those of version 2 hold the same objects and
+-- that block (profile)
+pub record IsMigrated (root source : List ℕ) (old new : Database) : Type 0 where
+  pub objects : List Obj
+  pub before : AreOldStored source objects old
+  pub registered : has_mntner root objects ≡ true
+  pub after : IsRewritten root source objects new
+
+-- tables of version 1 hold objects of the source, and none is the root's mntner (profile)
+pub record HasNoRoot (root source : List ℕ) (db : Database) : Type 0 where
+  pub objects : List Obj
+  pub before : AreOldStored source objects db
+  pub missing : has_mntner root objects ≡ false

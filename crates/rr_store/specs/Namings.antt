@@ -1,0 +1,8 @@
+-- Who names whom, as rows.
+use Rattle.sqlite_value.specs.Order.{Row}
+use Rattle.rr_rows.specs.Contents.{named_values}
+use Rattle.rr_store.specs.declared.namings.Naming.{Naming}
+
+-- a maintainer and an object that names it, as a row of `named`
+abbrev pub naming_row : Naming → Row
+naming_row naming = named_values naming.maintainer naming.class naming.key.items

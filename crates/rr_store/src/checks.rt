@@ -1,0 +1,144 @@
+//! What the rows of the three tables say, each table by itself.
+
+ghost use Rattle.std.specs.Prelude.{◌≡◌, [], ◌∷◌, codes, false, IfErr, IfOk, IsPermutation, IsSorted, IsTrue, OnErr, OnOk, map};
+ghost use Rattle.std.specs.List.{flat_map};
+ghost use Rattle.sqlite.specs.Held.{state};
+ghost use Rattle.sqlite.specs.State.{HasCleanDisk, IsUnchanged, Survives};
+ghost use Rattle.rr_rows.specs.Contents.{by_three, contents, setting, settings};
+ghost use Rattle.rr_rows.specs.Entries.{named_rows};
+ghost use Rattle.rr_rows.specs.Maps.{AreInOrder, entry_in};
+ghost use Rattle.rr_rows.specs.Tables.{HasTables};
+ghost use Rattle.rr_store.specs.Checks.{AreNone, HoldsNone, HoldsObjects, IsVersionFault};
+ghost use Rattle.rr_store.specs.Reading.{AreRead};
+ghost use Rattle.rr_store.specs.Versions.{form_of, version_text};
+ghost use Rattle.rr_store.specs.declared.fault.OpenFault.TheVariants.{BadRow};
+
+use crate::fault::OpenFault;
+use crate::namings::are_named;
+use crate::objects::{are_in_order, read_objects};
+use crate::reading::{meta_rows, named_rows, object_rows};
+use crate::settings::{other_version, says_version};
+use crate::version::Version;
+use rr_number::Name;
+use rr_object::Object;
+use sqlite::{Alter, Connection, Row};
+use std::alloc::Global;
+
+/// Whether the settings are the one that says this version.
+fn judge_version(rows: &[Row], version: Version) -> Result<(), OpenFault>
+    ensures ok { OnOk result (rows.now ≡ setting (codes "version") (version_text version) ∷ []) }
+    ensures fault { IfErr result (IsVersionFault version rows.now) }
+{
+    if let Some(number) = other_version(rows, version) {
+        return Err(OpenFault::WrongVersion(number));
+    }
+    if says_version(rows, version) {
+        Ok(())
+    } else {
+        Err(OpenFault::BadRow)
+    }
+}
+
+/// Whether the tables are of this version.
+pub(crate) fn check_version<S: Alter>(
+    conn: &mut Connection<S>,
+    version: Version,
+) -> Result<(), OpenFault>
+    requires autocommit { conn.old.in_transaction ≡ false }
+    requires tables { HasCleanDisk (state S.Store conn.old) → IsTrue (state S.Store conn.old).is_open → HasTables (state S.Store conn.old).now.schema }
+    ensures autocommit { conn.new.in_transaction ≡ false }
+    ensures ok { HasCleanDisk (state S.Store conn.new) → OnOk result (settings ((state S.Store conn.old).now.trees 0) ≡ setting (codes "version") (version_text version) ∷ []) }
+    ensures fault { HasCleanDisk (state S.Store conn.new) → IfErr result (IsVersionFault version (settings ((state S.Store conn.old).now.trees 0))) }
+    ensures same { HasCleanDisk (state S.Store conn.new) → OnOk result (IsUnchanged (state S.Store conn.old) (state S.Store conn.new)) }
+    ensures err { HasCleanDisk (state S.Store conn.new) → IsTrue (state S.Store conn.new).is_open → OnErr result ((state S.Store conn.new).now ≡ (state S.Store conn.old).now) }
+    ensures crash { Survives (state S.Store conn.old) (state S.Store conn.new) (λ _. (state S.Store conn.old).is_open ≡ false) }
+{
+    match meta_rows(conn) {
+        Ok(rows) => judge_version(&rows, version),
+        Err(_) => Err(OpenFault::Store),
+    }
+}
+
+/// The objects of rows of `object` in their order.
+fn judge_objects(
+    alloc: Global,
+    rows: &[Row],
+    source: &Name,
+    version: Version,
+) -> Result<Vec<Object>, OpenFault>
+    ensures ok { IfOk result (λ objects. AreRead (form_of version) source.now rows.now objects.items × AreInOrder objects.items) }
+    ensures fault { IfErr result (λ fault. fault ≡ BadRow → AreNone (form_of version) source.now rows.now) }
+{
+    match read_objects(alloc, rows, source, version) {
+        Ok(Some(objects)) => {
+            if are_in_order(&objects) {
+                Ok(objects)
+            } else {
+                Err(OpenFault::BadRow)
+            }
+        }
+        Ok(None) => Err(OpenFault::BadRow),
+        Err(_) => Err(OpenFault::Memory),
+    }
+}
+
+/// The objects that `object` holds, in order of class and key.
+pub(crate) fn check_objects<S: Alter>(
+    conn: &mut Connection<S>,
+    alloc: Global,
+    source: &Name,
+    version: Version,
+) -> Result<Vec<Object>, OpenFault>
+    requires autocommit { conn.old.in_transaction ≡ false }
+    requires tables { HasCleanDisk (state S.Store conn.old) → IsTrue (state S.Store conn.old).is_open → HasTables (state S.Store conn.old).now.schema }
+    ensures autocommit { conn.new.in_transaction ≡ false }
+    ensures ok { HasCleanDisk (state S.Store conn.new) → IfOk result (λ objects. HoldsObjects (form_of version) source.now objects.items (contents ((state S.Store conn.old).now.trees 2))) }
+    ensures fault { HasCleanDisk (state S.Store conn.new) → IfErr result (λ fault. fault ≡ BadRow → HoldsNone (form_of version) source.now (contents ((state S.Store conn.old).now.trees 2))) }
+    ensures same { HasCleanDisk (state S.Store conn.new) → OnOk result (IsUnchanged (state S.Store conn.old) (state S.Store conn.new)) }
+    ensures err { HasCleanDisk (state S.Store conn.new) → IsTrue (state S.Store conn.new).is_open → OnErr result ((state S.Store conn.new).now ≡ (state S.Store conn.old).now) }
+    ensures crash { Survives (state S.Store conn.old) (state S.Store conn.new) (λ _. (state S.Store conn.old).is_open ≡ false) }
+{
+    match object_rows(conn) {
+        Ok(rows) => judge_objects(alloc, &rows, source, version),
+        Err(_) => Err(OpenFault::Store),
+    }
+}
+
+/// Whether the rows of `named` are those of the maintainers that the objects name.
+fn judge_names(
+    alloc: Global,
+    rows: &[Row],
+    objects: &[Object],
+    version: Version,
+) -> Result<(), OpenFault>
+    ensures ok { OnOk result (IsPermutation (flat_map named_rows (map (entry_in (form_of version)) objects.now)) rows.now) }
+    ensures fault { IsSorted by_three rows.now → IfErr result (λ fault. fault ≡ BadRow → IsPermutation (flat_map named_rows (map (entry_in (form_of version)) objects.now)) rows.now → ⊥) }
+{
+    match are_named(alloc, rows, objects, version) {
+        Ok(true) => Ok(()),
+        Ok(false) => Err(OpenFault::BadRow),
+        Err(_) => Err(OpenFault::Memory),
+    }
+}
+
+/// Whether the tables name the maintainers of the objects, and no others.
+pub(crate) fn check_names<S: Alter>(
+    conn: &mut Connection<S>,
+    alloc: Global,
+    objects: &[Object],
+    version: Version,
+) -> Result<(), OpenFault>
+    requires autocommit { conn.old.in_transaction ≡ false }
+    requires tables { HasCleanDisk (state S.Store conn.old) → IsTrue (state S.Store conn.old).is_open → HasTables (state S.Store conn.old).now.schema }
+    ensures autocommit { conn.new.in_transaction ≡ false }
+    ensures ok { HasCleanDisk (state S.Store conn.new) → OnOk result (IsPermutation (flat_map named_rows (map (entry_in (form_of version)) objects.now)) (contents ((state S.Store conn.old).now.trees 4))) }
+    ensures fault { HasCleanDisk (state S.Store conn.new) → IfErr result (λ fault. fault ≡ BadRow → IsPermutation (flat_map named_rows (map (entry_in (form_of version)) objects.now)) (contents ((state S.Store conn.old).now.trees 4)) → ⊥) }
+    ensures same { HasCleanDisk (state S.Store conn.new) → OnOk result (IsUnchanged (state S.Store conn.old) (state S.Store conn.new)) }
+    ensures err { HasCleanDisk (state S.Store conn.new) → IsTrue (state S.Store conn.new).is_open → OnErr result ((state S.Store conn.new).now ≡ (state S.Store conn.old).now) }
+    ensures crash { Survives (state S.Store conn.old) (state S.Store conn.new) (λ _. (state S.Store conn.old).is_open ≡ false) }
+{
+    match named_rows(conn) {
+        Ok(rows) => judge_names(alloc, &rows, objects, version),
+        Err(_) => Err(OpenFault::Store),
+    }
+}

@@ -1,0 +1,62 @@
+//! The block of AS numbers that tables of version 1 did not know.
+
+ghost use Rattle.std.specs.Prelude.{◌≡◌, IfOk};
+ghost use Rattle.rr_rows.specs.Maps.{IsObjectOf};
+ghost use Rattle.rr_object.specs.Readings.{ReadsAs};
+ghost use Rattle.rr_store.specs.Migrating.{one_line, upper_block};
+
+use crate::fault::StoreFault;
+use rr_number::Name;
+use rr_object::{Object, ObjectFault};
+use rr_text::{Attribute, Paragraph, Text};
+use std::alloc::{AllocError, Global};
+
+/// The AS numbers of more than two octets (RFC 6793).
+const UPPER: &[u8] = b"AS65536 - AS4294967295";
+
+/// An attribute with a value of one line.
+fn attribute(alloc: Global, name: &[u8], line: &[u8]) -> Result<Attribute, AllocError>
+    ensures { IfOk result (λ attribute. attribute ≡ one_line name.now line.now) }
+{
+    let name = Text::from_slice(alloc, name)?;
+    let mut lines = Vec::with_capacity(alloc, 1)?;
+    lines.push(Text::from_slice(alloc, line)?)?;
+    Ok(Attribute::new(name, lines))
+}
+
+fn upper_attributes(alloc: Global, root: &Name, source: &Name) -> Result<Vec<Attribute>, AllocError>
+    ensures { IfOk result (λ attributes. attributes.items ≡ upper_block root.now source.now) }
+{
+    let mut attributes = Vec::with_capacity(alloc, 3)?;
+    attributes.push(attribute(alloc, b"as-block", UPPER)?)?;
+    attributes.push(attribute(alloc, b"mnt-by", root.as_bytes())?)?;
+    attributes.push(attribute(alloc, b"source", source.as_bytes())?)?;
+    Ok(attributes)
+}
+
+#[tactic(auto, using(crate::proofs::UpperLemmas::upper_fields))]
+fn upper_paragraph(alloc: Global, root: &Name, source: &Name) -> Result<Paragraph, AllocError>
+    ensures { IfOk result (λ paragraph. paragraph ≡ upper_block root.now source.now) }
+{
+    let _root = root.as_bytes();
+    let _source = source.as_bytes();
+    let attributes = upper_attributes(alloc, root, source)?;
+    Ok(Paragraph::new(attributes))
+}
+
+/// The block of the AS numbers of more than two octets, which the root maintains. The fault is want of memory, or that of a
+/// root that can be no maintainer.
+pub(crate) fn upper_object(alloc: Global, root: &Name, source: &Name) -> Result<Object, StoreFault>
+    ensures of_source { IfOk result (IsObjectOf source.now) }
+    ensures read { IfOk result (ReadsAs source.now (upper_block root.now source.now)) }
+{
+    let paragraph = upper_paragraph(alloc, root, source)?;
+    match Object::read(alloc, paragraph, source) {
+        Ok(object) => {
+            let _attributes = object.paragraph().attributes();
+            Ok(object)
+        }
+        Err(ObjectFault::Memory) => Err(StoreFault::Memory),
+        Err(_) => Err(StoreFault::Store),
+    }
+}

@@ -9,6 +9,7 @@ pub mod ObjectLemmas
 pub mod NamingLemmas
 pub mod OrderLemmas
 pub mod SortedLemmas
+pub mod StoredLemmas
 pub mod TidyLemmas
 pub mod UpperLemmas
 pub mod MigrateLemmas

@@ -22,7 +22,7 @@ use Rattle.rr_store.proofs.SortedLemmas.{sorted_once}
 by_three_total : IsTotalOrder by_three
 by_three_total = key_cmp_total (ascending Binary ∷ ascending Binary ∷ ascending Binary ∷ []) 0
 
-numbers_compare : (m n : ℕ) → int_cmp (pos m) (pos n) ≡ nat_cmp m n
+pub numbers_compare : (m n : ℕ) → int_cmp (pos m) (pos n) ≡ nat_cmp m n
 numbers_compare m n = grind (arith, nat_tests)
 
 -- namings are ordered as their rows

@@ -4,5 +4,6 @@ pub mod Faults
 pub mod Kept
 pub mod Migrating
 pub mod Namings
+pub mod Opening
 pub mod Reading
 pub mod Versions

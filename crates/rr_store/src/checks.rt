@@ -1,6 +1,6 @@
 //! What the rows of the three tables say, each table by itself.
 
-ghost use Rattle.std.specs.Prelude.{◌≡◌, [], ◌∷◌, codes, false, IfErr, IfOk, IsPermutation, IsSorted, IsTrue, OnErr, OnOk, map};
+ghost use Rattle.std.specs.Prelude.{◌≡◌, ℕ, [], ◌∷◌, codes, false, IfErr, IfOk, IsPermutation, IsSorted, IsTrue, OnErr, OnOk, map};
 ghost use Rattle.std.specs.List.{flat_map};
 ghost use Rattle.sqlite.specs.Held.{state};
 ghost use Rattle.sqlite.specs.State.{HasCleanDisk, IsUnchanged, Survives};
@@ -11,7 +11,7 @@ ghost use Rattle.rr_rows.specs.Tables.{HasTables};
 ghost use Rattle.rr_store.specs.Checks.{AreNone, HoldsNone, HoldsObjects, IsVersionFault};
 ghost use Rattle.rr_store.specs.Reading.{AreRead};
 ghost use Rattle.rr_store.specs.Versions.{form_of, version_text};
-ghost use Rattle.rr_store.specs.declared.fault.OpenFault.TheVariants.{BadRow};
+ghost use Rattle.rr_store.specs.declared.fault.OpenFault.TheVariants.{BadRow, WrongVersion};
 
 use crate::fault::OpenFault;
 use crate::namings::are_named;
@@ -68,6 +68,7 @@ fn judge_objects(
 ) -> Result<Vec<Object>, OpenFault>
     ensures ok { IfOk result (λ objects. AreRead (form_of version) source.now rows.now objects.items × AreInOrder objects.items) }
     ensures fault { IfErr result (λ fault. fault ≡ BadRow → AreNone (form_of version) source.now rows.now) }
+    ensures no_other { IfErr result (λ fault. (number : ℕ) → fault ≡ WrongVersion number → ⊥) }
 {
     match read_objects(alloc, rows, source, version) {
         Ok(Some(objects)) => {
@@ -93,7 +94,9 @@ pub(crate) fn check_objects<S: Alter>(
     requires tables { HasCleanDisk (state S.Store conn.old) → IsTrue (state S.Store conn.old).is_open → HasTables (state S.Store conn.old).now.schema }
     ensures autocommit { conn.new.in_transaction ≡ false }
     ensures ok { HasCleanDisk (state S.Store conn.new) → IfOk result (λ objects. HoldsObjects (form_of version) source.now objects.items (contents ((state S.Store conn.old).now.trees 2))) }
+    ensures order { IfOk result (λ objects. AreInOrder objects.items) }
     ensures fault { HasCleanDisk (state S.Store conn.new) → IfErr result (λ fault. fault ≡ BadRow → HoldsNone (form_of version) source.now (contents ((state S.Store conn.old).now.trees 2))) }
+    ensures no_other { IfErr result (λ fault. (number : ℕ) → fault ≡ WrongVersion number → ⊥) }
     ensures same { HasCleanDisk (state S.Store conn.new) → OnOk result (IsUnchanged (state S.Store conn.old) (state S.Store conn.new)) }
     ensures err { HasCleanDisk (state S.Store conn.new) → IsTrue (state S.Store conn.new).is_open → OnErr result ((state S.Store conn.new).now ≡ (state S.Store conn.old).now) }
     ensures crash { Survives (state S.Store conn.old) (state S.Store conn.new) (λ _. (state S.Store conn.old).is_open ≡ false) }
@@ -113,6 +116,7 @@ fn judge_names(
 ) -> Result<(), OpenFault>
     ensures ok { OnOk result (IsPermutation (flat_map named_rows (map (entry_in (form_of version)) objects.now)) rows.now) }
     ensures fault { IsSorted by_three rows.now → IfErr result (λ fault. fault ≡ BadRow → IsPermutation (flat_map named_rows (map (entry_in (form_of version)) objects.now)) rows.now → ⊥) }
+    ensures no_other { IfErr result (λ fault. (number : ℕ) → fault ≡ WrongVersion number → ⊥) }
 {
     match are_named(alloc, rows, objects, version) {
         Ok(true) => Ok(()),
@@ -133,6 +137,7 @@ pub(crate) fn check_names<S: Alter>(
     ensures autocommit { conn.new.in_transaction ≡ false }
     ensures ok { HasCleanDisk (state S.Store conn.new) → OnOk result (IsPermutation (flat_map named_rows (map (entry_in (form_of version)) objects.now)) (contents ((state S.Store conn.old).now.trees 4))) }
     ensures fault { HasCleanDisk (state S.Store conn.new) → IfErr result (λ fault. fault ≡ BadRow → IsPermutation (flat_map named_rows (map (entry_in (form_of version)) objects.now)) (contents ((state S.Store conn.old).now.trees 4)) → ⊥) }
+    ensures no_other { IfErr result (λ fault. (number : ℕ) → fault ≡ WrongVersion number → ⊥) }
     ensures same { HasCleanDisk (state S.Store conn.new) → OnOk result (IsUnchanged (state S.Store conn.old) (state S.Store conn.new)) }
     ensures err { HasCleanDisk (state S.Store conn.new) → IsTrue (state S.Store conn.new).is_open → OnErr result ((state S.Store conn.new).now ≡ (state S.Store conn.old).now) }
     ensures crash { Survives (state S.Store conn.old) (state S.Store conn.new) (λ _. (state S.Store conn.old).is_open ≡ false) }

@@ -13,6 +13,7 @@ mod migrating;
 mod names;
 mod namings;
 mod objects;
+mod opening;
 mod reading;
 mod settings;
 mod statements;

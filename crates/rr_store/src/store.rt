@@ -1,6 +1,6 @@
 //! The store.
 
-ghost use Rattle.std.specs.Prelude.{◌≡◌, false, map, IfErr, IfOk, IsTrue, OnErr, OnOk};
+ghost use Rattle.std.specs.Prelude.{◌≡◌, ℕ, false, map, IfErr, IfOk, IsTrue, OnErr, OnOk};
 ghost use Rattle.sqlite.specs.Held.{state};
 ghost use Rattle.sqlite.specs.State.{HasCleanDisk, Survives};
 ghost use Rattle.sqlite_trees.specs.Tree.{Trees};
@@ -9,15 +9,20 @@ ghost use Rattle.rr_object.specs.Keys.{class_of};
 ghost use Rattle.rr_object.specs.KeyTexts.{key_bytes};
 ghost use Rattle.rr_rows.specs.Entries.{IsPut, IsTaken, TreesOf, entry_of};
 ghost use Rattle.rr_rows.specs.Made.{HasRow, IsVacant};
-ghost use Rattle.rr_rows.specs.Maps.{IsFilled, Puts, Takes};
+ghost use Rattle.rr_rows.specs.Maps.{AreInOrder, AreStored, IsFilled, Puts, Takes};
 ghost use Rattle.rr_rows.specs.Tables.{HasTables};
 ghost use Rattle.rr_store.specs.Kept.{IsLeft};
+ghost use Rattle.rr_store.specs.Opening.{IsOtherVersion, IsReadable, IsUnreadable};
 ghost use Rattle.rr_store.specs.declared.fault.CreateFault.TheVariants.{NotEmpty};
+ghost use Rattle.rr_store.specs.declared.fault.OpenFault.TheVariants.{BadRow, WrongVersion};
 
 use crate::creating::create_where_vacant;
-use crate::fault::{CreateFault, StoreFault};
+use crate::fault::{CreateFault, OpenFault, StoreFault};
 use crate::names::maintainers_of;
+use crate::opening::stored_objects;
+use crate::version::Version;
 use crate::writes::{put_entry, remove_entry};
+use rr_number::Name;
 use rr_object::{Key, Object};
 use rr_text::print;
 use sqlite::{Alter, Connection};
@@ -64,6 +69,54 @@ impl<S: Alter> Store<S> {
     {
         match create_where_vacant(&mut conn, alloc, objects) {
             Ok(()) => Ok(Store { conn }),
+            Err(fault) => Err((fault, conn)),
+        }
+    }
+
+    /// Opens the store of the objects of the source that the tables of version 2 hold, and gives these in order of class and
+    /// key. The connection is in no transaction. After a fault it is given back, and no row is changed in either case.
+    pub fn open_all(
+        alloc: Global,
+        mut conn: Connection<S>,
+        source: &Name,
+    ) -> Result<(Store<S>, Vec<Object>), (OpenFault, Connection<S>)>
+        requires autocommit { conn.in_transaction ≡ false }
+        ensures ok { IfOk result (λ opened. HasCleanDisk (state S.Store opened.0) → AreStored source.now opened.1.items (state S.Store opened.0).now) }
+        ensures in_order { IfOk result (λ opened. AreInOrder opened.1.items) }
+        ensures same { IfOk result (λ opened. HasCleanDisk (state S.Store opened.0) → (state S.Store opened.0).now ≡ (state S.Store conn).now) }
+        ensures is_open { IfOk result (λ opened. HasCleanDisk (state S.Store opened.0) → IsTrue (state S.Store opened.0).is_open) }
+        ensures crash { IfOk result (λ opened. Survives (state S.Store conn) (state S.Store opened.0) (λ _. (state S.Store conn).is_open ≡ false)) }
+        ensures wrong_version { IfErr result (λ fault. (number : ℕ) → fault.0 ≡ WrongVersion number → HasCleanDisk (state S.Store fault.1) → IsOtherVersion number (state S.Store conn).now) }
+        ensures bad_row { IfErr result (λ fault. fault.0 ≡ BadRow → HasCleanDisk (state S.Store fault.1) → IsUnreadable source.now (state S.Store conn).now) }
+        ensures err { IfErr result (λ fault. HasCleanDisk (state S.Store fault.1) → IsTrue (state S.Store fault.1).is_open → (state S.Store fault.1).now ≡ (state S.Store conn).now) }
+        ensures err_crash { IfErr result (λ fault. Survives (state S.Store conn) (state S.Store fault.1) (λ _. (state S.Store conn).is_open ≡ false)) }
+        ensures err_autocommit { IfErr result (λ fault. fault.1.in_transaction ≡ false) }
+    {
+        match stored_objects(&mut conn, alloc, source, Version::This) {
+            Ok(objects) => Ok((Store { conn }, objects)),
+            Err(fault) => Err((fault, conn)),
+        }
+    }
+
+    /// Opens the store as [`Store::open_all`] does, without the objects.
+    pub fn open(
+        alloc: Global,
+        mut conn: Connection<S>,
+        source: &Name,
+    ) -> Result<Store<S>, (OpenFault, Connection<S>)>
+        requires autocommit { conn.in_transaction ≡ false }
+        ensures ok { IfOk result (λ store. HasCleanDisk (state S.Store store) → IsReadable source.now (state S.Store store).now) }
+        ensures same { IfOk result (λ store. HasCleanDisk (state S.Store store) → (state S.Store store).now ≡ (state S.Store conn).now) }
+        ensures is_open { IfOk result (λ store. HasCleanDisk (state S.Store store) → IsTrue (state S.Store store).is_open) }
+        ensures crash { IfOk result (λ store. Survives (state S.Store conn) (state S.Store store) (λ _. (state S.Store conn).is_open ≡ false)) }
+        ensures wrong_version { IfErr result (λ fault. (number : ℕ) → fault.0 ≡ WrongVersion number → HasCleanDisk (state S.Store fault.1) → IsOtherVersion number (state S.Store conn).now) }
+        ensures bad_row { IfErr result (λ fault. fault.0 ≡ BadRow → HasCleanDisk (state S.Store fault.1) → IsUnreadable source.now (state S.Store conn).now) }
+        ensures err { IfErr result (λ fault. HasCleanDisk (state S.Store fault.1) → IsTrue (state S.Store fault.1).is_open → (state S.Store fault.1).now ≡ (state S.Store conn).now) }
+        ensures err_crash { IfErr result (λ fault. Survives (state S.Store conn) (state S.Store fault.1) (λ _. (state S.Store conn).is_open ≡ false)) }
+        ensures err_autocommit { IfErr result (λ fault. fault.1.in_transaction ≡ false) }
+    {
+        match stored_objects(&mut conn, alloc, source, Version::This) {
+            Ok(_) => Ok(Store { conn }),
             Err(fault) => Err((fault, conn)),
         }
     }

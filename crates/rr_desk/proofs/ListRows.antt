@@ -54,9 +54,10 @@ left_false false b e = refl
 keys_free : (before os : List Obj) (n : ℕ) → clash before n os ≡ None → AllByRecursion (λ o. is_key_of_some o.key before ≡ false) os
 keys_free before [] n none = tt
 keys_free before (o ∷ os) n none =
-    let rest = keys_free (before ++ o ∷ []) os (n + 1) (second_none (clash_of before n o) (clash (before ++ o ∷ []) (n + 1) os) none) in
-    (key_free (is_key_of_some o.key before) (is_crossed_by_some o.key before) n (first_none (clash_of before n o) (clash (before ++ o ∷ []) (n + 1) os) none),
-    all_weaker (λ x. is_key_of_some x.key (before ++ o ∷ []) ≡ false) (λ x. is_key_of_some x.key before ≡ false) (λ x free. left_false _ _ (sym (list_any-append (λ y. eq_by_cmp key_cmp x.key y.key) before (o ∷ [])) ∙ free)) os rest)
+    let rest = keys_free (before ++ o ∷ []) os (n + 1) (second_none (clash_of before n o) (clash (before ++ o ∷ []) (n + 1) os) none) in (
+      key_free (is_key_of_some o.key before) (is_crossed_by_some o.key before) n (first_none (clash_of before n o) (clash (before ++ o ∷ []) (n + 1) os) none),
+      all_weaker (λ x. is_key_of_some x.key (before ++ o ∷ []) ≡ false) (λ x. is_key_of_some x.key before ≡ false) (λ x free. left_false _ _ (sym (list_any-append (λ y. eq_by_cmp key_cmp x.key y.key) before (o ∷ [])) ∙ free)) os rest,
+    )
 
 -- the last of the objects before it has another key
 last_free : (before : List Obj) (o : Obj) (k : Key) → is_key_of_some k (before ++ o ∷ []) ≡ false → o.key ≢ k
@@ -70,9 +71,10 @@ last_free (x ∷ before) o k free same = last_free before o k (right_false (eq_b
 unclashed_apart : (before os : List Obj) (n : ℕ) → clash before n os ≡ None → AreApart os
 unclashed_apart before [] n none = tt
 unclashed_apart before (o ∷ os) n none =
-    let later = second_none (clash_of before n o) (clash (before ++ o ∷ []) (n + 1) os) none in
-    (all_weaker (λ x. is_key_of_some x.key (before ++ o ∷ []) ≡ false) (λ x. o.key ≢ x.key) (λ x free. last_free before o x.key free) os (keys_free (before ++ o ∷ []) os (n + 1) later),
-    unclashed_apart (before ++ o ∷ []) os (n + 1) later)
+    let later = second_none (clash_of before n o) (clash (before ++ o ∷ []) (n + 1) os) none in (
+      all_weaker (λ x. is_key_of_some x.key (before ++ o ∷ []) ≡ false) (λ x. o.key ≢ x.key) (λ x free. last_free before o x.key free) os (keys_free (before ++ o ∷ []) os (n + 1) later),
+      unclashed_apart (before ++ o ∷ []) os (n + 1) later,
+    )
 
 -- no two objects of a list that is taken have one key
 pub taken_apart : (os : List Obj) (r : Reg) → IsTaken os r → AreApart os

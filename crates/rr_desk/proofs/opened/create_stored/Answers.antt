@@ -2,7 +2,7 @@ use Rattle.rr_desk.proofs.ListRows.{left_as}
 use Rattle.rr_desk.proofs.opened.create_stored.Goals as goal
 
 pub create-requires : goal.create-requires
-create-requires g c = c.requires.autocommit
+create-requires g c = record { autocommit = c.requires.autocommit }
 
 pub of-requires-clause-is_open : goal.of-requires-clause-is_open
 of-requires-clause-is_open g c = c.in-Ok.ensures.is_open

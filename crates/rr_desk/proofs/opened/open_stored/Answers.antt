@@ -5,7 +5,7 @@ use Rattle.rr_desk.proofs.Listed.{bad_objects, no_version, unreadable_rows}
 use Rattle.rr_desk.proofs.opened.open_stored.Goals as goal
 
 pub open_all-requires : goal.open_all-requires
-open_all-requires g c = c.requires
+open_all-requires g c = record { autocommit = c.requires.autocommit }
 
 pub of-requires-clause-is_open : goal.of-requires-clause-is_open
 of-requires-clause-is_open g c = c.in-Ok.ensures.is_open

@@ -12,10 +12,10 @@ pub returns-in_default-clause-err_crash : goal.returns-in_default-clause-err_cra
 returns-in_default-clause-err_crash g c = untouched _ _
 
 pub returns-in_default-clause-err_autocommit : goal.returns-in_default-clause-err_autocommit
-returns-in_default-clause-err_autocommit g c = c.requires
+returns-in_default-clause-err_autocommit g c = c.requires.autocommit
 
 pub create_stored-requires-clause-autocommit : goal.create_stored-requires-clause-autocommit
-create_stored-requires-clause-autocommit g c = c.requires
+create_stored-requires-clause-autocommit g c = c.requires.autocommit
 
 pub create_stored-requires-clause-rows : goal.create_stored-requires-clause-rows
 create_stored-requires-clause-rows g c = c.in-Ok.ensures.rows

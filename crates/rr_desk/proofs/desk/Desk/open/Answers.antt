@@ -2,7 +2,7 @@ use Rattle.std.proofs.Common.{refl}
 use Rattle.rr_desk.proofs.desk.Desk.open.Goals as goal
 
 pub open_stored-requires : goal.open_stored-requires
-open_stored-requires g c = c.requires
+open_stored-requires g c = record { autocommit = c.requires.autocommit }
 
 pub same-settings : goal.same-settings
 same-settings g c = refl

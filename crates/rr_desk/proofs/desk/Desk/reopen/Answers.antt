@@ -1,7 +1,7 @@
 use Rattle.rr_desk.proofs.desk.Desk.reopen.Goals as goal
 
 pub open-requires : goal.open-requires
-open-requires g c = c.close.ensures.autocommit
+open-requires g c = record { autocommit = c.close.ensures.autocommit }
 
 pub returns-clause-running : goal.returns-clause-running
 returns-clause-running g c = c.open.ensures.running

@@ -12,5 +12,6 @@ pub mod SortedLemmas
 pub mod StoredLemmas
 pub mod TidyLemmas
 pub mod UpperLemmas
+pub mod MigratedLemmas
 pub mod MigrateLemmas
 pub mod VersionLemmas

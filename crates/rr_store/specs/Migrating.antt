@@ -8,7 +8,7 @@ use Rattle.rr_object.specs.declared.key.Key.{Key}
 use Rattle.rr_object.specs.declared.key.Key.TheVariants.{Mntner, AsBlock, AutNum, Inetnum, Route, AsSet, RouteSet}
 use Rattle.rr_object.specs.Objects.{Obj}
 use Rattle.rr_rows.specs.Entries.{entry_of}
-use Rattle.rr_rows.specs.Maps.{AreOldStored, IsFilled, IsObjectOf}
+use Rattle.rr_rows.specs.Maps.{AreOldStored, AreStored, IsFilled, IsObjectOf}
 use Rattle.rr_object.specs.Readings.{ReadsAs}
 
 -- an attribute with a value of one line (RFC 2622, 2)
@@ -45,9 +45,11 @@ pub record IsRewritten (root source : List ℕ) (objects : List Obj) (db : Datab
 -- that block (profile)
 pub record IsMigrated (root source : List ℕ) (old new : Database) : Type 0 where
   pub objects : List Obj
+  pub block : Obj
   pub before : AreOldStored source objects old
   pub registered : has_mntner root objects ≡ true
-  pub after : IsRewritten root source objects new
+  pub read : ReadsAs source (upper_block root source) block
+  pub after : AreStored source (objects ++ block ∷ []) new
 
 -- tables of version 1 hold objects of the source, and none is the root's mntner (profile)
 pub record HasNoRoot (root source : List ℕ) (db : Database) : Type 0 where

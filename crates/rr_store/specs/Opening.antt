@@ -7,7 +7,7 @@ use Rattle.rr_rows.specs.Maps.{AreStored, AreStoredIn}
 use Rattle.rr_store.specs.Checks.{SaysVersion}
 use Rattle.rr_store.specs.Versions.{form_of, version_number, version_text}
 use Rattle.rr_store.specs.declared.version.Version.{Version}
-use Rattle.rr_store.specs.declared.version.Version.TheVariants.{This}
+use Rattle.rr_store.specs.declared.version.Version.TheVariants.{Old, This}
 
 -- a row of `meta` says that the tables are of this version, which is another than that asked for (profile)
 abbrev pub SaysOther : Version → ℕ → Database → Type 0
@@ -20,6 +20,10 @@ HoldNone version source db = (objects : List Obj) → AreStoredIn (form_of versi
 -- a row of `meta` says that the tables are of this version, and it is not 2 (profile)
 abbrev pub IsOtherVersion : ℕ → Database → Type 0
 IsOtherVersion = SaysOther This
+
+-- or it is not 1
+abbrev pub IsNotOld : ℕ → Database → Type 0
+IsNotOld = SaysOther Old
 
 -- no list of objects of the source has these rows in tables of version 2 (profile)
 abbrev pub IsUnreadable : List ℕ → Database → Type 0

@@ -1,20 +1,24 @@
 //! Tables of version 1, written anew in one transaction as those of version 2.
 
-ghost use Rattle.std.specs.Prelude.{◌≡◌, [], ◌∷◌, ◌++◌, false, map, IfErr, IfOk, IsTrue, OnErr, OnOk};
+ghost use Rattle.std.specs.Prelude.{◌≡◌, ℕ, List, [], ◌∷◌, ◌++◌, false, map, IfErr, IfOk, IsTrue, OnErr, OnOk};
 ghost use Rattle.sqlite.specs.Held.{state};
 ghost use Rattle.sqlite.specs.State.{HasCleanDisk, KeepsCommit, Survives};
 ghost use Rattle.rr_rows.specs.Contents.{IsStep, IsTidy};
 ghost use Rattle.rr_rows.specs.Entries.{TreesOf, entry_of};
 ghost use Rattle.rr_rows.specs.Made.{IsBare};
-ghost use Rattle.rr_rows.specs.Maps.{IsFilled};
+ghost use Rattle.rr_object.specs.Objects.{Obj};
+ghost use Rattle.rr_rows.specs.Maps.{AreOldStored, IsFilled};
 ghost use Rattle.rr_store.specs.Kept.{IsLeft};
 ghost use Rattle.rr_store.specs.Migrating.{HasNoRoot, IsMigrated, IsRewritten, has_mntner, is_mntner_of};
-ghost use Rattle.rr_store.specs.declared.fault.MigrateFault.TheVariants.{NoRoot};
+ghost use Rattle.rr_store.specs.Opening.{IsNotOld};
+ghost use Rattle.rr_store.specs.declared.fault.MigrateFault.TheVariants.{BadRow, NoRoot, WrongVersion};
 
 use crate::fault::{MigrateFault, StoreFault};
 use crate::filling::fill;
+use crate::opening::stored_objects;
 use crate::statements::{clear_names, clear_objects, clear_settings};
 use crate::upper::upper_object;
+use crate::version::Version;
 use rr_number::Name;
 use rr_object::{Key, Object};
 use sqlite::{Alter, Connection, Error, Transaction};
@@ -117,4 +121,32 @@ fn has_mntner(objects: &[Object], name: &Name) -> bool
     objects
         .iter()
         .any(|object| is_mntner_of(object.key(), name))
+}
+
+/// Writes tables of version 1 that hold objects of the source anew as those of version 2, with the block of the other AS
+/// numbers, which the root maintains.
+#[tactic(auto, using(crate::proofs::LookLemmas::quiet_left))]
+pub(crate) fn migrate_rows<S: Alter>(
+    conn: &mut Connection<S>,
+    alloc: Global,
+    root: &Name,
+    source: &Name,
+) -> Result<(), MigrateFault>
+    requires autocommit { conn.old.in_transaction ≡ false }
+    ensures autocommit { conn.new.in_transaction ≡ false }
+    ensures ok { HasCleanDisk (state S.Store conn.new) → OnOk result (IsMigrated root.now source.now (state S.Store conn.old).now (state S.Store conn.new).now) }
+    ensures is_open { HasCleanDisk (state S.Store conn.new) → OnOk result (IsTrue (state S.Store conn.new).is_open) }
+    ensures err { HasCleanDisk (state S.Store conn.new) → IsTrue (state S.Store conn.new).is_open → OnErr result ((state S.Store conn.new).now ≡ (state S.Store conn.old).now) }
+    ensures wrong_version { HasCleanDisk (state S.Store conn.new) → IfErr result (λ fault. (number : ℕ) → fault ≡ WrongVersion number → IsNotOld number (state S.Store conn.old).now) }
+    ensures bad_row { HasCleanDisk (state S.Store conn.new) → IfErr result (λ fault. fault ≡ BadRow → (objects : List Obj) → AreOldStored source.now objects (state S.Store conn.old).now → ⊥) }
+    ensures no_root { HasCleanDisk (state S.Store conn.new) → IfErr result (λ fault. fault ≡ NoRoot → HasNoRoot root.now source.now (state S.Store conn.old).now) }
+    ensures crash { Survives (state S.Store conn.old) (state S.Store conn.new) (IsLeft (state S.Store conn.old).is_open (IsMigrated root.now source.now (state S.Store conn.old).now)) }
+{
+    let objects = stored_objects(conn, alloc, source, Version::Old)?;
+    if has_mntner(&objects, root) {
+        rewrite(conn, alloc, objects, root, source)?;
+        Ok(())
+    } else {
+        Err(MigrateFault::NoRoot)
+    }
 }

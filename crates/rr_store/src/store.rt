@@ -1,23 +1,27 @@
 //! The store.
 
-ghost use Rattle.std.specs.Prelude.{◌≡◌, ℕ, false, map, IfErr, IfOk, IsTrue, OnErr, OnOk};
+ghost use Rattle.std.specs.Prelude.{◌≡◌, ℕ, List, false, map, IfErr, IfOk, IsTrue, OnErr, OnOk};
 ghost use Rattle.sqlite.specs.Held.{state};
-ghost use Rattle.sqlite.specs.State.{HasCleanDisk, Survives};
+ghost use Rattle.sqlite.specs.State.{HasCleanDisk, IsUnchanged, Survives};
 ghost use Rattle.sqlite_trees.specs.Tree.{Trees};
 ghost use Rattle.rr_object.specs.Classes.{class_number};
 ghost use Rattle.rr_object.specs.Keys.{class_of};
 ghost use Rattle.rr_object.specs.KeyTexts.{key_bytes};
 ghost use Rattle.rr_rows.specs.Entries.{IsPut, IsTaken, TreesOf, entry_of};
 ghost use Rattle.rr_rows.specs.Made.{HasRow, IsVacant};
-ghost use Rattle.rr_rows.specs.Maps.{AreInOrder, AreStored, IsFilled, Puts, Takes};
+ghost use Rattle.rr_object.specs.Objects.{Obj};
+ghost use Rattle.rr_rows.specs.Maps.{AreInOrder, AreOldStored, AreStored, IsFilled, Puts, Takes};
 ghost use Rattle.rr_rows.specs.Tables.{HasTables};
 ghost use Rattle.rr_store.specs.Kept.{IsLeft};
-ghost use Rattle.rr_store.specs.Opening.{IsOtherVersion, IsReadable, IsUnreadable};
+ghost use Rattle.rr_store.specs.Migrating.{HasNoRoot, IsMigrated};
+ghost use Rattle.rr_store.specs.Opening.{IsOtherVersion, IsNotOld, IsReadable, IsUnreadable};
 ghost use Rattle.rr_store.specs.declared.fault.CreateFault.TheVariants.{NotEmpty};
+ghost use Rattle.rr_store.specs.declared.fault.MigrateFault.TheVariants.{BadRow as UnreadRow, NoRoot, WrongVersion as NotOld};
 ghost use Rattle.rr_store.specs.declared.fault.OpenFault.TheVariants.{BadRow, WrongVersion};
 
 use crate::creating::create_where_vacant;
-use crate::fault::{CreateFault, OpenFault, StoreFault};
+use crate::fault::{CreateFault, MigrateFault, OpenFault, StoreFault};
+use crate::migrating::migrate_rows;
 use crate::names::maintainers_of;
 use crate::opening::stored_objects;
 use crate::version::Version;
@@ -101,7 +105,7 @@ impl<S: Alter> Store<S> {
     /// Opens the store as [`Store::open_all`] does, without the objects.
     pub fn open(
         alloc: Global,
-        mut conn: Connection<S>,
+        conn: Connection<S>,
         source: &Name,
     ) -> Result<Store<S>, (OpenFault, Connection<S>)>
         requires autocommit { conn.in_transaction ≡ false }
@@ -115,8 +119,54 @@ impl<S: Alter> Store<S> {
         ensures err_crash { IfErr result (λ fault. Survives (state S.Store conn) (state S.Store fault.1) (λ _. (state S.Store conn).is_open ≡ false)) }
         ensures err_autocommit { IfErr result (λ fault. fault.1.in_transaction ≡ false) }
     {
-        match stored_objects(&mut conn, alloc, source, Version::This) {
-            Ok(_) => Ok(Store { conn }),
+        match Store::open_all(alloc, conn, source) {
+            Ok((store, _objects)) => Ok(store),
+            Err(refused) => Err(refused),
+        }
+    }
+
+    /// The objects of the source that tables of version 1 hold, in the order of their keys. The connection is in no transaction,
+    /// and nothing changes.
+    pub fn old_objects(
+        alloc: Global,
+        conn: &mut Connection<S>,
+        source: &Name,
+    ) -> Result<Vec<Object>, OpenFault>
+        requires autocommit { conn.old.in_transaction ≡ false }
+        ensures autocommit { conn.new.in_transaction ≡ false }
+        ensures ok { HasCleanDisk (state S.Store conn.new) → IfOk result (λ objects. AreOldStored source.now objects.items (state S.Store conn.old).now) }
+        ensures order { IfOk result (λ objects. AreInOrder objects.items) }
+        ensures same { HasCleanDisk (state S.Store conn.new) → OnOk result (IsUnchanged (state S.Store conn.old) (state S.Store conn.new)) }
+        ensures err { HasCleanDisk (state S.Store conn.new) → IsTrue (state S.Store conn.new).is_open → OnErr result ((state S.Store conn.new).now ≡ (state S.Store conn.old).now) }
+        ensures wrong_version { HasCleanDisk (state S.Store conn.new) → IfErr result (λ fault. (number : ℕ) → fault ≡ WrongVersion number → IsNotOld number (state S.Store conn.old).now) }
+        ensures bad_row { HasCleanDisk (state S.Store conn.new) → IfErr result (λ fault. fault ≡ BadRow → (objects : List Obj) → AreOldStored source.now objects (state S.Store conn.old).now → ⊥) }
+        ensures crash { Survives (state S.Store conn.old) (state S.Store conn.new) (λ _. (state S.Store conn.old).is_open ≡ false) }
+    {
+        stored_objects(conn, alloc, source, Version::Old)
+    }
+
+    /// The store of the objects that tables of version 1 hold, written anew as those of version 2, and of the block of the AS
+    /// numbers of more than two octets, which the root maintains (RFC 6793). The connection is in no transaction. After a fault
+    /// it is given back, with the rows as they were.
+    pub fn migrate(
+        alloc: Global,
+        mut conn: Connection<S>,
+        root: &Name,
+        source: &Name,
+    ) -> Result<Store<S>, (MigrateFault, Connection<S>)>
+        requires autocommit { conn.in_transaction ≡ false }
+        ensures ok { IfOk result (λ store. HasCleanDisk (state S.Store store) → IsMigrated root.now source.now (state S.Store conn).now (state S.Store store).now) }
+        ensures is_open { IfOk result (λ store. HasCleanDisk (state S.Store store) → IsTrue (state S.Store store).is_open) }
+        ensures crash { IfOk result (λ store. Survives (state S.Store conn) (state S.Store store) (IsLeft (state S.Store conn).is_open (IsMigrated root.now source.now (state S.Store conn).now))) }
+        ensures err { IfErr result (λ e. HasCleanDisk (state S.Store e.1) → IsTrue (state S.Store e.1).is_open → (state S.Store e.1).now ≡ (state S.Store conn).now) }
+        ensures wrong_version { IfErr result (λ e. (number : ℕ) → HasCleanDisk (state S.Store e.1) → e.0 ≡ NotOld number → IsNotOld number (state S.Store conn).now) }
+        ensures bad_row { IfErr result (λ e. HasCleanDisk (state S.Store e.1) → e.0 ≡ UnreadRow → (objects : List Obj) → AreOldStored source.now objects (state S.Store conn).now → ⊥) }
+        ensures no_root { IfErr result (λ e. HasCleanDisk (state S.Store e.1) → e.0 ≡ NoRoot → HasNoRoot root.now source.now (state S.Store conn).now) }
+        ensures err_autocommit { IfErr result (λ e. e.1.in_transaction ≡ false) }
+        ensures err_crash { IfErr result (λ e. Survives (state S.Store conn) (state S.Store e.1) (IsLeft (state S.Store conn).is_open (IsMigrated root.now source.now (state S.Store conn).now))) }
+    {
+        match migrate_rows(&mut conn, alloc, root, source) {
+            Ok(()) => Ok(Store { conn }),
             Err(fault) => Err((fault, conn)),
         }
     }

@@ -3,7 +3,7 @@ use Rattle.std.proofs.Math.Seq.{take-length}
 use Rattle.std.proofs.lemmas.List.{take_more, map-append}
 use Rattle.sqlite.specs.Held.{state}
 use Rattle.rr_rows.specs.Entries.{IsAdded, entry_of}
-use Rattle.rr_store.proofs.FillLemmas.{HasFilled, none_filled, filled_more}
+use Rattle.rr_store.proofs.FillLemmas.{HasFilled, filled_more}
 use Rattle.rr_store.proofs.filling.add_objects.Goals as goal
 
 pub loop-object-preserved : goal.loop-object-preserved

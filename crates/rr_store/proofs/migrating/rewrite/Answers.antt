@@ -1,6 +1,5 @@
 use Rattle.std.proofs.Common.{◌≡◌, ◌++◌, [], ◌∷◌, map, subst, ◌∙◌}
 use Rattle.sqlite.specs.Held.{state}
-use Rattle.sqlite.specs.Effect.{Database}
 use Rattle.rr_rows.specs.Entries.{entry_of}
 use Rattle.rr_rows.specs.Maps.{IsFilled}
 use Rattle.rr_store.specs.Migrating.{IsRewritten}

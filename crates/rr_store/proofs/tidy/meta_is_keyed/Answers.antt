@@ -1,4 +1,3 @@
-use Rattle.std.proofs.Common.{arith}
 use Rattle.rr_store.proofs.TidyLemmas.{keyed_as}
 use Rattle.rr_store.proofs.tidy.meta_is_keyed.Goals as goal
 

@@ -1,7 +1,5 @@
-use Rattle.std.proofs.Common.{◌≡◌, subst}
-use Rattle.sqlite.specs.Held.{state}
+use Rattle.std.proofs.Common.{subst}
 use Rattle.rr_text.specs.Fields.{AreFields}
-use Rattle.rr_rows.specs.Entries.{IsPut, entry_of}
 use Rattle.rr_rows.specs.Maps.{IsObject, Puts}
 use Rattle.rr_rows.proofs.MapRows.{puts}
 use Rattle.rr_store.proofs.BodyLemmas.{then_ok}

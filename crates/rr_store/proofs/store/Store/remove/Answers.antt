@@ -1,5 +1,3 @@
-use Rattle.std.proofs.Common.{◌≡◌, subst}
-use Rattle.sqlite.specs.Held.{state}
 use Rattle.rr_rows.specs.Maps.{Takes}
 use Rattle.rr_rows.proofs.MapRows.{takes}
 use Rattle.rr_store.proofs.BodyLemmas.{then_ok}

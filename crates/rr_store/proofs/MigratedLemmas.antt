@@ -1,0 +1,71 @@
+-- What migration makes of tables of version 1 is a list of objects of the source.
+use Rattle.std.proofs.Common.{◌≡◌, ◌≢◌, ℕ, Bool, true, false, List, [], ◌∷◌, ◌++◌, codes, Option, None, Some, Ok, Result, refl, sym, ap, subst, ◌∙◌}
+use Rattle.std.specs.Prelude.{is_some}
+use Rattle.std.specs.List.{AllByRecursion}
+use Rattle.sqlite_trees.proofs.ListLemmas.{all-append, all_of, all_weaker, ascending-append}
+use Rattle.sqlite.specs.Effect.{Database}
+use Rattle.rr_bytes.specs.Cuts.{cut_at}
+use Rattle.rr_bytes.specs.Trims.{trim_end, trim_start}
+use Rattle.rr_text.specs.Fields.{Field}
+use Rattle.rr_text.specs.Meanings.{value_meaning}
+use Rattle.rr_number.specs.AsNumbers.{as_number_of}
+use Rattle.rr_number.specs.AsSpans.{as_span_of}
+use Rattle.rr_number.specs.Dashes.{dashed_of}
+use Rattle.rr_number.specs.EndsTexts.{ends_between}
+use Rattle.rr_number.specs.Numerals.{number_of}
+use Rattle.rr_number.specs.Spans.{Ends}
+use Rattle.rr_object.specs.declared.fault.ObjectFault.{ObjectFault}
+use Rattle.rr_object.specs.declared.key.Key.{Key}
+use Rattle.rr_object.specs.declared.key.Key.TheVariants.{AsBlock}
+use Rattle.rr_object.specs.KeySpellings.{key_at, key_of, key_of_text}
+use Rattle.rr_object.specs.Objects.{Obj}
+use Rattle.rr_object.specs.OldKeys.{old_key_bytes}
+use Rattle.rr_object.specs.Readings.{object_of}
+use Rattle.rr_object.proofs.Parsed.{kept_its_key, of_any_source}
+use Rattle.rr_rows.specs.Maps.{AreOldStored, AreStored, IsObjectOf, this_form}
+use Rattle.rr_store.specs.Migrating.{IsMigrated, IsRewritten, has_mntner, upper_block}
+
+upper : Ends
+upper = record { first = 65536; last = 4294967295 }
+
+upper_key : (root source : List ℕ) → key_of (upper_block root source) ≡ Ok (AsBlock upper)
+unfolding key_of key_at key_of_text value_meaning trim_end trim_start as_span_of ends_between dashed_of cut_at as_number_of number_of upper
+upper_key root source = refl
+
+-- the block has no key of tables of version 1
+no_old_key : old_key_bytes (AsBlock upper) ≡ None
+unfolding upper
+no_old_key = refl
+
+same_key_of : (a b : Key) → ◌≡◌ {A = Result Key ObjectFault} (Ok a) (Ok b) → a ≡ b
+same_key_of a b e = cc
+
+block_key : (root source : List ℕ) (block : Obj) → object_of (upper_block root source) source ≡ Ok block → block.key ≡ AsBlock upper
+block_key root source block read =
+    same_key_of block.key (AsBlock upper) (sym (kept_its_key (upper_block root source) block (of_any_source (upper_block root source) source block read)) ∙ upper_key root source)
+
+-- so no object of such tables has its key
+other_key : (object block : Obj) → block.key ≡ AsBlock upper → is_some (old_key_bytes object.key) ≡ true → object.key ≢ block.key
+other_key object block is formed same =
+    let none : old_key_bytes object.key ≡ None = ap old_key_bytes (same ∙ is) ∙ no_old_key in
+    let never : false ≡ true = sym (ap is_some none) ∙ formed in
+    cc
+
+pub migrated : (root source : List ℕ) (objects : List Obj) (old new : Database) → AreOldStored source objects old → has_mntner root objects ≡ true → IsRewritten root source objects new → IsMigrated root source old new
+migrated root source objects old new before registered after =
+    let key = block_key root source after.block after.read in
+    record {
+      objects = objects;
+      block = after.block;
+      before = before;
+      registered = registered;
+      read = after.read;
+      after = record {
+        rows = after.filled.rows;
+        version = after.filled.version;
+        formed = all_of (λ o. is_some (this_form o.key) ≡ true) (λ o. refl) (objects ++ after.block ∷ []);
+        of_source = all-append (IsObjectOf source) objects (after.block ∷ []) before.of_source (after.of_source, tt);
+        apart = ascending-append (λ a b. a.key ≢ b.key) objects (after.block ∷ []) before.apart (tt, tt)
+            (all_weaker (λ o. is_some (old_key_bytes o.key) ≡ true) (λ o. AllByRecursion (λ b. o.key ≢ b.key) (after.block ∷ [])) (λ o formed. (other_key o after.block key formed, tt)) objects before.formed);
+      };
+    }

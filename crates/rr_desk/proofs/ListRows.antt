@@ -26,7 +26,8 @@ use Rattle.rr_rows.proofs.MapLists.{listed_rows, put_all, stored_rows}
 use Rattle.rr_store.specs.Kept.{IsLeft}
 use Rattle.rr_desk.proofs.Following.{trees_of}
 
-gathered_is : (r : Reg) (os : List Obj) → gathered r os ≡ put_all r os
+-- a list that is gathered is put in one by one
+pub gathered_is : (r : Reg) (os : List Obj) → gathered r os ≡ put_all r os
 gathered_is r [] = refl
 gathered_is r (o ∷ os) = gathered_is (insert r o.key o) os
 

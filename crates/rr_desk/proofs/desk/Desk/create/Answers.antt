@@ -18,7 +18,7 @@ pub create_stored-requires-clause-autocommit : goal.create_stored-requires-claus
 create_stored-requires-clause-autocommit g c = c.requires.autocommit
 
 pub create_stored-requires-clause-rows : goal.create_stored-requires-clause-rows
-create_stored-requires-clause-rows g c = c.in-Ok.ensures.rows
+create_stored-requires-clause-rows g c = rw c.deref.ensures.value c.in-Ok.ensures.rows
 
 pub same-settings : goal.same-settings
 same-settings g c = refl

@@ -29,7 +29,7 @@ pub returns-in-Err-clause-wrong_version : goal.returns-in-Err-clause-wrong_versi
 returns-in-Err-clause-wrong_version g c = c.in-Err.ensures.wrong_version
 
 pub returns-in-Err-clause-bad_row : goal.returns-in-Err-clause-bad_row
-returns-in-Err-clause-bad_row g c = c.in-Err.ensures.bad_row
+returns-in-Err-clause-bad_row g c = rw (← c.source.ensures) c.in-Err.ensures.bad_row
 
 pub returns-in-Err-clause-err : goal.returns-in-Err-clause-err
 returns-in-Err-clause-err g c = c.in-Err.ensures.err

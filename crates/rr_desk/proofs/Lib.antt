@@ -4,3 +4,6 @@ pub mod OpeningLines
 pub mod OpeningReads
 pub mod OpeningRegistry
 pub mod Following
+pub mod ListRows
+pub mod OpeningRows
+pub mod Listed

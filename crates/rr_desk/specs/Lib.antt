@@ -4,3 +4,4 @@ pub mod Halts
 pub mod Stocks
 pub mod Private
 pub mod Settings
+pub mod Opened

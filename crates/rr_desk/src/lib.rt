@@ -2,6 +2,7 @@
 #![tactic(auto)]
 
 mod desk;
+mod opened;
 pub mod opening;
 mod plain_desk;
 pub mod settings;

@@ -10,6 +10,8 @@ mod fault;
 mod filling;
 mod making;
 mod migrating;
+#[cfg(test)]
+mod migration_tests;
 mod names;
 mod namings;
 mod objects;

@@ -20,6 +20,8 @@ mod reading;
 mod settings;
 mod statements;
 mod store;
+#[cfg(test)]
+mod tests;
 mod tidy;
 mod upper;
 mod vacancy;

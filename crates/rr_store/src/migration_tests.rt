@@ -7,12 +7,14 @@ use sqlite_value::value::ValueRef;
 use std::alloc::Global;
 use std::test::Fail;
 
-const ROOT: &[u8] = b"mntner:         ROOT-MNT\nauth:           SHA256-PW a:ba7816bf8f01cfea414140de5dae2223b00361a396177a9cb410ff61f20015ad\nmnt-by:         ROOT-MNT\nsource:         TEST\n";
+const ROOT: &[u8] =
+    b"mntner:         ROOT-MNT\nauth:           SHA256-PW a:ba7816bf8f01cfea414140de5dae2223b00361a396177a9cb410ff61f20015ad\nmnt-by:         ROOT-MNT\nsource:         TEST\n";
 
 const NUMBERS: &[u8] =
     b"as-block:       AS0 - AS65535\nmnt-by:         ROOT-MNT\nsource:         TEST\n";
 
-const OTHER: &[u8] = b"mntner:         A-MNT\nauth:           SHA256-PW a:ba7816bf8f01cfea414140de5dae2223b00361a396177a9cb410ff61f20015ad\nmnt-by:         A-MNT\nsource:         TEST\n";
+const OTHER: &[u8] =
+    b"mntner:         A-MNT\nauth:           SHA256-PW a:ba7816bf8f01cfea414140de5dae2223b00361a396177a9cb410ff61f20015ad\nmnt-by:         A-MNT\nsource:         TEST\n";
 
 fn run(conn: &mut Connection<MemStore>, sql: &str) -> Result<(), Fail> {
     let _count = conn.execute(sql, &[])?;
@@ -54,7 +56,10 @@ fn add<'x>(
         ValueRef::Text(key),
         ValueRef::Blob(body),
     ];
-    let _object = conn.execute("INSERT INTO object (class, okey, body) VALUES (?1, ?2, ?3)", &row)?;
+    let _object = conn.execute(
+        "INSERT INTO object (class, okey, body) VALUES (?1, ?2, ?3)",
+        &row,
+    )?;
     let naming = [
         ValueRef::Text(maintainer),
         ValueRef::Int(class),
@@ -105,7 +110,10 @@ fn keys_of_a_block_get_eight_digits(rt: HostRuntime) -> Result<(), Fail> {
     add(&mut conn, 1, b"ROOT-MNT", ROOT, b"ROOT-MNT")?;
     add(&mut conn, 2, b"0000-ffff", NUMBERS, b"ROOT-MNT")?;
     let mut conn = migrated(alloc, conn, b"ROOT-MNT")?.ok().ok_or("refused")?;
-    let keys = texts(&mut conn, "SELECT okey FROM object WHERE class = 2 ORDER BY okey")?;
+    let keys = texts(
+        &mut conn,
+        "SELECT okey FROM object WHERE class = 2 ORDER BY okey",
+    )?;
     assert!(rt; text_at(&keys, 0)?.as_str() == "00000000-0000ffff");
     assert!(rt; text_at(&keys, 1)?.as_str() == "00010000-ffffffff");
     Ok(())
@@ -120,7 +128,10 @@ fn names_and_the_version_are_written_anew(rt: HostRuntime) -> Result<(), Fail> {
     let mut conn = migrated(alloc, conn, b"ROOT-MNT")?.ok().ok_or("refused")?;
     let version = texts(&mut conn, "SELECT value FROM meta")?;
     assert!(rt; text_at(&version, 0)?.as_str() == "2");
-    let keys = texts(&mut conn, "SELECT okey FROM named WHERE class = 2 ORDER BY okey")?;
+    let keys = texts(
+        &mut conn,
+        "SELECT okey FROM named WHERE class = 2 ORDER BY okey",
+    )?;
     assert!(rt; text_at(&keys, 1)?.as_str() == "00010000-ffffffff");
     Ok(())
 }
@@ -141,7 +152,10 @@ fn the_root_is_to_be_registered(rt: HostRuntime) -> Result<(), Fail> {
     let alloc = rt.alloc();
     let mut conn = old_tables(alloc)?;
     add(&mut conn, 1, b"A-MNT", OTHER, b"A-MNT")?;
-    assert_eq!(rt; migrated(alloc, conn, b"ROOT-MNT")?.err(), Some(MigrateFault::NoRoot));
+    assert_eq!(rt;
+        migrated(alloc, conn, b"ROOT-MNT")?.err(),
+        Some(MigrateFault::NoRoot)
+    );
     Ok(())
 }
 
@@ -151,6 +165,9 @@ fn a_key_of_eight_digits_is_none_of_version_1(rt: HostRuntime) -> Result<(), Fai
     let mut conn = old_tables(alloc)?;
     add(&mut conn, 1, b"ROOT-MNT", ROOT, b"ROOT-MNT")?;
     add(&mut conn, 2, b"00000000-0000ffff", NUMBERS, b"ROOT-MNT")?;
-    assert_eq!(rt; migrated(alloc, conn, b"ROOT-MNT")?.err(), Some(MigrateFault::BadRow));
+    assert_eq!(rt;
+        migrated(alloc, conn, b"ROOT-MNT")?.err(),
+        Some(MigrateFault::BadRow)
+    );
     Ok(())
 }

@@ -10,6 +10,8 @@ mod fault;
 mod filling;
 mod making;
 mod migrating;
+#[cfg(test)]
+mod migration_tests;
 mod names;
 mod namings;
 mod objects;
@@ -18,6 +20,8 @@ mod reading;
 mod settings;
 mod statements;
 mod store;
+#[cfg(test)]
+mod tests;
 mod tidy;
 mod upper;
 mod vacancy;

@@ -7,9 +7,13 @@ mod change_tests;
 #[cfg(test)]
 mod confinement_tests;
 #[cfg(test)]
+mod desk_tests;
+#[cfg(test)]
 mod desks;
 #[cfg(test)]
 mod expansion_tests;
+#[cfg(test)]
+mod fault_tests;
 #[cfg(test)]
 mod hostile_tests;
 #[cfg(test)]

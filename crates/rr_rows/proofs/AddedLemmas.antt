@@ -58,7 +58,7 @@ pub first_setting : (name value : List ℕ) (old new : Database) → old.trees 0
 first_setting name value old new none same =
     let one : contents (new.trees 0) ≡ meta_values name value ∷ [] =
     one_permutation (meta_values name value) _ (subst (λ rows. IsPermutation (meta_values name value ∷ contents rows) (contents (new.trees 0))) none same) in
-    sym (map-map (λ row. column row 0 ∷ column row 1 ∷ []) columns (new.trees 0)) ∙ ap (map (λ row. column row 0 ∷ column row 1 ∷ [])) one
+    sym (map-map (λ r. column r 0 ∷ column r 1 ∷ []) columns (new.trees 0)) ∙ ap (map (λ r. column r 0 ∷ column r 1 ∷ [])) one
 
 -- tables without a row, to which the version is added and then these, hold these and are of version 2
 pub filled_by : (entries : List Entry) (old mid new : Database) → old.trees 0 ≡ [] → old.trees 2 ≡ [] → old.trees 4 ≡ [] → mid.trees 2 ≡ old.trees 2 → mid.trees 4 ≡ old.trees 4

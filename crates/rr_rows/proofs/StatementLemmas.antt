@@ -171,7 +171,7 @@ module _ (tree : ℕ) (seen : (db : Trees) → overlay db [] tree ≡ db tree) (
       (ap (map (eval_all shown)) (matches_of tree [] [] (overlay old.now.trees []) ∙ ap (λ xs. map (λ row. [] ∷ row ∷ []) (filter (λ row. true) xs)) (seen old.now.trees) ∙ ap (map (λ row. [] ∷ row ∷ [])) (filter_true (old.now.trees tree))) ∙ map-map _ _ (old.now.trees tree))
       list
 
-pub selects_meta : (old new : State) → HasTables old.now.schema → (rows : List Row) → Shown select_meta [] old new rows → IsListing by_two (map (λ row. column row 1 ∷ column row 2 ∷ []) (old.now.trees 0)) rows
+pub selects_meta : (old new : State) → HasTables old.now.schema → (rows : List Row) → Shown select_meta [] old new rows → IsListing by_two (map (λ r. column r 1 ∷ column r 2 ∷ []) (old.now.trees 0)) rows
 selects_meta = selects 0 (λ db. refl) select_meta (codes "name" ∷ codes "value" ∷ []) (col 1 1 ∷ col 1 2 ∷ []) (col 1 1 ∷ col 1 2 ∷ []) by_two (λ a b. refl) select_meta_is
 
 pub selects_object : (old new : State) → HasTables old.now.schema → (rows : List Row) → Shown select_object [] old new rows → IsListing by_two (contents (old.now.trees 2)) rows

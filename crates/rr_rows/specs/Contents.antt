@@ -22,7 +22,7 @@ pub record AreKeyed (rows : List Row) : Type 0 where
 
 -- the columns of a row, which is NULL where there is none
 abbrev pub columns : Row → Row
-columns row = column row 1 ∷ column row 2 ∷ column row 3 ∷ []
+columns r = column r 1 ∷ column r 2 ∷ column r 3 ∷ []
 
 -- what the rows of a table hold, without their numbers
 abbrev pub contents : List Row → List Row
@@ -78,7 +78,7 @@ meta_values name value = Text name ∷ Text value ∷ Null ∷ []
 
 -- the names and values of settings, which are all that is read of a row of `meta`
 abbrev pub settings : List Row → List Row
-settings = map (λ row. column row 1 ∷ column row 2 ∷ [])
+settings = map (λ r. column r 1 ∷ column r 2 ∷ [])
 
 -- a setting and its value, as they are read
 abbrev pub setting : List ℕ → List ℕ → Row

@@ -56,8 +56,8 @@ same_object source a b p q same =
     cc
 
 -- the text in an object's row
-pub text_of_row : (form : KeyForm) (object : Obj) (row : Row) (text : List ℕ) → IsRowOf form object row → column row 2 ≡ Blob text → canonical object.paragraph ≡ text
-text_of_row form object row text of third = let both : Blob (canonical object.paragraph) ≡ Blob text = ap (λ r. column r 2) (sym of.is) ∙ third in cc
+pub text_of_row : (form : KeyForm) (object : Obj) (r : Row) (text : List ℕ) → IsRowOf form object r → column r 2 ≡ Blob text → canonical object.paragraph ≡ text
+text_of_row form object r text of third = let both : Blob (canonical object.paragraph) ≡ Blob text = ap (λ r. column r 2) (sym of.is) ∙ third in cc
 
 -- rows are those of one list of objects alone
 pub one_list : (form : KeyForm) (source : List ℕ) (rows : List Row) (objects others : List Obj) → AreRead form source rows objects → AreRead form source rows others → objects ≡ others
@@ -67,6 +67,6 @@ one_list form source [] (o ∷ os) others p q = absurd p
 one_list form source (r ∷ rows) [] others p q = absurd p
 one_list form source (r ∷ rows) (o ∷ os) [] p q = absurd q
 one_list form source (r ∷ rows) (o ∷ os) (x ∷ xs) p q =
-    let both : Blob (canonical o.paragraph) ≡ Blob (canonical x.paragraph) = ap (λ row. column row 2) (sym p.0.1.is ∙ q.0.1.is) in
+    let both : Blob (canonical o.paragraph) ≡ Blob (canonical x.paragraph) = ap (λ r. column r 2) (sym p.0.1.is ∙ q.0.1.is) in
     let one = same_object source o x p.0.0 q.0.0 (cc) in
     λ i. one i ∷ one_list form source rows os xs p.1 q.1 i

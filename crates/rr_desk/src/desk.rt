@@ -31,8 +31,8 @@ use std::alloc::Global;
 /// A registry by its settings, kept in tables. A fault of the store stops it until it is opened again.
 #[derive(Drop)]
 pub struct Desk<S: Alter> {
-    settings: Settings,
-    stored: Stored<S>,
+    pub(crate) settings: Settings,
+    pub(crate) stored: Stored<S>,
 }
 
 impl<S: Alter> Desk<S> {

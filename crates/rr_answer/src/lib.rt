@@ -17,6 +17,3 @@ pub use fault::QueryFault;
 pub use query::Query;
 pub use reading::{is_too_long, read_query};
 pub use text::objects_text;
-
-#[cfg(test)]
-mod tests;

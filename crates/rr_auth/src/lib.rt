@@ -9,8 +9,6 @@ mod judging;
 pub mod laws;
 mod passing;
 mod secrets;
-#[cfg(test)]
-mod tests;
 mod verdict;
 
 pub use authority::{lower_names, route_names};

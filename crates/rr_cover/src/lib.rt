@@ -5,8 +5,6 @@ mod in_order;
 mod insert_fault;
 pub mod laws;
 mod prefix_tree;
-#[cfg(test)]
-mod sequence_tests;
 mod span_list;
 mod span_nest;
 

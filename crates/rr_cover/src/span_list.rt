@@ -216,6 +216,3 @@ fn spans_inside<T>(
         .filter(|held| span.covers(*held))
         .collect(alloc)
 }
-
-#[cfg(test)]
-mod tests;

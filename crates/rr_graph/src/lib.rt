@@ -97,6 +97,3 @@ pub fn reach<G: Graph>(
     }
     Ok(found.into_list())
 }
-
-#[cfg(test)]
-mod tests;

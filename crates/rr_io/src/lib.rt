@@ -14,6 +14,3 @@ pub use joining::Joined;
 pub use receiving::{READ_LIMIT, READ_SIZE, ReadEnd};
 pub use sending::{write_all, write_pieces};
 pub use streams::{Connection, Sink, Source};
-
-#[cfg(test)]
-mod tests;

@@ -33,8 +33,3 @@ pub use set_kind::SetKind;
 pub use set_name::{Parent, SetName};
 pub use short_text::ShortText;
 pub use span::Span;
-
-#[cfg(test)]
-mod name_tests;
-#[cfg(test)]
-mod number_tests;

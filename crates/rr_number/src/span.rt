@@ -145,6 +145,3 @@ fn read_span(text: &[u8]) -> Option<Span>
         None => Some(Prefix::read(text)?.span()),
     }
 }
-
-#[cfg(test)]
-mod tests;

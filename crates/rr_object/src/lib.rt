@@ -37,8 +37,3 @@ pub use maintainers_named::MaintainersNamed;
 pub use member::{Member, MemberSet};
 pub use object::{Object, public};
 pub use paragraph_key::key_of;
-
-#[cfg(test)]
-mod table_tests;
-#[cfg(test)]
-mod tests;

@@ -10,8 +10,6 @@ mod fault;
 mod filling;
 mod making;
 mod migrating;
-#[cfg(test)]
-mod migration_tests;
 mod names;
 mod namings;
 mod objects;
@@ -20,8 +18,6 @@ mod reading;
 mod settings;
 mod statements;
 mod store;
-#[cfg(test)]
-mod tests;
 mod tidy;
 mod upper;
 mod vacancy;

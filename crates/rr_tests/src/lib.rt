@@ -25,6 +25,8 @@ mod loading_tests;
 #[cfg(test)]
 mod number_tests;
 #[cfg(test)]
+mod query_tests;
+#[cfg(test)]
 mod reading_tests;
 #[cfg(test)]
 mod route_tests;

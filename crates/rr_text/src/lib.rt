@@ -15,10 +15,6 @@ pub mod paragraph;
 pub mod paragraph_reader;
 pub mod paragraphs;
 pub mod reader;
-#[cfg(test)]
-mod reader_tests;
-#[cfg(test)]
-mod tests;
 pub mod text;
 pub mod value;
 

@@ -1,0 +1,17 @@
+//! Tests of the base crates: outside examples of texts and numbers, streams that fail, and walks of small graphs.
+#![tactic(auto)]
+
+#[cfg(test)]
+mod graph_tests;
+#[cfg(test)]
+mod io_tests;
+#[cfg(test)]
+mod name_tests;
+#[cfg(test)]
+mod number_tests;
+#[cfg(test)]
+mod reader_tests;
+#[cfg(test)]
+mod span_tests;
+#[cfg(test)]
+mod text_tests;

@@ -1,0 +1,7 @@
+//! Tests of stores over databases in memory.
+#![tactic(auto)]
+
+#[cfg(test)]
+mod migration_tests;
+#[cfg(test)]
+mod store_tests;

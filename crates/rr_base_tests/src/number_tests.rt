@@ -1,6 +1,6 @@
 //! Outside examples of addresses, prefixes, operators and ranges.
-use rr_number::*;
 use rr_io::{Counted, Cut};
+use rr_number::*;
 use std::alloc::AllocError;
 
 /// The text of the range that the prefix and operator of the text make; none where the operator drops it.

@@ -1,8 +1,8 @@
 //! Paragraphs read piece by piece: blocks, cuts, and readers that fail or never end.
 
 use crate::text_tests::{canonical, folded, sized};
-use rr_text::{Counted, Cut, ParagraphReader, Paragraphs, Source, TextFault, print};
 use rr_io::READ_SIZE;
+use rr_text::{Counted, Cut, ParagraphReader, Paragraphs, Source, TextFault, print};
 use std::alloc::Global;
 use std::io;
 use std::io::Read;

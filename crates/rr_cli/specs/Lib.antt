@@ -1,2 +1,6 @@
-pub mod ProgramFaults
-pub mod Programs
+pub mod Causes
+pub mod Faults
+pub mod Numbers
+pub mod SettingsFiles
+pub mod Troubles
+pub mod Submitted

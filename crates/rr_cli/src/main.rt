@@ -1,10 +1,19 @@
-//! The program `irrdesk`: submits standard input to a desk with the built-in settings, and prints the report.
+//! The program `irrdesk`: makes a registry, submits to it, and asks and serves what it has.
 #![tactic(auto)]
 
-mod program_fault;
+mod arguments;
+mod cause;
+mod commands;
+mod database;
+mod fault;
+mod output;
+mod progress;
 mod run;
+mod settings_file;
+mod settings_reading;
 #[cfg(test)]
-mod run_tests;
+mod tests;
+mod trouble;
 
 use rr_io::Counted;
 use std::env;
@@ -14,6 +23,6 @@ fn main(rt: HostRuntime) -> ExitCode {
     let mut input = Counted::new(rt.stdin());
     let mut output = Counted::new(rt.stdout());
     let mut errors = Counted::new(rt.stderr());
-    let arguments = env::args(&rt);
-    ExitCode::from(run::run(rt.alloc(), arguments, &mut input, &mut output, &mut errors))
+    let words = env::args(&rt);
+    ExitCode::from(run::run(&rt, words, &mut input, &mut output, &mut errors))
 }

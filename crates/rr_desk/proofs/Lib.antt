@@ -5,5 +5,13 @@ pub mod OpeningReads
 pub mod OpeningRegistry
 pub mod Following
 pub mod ListRows
-pub mod OpeningRows
+pub mod TakenApart
 pub mod Listed
+pub mod TurnLemmas
+pub mod MemoryLemmas
+pub mod AnswerLemmas
+pub mod LookupRows
+pub mod Loads
+pub mod Grown
+pub mod Migrated
+pub mod Sources

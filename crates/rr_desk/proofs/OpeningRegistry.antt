@@ -1,6 +1,6 @@
 -- The opening objects are a sound registry.
-use Rattle.std.proofs.Common.{◌≡◌, ℕ, List, [], ◌∷◌, Bool, true, false, Result, Ok, Err, refl, sym, ap, ◌∙◌, codes, map}
-use Rattle.std.specs.Prelude.{None, Some, find, is_none, position}
+use Rattle.std.proofs.Common.{◌≡◌, ℕ, List, [], ◌∷◌, Bool, true, false, not, Result, Ok, Err, refl, sym, ap, ◌∙◌, codes, map}
+use Rattle.std.specs.Prelude.{None, Some, position}
 use Rattle.std.specs.List.{list_any}
 use Rattle.std.specs.Str.{bytes_eq}
 use Rattle.rr_object.specs.declared.fault.ObjectFault.{ObjectFault}
@@ -9,7 +9,7 @@ use Rattle.rr_object.specs.Objects.{Obj, names_of}
 use Rattle.rr_object.specs.Readings.{obj_at, object_of}
 use Rattle.rr_auth.specs.Registries.{is_mntner_of}
 use Rattle.rr_registry.specs.Loading.{clash, load_fault}
-use Rattle.rr_registry.proofs.Gathering.{first_unnamed_is}
+use Rattle.rr_registry.proofs.Gathering.{found_fault}
 use Rattle.rr_desk.specs.Opening.{AreOpening, opening_paragraphs}
 use Rattle.rr_desk.specs.Settings.{IsSettings, SettingsParts}
 use Rattle.rr_desk.proofs.OpeningLines.{equal_texts}
@@ -51,11 +51,11 @@ unfolding obj_at
 unclashed s = refl
 
 -- each names the root alone, which is there
-found_root : (name : List ℕ) (a b c d : Obj) → a.key ≡ Mntner name → list_any (λ n. is_none (find (λ x. is_mntner_of n x.key) (a ∷ (b ∷ (c ∷ (d ∷ [])))))) (name ∷ []) ≡ false
+found_root : (name : List ℕ) (a b c d : Obj) → a.key ≡ Mntner name → list_any (λ n. not (list_any (λ x. is_mntner_of n x.key) (a ∷ (b ∷ (c ∷ (d ∷ [])))))) (name ∷ []) ≡ false
 found_root name a b c d key = rw (key, equal_texts name) refl
 
 named_by_root : (name : List ℕ) (a b c d : Obj) → a.key ≡ Mntner name → names_of a ≡ name ∷ [] → names_of b ≡ name ∷ [] → names_of c ≡ name ∷ [] → names_of d ≡ name ∷ []
-    → position (λ o. list_any (λ n. is_none (find (λ x. is_mntner_of n x.key) (a ∷ (b ∷ (c ∷ (d ∷ [])))))) (names_of o)) (a ∷ (b ∷ (c ∷ (d ∷ [])))) ≡ None
+    → position (λ o. list_any (λ n. not (list_any (λ x. is_mntner_of n x.key) (a ∷ (b ∷ (c ∷ (d ∷ [])))))) (names_of o)) (a ∷ (b ∷ (c ∷ (d ∷ [])))) ≡ None
 named_by_root name a b c d key na nb nc nd = rw (na, nb, nc, nd, found_root name a b c d key) refl
 
 root_key_is : (s : SettingsParts) → (root_object s).key ≡ Mntner s.root
@@ -63,13 +63,13 @@ unfolding obj_at
 root_key_is s = refl
 
 all_named : (s : SettingsParts) → IsSettings s
-    → position (λ o. list_any (λ n. is_none (find (λ x. is_mntner_of n x.key) (opening_objects s))) (names_of o)) (opening_objects s) ≡ None
+    → position (λ o. list_any (λ n. not (list_any (λ x. is_mntner_of n x.key) (opening_objects s))) (names_of o)) (opening_objects s) ≡ None
 all_named s is =
     named_by_root s.root (root_object s) (numbers_object s) (four_octets_object s) (addresses_object s) (root_key_is s) (root_named s is)
     (block_named numbers (codes "AS0 - AS65535") s is) (block_named four_octets (codes "AS65536 - AS4294967295") s is) (addresses_named s is)
 
 opening_is_sound : (s : SettingsParts) → IsSettings s → load_fault (opening_objects s) ≡ None
-opening_is_sound s is = rw (unclashed s, first_unnamed_is (opening_objects s), all_named s is)
+opening_is_sound s is = rw (unclashed s, found_fault (opening_objects s) None (sym (all_named s is)))
 
 -- so nothing is the matter with them
 pub opening_faultless : (s : SettingsParts) (objects : List Obj) → IsSettings s → AreOpening s objects → load_fault objects ≡ None

@@ -5,3 +5,12 @@ pub mod Stocks
 pub mod Private
 pub mod Settings
 pub mod Opened
+pub mod Turns
+pub mod MemoryTurns
+pub mod MemoryTold
+pub mod Answering
+pub mod Dumping
+pub mod Lookups
+pub mod LoadFaults
+pub mod Loaded
+pub mod Migrating

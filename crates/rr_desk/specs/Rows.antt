@@ -1,8 +1,9 @@
 -- What the store of a desk keeps of its registry, and what a change of the registry asks of the store (profile).
 use Rattle.std.specs.Prelude.{◌≡◌, IsTrue}
 use Rattle.sqlite_trees.specs.Tree.{Trees}
-use Rattle.sqlite.specs.State.{State}
+use Rattle.sqlite.specs.State.{State, HasCleanDisk}
 use Rattle.rr_auth.specs.Registries.{Reg}
+use Rattle.rr_rows.specs.Entries.{TreesOf}
 use Rattle.rr_rows.specs.Maps.{HasRows}
 
 -- the store is open, its rows are those of the registry, and a stop leaves these and no others
@@ -10,3 +11,8 @@ pub record Holds (registry : Reg) (now : State) : Type 0 where
   pub is_open : IsTrue now.is_open
   pub rows : HasRows registry now.now
   pub leaves : (trees : Trees) → now.may_leave trees → trees ≡ now.now.trees
+
+-- while the store is open its rows are those of the registry, and a stop leaves these and no others
+pub record KeepsRows (registry : Reg) (now : State) : Type 0 where
+  pub rows : HasCleanDisk now → IsTrue now.is_open → HasRows registry now.now
+  pub leaves : HasCleanDisk now → (trees : Trees) → now.may_leave trees → TreesOf (HasRows registry) trees

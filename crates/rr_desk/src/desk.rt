@@ -3,6 +3,7 @@
 ghost use Rattle.std.specs.Prelude.{◌≡◌, ℕ, Err, false, true, IfErr, IfOk, IsTrue};
 ghost use Rattle.sqlite.specs.Held.{state};
 ghost use Rattle.sqlite.specs.State.{HasCleanDisk, Survives};
+ghost use Rattle.rr_auth.specs.Sources.{IsRegistryOf};
 ghost use Rattle.rr_rows.specs.Made.{HasRow, IsVacant};
 ghost use Rattle.rr_rows.specs.Maps.{HasRows};
 ghost use Rattle.rr_store.specs.Opening.{IsOtherVersion};
@@ -17,7 +18,8 @@ ghost use Rattle.rr_desk.specs.Opening.{IsOpened};
 ghost use Rattle.rr_desk.specs.Rows.{Holds};
 ghost use Rattle.rr_desk.specs.Stocks.{stock_ledger};
 
-use crate::opened::{create_stored, open_stored, opening};
+use crate::opened::{create_stored, open_stored};
+use crate::opening::opening_registry;
 use crate::settings::Settings;
 use crate::stored::Stored;
 use rr_index::IndexedBook;
@@ -48,6 +50,7 @@ impl<S: Alter> Desk<S> {
         ensures running { IfOk result (λ d. d.stored.stopped ≡ false) }
         ensures settings { IfOk result (λ d. d.settings ≡ settings) }
         ensures opened { IfOk result (λ d. IsOpened settings d.stored.registry) }
+        ensures of_source { IfOk result (λ d. IsRegistryOf settings.source d.stored.registry) }
         ensures holds { IfOk result (λ d. HasCleanDisk (state S.Store d.stored.store) → Holds d.stored.registry (state S.Store d.stored.store)) }
         ensures vacant { IfOk result (λ d. HasCleanDisk (state S.Store d.stored.store) → IsVacant (state S.Store conn).now) }
         ensures crash { IfOk result (λ d. Survives (state S.Store conn) (state S.Store d.stored.store) (IsLeft (state S.Store conn).is_open (HasOpeningRows settings))) }
@@ -56,11 +59,13 @@ impl<S: Alter> Desk<S> {
         ensures err_crash { IfErr result (λ e. Survives (state S.Store conn) (state S.Store e.1) (IsLeft (state S.Store conn).is_open (HasOpeningRows settings))) }
         ensures err_autocommit { IfErr result (λ e. e.1.in_transaction ≡ false) }
     {
-        let Ok((registry, objects)) = opening(alloc, &settings) else {
+        let Ok(registry) = opening_registry(alloc, &settings) else {
             return Err((CreateFault::Memory, conn));
         };
-        match create_stored(alloc, conn, registry, &objects) {
+        match create_stored(alloc, conn, registry) {
             Ok(stored) => {
+                settings.are_good();
+                stored.registry().sound();
                 stored.holds();
                 Ok(Desk { settings, stored })
             }
@@ -78,6 +83,7 @@ impl<S: Alter> Desk<S> {
         requires autocommit { conn.in_transaction ≡ false }
         ensures running { IfOk result (λ d. d.stored.stopped ≡ false) }
         ensures settings { IfOk result (λ d. d.settings ≡ settings) }
+        ensures of_source { IfOk result (λ d. IsRegistryOf settings.source d.stored.registry) }
         ensures holds { IfOk result (λ d. HasCleanDisk (state S.Store d.stored.store) → Holds d.stored.registry (state S.Store d.stored.store)) }
         ensures rows { IfOk result (λ d. HasCleanDisk (state S.Store d.stored.store) → HasRows d.stored.registry (state S.Store conn).now) }
         ensures same { IfOk result (λ d. HasCleanDisk (state S.Store d.stored.store) → (state S.Store d.stored.store).now ≡ (state S.Store conn).now) }
@@ -101,6 +107,7 @@ impl<S: Alter> Desk<S> {
     pub fn reopen(self, alloc: Global) -> Result<Desk<S>, (OpenFault, Connection<S>)>
         ensures running { IfOk result (λ d. d.stored.stopped ≡ false) }
         ensures settings { IfOk result (λ d. d.settings ≡ self.settings) }
+        ensures of_source { IfOk result (λ d. IsRegistryOf self.settings.source d.stored.registry) }
         ensures holds { IfOk result (λ d. HasCleanDisk (state S.Store d.stored.store) → Holds d.stored.registry (state S.Store d.stored.store)) }
         ensures rows { IfOk result (λ d. HasCleanDisk (state S.Store d.stored.store) → HasRows d.stored.registry (state S.Store self.stored.store).now) }
         ensures same { IfOk result (λ d. HasCleanDisk (state S.Store d.stored.store) → (state S.Store d.stored.store).now ≡ (state S.Store self.stored.store).now) }
@@ -137,6 +144,7 @@ impl<S: Alter> Desk<S> {
         ensures runs { self.old.stored.stopped ≡ false → UnlessStoreFault result (self.new.stored.stopped ≡ false) }
         ensures rows { self.new.stored.stopped ≡ false → HasCleanDisk (state S.Store self.new.stored.store) → Holds self.new.stored.registry (state S.Store self.new.stored.store) }
         ensures settings { self.new.settings ≡ self.old.settings }
+        ensures of_source { IsRegistryOf self.old.settings.source self.old.stored.registry → IsRegistryOf self.new.settings.source self.new.stored.registry }
         ensures reader_aside { R.aside reader.new ≡ R.aside reader.old }
         ensures writer_aside { W.aside writer.new ≡ W.aside writer.old }
     {

@@ -1,17 +1,32 @@
-//! The desk: a registry with its opening objects, kept in tables, to which submissions are made.
+//! The desk: a registry kept in tables, to which submissions and queries are made, and which is dumped.
 #![tactic(auto)]
 
+mod answering;
 mod desk;
+mod dumping;
+mod loading;
+mod memory_peers;
+mod migrating;
 mod opened;
 pub mod opening;
+mod peers;
 mod plain_desk;
+mod service;
+mod serving;
 pub mod settings;
 mod stored;
 
+pub use answering::{Answered, WriteFault};
 pub use desk::Desk;
+pub use dumping::DumpFault;
+pub use loading::DeskLoadFault;
+pub use memory_peers::{MemoryConnection, MemoryInput, MemoryPeers, MemoryTurn};
 pub use opening::{opening_objects, opening_registry};
+pub use peers::{AcceptFault, ConnFault, Peers};
 pub use plain_desk::PlainDesk;
-pub use rr_store::{CreateFault, OpenFault};
+pub use rr_store::{CreateFault, MigrateFault, OpenFault};
 pub use rr_submission::{DeskFault, Done};
+pub use service::Service;
+pub use serving::{Served, serve_all};
 pub use settings::{Setting, Settings, SettingsFault};
 pub use stored::Stored;

@@ -1,23 +1,20 @@
 //! How a registry and the store of its rows come about: from tables that are there, or with new ones.
 
-ghost use Rattle.std.specs.Prelude.{◌≡◌, ℕ, false, map, IfErr, IfOk, IsTrue};
+ghost use Rattle.std.specs.Prelude.{◌≡◌, ℕ, false, IfErr, IfOk, IsTrue};
 ghost use Rattle.std.specs.List.{AllByRecursion};
-ghost use Rattle.sqlite.specs.Effect.{Database};
 ghost use Rattle.sqlite.specs.Held.{state};
 ghost use Rattle.sqlite.specs.State.{HasCleanDisk, Survives};
-ghost use Rattle.rr_rows.specs.Entries.{entry_of};
+ghost use Rattle.rr_auth.specs.Sources.{IsRegistryOf};
 ghost use Rattle.rr_rows.specs.Made.{HasRow, IsVacant};
-ghost use Rattle.rr_rows.specs.Maps.{HasRows, IsFilled, IsObject};
+ghost use Rattle.rr_rows.specs.Maps.{HasRows, IsObject};
 ghost use Rattle.rr_store.specs.Opening.{IsOtherVersion};
 ghost use Rattle.rr_rows.specs.Tables.{HasTables};
 ghost use Rattle.rr_store.specs.Kept.{IsLeft};
+ghost use Rattle.rr_store.specs.Lent.{lent};
 ghost use Rattle.rr_store.specs.declared.fault.CreateFault.TheVariants.{NotEmpty};
 ghost use Rattle.rr_store.specs.declared.fault.OpenFault.TheVariants.{BadRow, WrongVersion};
 ghost use Rattle.rr_desk.specs.Opened.{HasNoRegistry, open_fault};
-ghost use Rattle.rr_desk.specs.Opening.{IsOpened};
 
-use crate::opening::{opening_objects, opening_registry};
-use crate::settings::Settings;
 use crate::stored::Stored;
 use rr_index::IndexedBook;
 use rr_number::Name;
@@ -25,7 +22,7 @@ use rr_object::Object;
 use rr_registry::{LoadFault, Registry};
 use rr_store::{CreateFault, OpenFault, Store};
 use sqlite::{Alter, Connection};
-use std::alloc::{AllocError, Global};
+use std::alloc::Global;
 
 /// The registry of this source whose rows the tables hold, with its store.
 pub(crate) fn open_stored<S: Alter>(
@@ -35,6 +32,7 @@ pub(crate) fn open_stored<S: Alter>(
 ) -> Result<Stored<S>, (OpenFault, Connection<S>)>
     requires autocommit { conn.in_transaction ≡ false }
     ensures running { IfOk result (λ s. s.stopped ≡ false) }
+    ensures of_source { IfOk result (λ s. IsRegistryOf source.now s.registry) }
     ensures rows { IfOk result (λ s. HasCleanDisk (state S.Store s.store) → HasRows s.registry (state S.Store conn).now) }
     ensures same { IfOk result (λ s. HasCleanDisk (state S.Store s.store) → (state S.Store s.store).now ≡ (state S.Store conn).now) }
     ensures crash { IfOk result (λ s. Survives (state S.Store conn) (state S.Store s.store) (λ _. (state S.Store conn).is_open ≡ false)) }
@@ -46,7 +44,10 @@ pub(crate) fn open_stored<S: Alter>(
 {
     match Store::open_all(alloc, conn, source) {
         Ok((store, objects)) => match Registry::from_objects(alloc, objects) {
-            Ok(registry) => Ok(Stored::of(registry, store)),
+            Ok(registry) => {
+                registry.sound();
+                Ok(Stored::of(registry, store))
+            }
             Err(fault) => Err((refused(fault), store.close())),
         },
         Err(unopened) => Err(unopened),
@@ -65,15 +66,13 @@ fn refused(fault: LoadFault) -> OpenFault
     }
 }
 
-/// A registry with a new store, in tables that hold the rows of the list of its objects.
+/// A registry with a new store, in tables that hold the rows of its objects.
 pub(crate) fn create_stored<S: Alter>(
     alloc: Global,
     conn: Connection<S>,
     registry: Registry<IndexedBook>,
-    objects: &[Object],
 ) -> Result<Stored<S>, (CreateFault, Connection<S>)>
     requires autocommit { conn.in_transaction ≡ false }
-    requires rows { (db : Database) → IsFilled (map entry_of objects.now) db → HasRows registry db }
     ensures running { IfOk result (λ s. s.stopped ≡ false) }
     ensures registry { IfOk result (λ s. s.registry ≡ registry) }
     ensures vacant { IfOk result (λ s. HasCleanDisk (state S.Store s.store) → IsVacant (state S.Store conn).now) }
@@ -83,31 +82,41 @@ pub(crate) fn create_stored<S: Alter>(
     ensures err_crash { IfErr result (λ e. Survives (state S.Store conn) (state S.Store e.1) (IsLeft (state S.Store conn).is_open (HasRows registry))) }
     ensures err_autocommit { IfErr result (λ e. e.1.in_transaction ≡ false) }
 {
-    match Store::create(alloc, conn, objects) {
+    match create_store(alloc, conn, &registry) {
         Ok(store) => Ok(Stored::of(registry, store)),
         Err(unmade) => Err(unmade),
     }
 }
 
-/// The registry that opens with these settings, and the list of its objects; the error is want of memory.
-#[tactic(auto, using(crate::proofs::OpeningRows::opening_rows))]
-pub(crate) fn opening(
+/// The store of the rows of a registry, in new tables.
+fn create_store<S: Alter>(
     alloc: Global,
-    settings: &Settings,
-) -> Result<(Registry<IndexedBook>, Vec<Object>), AllocError>
-    ensures opened { IfOk result (λ opening. IsOpened settings.now opening.0) }
-    ensures rows { IfOk result (λ opening. (db : Database) → IsFilled (map entry_of opening.1.items) db → HasRows opening.0 db) }
+    conn: Connection<S>,
+    registry: &Registry<IndexedBook>,
+) -> Result<Store<S>, (CreateFault, Connection<S>)>
+    requires autocommit { conn.in_transaction ≡ false }
+    ensures rows { IfOk result (λ store. HasCleanDisk (state S.Store store) → HasRows registry.now (state S.Store store).now) }
+    ensures is_open { IfOk result (λ store. HasCleanDisk (state S.Store store) → IsTrue (state S.Store store).is_open) }
+    ensures vacant { IfOk result (λ store. HasCleanDisk (state S.Store store) → IsVacant (state S.Store conn).now) }
+    ensures crash { IfOk result (λ store. Survives (state S.Store conn) (state S.Store store) (IsLeft (state S.Store conn).is_open (HasRows registry.now))) }
+    ensures err { IfErr result (λ e. HasCleanDisk (state S.Store e.1) → IsTrue (state S.Store e.1).is_open → (state S.Store e.1).now ≡ (state S.Store conn).now) }
+    ensures not_empty { IfErr result (λ e. HasCleanDisk (state S.Store e.1) → e.0 ≡ NotEmpty → HasTables (state S.Store conn).now.schema × HasRow (state S.Store conn).now) }
+    ensures err_crash { IfErr result (λ e. Survives (state S.Store conn) (state S.Store e.1) (IsLeft (state S.Store conn).is_open (HasRows registry.now))) }
+    ensures err_autocommit { IfErr result (λ e. e.1.in_transaction ≡ false) }
 {
-    settings.are_good();
-    let registry = opening_registry(alloc, settings)?;
-    let objects = opening_objects(alloc, settings)?;
-    are_read(&objects);
-    Ok((registry, objects))
+    registry.sound();
+    match registry.objects(alloc) {
+        Ok(objects) => {
+            are_read(&objects);
+            Store::create(alloc, conn, &objects)
+        }
+        Err(_) => Err((CreateFault::Memory, conn)),
+    }
 }
 
 /// Tells a caller's proof that the objects are such as readers make; it does nothing.
-fn are_read(objects: &[Object])
-    ensures { AllByRecursion IsObject objects.now }
+fn are_read(objects: &[&Object])
+    ensures { AllByRecursion IsObject (lent objects.now) }
 {
     for object in objects {
         object.is_read_from_its_paragraph();

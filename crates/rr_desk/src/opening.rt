@@ -30,7 +30,7 @@ pub fn opening_objects(alloc: Global, settings: &Settings) -> Result<Vec<Object>
 }
 
 /// The objects with one more behind them.
-fn with(mut objects: Vec<Object>, object: Object) -> Result<Vec<Object>, AllocError>
+pub(crate) fn with(mut objects: Vec<Object>, object: Object) -> Result<Vec<Object>, AllocError>
     ensures { IfOk result (λ made. made.items ≡ objects.items ++ object ∷ []) }
 {
     objects.push(object)?;
@@ -76,7 +76,7 @@ fn numbers_object(alloc: Global, settings: &Settings) -> Result<Object, AllocErr
 
 /// The block of the other AS numbers of four octets (RFC 6793).
 #[tactic(auto, using(crate::proofs::OpeningReads::four_octets_readable, crate::proofs::OpeningReads::read_back))]
-fn four_octets_object(alloc: Global, settings: &Settings) -> Result<Object, AllocError>
+pub(crate) fn four_octets_object(alloc: Global, settings: &Settings) -> Result<Object, AllocError>
     ensures { IfOk result (IsObjectOf settings.now.source (four_octets_fields settings.now)) }
 {
     settings.are_good();

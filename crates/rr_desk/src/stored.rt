@@ -3,15 +3,19 @@
 ghost use Rattle.std.specs.Prelude.{◌≡◌, false, true, IsTrue, IfOk, OnErr, OnOk};
 ghost use Rattle.sqlite.specs.Held.{state};
 ghost use Rattle.sqlite.specs.State.{HasCleanDisk, Survives};
+ghost use Rattle.rr_answer.specs.declared.query.Query.TheVariants.{Naming};
+ghost use Rattle.rr_answer.specs.Selections.{asked};
 ghost use Rattle.rr_rows.specs.Entries.{TreesOf};
 ghost use Rattle.rr_rows.specs.Maps.{HasRows};
 ghost use Rattle.rr_desk.specs.Halts.{IsHalted, changes};
+ghost use Rattle.rr_desk.specs.Lookups.{is_refused};
 ghost use Rattle.rr_desk.specs.Private.{Follows, FollowsGain, key_of};
-ghost use Rattle.rr_desk.specs.Rows.{Holds};
+ghost use Rattle.rr_desk.specs.Rows.{Holds, KeepsRows};
 
 use rr_auth::{Book, Item, Secrets};
 use rr_index::IndexedBook;
-use rr_object::{Code, Key};
+use rr_number::Name;
+use rr_object::{Code, Key, Object};
 use rr_registry::{Outcome, Registry};
 use rr_store::{Store, StoreFault};
 use rr_submission::{Halted, Ledger};
@@ -78,6 +82,33 @@ impl<S: Alter> Stored<S> {
         let _stopped = self.stopped;
     }
 
+    /// Tells a caller's proof what a stop leaves; it does nothing.
+    pub fn keeps(&self)
+        ensures { self.now.stopped ≡ false → KeepsRows self.now.registry (state S.Store self.now.store) }
+    {
+        self.holds();
+    }
+
+    /// The objects that name the maintainer, by class and key, as the rows of this source have it. A fault of the store stops
+    /// it, and want of memory changes nothing.
+    pub(crate) fn naming(
+        &mut self,
+        alloc: Global,
+        source: &Name,
+        name: &Name,
+    ) -> Result<Vec<Object>, StoreFault>
+        requires running { self.old.stopped ≡ false }
+        ensures found { HasCleanDisk (state S.Store self.new.store) → IfOk result (λ objects. objects.items ≡ asked (Naming name.now) self.old.registry) }
+        ensures stops { self.new.stopped ≡ is_refused result }
+        ensures registry { self.new.registry ≡ self.old.registry }
+        ensures keeps { KeepsRows self.old.registry (state S.Store self.new.store) }
+    {
+        let found = self.store.naming(alloc, source, name);
+        self.store.settled();
+        self.stopped = is_refused(&found);
+        found
+    }
+
     /// The connection, whose rows stay.
     pub fn close(self) -> Connection<S>
         ensures same { result ≡ self.store }
@@ -116,6 +147,13 @@ impl<S: Alter> Ledger for Stored<S> {
             }
         }
     }
+}
+
+/// Whether the database refused.
+fn is_refused(found: &Result<Vec<Object>, StoreFault>) -> bool
+    ensures { result ≡ is_refused found.now }
+{
+    matches!(found, Err(StoreFault::Store))
 }
 
 /// The key that an item is about; the error is want of memory.

@@ -4,7 +4,8 @@ use Rattle.std.specs.Prelude.{Result}
 use Rattle.rr_io.specs.Told.{Told}
 use Rattle.rr_io.specs.Sending.{Takes, Writes}
 use Rattle.rr_io.proofs.Transfers.{Takes-then, TakesFront-then}
-use Rattle.rr_http.specs.Answering.{Answer, IsAnswered}
+use Rattle.rr_desk.specs.Turns.{Answer}
+use Rattle.rr_http.specs.Answering.{IsAnswered}
 
 writes_behind : {T E : Type 0} (old between new : Told) (head text : List ℕ) (result : Result T E) → Takes old between head → Writes between new text result → Writes old new (head ++ text) result
 writes_behind old between new head text (Ok t) p q = Takes-then head text p q

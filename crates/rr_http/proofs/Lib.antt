@@ -7,3 +7,6 @@ pub mod FrontReading
 pub mod AnswerLemmas
 pub mod BodyLemmas
 pub mod ServingLemmas
+pub mod ToldLemmas
+pub mod FaultLemmas
+pub mod DeskLemmas

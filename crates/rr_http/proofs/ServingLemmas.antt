@@ -2,8 +2,8 @@
 use Rattle.std.proofs.Common.{◌≡◌, ℕ, inr, Bool, List, length, subst}
 use Rattle.std.specs.Prelude.{nat_le}
 use Rattle.rr_io.specs.Told.{Told}
-use Rattle.rr_http.specs.declared.desk.Desk.{Ghosts}
-use Rattle.rr_http.specs.Answering.{Answer}
+use Rattle.rr_desk.specs.Turns.{Answer}
+use Rattle.rr_http.specs.declared.registrar.Registrar.{Ghosts}
 use Rattle.rr_http.specs.FrontLines.{speaks_http}
 use Rattle.rr_http.specs.Serving.{Serves, ServesWants}
 use Rattle.rr_http.specs.Wants.{FrontWants, ReadsFront, Wants}

@@ -7,33 +7,26 @@ use Rattle.rr_submission.specs.declared.submission.Done.{Done}
 use Rattle.rr_submission.specs.declared.submission.DeskFault.{DeskFault}
 use Rattle.rr_submission.specs.declared.submission.DeskFault.TheVariants as fault
 use Rattle.rr_submission.specs.Submissions.{Submits}
-use Rattle.rr_http.specs.declared.desk.DumpFault.{DumpFault}
-use Rattle.rr_http.specs.declared.desk.DumpFault.TheVariants as dump_fault
-use Rattle.rr_http.specs.declared.desk.ConnFault.{ConnFault}
-use Rattle.rr_http.specs.declared.desk.ConnFault.TheVariants as conn_fault
+use Rattle.rr_desk.specs.declared.dumping.DumpFault.{DumpFault}
+use Rattle.rr_desk.specs.declared.dumping.DumpFault.TheVariants as dump_fault
+use Rattle.rr_desk.specs.declared.peers.ConnFault.TheVariants as conn_fault
+use Rattle.rr_desk.specs.Dumping.{Dumps}
+use Rattle.rr_desk.specs.Turns.{Answer}
 use Rattle.rr_http.specs.declared.asking.Refusal.TheVariants.{Unavailable}
 use Rattle.rr_http.specs.Replies.{given_head, refusal_reply}
-
--- what a dump of this text writes: all of it, a front of it before a write failed or memory was refused; a desk that is not stopped
--- does not say that it is
-abbrev pub Dumps : List ℕ → Told → Told → Result (Unit {0}) DumpFault → Type 0
-Dumps text old new (Ok done) = Takes old new text
-Dumps text old new (Err dump_fault.Write) = TakesFront old new text
-Dumps text old new (Err dump_fault.Memory) = (front : List ℕ) × (rest : List ℕ) × (text ≡ front ++ rest) × Takes old new front
-Dumps text old new (Err dump_fault.Stopped) = ⊥
-
--- the answer to a connection: served, or a read or a write of it failed
-abbrev pub Answer : Type 0
-Answer = Result (Unit {0}) ConnFault
 
 -- this text is the whole reply: a write failed where a front of it was taken
 pub record Tells (text : List ℕ) (old new : Told) (result : Answer) : Type 0 where
   pub writes : Writes old new text result
   pub cause : result ≢ Err conn_fault.Read
 
--- the reply is that the request cannot be served now, and the desk was not asked
+-- the reply is that the request cannot be served now
+abbrev pub IsRefusedNow : Told → Told → Answer → Type 0
+IsRefusedNow old new result = Tells (refusal_reply Unavailable) old new result
+
+-- the reply is that, and the desk was not asked
 pub record IsUnavailable {D : Type 0} (before after : D) (old new : Told) (result : Answer) : Type 0 where
-  pub tells : Tells (refusal_reply Unavailable) old new result
+  pub tells : IsRefusedNow old new result
   pub same : after ≡ before
 
 -- the head of a reply could not be written, and the desk was not asked
@@ -55,8 +48,8 @@ AnswersQuery Answers stopped query before after old new result =
     ⊎ ((stopped ≡ false) × (IsHeadCut before after old new result ⊎ IsAnswered Answers given_head query before after old new result))
 
 -- want of memory ends the body of a dump early; the connection is served all the same (profile)
-abbrev pub dump_answer : Result (Unit {0}) DumpFault → Answer
-dump_answer (Ok done) = Ok done
+abbrev pub dump_answer : Result ℕ DumpFault → Answer
+dump_answer (Ok count) = Ok tt
 dump_answer (Err dump_fault.Write) = Err conn_fault.Write
 dump_answer (Err dump_fault.Memory) = Ok tt
 dump_answer (Err dump_fault.Stopped) = Ok tt
@@ -65,15 +58,15 @@ dump_answer (Err dump_fault.Stopped) = Ok tt
 pub record IsDumped (text : List ℕ) (old new : Told) (result : Answer) : Type 0 where
   pub between : Told
   pub head : Takes old between given_head
-  pub ended : Result (Unit {0}) DumpFault
+  pub ended : Result ℕ DumpFault
   pub dumps : Dumps text between new ended
   pub answer : result ≡ dump_answer ended
 
 -- the dump by HTTP
-abbrev pub AnswersDump : {D : Type 0} → List ℕ → Bool → D → D → Told → Told → Answer → Type 0
-AnswersDump text stopped before after old new result =
-    IsUnavailable before after old new result
-    ⊎ ((stopped ≡ false) × (after ≡ before) × ((TakesFront old new given_head × (result ≡ Err conn_fault.Write)) ⊎ IsDumped text old new result))
+abbrev pub AnswersDump : List ℕ → Bool → Told → Told → Answer → Type 0
+AnswersDump text stopped old new result =
+    IsRefusedNow old new result
+    ⊎ ((stopped ≡ false) × ((TakesFront old new given_head × (result ≡ Err conn_fault.Write)) ⊎ IsDumped text old new result))
 
 -- a reader of bytes in memory, with these left
 abbrev pub in_memory : List ℕ → ℕ → ℕ → Told

@@ -9,3 +9,6 @@ pub mod Bodies
 pub mod BodyReaders
 pub mod Answering
 pub mod Serving
+pub mod Faults
+pub mod ToldBytes
+pub mod DeskRegistrars

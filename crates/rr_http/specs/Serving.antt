@@ -9,9 +9,10 @@ use Rattle.rr_submission.specs.declared.submission.DeskFault.{DeskFault}
 use Rattle.rr_http.specs.declared.asking.Refusal.TheVariants.{Unavailable}
 use Rattle.rr_http.specs.declared.body_reading.BodyEnd.{BodyEnd}
 use Rattle.rr_http.specs.declared.body_reading.BodyEnd.TheVariants.{Whole, Short, Broken}
-use Rattle.rr_http.specs.declared.desk.ConnFault.TheVariants as conn_fault
-use Rattle.rr_http.specs.declared.desk.Desk.{Ghosts}
-use Rattle.rr_http.specs.Answering.{Answer, AnswersDump, AnswersQuery, IsAnswered, SubmitsBody, Tells}
+use Rattle.rr_desk.specs.declared.peers.ConnFault.TheVariants as conn_fault
+use Rattle.rr_desk.specs.Turns.{Answer}
+use Rattle.rr_http.specs.declared.registrar.Registrar.{Ghosts}
+use Rattle.rr_http.specs.Answering.{AnswersDump, AnswersQuery, IsAnswered, SubmitsBody, Tells}
 use Rattle.rr_http.specs.Bodies.{ReadsBody}
 use Rattle.rr_http.specs.Replies.{given_head, refusal_reply}
 use Rattle.rr_http.specs.Requests.{Asks, refused, submission, query, dump}
@@ -30,7 +31,7 @@ pub record IsSubmitted {D : Type 0} (desk : Ghosts D) (body : List ℕ) (size : 
   pub between : Told
   pub done : Result Done DeskFault
   pub head : Takes old between given_head
-  pub submits : SubmitsBody desk.ledger (desk.source before) body (size - length body) before after between new done
+  pub submits : SubmitsBody desk.ledger (desk.settings before).source body (size - length body) before after between new done
   pub answer : result ≡ answer_by end (nat_lt old.faults new.faults)
 
 -- or not even the head could be written, and nothing is submitted
@@ -62,7 +63,7 @@ ServesAsks desk begun (submission size) before after from_old from_new old new r
 ServesAsks desk begun (query escaped) before after from_old from_new old new result =
     (from_new ≡ from_old) × AnswersQuery desk.Answers (desk.stops before) (percent_decode escaped) before after old new result
 ServesAsks desk begun dump before after from_old from_new old new result =
-    (from_new ≡ from_old) × AnswersDump (desk.dumped before) (desk.stops before) before after old new result
+    (from_new ≡ from_old) × (after ≡ before) × AnswersDump (desk.dumped before) (desk.stops before) old new result
 
 -- what is done of what a connection wants whose front is this
 abbrev pub ServesWants : {D : Type 0} → Ghosts D → List ℕ → Wants → D → D → Told → Told → Told → Told → Answer → Type 0

@@ -7,11 +7,11 @@ ghost use Rattle.rr_http.specs.Replies.{given_head, refusal_reply};
 
 use crate::asking::{BODY_SIZE, Refusal};
 use crate::body::Body;
-use crate::desk::{ConnFault, Desk, DumpFault};
+use crate::registrar::Registrar;
 use crate::replying::{write_given_head, write_refusal};
 use percent_encoding::percent_decode;
+use rr_desk::{ConnFault, DeskFault, Done, DumpFault};
 use rr_io::Sink;
-use rr_submission::{DeskFault, Done};
 use std::alloc::{AllocError, Global};
 
 /// Refuses a request.
@@ -26,29 +26,31 @@ pub fn refuse<W: Sink>(writer: &mut W, refusal: Refusal) -> Result<(), ConnFault
 }
 
 /// Answers a query by whois (RFC 3912, 2).
-pub fn answer_whois<D: Desk, W: Sink>(
+pub fn answer_whois<D: Registrar, W: Sink>(
     alloc: Global,
     desk: &mut D,
     query: &[u8],
     writer: &mut W,
 ) -> Result<(), ConnFault>
     ensures answers { IsAnswered D.Answers [] query.now desk.old desk.new (W.told writer.old) (W.told writer.new) result }
+    ensures settings { D.settings desk.new ≡ D.settings desk.old }
     ensures aside { W.aside writer.new ≡ W.aside writer.old }
 {
     match desk.answer(alloc, query, writer) {
-        Ok(()) => Ok(()),
+        Ok(_) => Ok(()),
         Err(_) => Err(ConnFault::Write),
     }
 }
 
 /// Answers a query by HTTP, whose percent escapes are read first (RFC 3986, 2.1).
-pub fn answer_query<D: Desk, W: Sink>(
+pub fn answer_query<D: Registrar, W: Sink>(
     alloc: Global,
     desk: &mut D,
     escaped: &[u8],
     writer: &mut W,
 ) -> Result<(), ConnFault>
     ensures answers { AnswersQuery D.Answers (D.stops desk.old) (percent_decode escaped.now) desk.old desk.new (W.told writer.old) (W.told writer.new) result }
+    ensures settings { D.settings desk.new ≡ D.settings desk.old }
     ensures aside { W.aside writer.new ≡ W.aside writer.old }
 {
     if desk.stopped() {
@@ -70,7 +72,7 @@ fn decoded(alloc: Global, escaped: &[u8]) -> Result<Vec<u8>, AllocError>
 }
 
 /// Writes the head of a reply, and behind it the answer to a query.
-fn give_answer<D: Desk, W: Sink>(
+fn give_answer<D: Registrar, W: Sink>(
     alloc: Global,
     desk: &mut D,
     query: &[u8],
@@ -78,6 +80,7 @@ fn give_answer<D: Desk, W: Sink>(
 ) -> Result<(), ConnFault>
     ensures answers { IsHeadCut desk.old desk.new (W.told writer.old) (W.told writer.new) result
         ⊎ IsAnswered D.Answers given_head query.now desk.old desk.new (W.told writer.old) (W.told writer.new) result }
+    ensures settings { D.settings desk.new ≡ D.settings desk.old }
     ensures aside { W.aside writer.new ≡ W.aside writer.old }
 {
     match write_given_head(writer) {
@@ -87,12 +90,12 @@ fn give_answer<D: Desk, W: Sink>(
 }
 
 /// Gives the public dump by HTTP.
-pub fn give_dump<D: Desk, W: Sink>(
+pub fn give_dump<D: Registrar, W: Sink>(
     alloc: Global,
-    desk: &mut D,
+    desk: &D,
     writer: &mut W,
 ) -> Result<(), ConnFault>
-    ensures dumps { AnswersDump (D.dumped desk.old) (D.stops desk.old) desk.old desk.new (W.told writer.old) (W.told writer.new) result }
+    ensures dumps { AnswersDump (D.dumped desk.now) (D.stops desk.now) (W.told writer.old) (W.told writer.new) result }
     ensures aside { W.aside writer.new ≡ W.aside writer.old }
 {
     if desk.stopped() {
@@ -100,7 +103,7 @@ pub fn give_dump<D: Desk, W: Sink>(
     }
     match write_given_head(writer) {
         Ok(()) => match desk.dump(alloc, writer) {
-            Ok(()) => Ok(()),
+            Ok(_) => Ok(()),
             Err(fault) => dump_answer(fault),
         },
         Err(_) => Err(ConnFault::Write),
@@ -118,7 +121,7 @@ fn dump_answer(fault: DumpFault) -> Result<(), ConnFault>
 }
 
 /// Submits a body of which these bytes came, and `missing` more did not.
-pub fn submit_body<D: Desk, W: Sink>(
+pub fn submit_body<D: Registrar, W: Sink>(
     alloc: Global,
     desk: &mut D,
     bytes: &[u8],
@@ -127,7 +130,8 @@ pub fn submit_body<D: Desk, W: Sink>(
 ) -> Result<Done, DeskFault>
     requires small { length bytes.now ≤ BODY_SIZE }
     requires running { D.stops desk.old ≡ false }
-    ensures submits { SubmitsBody D.ledger (D.source desk.old) bytes.now missing desk.old desk.new (W.told writer.old) (W.told writer.new) result }
+    ensures submits { SubmitsBody D.ledger (D.settings desk.old).source bytes.now missing desk.old desk.new (W.told writer.old) (W.told writer.new) result }
+    ensures settings { D.settings desk.new ≡ D.settings desk.old }
     ensures aside { W.aside writer.new ≡ W.aside writer.old }
 {
     let mut body = Body::new(bytes, missing);

@@ -1,8 +1,19 @@
 //! Laws of connections, for readers and for the proofs of other crates. Nothing calls these functions.
 
+ghost use Rattle.rr_http.specs.ToldBytes.{BodyIsBehindItsHead, WantsByItsBytes};
 ghost use Rattle.rr_http.specs.Wants.{WantsByItsFront};
 
 /// What is wanted by the front of a connection is wanted by all that it gives, whatever may follow the front.
 pub fn wants_by_its_front()
     ensures { WantsByItsFront }
+{}
+
+/// What is found wanted by the front of a connection that tells its bytes is wanted by all of these.
+pub fn wants_by_its_bytes()
+    ensures { WantsByItsBytes }
+{}
+
+/// The body that is read of a connection that tells its bytes is what stands behind the head, up to its length.
+pub fn body_is_behind_its_head()
+    ensures { BodyIsBehindItsHead }
 {}

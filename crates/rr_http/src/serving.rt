@@ -2,6 +2,7 @@
 
 ghost use Rattle.std.specs.Prelude.{◌≡◌, ◌≤◌, ◌⊎◌, false, length, nat_le};
 ghost use Rattle.rr_http.specs.Asked.{seen};
+ghost use Rattle.rr_http.specs.Faults.{CanCount, TellsFaults};
 ghost use Rattle.rr_http.specs.Requests.{HasSmallSize};
 ghost use Rattle.rr_http.specs.Serving.{IsTakenIn, IsTurnedAway, Serves, ServesAsks, ServesWants, SubmitsRead, answer_by};
 ghost use Rattle.rr_http.specs.FrontLines.{speaks_http};
@@ -10,22 +11,25 @@ ghost use Rattle.rr_http.specs.Wants.{FrontWants, Wants};
 use crate::answering::{answer_query, answer_whois, give_dump, refuse, submit_body};
 use crate::asking::{Asked, BODY_SIZE, Refusal};
 use crate::body_reading::{BodyEnd, read_body};
-use crate::desk::{ConnFault, Desk};
 use crate::fronts::FRONT_SIZE;
+use crate::registrar::Registrar;
 use crate::replying::write_given_head;
 use crate::wanting::{Wanted, read_front, wanted_of};
+use rr_desk::ConnFault;
 use rr_io::{Connection, Sink};
 use std::alloc::Global;
 
 /// Serves one connection by whois or HTTP: reads what it wants, asks the desk, and writes the reply (RFC 3912, RFC 9112).
 /// The error is that a read or a write of the connection failed; where a read fails before it is known what the connection
 /// wants, nothing is written.
-pub fn serve_one<D: Desk, C: Connection>(
+pub fn serve_one<D: Registrar, C: Connection>(
     alloc: Global,
     desk: &mut D,
     connection: &mut C,
 ) -> Result<(), ConnFault>
-    ensures { Serves D.Desk desk.old desk.new (C.Source.told connection.old) (C.Source.told connection.new) (C.Sink.told connection.old) (C.Sink.told connection.new) result }
+    ensures serves { Serves D.Registrar desk.old desk.new (C.Source.told connection.old) (C.Source.told connection.new) (C.Sink.told connection.old) (C.Sink.told connection.new) result }
+    ensures faults { CanCount (C.Source.told connection.old) → CanCount (C.Sink.told connection.old) → TellsFaults (C.Source.told connection.old) (C.Source.told connection.new) (C.Sink.told connection.old) (C.Sink.told connection.new) result }
+    ensures settings { D.settings desk.new ≡ D.settings desk.old }
 {
     let mut front = [0u8; FRONT_SIZE];
     match read_front(connection, &mut front) {
@@ -35,14 +39,15 @@ pub fn serve_one<D: Desk, C: Connection>(
 }
 
 /// Serves a connection of which this front was read.
-fn serve_front<D: Desk, C: Connection>(
+fn serve_front<D: Registrar, C: Connection>(
     alloc: Global,
     desk: &mut D,
     front: &[u8],
     connection: &mut C,
 ) -> Result<(), ConnFault>
-    ensures { (wants : Wants) × FrontWants (speaks_http front.now) front.now (nat_le 8192 (length front.now)) wants
-        × ServesWants D.Desk front.now wants desk.old desk.new (C.Source.told connection.old) (C.Source.told connection.new) (C.Sink.told connection.old) (C.Sink.told connection.new) result }
+    ensures serves { (wants : Wants) × FrontWants (speaks_http front.now) front.now (nat_le 8192 (length front.now)) wants
+        × ServesWants D.Registrar front.now wants desk.old desk.new (C.Source.told connection.old) (C.Source.told connection.new) (C.Sink.told connection.old) (C.Sink.told connection.new) result }
+    ensures settings { D.settings desk.new ≡ D.settings desk.old }
 {
     match wanted_of(front) {
         Wanted::Whois(query) => answer_whois(alloc, desk, query, connection),
@@ -51,7 +56,7 @@ fn serve_front<D: Desk, C: Connection>(
 }
 
 /// Does what a request asks; these bytes came behind its head.
-fn serve_asked<D: Desk, C: Connection>(
+fn serve_asked<D: Registrar, C: Connection>(
     alloc: Global,
     desk: &mut D,
     begun: &[u8],
@@ -59,7 +64,8 @@ fn serve_asked<D: Desk, C: Connection>(
     connection: &mut C,
 ) -> Result<(), ConnFault>
     requires { HasSmallSize (seen asked) }
-    ensures { ServesAsks D.Desk begun.now (seen asked.entry) desk.old desk.new (C.Source.told connection.old) (C.Source.told connection.new) (C.Sink.told connection.old) (C.Sink.told connection.new) result }
+    ensures serves { ServesAsks D.Registrar begun.now (seen asked.entry) desk.old desk.new (C.Source.told connection.old) (C.Source.told connection.new) (C.Sink.told connection.old) (C.Sink.told connection.new) result }
+    ensures settings { D.settings desk.new ≡ D.settings desk.old }
 {
     match asked {
         Asked::Refused(refusal) => refuse(connection, refusal),
@@ -70,7 +76,7 @@ fn serve_asked<D: Desk, C: Connection>(
 }
 
 /// Reads a body of this size and submits it; these of its bytes came behind the head.
-fn take_in<D: Desk, C: Connection>(
+fn take_in<D: Registrar, C: Connection>(
     alloc: Global,
     desk: &mut D,
     begun: &[u8],
@@ -78,8 +84,9 @@ fn take_in<D: Desk, C: Connection>(
     connection: &mut C,
 ) -> Result<(), ConnFault>
     requires { size ≤ BODY_SIZE }
-    ensures { IsTurnedAway desk.old desk.new (C.Source.told connection.old) (C.Source.told connection.new) (C.Sink.told connection.old) (C.Sink.told connection.new) result
-        ⊎ IsTakenIn D.Desk begun.now size desk.old desk.new (C.Source.told connection.old) (C.Source.told connection.new) (C.Sink.told connection.old) (C.Sink.told connection.new) result }
+    ensures serves { IsTurnedAway desk.old desk.new (C.Source.told connection.old) (C.Source.told connection.new) (C.Sink.told connection.old) (C.Sink.told connection.new) result
+        ⊎ IsTakenIn D.Registrar begun.now size desk.old desk.new (C.Source.told connection.old) (C.Source.told connection.new) (C.Sink.told connection.old) (C.Sink.told connection.new) result }
+    ensures settings { D.settings desk.new ≡ D.settings desk.old }
 {
     if desk.stopped() {
         return refuse(connection, Refusal::Unavailable);
@@ -91,7 +98,7 @@ fn take_in<D: Desk, C: Connection>(
 }
 
 /// Submits a body of this size whose reading ended so, and writes the report behind the head of the reply.
-fn submit_read<D: Desk, W: Sink>(
+fn submit_read<D: Registrar, W: Sink>(
     alloc: Global,
     desk: &mut D,
     body: &[u8],
@@ -102,7 +109,8 @@ fn submit_read<D: Desk, W: Sink>(
     requires within { length body.now ≤ size }
     requires small { size ≤ BODY_SIZE }
     requires running { D.stops desk.old ≡ false }
-    ensures submits { SubmitsRead D.Desk body.now size end desk.old desk.new (W.told writer.old) (W.told writer.new) result }
+    ensures submits { SubmitsRead D.Registrar body.now size end desk.old desk.new (W.told writer.old) (W.told writer.new) result }
+    ensures settings { D.settings desk.new ≡ D.settings desk.old }
     ensures aside { W.aside writer.new ≡ W.aside writer.old }
 {
     let failed = writer.failed_writes();

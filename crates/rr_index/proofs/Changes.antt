@@ -1,6 +1,6 @@
 -- What is kept beside the objects, where an object takes the place of another.
-use Rattle.std.proofs.Common.{◌≡◌, ◌||◌, ℕ, List, Bool, true, false, cond, refl, sym, ap, subst, ◌∙◌}
-use Rattle.std.specs.Prelude.{Option, None, Some, is_some}
+use Rattle.std.proofs.Common.{◌≡◌, ◌||◌, ℕ, List, true, false, cond, refl, sym, ap, ◌∙◌}
+use Rattle.std.specs.Prelude.{None, Some, is_some}
 use Rattle.std.specs.BTreeMap.{BTreeMap}
 use Rattle.std.specs.FinMap.{contains_key, get, insert}
 use Rattle.std.specs.Ordering.{eq_by_cmp}

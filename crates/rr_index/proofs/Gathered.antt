@@ -1,7 +1,7 @@
 -- Objects in order that are put in one after the other.
 use Rattle.std.proofs.Common.{◌≡◌, Bool, true, false, cond, T, List, [], ◌∷◌, ◌++◌, map, append_assoc, refl, sym, ap, subst, ◌∙◌}
-use Rattle.std.specs.Prelude.{Option, None, Some, ◌&&◌}
-use Rattle.std.specs.FinMap.{get, insert, from_sorted, is_sorted, get-from_sorted, get-insert, same_map, find as find_entry}
+use Rattle.std.specs.Prelude.{None, Some, ◌&&◌}
+use Rattle.std.specs.FinMap.{get, insert, is_sorted, get-from_sorted, get-insert, same_map, find as find_entry}
 use Rattle.std.specs.FinMap.Entries.{below_all, find-append}
 use Rattle.std.specs.Ordering.{eq_by_cmp, is_eq, is_lt, ordering_reverse}
 use Rattle.std.specs.declared.cmp.Ordering.{Ordering}

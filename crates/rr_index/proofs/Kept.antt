@@ -1,8 +1,10 @@
 -- A map of objects by key and the registry that it is.
-use Rattle.std.proofs.Common.{◌≡◌, Bool, true, false, cond, T, List, [], ◌∷◌, ◌++◌, Bor, map, refl, sym, ap, subst, ◌∙◌}
+use Rattle.std.proofs.Common.{◌≡◌, Bool, true, false, cond, not, T, List, [], ◌∷◌, ◌++◌, Bor, refl, sym, ap, subst, ◌∙◌}
 use Rattle.std.specs.Prelude.{Option, None, Some, ◌&&◌, ◌||◌}
 use Rattle.std.specs.BTreeMap.{BTreeMap, Updates, get as at_key, is_at}
-use Rattle.std.specs.FinMap.{empty, get, insert, remove, values, from_sorted, is_sorted, entries-from_sorted, get-from_sorted, get-insert, get-remove, get-empty, same_map, find as find_entry}
+use Rattle.std.specs.BTreeMap.Range.{entries_between}
+use Rattle.std.specs.declared.ops.Bound.TheVariants.{Included}
+use Rattle.std.specs.FinMap.{empty, entries, get, insert, remove, values, from_sorted, is_sorted, entries-from_sorted, get-from_sorted, get-insert, get-remove, get-empty, same_map, find as find_entry}
 use Rattle.std.specs.FinMap.Entries.{below_all}
 use Rattle.std.specs.List.{AllByRecursion, cons_option, filter, filter_map, list_any}
 use Rattle.std.specs.List.Sorted.{IsStrictlySortedBy}
@@ -10,7 +12,7 @@ use Rattle.std.specs.Map.{keys_of, lookup, values_of}
 use Rattle.std.specs.Cmp.{eq_by_cmp_equiv}
 use Rattle.std.specs.declared.cmp.Ordering.{Ordering}
 use Rattle.std.specs.declared.cmp.Ordering.TheVariants.{Less}
-use Rattle.std.specs.Ordering.{eq_by_cmp, is_lt}
+use Rattle.std.specs.Ordering.{eq_by_cmp, is_le, is_lt}
 use Rattle.rr_auth.proofs.KeyLaws.{keys_total, keys_exact}
 use Rattle.rr_auth.specs.Registries.{Reg}
 use Rattle.rr_object.proofs.DerivedOrder.{derived_order}
@@ -19,6 +21,7 @@ use Rattle.rr_object.specs.declared.key.Key.{Key}
 use Rattle.rr_object.specs.KeyOrders.{key_cmp}
 use Rattle.rr_object.specs.Objects.{Obj}
 use Rattle.rr_sets.specs.Lists.{lent}
+use Rattle.rr_index.specs.KeyRanges.{lies_between}
 use Rattle.rr_index.specs.ObjectMaps.{registry_of, IsRising}
 
 -- the derived order of keys is their order
@@ -163,3 +166,24 @@ left_out p all left rest found o before step fails =
 -- what a pass over the values begins with
 pub values_first : (m : BTreeMap Key Obj) (r : Reg) (given begun : List Obj) → IsRising m → registry_of m ≡ r → given ≡ values_of m.entries → begun ≡ given → begun ≡ values r
 values_first m r given begun rise is rest start = start ∙ rest ∙ sym (registry_values m rise) ∙ ap values is
+
+-- what a part of the entries holds
+pub part_of : (m : BTreeMap Key Obj) (r : Reg) (low high first last : Key) → low ≡ first → high ≡ last → IsRising m → registry_of m ≡ r
+    → entries_between (derived.ghosts).cmp (Included low) (Included high) m.entries ≡ filter (λ e. lies_between first last e.0) (entries r)
+part_of m r low high first last from to rise is =
+    (λ i. filter (λ (e : Key × Obj). is_le (one_order i (from i) e.0) && not (is_lt (one_order i (to i) e.0))) m.entries)
+    ∙ ap (filter (λ (e : Key × Obj). lies_between first last e.0)) (sym (entries-from_sorted key_cmp m.entries (T_of rise)) ∙ ap entries is)
+
+-- what a pass over entries begins with, and one more object of them
+pub found_next : (found more : List (Bor Obj)) (o : Bor Obj) (k : Key) (os : List Obj) (left rest : List (Key × Obj)) → lent found ++ values_of left ≡ os → left ≡ (k, o.now) ∷ rest → more ≡ found ++ o ∷ []
+    → lent more ++ values_of rest ≡ os
+found_next found more o k os left rest before step put = found_one found more o os (values_of left) (values_of rest) before (ap values_of step) put
+
+-- one more origin of the objects of entries, or none
+pub given_more_next : {X : Type 0} (f : Obj → Option X) (os : List Obj) (left rest : List (Key × Obj)) (found more : List X) (o : Obj) (k : Key) (x : X) → found ++ filter_map f (values_of left) ≡ filter_map f os
+    → left ≡ (k, o) ∷ rest → f o ≡ Some x → more ≡ found ++ x ∷ [] → more ++ filter_map f (values_of rest) ≡ filter_map f os
+given_more_next f os left rest found more o k x before step gives put = given_more f os (values_of left) (values_of rest) found more o x before (ap values_of step) gives put
+
+pub given_none_next : {X : Type 0} (f : Obj → Option X) (os : List Obj) (left rest : List (Key × Obj)) (found : List X) (o : Obj) (k : Key) → found ++ filter_map f (values_of left) ≡ filter_map f os
+    → left ≡ (k, o) ∷ rest → f o ≡ None → found ++ filter_map f (values_of rest) ≡ filter_map f os
+given_none_next f os left rest found o k before step gives = given_none f os (values_of left) (values_of rest) found o before (ap values_of step) gives

@@ -4,6 +4,7 @@ pub mod Kept
 pub mod Listed
 pub mod MntnerNames
 pub mod Questions
+pub mod Ranges
 pub mod Referrers
 pub mod Routed
 pub mod Spans

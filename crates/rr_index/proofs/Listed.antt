@@ -1,6 +1,6 @@
 -- The objects of a sound registry, as a list in order.
 use Rattle.std.proofs.Common.{◌≡◌, ℕ, Bool, true, false, cond, ◌&&◌, T, List, [], ◌∷◌, map, Bor, refl, sym, ap, subst, ◌∙◌}
-use Rattle.std.specs.Prelude.{Option, None, Some, find}
+use Rattle.std.specs.Prelude.{None, Some, find}
 use Rattle.std.specs.BTreeSet.{BTreeSet}
 use Rattle.std.specs.BTreeMap.{BTreeMap, get as keys_at}
 use Rattle.std.specs.Cmp.Lexicographic.{slice_cmp}
@@ -62,7 +62,8 @@ own_entries (e ∷ es) sorted keyed =
     λ i. (own i, e.1) ∷ rest i
 
 module _ (r : Reg) (sound : Sound r) where
-  whole : map entry (values r) ≡ entries r
+  -- each object stands under its own key
+  pub whole : map entry (values r) ≡ entries r
   whole = own_entries (entries r) (entries_sorted r) (λ k o f. sound.keyed k o (get-entries r k ∙ f))
 
   ordered : is_in_order (values r) ≡ true

@@ -1,5 +1,5 @@
 -- The keys of maintainers by name, as objects come and go.
-use Rattle.std.proofs.Common.{◌≡◌, ◌||◌, ◌&&◌, ℕ, Bool, true, false, cond, not, List, [], refl, sym, ap, subst, ◌∙◌}
+use Rattle.std.proofs.Common.{◌≡◌, ◌||◌, ◌&&◌, ℕ, Bool, true, false, cond, not, List, [], refl, sym, ap, ◌∙◌}
 use Rattle.std.specs.Prelude.{Option, None, Some, is_some}
 use Rattle.std.specs.BTreeMap.{BTreeMap, get as key_at, is_at}
 use Rattle.std.specs.Cmp.Lexicographic.{slice_cmp}

@@ -1,15 +1,13 @@
 -- What the spans of a registry's objects say of its closest objects, and of what crosses a span.
-use Rattle.std.proofs.Common.{◌≡◌, ◌≤◌, ℕ, Bool, true, false, List, refl, sym, ap, subst, ◌∙◌}
+use Rattle.std.proofs.Common.{◌≡◌, Bool, true, false, refl, sym, ap, ◌∙◌}
 use Rattle.std.specs.Prelude.{Option, None, Some, is_some}
-use Rattle.std.specs.List.{list_any}
 use Rattle.std.specs.FinMap.{contains_key, get, values}
-use Rattle.std.proofs.lemmas.Bool.{true≢false}
 use Rattle.rr_number.specs.Prefixes.{PrefixParts, span_of}
-use Rattle.rr_number.specs.Spans.{Ends, IsSpan, covers, crosses, size}
+use Rattle.rr_number.specs.Spans.{Ends, IsSpan, crosses}
 use Rattle.rr_object.specs.declared.key.Key.{Key}
 use Rattle.rr_object.specs.declared.key.Key.TheVariants.{AsBlock, AsSet, AutNum, Inetnum, Mntner, Route, RouteSet}
 use Rattle.rr_object.specs.Objects.{Obj}
-use Rattle.rr_auth.proofs.Covers.{IsClosestAt, closest_none, closest_there}
+use Rattle.rr_auth.proofs.Covers.{closest_none, closest_there}
 use Rattle.rr_auth.proofs.Members.{found_in, none_passes, passing_one, stands_at}
 use Rattle.rr_auth.proofs.RouteSpace.{block_key, blocks_exact, blocks_nested, closest_routes_none, closest_routes_there, inetnum_key, inetnums_exact, inetnums_nested, route_key}
 use Rattle.rr_auth.specs.Closest.{block_span, closest_block, closest_inetnum, closest_routes, inetnum_span, route_prefix, route_span}
@@ -18,7 +16,7 @@ use Rattle.rr_auth.specs.Registries.{Reg, Sound, keys_cross}
 use Rattle.rr_book.proofs.Crossing.{none_crosses}
 use Rattle.rr_cover.proofs.Ordered.{crosses_found, crosses_missed}
 use Rattle.rr_cover.specs.SpanMaps.{IsClosest, NoneCovers, SpanMap, crosses_some}
-use Rattle.rr_index.specs.SpanIndexes.{HasSpans, IsRouted}
+use Rattle.rr_index.specs.SpanIndexes.{HasSpans}
 
 there_is : {A : Type 0} (v : Option A) → is_some v ≡ true → (x : A) × (v ≡ Some x)
 there_is None e = cc

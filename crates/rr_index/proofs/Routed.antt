@@ -1,13 +1,12 @@
 -- What a pass over the objects says of the routes of a prefix.
-use Rattle.std.proofs.Common.{◌≡◌, ℕ, Bool, true, false, cond, List, refl, sym, ap, subst, ◌∙◌}
-use Rattle.std.specs.Prelude.{Option, None, Some, is_some, ◌==◌, ◌&&◌}
+use Rattle.std.proofs.Common.{◌≡◌, ℕ, Bool, true, false, cond, refl, sym, ap, subst, ◌∙◌}
+use Rattle.std.specs.Prelude.{None, Some, is_some, ◌==◌}
 use Rattle.std.specs.List.{list_any}
 use Rattle.std.specs.FinMap.{contains_key, get, remove, values}
 use Rattle.std.proofs.lemmas.Bool.{and_from, and_parts, eq-eqb, eqb-true, true≢false}
 use Rattle.rr_number.specs.Prefixes.{PrefixParts}
 use Rattle.rr_object.specs.declared.key.Key.{Key}
 use Rattle.rr_object.specs.declared.key.Key.TheVariants.{AsBlock, AsSet, AutNum, Inetnum, Mntner, Route, RouteSet}
-use Rattle.rr_object.specs.Objects.{Obj}
 use Rattle.rr_auth.proofs.Members.{found_in, none_passes, passing_one, stands_at}
 use Rattle.rr_auth.specs.Closest.{origin_at, same_prefix}
 use Rattle.rr_auth.specs.Registries.{Reg, Sound}

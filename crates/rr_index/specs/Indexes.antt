@@ -1,12 +1,6 @@
 -- What is kept beside the objects of a registry.
-use Rattle.std.specs.Prelude.{◌≡◌, ℕ, List}
-use Rattle.std.specs.BTreeMap.{BTreeMap}
-use Rattle.std.specs.BTreeSet.{BTreeSet}
-use Rattle.rr_number.specs.Prefixes.{PrefixParts}
-use Rattle.rr_object.specs.declared.key.Key.{Key}
 use Rattle.rr_auth.specs.Registries.{Reg, Sound}
 use Rattle.rr_book.specs.SetIndexes.{HasReferrers}
-use Rattle.rr_cover.specs.SpanMaps.{SpanMap}
 use Rattle.rr_index.specs.NameIndexes.{HasNames}
 use Rattle.rr_index.specs.SpanIndexes.{HasSpans}
 use Rattle.rr_index.specs.declared.indexes.Indexes.{Indexes}

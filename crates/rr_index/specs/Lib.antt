@@ -1,4 +1,5 @@
 pub mod Indexes
+pub mod KeyRanges
 pub mod NameIndexes
 pub mod ObjectMaps
 pub mod SpanIndexes

@@ -10,15 +10,15 @@ use rr_auth::Book;
 use rr_book::Keeper;
 use rr_book::set_index::sets_named;
 use rr_number::{AsNumber, AsSpan, Name, Prefix, SetName, Span};
-use rr_object::{Class, Key, Object};
+use rr_object::{Key, Object};
 use rr_sets::SetBook;
 use std::alloc::{AllocError, Global};
 use std::marker::Model;
 
 /// Objects by key in a balanced tree, their spans in nests, the names of the maintainers, and the keys under the sets that
 /// they name in `member-of`; contracts see the finite map from keys to objects. It is always sound. A key, a maintainer,
-/// a closest inetnum, as-block or route, and a crossing are found in O(log n) steps for n objects, the k referrers of a set
-/// in O(k log n), and each other answer by one pass over the objects.
+/// a closest inetnum, as-block or route, and a crossing are found in O(log n) steps for n objects; k aut-nums, routes or
+/// origins, or referrers of a set, in O(k log n), and each other answer by one pass over the objects.
 #[derive(Drop)]
 pub struct IndexedBook {
     objects: ObjectMap,
@@ -136,12 +136,12 @@ impl Book for IndexedBook {
 impl SetBook for IndexedBook {
     fn aut_nums(&self, alloc: Global) -> Result<Vec<&Object>, AllocError> {
         self.sound();
-        self.objects.of_class(alloc, Class::AutNum)
+        self.objects.aut_nums(alloc)
     }
 
     fn routes(&self, alloc: Global) -> Result<Vec<&Object>, AllocError> {
         self.sound();
-        self.objects.of_class(alloc, Class::Route)
+        self.objects.routes(alloc)
     }
 
     fn referrers(&self, alloc: Global, name: &SetName) -> Result<Vec<&Object>, AllocError> {

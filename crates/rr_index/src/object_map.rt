@@ -1,23 +1,30 @@
 //! Objects by key.
 
-ghost use Rattle.std.specs.Prelude.{◌≡◌, None, Some, filter, is_some, IfErr, IfOk, OnErr, OnOk};
-ghost use Rattle.std.specs.FinMap.{empty, get, insert, remove, values};
+ghost use Rattle.std.specs.Prelude.{◌≡◌, None, Some, false, filter, is_some, IfErr, IfOk, OnErr, OnOk};
+ghost use Rattle.std.specs.FinMap.{empty, entries, get, insert, remove, values};
 ghost use Rattle.std.specs.List.{filter_map, list_any};
 ghost use Rattle.std.specs.List.Sorted.{IsStrictlySortedBy};
+ghost use Rattle.std.specs.Map.{values_of};
 ghost use Rattle.std.specs.Option.{option_copied};
+ghost use Rattle.std.specs.Ordering.{is_gt};
+ghost use Rattle.rr_number.specs.AsNumbers.{greatest_as_number};
+ghost use Rattle.rr_object.specs.declared.class.Class.TheVariants as class;
+ghost use Rattle.rr_object.specs.declared.key.Key.TheVariants.{Route};
+ghost use Rattle.rr_object.specs.KeyOrders.{key_cmp};
 ghost use Rattle.rr_auth.specs.Closest.{origin_at, origins_among};
 ghost use Rattle.rr_auth.specs.Registries.{Reg, Sound, names_another};
 ghost use Rattle.rr_book.specs.Listings.{covers_span, lies_in};
 ghost use Rattle.rr_book.specs.SetLists.{is_of_class};
 ghost use Rattle.rr_sets.specs.Lists.{lent};
+ghost use Rattle.rr_index.specs.KeyRanges.{lies_between};
 ghost use Rattle.rr_index.specs.SpanIndexes.{IsTold};
 
 use rr_book::listings::{covers_span, lies_in};
 use rr_book::lists::{names_another, origin_at};
-use rr_book::set_book::is_of_class;
-use rr_number::{AsNumber, Name, Prefix, Span};
-use rr_object::{Class, Key, Object};
+use rr_number::{Address, AsNumber, Name, Prefix, Span};
+use rr_object::{Key, Object};
 use std::alloc::{AllocError, AllocFailed, Global};
+use std::collections::btree_map::Range;
 use std::collections::{BTreeMap, BTreeSet};
 use std::marker::Model;
 use std::mem;
@@ -132,17 +139,46 @@ impl ObjectMap {
         Ok(found)
     }
 
-    /// The objects of the class, in the order of their keys, by a pass over all; the error is want of memory.
-    pub(crate) fn of_class(&self, alloc: Global, class: Class) -> Result<Vec<&Object>, AllocError>
-        ensures { IfOk result (λ found. lent found.items ≡ filter (is_of_class class) (values self.now)) }
+    /// The aut-nums, in the order of their numbers; the error is want of memory.
+    pub(crate) fn aut_nums(&self, alloc: Global) -> Result<Vec<&Object>, AllocError>
+        requires { Sound self.now }
+        ensures { IfOk result (λ found. lent found.items ≡ filter (is_of_class class.AutNum) (values self.now)) }
+    {
+        let lowest = AsNumber::new(0);
+        let highest = AsNumber::new(u32::MAX);
+        self.listed(alloc, Key::AutNum(lowest), Key::AutNum(highest))
+    }
+
+    /// The routes, in the order of their keys; the error is want of memory.
+    pub(crate) fn routes(&self, alloc: Global) -> Result<Vec<&Object>, AllocError>
+        requires { Sound self.now }
+        ensures { IfOk result (λ found. lent found.items ≡ filter (is_of_class class.Route) (values self.now)) }
+    {
+        let lowest = Address::from_bits(0);
+        let highest = Address::from_bits(u32::MAX);
+        let first = Prefix::new(lowest, 0);
+        let last = Prefix::new(highest, 32);
+        self.listed(alloc, first_of(first), last_of(last))
+    }
+
+    /// The objects whose keys lie from one key to another, in the order of class and key; the error is want of memory.
+    fn listed(&self, alloc: Global, first: Key, last: Key) -> Result<Vec<&Object>, AllocError>
+        requires { is_gt (key_cmp first last) ≡ false }
+        ensures { IfOk result (λ found. lent found.items ≡ values_of (filter (λ e. lies_between first last e.0) (entries self.now))) }
     {
         let mut found = Vec::new(alloc);
-        for object in self.entries.values() {
-            if is_of_class(object, class) {
-                found.push(object)?;
-            }
+        for (_, object) in self.between(first, last) {
+            found.push(object)?;
         }
         Ok(found)
+    }
+
+    /// The objects whose keys lie from one key to another, with their keys, in the order of class and key.
+    fn between(&self, first: Key, last: Key) -> Range<'_, Key, Object>
+        requires { is_gt (key_cmp first last) ≡ false }
+        ensures { result ≡ filter (λ e. lies_between first last e.0) (entries self.now) }
+    {
+        self.entries.range(first..=last)
     }
 
     /// The inetnums and routes that cover the span, in the order of class and key, by a pass over all; the error is want of
@@ -173,12 +209,13 @@ impl ObjectMap {
         Ok(found)
     }
 
-    /// The origins of the routes of the prefix, by a pass over all objects; the error is want of memory.
+    /// The origins of the routes of the prefix, ascending; the error is want of memory.
     pub(crate) fn origins(&self, alloc: Global, prefix: Prefix) -> Result<Vec<AsNumber>, AllocError>
+        requires { Sound self.now }
         ensures { IfOk result (λ v. v.items ≡ origins_among (values self.now) prefix) }
     {
         let mut origins = Vec::new(alloc);
-        for object in self.entries.values() {
+        for (_, object) in self.between(first_of(prefix), last_of(prefix)) {
             if let Some(origin) = origin_at(object.key(), prefix) {
                 origins.push(origin)?;
             }
@@ -198,9 +235,10 @@ impl ObjectMap {
         false
     }
 
-    /// Whether a route of the key's prefix is there, by a pass over all; no for a key that is no route's.
+    /// Whether a route of the key's prefix is there; no for a key that is no route's.
     pub(crate) fn is_routed(&self, key: &Key) -> bool
-        ensures { (r : Reg) → Sound self.now → self.now ≡ remove r key.now → IsTold r key.now result }
+        requires { Sound self.now }
+        ensures { (r : Reg) → self.now ≡ remove r key.now → IsTold r key.now result }
     {
         match key {
             Key::Route(prefix, _) => self.has_route(*prefix),
@@ -210,13 +248,25 @@ impl ObjectMap {
 
     /// Whether a route of the prefix is there.
     fn has_route(&self, prefix: Prefix) -> bool
+        requires { Sound self.now }
         ensures { result ≡ list_any (λ o. is_some (origin_at prefix o.key)) (values self.now) }
     {
-        for object in self.entries.values() {
-            if origin_at(object.key(), prefix).is_some() {
-                return true;
-            }
-        }
-        false
+        self.between(first_of(prefix), last_of(prefix))
+            .next()
+            .is_some()
     }
+}
+
+/// The least key that a route of the prefix can have.
+fn first_of(prefix: Prefix) -> Key
+    ensures { result ≡ Route prefix 0 }
+{
+    Key::Route(prefix, AsNumber::new(0))
+}
+
+/// The greatest key that a route of the prefix can have.
+fn last_of(prefix: Prefix) -> Key
+    ensures { result ≡ Route prefix greatest_as_number }
+{
+    Key::Route(prefix, AsNumber::new(u32::MAX))
 }

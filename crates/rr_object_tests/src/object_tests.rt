@@ -1,6 +1,6 @@
 //! Outside examples of objects, keys and their faults.
-use rr_object::{Class, Key, Member, Object, ObjectFault, public, read_auth};
 use rr_number::Name;
+use rr_object::{Class, Key, Member, Object, ObjectFault, public, read_auth};
 use rr_text::{Paragraph, next_paragraph, print};
 use std::alloc::Global;
 use std::test::Fail;

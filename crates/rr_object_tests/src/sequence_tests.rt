@@ -1,7 +1,7 @@
 //! Sequences of a seeded generator on each collection, their answers compared.
-use rr_cover::{PrefixTree, SpanList, SpanNest};
 use rand_core::utils::NextWord;
 use rand_pcg::Pcg32;
+use rr_cover::{PrefixTree, SpanList, SpanNest};
 use rr_number::{Address, Prefix, Span};
 use std::alloc::Global;
 use std::test::Fail;

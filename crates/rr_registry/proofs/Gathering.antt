@@ -135,29 +135,23 @@ gathered_is_book os grown g e =
       };
     }
 
+-- what is found passes, and what passes is found
+found_any : (p : Obj → Bool) (os : List Obj) → is_some (find p os) ≡ list_any p os
+found_any p [] = refl
+found_any p (x ∷ xs) = some_cond (p x) x (find p xs) ∙ ap (λ b. p x || b) (found_any p xs)
+
 -- a name that is of no mntner in a list is of none in what is gathered
-known_in_list : (os : List Obj) (n : List ℕ) → is_none (maintainer (gathered empty os) n) ≡ is_none (find (λ x. is_mntner_of n x.key) os)
+known_in_list : (os : List Obj) (n : List ℕ) → is_none (maintainer (gathered empty os) n) ≡ not (list_any (λ x. is_mntner_of n x.key) os)
 known_in_list os n =
     ap not (stands_gathered empty os (Mntner n) ∙ ap (λ s. is_some s || is_some (find (λ o. eq_by_cmp key_cmp (Mntner n) o.key) os)) (get-empty key_cmp (Mntner n))
-    ∙ ap is_some (by_name n os))
+    ∙ ap is_some (by_name n os) ∙ found_any (λ x. is_mntner_of n x.key) os)
 
-all_known : (os : List Obj) (ns : List (List ℕ)) → names_nobody (gathered empty os) ns ≡ list_any (λ n. is_none (find (λ x. is_mntner_of n x.key) os)) ns
+all_known : (os : List Obj) (ns : List (List ℕ)) → names_nobody (gathered empty os) ns ≡ list_any (λ n. not (list_any (λ x. is_mntner_of n x.key) os)) ns
 all_known os [] = refl
 all_known os (n ∷ ns) = λ i. known_in_list os n i || all_known os ns i
 
 same_position : (p q : Obj → Bool) → ((o : Obj) → p o ≡ q o) → (os : List Obj) → position p os ≡ position q os
 same_position p q h os = ap (λ f. position f os) (λ i o. h o i)
-
--- the first object that names nobody in the list is the first that names nobody in what is gathered
-pub first_unnamed_is : (os : List Obj)
-    → unnamed (gathered empty os) os
-    ≡ option_map (λ i. Unnamed (i + 1)) (position (λ o. list_any (λ n. is_none (find (λ x. is_mntner_of n x.key) os)) (names_of o)) os)
-first_unnamed_is os = ap (option_map (λ i. Unnamed (i + 1))) (same_position _ _ (λ o. all_known os (names_of o)) os)
-
--- what is found passes, and what passes is found
-found_any : (p : Obj → Bool) (os : List Obj) → is_some (find p os) ≡ list_any p os
-found_any p [] = refl
-found_any p (x ∷ xs) = some_cond (p x) x (find p xs) ∙ ap (λ b. p x || b) (found_any p xs)
 
 -- an object that is put into a list that does not have its key is one more of them
 or_front : (a b c : Bool) → (a || (b || c)) ≡ (b || (a || c))
@@ -198,40 +192,26 @@ clash_next before grown n o os t =
     ∙ clash_same (before ++ o ∷ []) grown (n + 1) os
     (λ p. list_any-append p before _ ∙ (or_back (p o) (list_any p before) ∙ sym (t.joined p)))
 
-pub is_duplicate : (os : List Obj) (n : ℕ) (o : Obj) → is_some (find (λ x. eq_by_cmp key_cmp o.key x.key) os) ≡ true
-    → clash_of os n o ≡ Some (Duplicate n)
-is_duplicate os n o e =
-    ap (λ b. if b then Some (Duplicate n) else (if is_crossed_by_some o.key os then Some (Overlap n) else None)) (sym (found_any _ os) ∙ e)
+pub is_duplicate : (os : List Obj) (n : ℕ) (o : Obj) → is_key_of_some o.key os ≡ true → clash_of os n o ≡ Some (Duplicate n)
+is_duplicate os n o e = ap (λ b. if b then Some (Duplicate n) else (if is_crossed_by_some o.key os then Some (Overlap n) else None)) e
 
-pub is_overlap : (os : List Obj) (n : ℕ) (o : Obj) → is_some (find (λ x. eq_by_cmp key_cmp o.key x.key) os) ≡ false
-    → list_any (λ x. keys_cross x.key o.key) os ≡ true → clash_of os n o ≡ Some (Overlap n)
+pub is_overlap : (os : List Obj) (n : ℕ) (o : Obj) → is_key_of_some o.key os ≡ false → is_crossed_by_some o.key os ≡ true → clash_of os n o ≡ Some (Overlap n)
 is_overlap os n o e f =
-    ap (λ b. if b then Some (Duplicate n) else (if is_crossed_by_some o.key os then Some (Overlap n) else None)) (sym (found_any _ os) ∙ e)
+    ap (λ b. if b then Some (Duplicate n) else (if is_crossed_by_some o.key os then Some (Overlap n) else None)) e
     ∙ ap (λ b. if b then Some (Overlap n) else None) f
 
 pub taken_in : (os : List Obj) (n : ℕ) (o : Obj) (grown : List Obj) → IsApart os → IsKeyValue o.key
-    → is_some (find (λ x. eq_by_cmp key_cmp o.key x.key) os) ≡ false → list_any (λ x. keys_cross x.key o.key) os ≡ false
-    → grown ≡ put_in o os → IsTakenIn os n o grown
-taken_in os n o grown a formed e f same =
-    let new : is_key_of_some o.key os ≡ false = sym (found_any (λ x. eq_by_cmp key_cmp o.key x.key) os) ∙ e in
-    let apart : crosses_some (book_of os) o.key ≡ false = ap (list_any (λ x. keys_cross x.key o.key)) (values_of_book os a.ordered) ∙ f in
+    → is_key_of_some o.key os ≡ false → is_crossed_by_some o.key os ≡ false → grown ≡ put_in o os → IsTakenIn os n o grown
+taken_in os n o grown a formed new free same =
+    let apart : crosses_some (book_of os) o.key ≡ false = ap (list_any (λ x. keys_cross x.key o.key)) (values_of_book os a.ordered) ∙ free in
     record {
       free =
           ap (λ b. if b then Some (Duplicate n) else (if is_crossed_by_some o.key os then Some (Overlap n) else None)) new
-          ∙ ap (λ b. if b then Some (Overlap n) else None) f;
+          ∙ ap (λ b. if b then Some (Overlap n) else None) free;
       apart = subst IsApart (sym same) (put_apart o os a formed apart);
       put = ap book_of same ∙ book_put o os a.ordered;
       joined = λ p. ap (list_any p) same ∙ any_put p o os new;
     }
-
--- whether there is a value behind a reference
-pub copied_some : {A : Type 0} (o : Option (Bor A)) → is_some (option_copied o) ≡ is_some o
-copied_some None = refl
-copied_some (Some x) = refl
-
--- what is found behind a reference is found
-pub found_by : {A : Type 0} (o : Option (Bor A)) (p : Option A) → option_copied o ≡ p → is_some o ≡ is_some p
-found_by o p e = sym (copied_some o) ∙ ap is_some e
 
 -- no objects are apart
 pub none_apart : IsApart []
@@ -257,11 +237,16 @@ start os xs fs e f = record {
 
 -- the place of the first object of a list that names a maintainer who is not in it
 abbrev pub first_place : List Obj → Option ℕ
-first_place os = position (λ o. list_any (λ n. is_none (find (λ x. is_mntner_of n x.key) os)) (names_of o)) os
+first_place os = position (λ o. list_any (λ n. not (list_any (λ x. is_mntner_of n x.key) os)) (names_of o)) os
+
+-- it is found by the names of the mntners
+pub place_by_names : (os : List Obj) (known : List ℕ → Bool) → ((n : List ℕ) → known n ≡ list_any (λ x. is_mntner_of n x.key) os)
+    → position (λ o. list_any (λ n. not (known n)) (names_of o)) os ≡ first_place os
+place_by_names os known are = ap (λ (f : List ℕ → Bool). position (λ o. list_any (λ n. not (f n)) (names_of o)) os) (λ i n. are n i)
 
 -- what the search for such an object says of the list's faults
 pub found_fault : (os : List Obj) (u : Option ℕ) → u ≡ first_place os → unnamed (gathered empty os) os ≡ option_map (λ i. Unnamed (i + 1)) u
-found_fault os u e = first_unnamed_is os ∙ ap (option_map (λ i. Unnamed (i + 1))) (sym e)
+found_fault os u e = ap (option_map (λ i. Unnamed (i + 1))) (same_position _ _ (λ o. all_known os (names_of o)) os ∙ sym e)
 
 pub fault_after : (os fs : List Obj) (f : Option LoadFault) → IsGathered os fs → unnamed (gathered empty os) os ≡ f → load_fault os ≡ f
 fault_after os fs f g e = ap (λ c. option_or c (unnamed (gathered empty os) os)) g.free ∙ e

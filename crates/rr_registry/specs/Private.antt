@@ -1,13 +1,19 @@
 -- What the private functions of src promise each other on the way to a registry. No public clause cites these.
-use Rattle.std.specs.Prelude.{◌≡◌, ◌||◌, ℕ, Bool, true, false, List, [], None, Some}
+use Rattle.std.specs.Prelude.{◌≡◌, ◌||◌, ℕ, Bool, true, false, List, [], None, Some, map}
+use Rattle.std.specs.BTreeMap.{values}
 use Rattle.std.specs.List.{list_any}
-use Rattle.std.specs.FinMap.{empty, get, insert}
+use Rattle.std.specs.FinMap.{contains_key, empty, get, insert}
+use Rattle.std.specs.Ordering.{eq_by_cmp}
+use Rattle.rr_number.specs.Spans.{Ends}
 use Rattle.rr_object.specs.declared.key.Key.{Key}
-use Rattle.rr_object.specs.KeyOrders.{IsKeyValue}
+use Rattle.rr_object.specs.declared.key.Key.TheVariants.{AsBlock, Inetnum}
+use Rattle.rr_object.specs.KeyOrders.{IsKeyValue, key_cmp}
 use Rattle.rr_object.specs.Objects.{Obj}
 use Rattle.rr_auth.specs.Registries.{keys_cross}
-use Rattle.rr_book.specs.Books.{book_of, is_in_order}
-use Rattle.rr_registry.specs.Loading.{clash, clash_of, gathered}
+use Rattle.rr_book.specs.Books.{book_of, entry, is_in_order}
+use Rattle.rr_cover.specs.SpanMaps.{SpanMap}
+use Rattle.rr_registry.specs.declared.gathered.Gathered.{Gathered}
+use Rattle.rr_registry.specs.Loading.{clash, clash_of, gathered, is_crossed_by_some, is_key_of_some}
 
 -- Objects in order whose registry has each under its own well formed key and no two that cross: sound but for names.
 pub record IsApart (os : List Obj) : Type 0 where
@@ -28,3 +34,24 @@ pub record IsGathered (os : List Obj) (grown : List Obj) : Type 0 where
   pub free : clash [] 1 os ≡ None
   pub apart : IsApart grown
   pub whole : book_of grown ≡ gathered empty os
+
+-- The objects that were gathered, in the order of their keys.
+abbrev pub objects_of : Gathered → List Obj
+objects_of g = values g.objects
+
+-- The spans are those of the inetnums and of the as-blocks of a list.
+pub record HasSpans (os : List Obj) (inetnums blocks : SpanMap (Unit {0})) : Type 0 where
+  pub inetnums_are : (s : Ends) → contains_key inetnums s ≡ is_key_of_some (Inetnum s) os
+  pub blocks_are : (s : Ends) → contains_key blocks s ≡ is_key_of_some (AsBlock s) os
+
+-- The span of a key that no object of a list crosses was put among those of the list.
+pub record IsEntered (os : List Obj) (key : Key) (inetnums blocks : SpanMap (Unit {0})) : Type 0 where
+  pub free : is_crossed_by_some key os ≡ false
+  pub inetnums_are : (s : Ends) → contains_key inetnums s ≡ (eq_by_cmp key_cmp (Inetnum s) key || is_key_of_some (Inetnum s) os)
+  pub blocks_are : (s : Ends) → contains_key blocks s ≡ (eq_by_cmp key_cmp (AsBlock s) key || is_key_of_some (AsBlock s) os)
+
+-- Each object stands under its own key, and the spans are those of the objects.
+pub record IsHeld (g : Gathered) : Type 0 where
+  pub apart : IsApart (values g.objects)
+  pub keyed : g.objects.entries ≡ map entry (values g.objects)
+  pub spans : HasSpans (values g.objects) g.spans.inetnums g.spans.blocks

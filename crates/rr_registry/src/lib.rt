@@ -1,6 +1,7 @@
 //! The registry in memory: a sound set of objects, and what items do to it.
 #![tactic(auto)]
 
+mod gathered;
 pub mod laws;
 mod load;
 mod outcome;

@@ -1,16 +1,22 @@
 //! Lists of objects taken as registries.
 
-ghost use Rattle.std.specs.Prelude.{◌≡◌, ◌⊎◌, [], ◌<◌, Some, IfErr, IfSome, MatchResult, OnOk, find, is_none, length, position};
+ghost use Rattle.std.specs.Prelude.{◌≡◌, ◌⊎◌, ◌||◌, ◌<◌, ℕ, [], List, Some, IfOk, IfSome, MatchResult, OnOk, length, not, position};
+ghost use Rattle.std.specs.BTreeSet.{contains};
+ghost use Rattle.std.specs.Cmp.Lexicographic.{slice_cmp};
 ghost use Rattle.std.specs.List.{list_any};
+ghost use Rattle.std.specs.Ordering.{nat_cmp};
 ghost use Rattle.rr_object.specs.Objects.{names_of};
 ghost use Rattle.rr_auth.specs.Registries.{is_mntner_of};
-ghost use Rattle.rr_registry.specs.Loading.{clash, clash_of};
-ghost use Rattle.rr_registry.specs.Private.{IsApart, IsGathered, IsTakenIn};
+ghost use Rattle.rr_registry.specs.Loading.{clash};
+ghost use Rattle.rr_registry.specs.Private.{IsGathered};
 
+use crate::gathered::Gathered;
 use crate::registry::Registry;
-use rr_book::{Keeper, lists};
-use rr_object::Object;
+use rr_book::Keeper;
+use rr_number::Name;
+use rr_object::{Key, Object};
 use std::alloc::{AllocError, AllocFailed, Global};
+use std::collections::BTreeSet;
 
 /// Why a list of objects is not taken as a registry. Objects are counted from 1.
 #[derive(Clone, Copy, Debug, PartialEq, Eq)]
@@ -56,7 +62,7 @@ impl<B: Keeper> Registry<B> {
     pub fn from_objects(alloc: Global, objects: Vec<Object>) -> Result<Registry<B>, LoadFault>
         ensures { MatchResult result (IsTaken objects.items) (IsFaultOf objects.items) }
     {
-        let unnamed = first_unnamed(&objects);
+        let unnamed = first_unnamed(alloc, &objects)?;
         match gather(alloc, objects) {
             Err(fault) => Err(fault),
             Ok(gathered) => match unnamed {
@@ -67,23 +73,56 @@ impl<B: Keeper> Registry<B> {
     }
 }
 
+/// The names of the mntners among the objects.
+fn names_of_mntners(alloc: Global, objects: &[Object]) -> Result<BTreeSet<Name>, AllocError>
+    ensures { IfOk result (λ mntners. (name : List ℕ) → contains (slice_cmp nat_cmp) mntners name ≡ list_any (λ o. is_mntner_of name o.key) objects.now) }
+{
+    let mut mntners = BTreeSet::new(alloc);
+    for object in objects {
+        add_mntner(alloc, &mut mntners, object.key())?;
+    }
+    Ok(mntners)
+}
+
+/// Adds the name of the key to the mntners, where it is that of one.
+fn add_mntner(alloc: Global, mntners: &mut BTreeSet<Name>, key: &Key) -> Result<(), AllocError>
+    ensures { OnOk result ((name : List ℕ) → contains (slice_cmp nat_cmp) mntners.new name ≡ (contains (slice_cmp nat_cmp) mntners.old name || is_mntner_of name key.now)) }
+{
+    match key {
+        Key::Mntner(name) => {
+            mntners.insert(name.copy(alloc)?)?;
+            Ok(())
+        }
+        _ => Ok(()),
+    }
+}
+
 /// The place of the first object that names a maintainer who is not among the objects.
-fn first_unnamed(objects: &[Object]) -> Option<usize>
-    ensures value { result ≡ position (λ o. list_any (λ n. is_none (find (λ x. is_mntner_of n x.key) objects.now)) (names_of o)) objects.now }
+fn first_unnamed(alloc: Global, objects: &[Object]) -> Result<Option<usize>, AllocError>
+    ensures value { IfOk result (λ place. place ≡ position (λ o. list_any (λ n. not (list_any (λ x. is_mntner_of n x.key) objects.now)) (names_of o)) objects.now) }
+    ensures within { IfOk result (λ place. IfSome place (λ i. i < length objects.now)) }
+{
+    let mntners = names_of_mntners(alloc, objects)?;
+    Ok(first_without(objects, &mntners))
+}
+
+/// The place of the first object that names a maintainer who is not one of these.
+fn first_without(objects: &[Object], mntners: &BTreeSet<Name>) -> Option<usize>
+    ensures value { result ≡ position (λ o. list_any (λ n. not (contains (slice_cmp nat_cmp) mntners.now n)) (names_of o)) objects.now }
     ensures within { IfSome result (λ i. i < length objects.now) }
 {
     objects
         .iter()
-        .position(|object| names_nobody(objects, object))
+        .position(|object| names_nobody(object, mntners))
 }
 
-/// Whether the object names a maintainer who is not among the objects.
-fn names_nobody(objects: &[Object], object: &Object) -> bool
-    ensures { result ≡ list_any (λ n. is_none (find (λ x. is_mntner_of n x.key) objects.now)) (names_of object.now) }
+/// Whether the object names a maintainer who is not one of these.
+fn names_nobody(object: &Object, mntners: &BTreeSet<Name>) -> bool
+    ensures { result ≡ list_any (λ n. not (contains (slice_cmp nat_cmp) mntners.now n)) (names_of object.now) }
 {
     object
         .maintainers_named()
-        .any(|name| lists::find_mntner(objects, name).is_none())
+        .any(|name| !mntners.contains(name))
 }
 
 /// The objects in order, or the first whose key stands twice or whose span crosses one before it.
@@ -93,29 +132,11 @@ fn gather(alloc: Global, objects: Vec<Object>) -> Result<Vec<Object>, LoadFault>
         (λ gathered. IsGathered objects.items gathered.items)
         (λ fault. (fault ≡ LoadFault.Memory) ⊎ (clash [] 1 objects.items ≡ Some fault)) }
 {
-    let mut gathered = Vec::new(alloc);
+    let mut gathered = Gathered::new(alloc);
     let mut n = 0;
     for object in objects {
         n += 1;
-        take_in(&mut gathered, n, object)?;
+        gathered.take_in(alloc, n, object)?;
     }
-    Ok(gathered)
-}
-
-/// Puts the n-th object among those before it.
-#[tactic(auto, using(crate::proofs::Gathering::put_apart, rr_book::proofs::Order::book_put, rr_book::proofs::Order::values_of_book, rr_book::proofs::Order::get_of_book))]
-fn take_in(gathered: &mut Vec<Object>, n: u64, object: Object) -> Result<(), LoadFault>
-    requires { IsApart gathered.old.items }
-    ensures ok { OnOk result (IsTakenIn gathered.old.items n object gathered.new.items) }
-    ensures err { IfErr result (λ fault. (fault ≡ LoadFault.Memory) ⊎ (clash_of gathered.old.items n object ≡ Some fault)) }
-{
-    object.key_is_well_formed();
-    if lists::find_key(gathered, object.key()).is_some() {
-        return Err(LoadFault::Duplicate(n));
-    }
-    if lists::some_crosses(gathered, object.key()) {
-        return Err(LoadFault::Overlap(n));
-    }
-    lists::put(gathered, object)?;
-    Ok(())
+    Ok(gathered.into_objects(alloc)?)
 }

@@ -13,3 +13,4 @@ pub mod MapRows
 pub mod MapLists
 pub mod AddedLemmas
 pub mod MapNaming
+pub mod ListForms

@@ -215,3 +215,13 @@ pub one_map : (a b : FinMap key_cmp Obj) (db : Database) → HasRows a db → Ha
 one_map a b db of_a of_b =
     let same = values_told b (values a) db of_b (values_are_objects a of_a.keyed) (values_in_order a of_a.keyed) of_a.rows in
     same_entries_map a b (entries_of_values (entries a) (keys_told a of_a.keyed) ∙ ap (map (λ (o : Obj). (o.key, o))) same ∙ sym (entries_of_values (entries b) (keys_told b of_b.keyed)))
+
+-- a list of the objects of a finite map, in any order, is that map
+pub permuted_map : (objects : FinMap key_cmp Obj) (os : List Obj) → IsKeyed objects → AllByRecursion IsObject os → AreApart os → IsPermutation os (values objects) → put_all empty os ≡ objects
+permuted_map objects os keyed all apart same =
+    let made = put_all empty os in
+    let made_keyed = put_all_keyed empty os all empty_keyed in
+    let permuted = IsPermutation-trans _ _ _ (IsPermutation-sym _ _ (list_permuted os apart)) same in
+    let alike : values made ≡ values objects = same_in_order (λ a b. key_cmp a.key b.key ≡ Less) one_way (values made) (values objects) (values_in_order made made_keyed) (values_in_order objects keyed)
+    (in_permuted (values objects) (values made) (IsPermutation-sym _ _ permuted)) (in_permuted (values made) (values objects) permuted) in
+    same_entries_map made objects (entries_of_values (entries made) (keys_told made made_keyed) ∙ ap (map (λ (o : Obj). (o.key, o))) alike ∙ sym (entries_of_values (entries objects) (keys_told objects keyed)))

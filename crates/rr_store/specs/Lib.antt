@@ -2,6 +2,7 @@ pub mod Checks
 pub mod Empty
 pub mod Faults
 pub mod Kept
+pub mod Lent
 pub mod Migrating
 pub mod Namings
 pub mod Opening

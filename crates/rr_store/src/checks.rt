@@ -1,17 +1,17 @@
 //! What the rows of the three tables say, each table by itself.
 
 ghost use Rattle.std.specs.Prelude.{◌≡◌, ℕ, [], ◌∷◌, codes, false, IfErr, IfOk, IsPermutation, IsSorted, IsTrue, OnErr, OnOk, map};
-ghost use Rattle.std.specs.List.{flat_map};
+ghost use Rattle.std.specs.List.{AllByRecursion, flat_map};
 ghost use Rattle.sqlite.specs.Held.{state};
 ghost use Rattle.sqlite.specs.State.{HasCleanDisk, IsUnchanged, Survives};
 ghost use Rattle.rr_rows.specs.Contents.{by_three, contents, pointed, setting, settings};
 ghost use Rattle.rr_rows.specs.Entries.{named_rows};
-ghost use Rattle.rr_rows.specs.Maps.{AreInOrder, entry_in, this_form};
+ghost use Rattle.rr_rows.specs.Maps.{AreInOrder, IsObjectOf, entry_in, this_form};
 ghost use Rattle.rr_rows.specs.Tables.{HasTables};
 ghost use Rattle.rr_store.specs.Checks.{AreNone, HoldsNone, HoldsObjects, IsVersionFault};
 ghost use Rattle.rr_store.specs.Reading.{AreRead};
 ghost use Rattle.rr_store.specs.Versions.{form_of, version_text};
-ghost use Rattle.rr_store.specs.declared.fault.OpenFault.TheVariants.{BadRow, WrongVersion};
+ghost use Rattle.rr_store.specs.declared.fault.OpenFault.TheVariants.{BadRow, Memory, WrongVersion};
 
 use crate::fault::OpenFault;
 use crate::namings::are_named;
@@ -67,6 +67,7 @@ fn judge_objects(
     version: Version,
 ) -> Result<Vec<Object>, OpenFault>
     ensures ok { IfOk result (λ objects. AreRead (form_of version) source.now rows.now objects.items × AreInOrder objects.items) }
+    ensures of_source { IfOk result (λ objects. AllByRecursion (IsObjectOf source.now) objects.items) }
     ensures fault { IfErr result (λ fault. fault ≡ BadRow → AreNone (form_of version) source.now rows.now) }
     ensures no_other { IfErr result (λ fault. (number : ℕ) → fault ≡ WrongVersion number → ⊥) }
 {
@@ -95,6 +96,7 @@ pub(crate) fn check_objects<S: Alter>(
     ensures autocommit { conn.new.in_transaction ≡ false }
     ensures ok { HasCleanDisk (state S.Store conn.new) → IfOk result (λ objects. HoldsObjects (form_of version) source.now objects.items (contents ((state S.Store conn.old).now.trees 2))) }
     ensures order { IfOk result (λ objects. AreInOrder objects.items) }
+    ensures of_source { IfOk result (λ objects. AllByRecursion (IsObjectOf source.now) objects.items) }
     ensures fault { HasCleanDisk (state S.Store conn.new) → IfErr result (λ fault. fault ≡ BadRow → HoldsNone (form_of version) source.now (contents ((state S.Store conn.old).now.trees 2))) }
     ensures no_other { IfErr result (λ fault. (number : ℕ) → fault ≡ WrongVersion number → ⊥) }
     ensures same { HasCleanDisk (state S.Store conn.new) → OnOk result (IsUnchanged (state S.Store conn.old) (state S.Store conn.new)) }
@@ -161,6 +163,7 @@ pub(crate) fn naming_objects<S: Alter>(
     ensures autocommit { conn.new.in_transaction ≡ false }
     ensures ok { HasCleanDisk (state S.Store conn.new) → IfOk result (λ objects. HoldsObjects this_form source.now objects.items (pointed name.now (contents ((state S.Store conn.old).now.trees 4)) (contents ((state S.Store conn.old).now.trees 2)))) }
     ensures same { HasCleanDisk (state S.Store conn.new) → OnOk result (IsUnchanged (state S.Store conn.old) (state S.Store conn.new)) }
+    ensures memory { HasCleanDisk (state S.Store conn.new) → IfErr result (λ fault. fault ≡ Memory → IsUnchanged (state S.Store conn.old) (state S.Store conn.new)) }
     ensures err { HasCleanDisk (state S.Store conn.new) → IsTrue (state S.Store conn.new).is_open → OnErr result ((state S.Store conn.new).now ≡ (state S.Store conn.old).now) }
     ensures opened { HasCleanDisk (state S.Store conn.new) → IsTrue (state S.Store conn.new).is_open → IsTrue (state S.Store conn.old).is_open }
     ensures crash { Survives (state S.Store conn.old) (state S.Store conn.new) (λ _. (state S.Store conn.old).is_open ≡ false) }

@@ -101,6 +101,17 @@ pub enum MigrateFault {
     Memory,
 }
 
+impl From<AllocError> for MigrateFault {
+    ghost use Rattle.std.specs.Prelude.{◌≡◌};
+    ghost use Rattle.rr_store.specs.declared.fault.MigrateFault.TheVariants.{Memory};
+
+    ghost from_gives = { λ _ fault. fault ≡ Memory };
+
+    fn from(_refused: AllocError) -> MigrateFault {
+        MigrateFault::Memory
+    }
+}
+
 impl From<StoreFault> for MigrateFault {
     ghost use Rattle.std.specs.Prelude.{◌≡◌};
     ghost use Rattle.rr_store.specs.Faults.{migrate_fault};

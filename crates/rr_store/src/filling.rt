@@ -7,6 +7,7 @@ ghost use Rattle.rr_rows.specs.Contents.{IsStep, IsTidy};
 ghost use Rattle.rr_rows.specs.Entries.{IsAdded, entry_of};
 ghost use Rattle.rr_rows.specs.Made.{IsBare, no_schema};
 ghost use Rattle.rr_rows.specs.Maps.{IsFilled};
+ghost use Rattle.rr_store.specs.Lent.{lent};
 
 use crate::bodies::add_rows;
 use crate::entry::Entry;
@@ -32,11 +33,11 @@ fn add_entry<S: Alter>(tx: &mut Transaction<'_, S>, entry: &Entry) -> Result<(),
 pub(crate) fn add_objects<S: Alter>(
     tx: &mut Transaction<'_, S>,
     alloc: Global,
-    objects: &[Object],
+    objects: &[&Object],
 ) -> Result<(), StoreFault>
     requires { HasCleanDisk (state S.Store tx.old.conn.now) → IsTrue (state S.Store tx.old.conn.now).is_open → IsTidy (state S.Store tx.old.conn.now).now }
     ensures same_reference { tx.new.conn.ghost_name ≡ tx.old.conn.ghost_name }
-    ensures ok { HasCleanDisk (state S.Store tx.new.conn.now) → IsTrue (state S.Store tx.old.conn.now).is_open → OnOk result (IsAdded (map entry_of objects.now) (state S.Store tx.old.conn.now).now (state S.Store tx.new.conn.now).now) }
+    ensures ok { HasCleanDisk (state S.Store tx.new.conn.now) → IsTrue (state S.Store tx.old.conn.now).is_open → OnOk result (IsAdded (map entry_of (lent objects.now)) (state S.Store tx.old.conn.now).now (state S.Store tx.new.conn.now).now) }
     ensures step { HasCleanDisk (state S.Store tx.new.conn.now) → IsTrue (state S.Store tx.old.conn.now).is_open → OnOk result (IsStep (state S.Store tx.old.conn.now) (state S.Store tx.new.conn.now)) }
     ensures kept { HasCleanDisk (state S.Store tx.new.conn.now) → KeepsCommit (state S.Store tx.old.conn.now) (state S.Store tx.new.conn.now) }
     ensures survives { Survives (state S.Store tx.old.conn.now) (state S.Store tx.new.conn.now) (λ _. ⊥) }
@@ -52,11 +53,11 @@ pub(crate) fn add_objects<S: Alter>(
 pub(crate) fn fill<S: Alter>(
     tx: &mut Transaction<'_, S>,
     alloc: Global,
-    objects: &[Object],
+    objects: &[&Object],
 ) -> Result<(), StoreFault>
     requires { HasCleanDisk (state S.Store tx.old.conn.now) → IsTrue (state S.Store tx.old.conn.now).is_open → IsBare (state S.Store tx.old.conn.now).now }
     ensures same_reference { tx.new.conn.ghost_name ≡ tx.old.conn.ghost_name }
-    ensures ok { HasCleanDisk (state S.Store tx.new.conn.now) → OnOk result (IsFilled (map entry_of objects.now) (state S.Store tx.new.conn.now).now) }
+    ensures ok { HasCleanDisk (state S.Store tx.new.conn.now) → OnOk result (IsFilled (map entry_of (lent objects.now)) (state S.Store tx.new.conn.now).now) }
     ensures step { HasCleanDisk (state S.Store tx.new.conn.now) → OnOk result (IsStep (state S.Store tx.old.conn.now) (state S.Store tx.new.conn.now)) }
     ensures kept { HasCleanDisk (state S.Store tx.new.conn.now) → KeepsCommit (state S.Store tx.old.conn.now) (state S.Store tx.new.conn.now) }
     ensures survives { Survives (state S.Store tx.old.conn.now) (state S.Store tx.new.conn.now) (λ _. ⊥) }
@@ -69,11 +70,11 @@ pub(crate) fn fill<S: Alter>(
 pub(crate) fn make_filled<S: Alter>(
     tx: &mut Transaction<'_, S>,
     alloc: Global,
-    objects: &[Object],
+    objects: &[&Object],
 ) -> Result<(), StoreFault>
     requires { HasCleanDisk (state S.Store tx.old.conn.now) → IsTrue (state S.Store tx.old.conn.now).is_open → (state S.Store tx.old.conn.now).now.schema ≡ no_schema }
     ensures same_reference { tx.new.conn.ghost_name ≡ tx.old.conn.ghost_name }
-    ensures ok { HasCleanDisk (state S.Store tx.new.conn.now) → OnOk result (IsFilled (map entry_of objects.now) (state S.Store tx.new.conn.now).now) }
+    ensures ok { HasCleanDisk (state S.Store tx.new.conn.now) → OnOk result (IsFilled (map entry_of (lent objects.now)) (state S.Store tx.new.conn.now).now) }
     ensures step { HasCleanDisk (state S.Store tx.new.conn.now) → OnOk result (IsStep (state S.Store tx.old.conn.now) (state S.Store tx.new.conn.now)) }
     ensures kept { HasCleanDisk (state S.Store tx.new.conn.now) → KeepsCommit (state S.Store tx.old.conn.now) (state S.Store tx.new.conn.now) }
     ensures survives { Survives (state S.Store tx.old.conn.now) (state S.Store tx.new.conn.now) (λ _. ⊥) }

@@ -9,6 +9,7 @@ ghost use Rattle.rr_rows.specs.Made.{IsBare};
 ghost use Rattle.rr_object.specs.Objects.{Obj};
 ghost use Rattle.rr_rows.specs.Maps.{AreOldStored, IsFilled};
 ghost use Rattle.rr_store.specs.Kept.{IsLeft};
+ghost use Rattle.rr_store.specs.Lent.{lent};
 ghost use Rattle.rr_store.specs.Migrating.{HasNoRoot, IsMigrated, IsRewritten, has_mntner, is_mntner_of};
 ghost use Rattle.rr_store.specs.Opening.{IsNotOld};
 ghost use Rattle.rr_store.specs.declared.fault.MigrateFault.TheVariants.{BadRow, NoRoot, WrongVersion};
@@ -43,11 +44,11 @@ fn clear_rows<S: Alter>(tx: &mut Transaction<'_, S>) -> Result<(), Error>
 fn refill<S: Alter>(
     tx: &mut Transaction<'_, S>,
     alloc: Global,
-    objects: &[Object],
+    objects: &[&Object],
 ) -> Result<(), StoreFault>
     requires { HasCleanDisk (state S.Store tx.old.conn.now) → IsTrue (state S.Store tx.old.conn.now).is_open → IsTidy (state S.Store tx.old.conn.now).now }
     ensures same_reference { tx.new.conn.ghost_name ≡ tx.old.conn.ghost_name }
-    ensures ok { HasCleanDisk (state S.Store tx.new.conn.now) → OnOk result (IsFilled (map entry_of objects.now) (state S.Store tx.new.conn.now).now) }
+    ensures ok { HasCleanDisk (state S.Store tx.new.conn.now) → OnOk result (IsFilled (map entry_of (lent objects.now)) (state S.Store tx.new.conn.now).now) }
     ensures step { HasCleanDisk (state S.Store tx.new.conn.now) → OnOk result (IsStep (state S.Store tx.old.conn.now) (state S.Store tx.new.conn.now)) }
     ensures kept { HasCleanDisk (state S.Store tx.new.conn.now) → KeepsCommit (state S.Store tx.old.conn.now) (state S.Store tx.new.conn.now) }
     ensures survives { Survives (state S.Store tx.old.conn.now) (state S.Store tx.new.conn.now) (λ _. ⊥) }
@@ -60,15 +61,15 @@ fn refill<S: Alter>(
 fn replace<S: Alter>(
     conn: &mut Connection<S>,
     alloc: Global,
-    objects: &[Object],
+    objects: &[&Object],
 ) -> Result<(), StoreFault>
     requires autocommit { conn.old.in_transaction ≡ false }
     requires tidy { HasCleanDisk (state S.Store conn.old) → IsTrue (state S.Store conn.old).is_open → IsTidy (state S.Store conn.old).now }
     ensures autocommit { conn.new.in_transaction ≡ false }
-    ensures ok { HasCleanDisk (state S.Store conn.new) → OnOk result (IsFilled (map entry_of objects.now) (state S.Store conn.new).now) }
+    ensures ok { HasCleanDisk (state S.Store conn.new) → OnOk result (IsFilled (map entry_of (lent objects.now)) (state S.Store conn.new).now) }
     ensures is_open { HasCleanDisk (state S.Store conn.new) → OnOk result (IsTrue (state S.Store conn.new).is_open) }
     ensures err { HasCleanDisk (state S.Store conn.new) → IsTrue (state S.Store conn.new).is_open → OnErr result ((state S.Store conn.new).now ≡ (state S.Store conn.old).now) }
-    ensures crash { Survives (state S.Store conn.old) (state S.Store conn.new) (TreesOf (IsFilled (map entry_of objects.now))) }
+    ensures crash { Survives (state S.Store conn.old) (state S.Store conn.new) (TreesOf (IsFilled (map entry_of (lent objects.now)))) }
 {
     let _settled = conn.is_autocommit();
     let mut tx = conn.transaction();
@@ -82,6 +83,12 @@ fn with_block(mut objects: Vec<Object>, block: Object) -> Result<Vec<Object>, Al
 {
     objects.push(block)?;
     Ok(objects)
+}
+
+fn lent(alloc: Global, objects: &[Object]) -> Result<Vec<&Object>, AllocError>
+    ensures { IfOk result (λ found. lent found.items ≡ objects.now) }
+{
+    objects.iter().collect(alloc)
 }
 
 /// Puts the rows of the objects and of the block of the other AS numbers in place of all rows, in one transaction.
@@ -102,7 +109,8 @@ fn rewrite<S: Alter>(
 {
     let block = upper_object(alloc, root, source)?;
     let all = with_block(objects, block)?;
-    replace(conn, alloc, &all)
+    let lent = lent(alloc, &all)?;
+    replace(conn, alloc, &lent)
 }
 
 fn is_mntner_of(key: &Key, name: &Name) -> bool

@@ -1,10 +1,11 @@
 //! The objects that the tables hold.
 
 ghost use Rattle.std.specs.Prelude.{◌≡◌, ℕ, false, IfErr, IfOk, IsTrue, OnErr, OnOk};
+ghost use Rattle.std.specs.List.{AllByRecursion};
 ghost use Rattle.sqlite.specs.Held.{state};
 ghost use Rattle.sqlite.specs.State.{HasCleanDisk, IsUnchanged, Survives};
 ghost use Rattle.rr_rows.specs.Contents.{IsTidy};
-ghost use Rattle.rr_rows.specs.Maps.{AreInOrder, AreStoredIn, HasVersion};
+ghost use Rattle.rr_rows.specs.Maps.{AreInOrder, AreStoredIn, HasVersion, IsObjectOf};
 ghost use Rattle.rr_store.specs.Opening.{HoldNone, SaysOther};
 ghost use Rattle.rr_store.specs.Versions.{form_of, version_text};
 ghost use Rattle.rr_store.specs.declared.fault.OpenFault.TheVariants.{BadRow, WrongVersion};
@@ -30,6 +31,7 @@ fn checked_objects<S: Alter>(
     ensures autocommit { conn.new.in_transaction ≡ false }
     ensures ok { HasCleanDisk (state S.Store conn.new) → IfOk result (λ objects. HasVersion (version_text version) (state S.Store conn.old).now → AreStoredIn (form_of version) (version_text version) source.now objects.items (state S.Store conn.old).now) }
     ensures order { IfOk result (λ objects. AreInOrder objects.items) }
+    ensures of_source { IfOk result (λ objects. AllByRecursion (IsObjectOf source.now) objects.items) }
     ensures same { HasCleanDisk (state S.Store conn.new) → OnOk result (IsUnchanged (state S.Store conn.old) (state S.Store conn.new)) }
     ensures err { HasCleanDisk (state S.Store conn.new) → IsTrue (state S.Store conn.new).is_open → OnErr result ((state S.Store conn.new).now ≡ (state S.Store conn.old).now) }
     ensures no_other { IfErr result (λ fault. (number : ℕ) → fault ≡ WrongVersion number → ⊥) }
@@ -53,6 +55,7 @@ fn read_tidy<S: Alter>(
     ensures autocommit { conn.new.in_transaction ≡ false }
     ensures ok { HasCleanDisk (state S.Store conn.new) → IfOk result (λ objects. AreStoredIn (form_of version) (version_text version) source.now objects.items (state S.Store conn.old).now) }
     ensures order { IfOk result (λ objects. AreInOrder objects.items) }
+    ensures of_source { IfOk result (λ objects. AllByRecursion (IsObjectOf source.now) objects.items) }
     ensures same { HasCleanDisk (state S.Store conn.new) → OnOk result (IsUnchanged (state S.Store conn.old) (state S.Store conn.new)) }
     ensures err { HasCleanDisk (state S.Store conn.new) → IsTrue (state S.Store conn.new).is_open → OnErr result ((state S.Store conn.new).now ≡ (state S.Store conn.old).now) }
     ensures wrong_version { HasCleanDisk (state S.Store conn.new) → IfErr result (λ fault. (number : ℕ) → fault ≡ WrongVersion number → SaysOther version number (state S.Store conn.old).now) }
@@ -74,6 +77,7 @@ pub(crate) fn stored_objects<S: Alter>(
     ensures autocommit { conn.new.in_transaction ≡ false }
     ensures ok { HasCleanDisk (state S.Store conn.new) → IfOk result (λ objects. AreStoredIn (form_of version) (version_text version) source.now objects.items (state S.Store conn.old).now) }
     ensures order { IfOk result (λ objects. AreInOrder objects.items) }
+    ensures of_source { IfOk result (λ objects. AllByRecursion (IsObjectOf source.now) objects.items) }
     ensures same { HasCleanDisk (state S.Store conn.new) → OnOk result (IsUnchanged (state S.Store conn.old) (state S.Store conn.new)) }
     ensures err { HasCleanDisk (state S.Store conn.new) → IsTrue (state S.Store conn.new).is_open → OnErr result ((state S.Store conn.new).now ≡ (state S.Store conn.old).now) }
     ensures wrong_version { HasCleanDisk (state S.Store conn.new) → IfErr result (λ fault. (number : ℕ) → fault ≡ WrongVersion number → SaysOther version number (state S.Store conn.old).now) }

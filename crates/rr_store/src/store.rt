@@ -6,21 +6,24 @@ ghost use Rattle.sqlite.specs.State.{HasCleanDisk, IsUnchanged, Survives};
 ghost use Rattle.sqlite_trees.specs.Tree.{Trees};
 ghost use Rattle.rr_object.specs.Classes.{class_number};
 ghost use Rattle.std.specs.FinMap.{FinMap, values};
+ghost use Rattle.std.specs.List.{AllByRecursion};
 ghost use Rattle.rr_object.specs.KeyOrders.{key_cmp};
 ghost use Rattle.rr_object.specs.Keys.{class_of};
 ghost use Rattle.rr_object.specs.KeyTexts.{key_bytes};
 ghost use Rattle.rr_rows.specs.Entries.{IsPut, IsTaken, TreesOf, entry_of};
 ghost use Rattle.rr_rows.specs.Made.{HasRow, IsVacant};
 ghost use Rattle.rr_object.specs.Objects.{Obj};
-ghost use Rattle.rr_rows.specs.Maps.{AreInOrder, AreOldStored, AreStored, HasRows, IsFilled, Puts, Takes};
+ghost use Rattle.rr_rows.specs.Maps.{AreInOrder, AreOldStored, AreStored, HasRows, IsFilled, IsObjectOf, Puts, Takes};
 ghost use Rattle.rr_rows.specs.Tables.{HasTables};
 ghost use Rattle.rr_store.specs.Kept.{IsLeft};
+ghost use Rattle.rr_store.specs.Lent.{lent};
 ghost use Rattle.rr_store.specs.Migrating.{HasNoRoot, IsMigrated};
 ghost use Rattle.rr_store.specs.Opening.{IsOtherVersion, IsNotOld, IsReadable, IsUnreadable};
 ghost use Rattle.rr_store.specs.Reading.{names_it};
 ghost use Rattle.rr_store.specs.declared.fault.CreateFault.TheVariants.{NotEmpty};
 ghost use Rattle.rr_store.specs.declared.fault.MigrateFault.TheVariants.{BadRow as UnreadRow, NoRoot, WrongVersion as NotOld};
 ghost use Rattle.rr_store.specs.declared.fault.OpenFault.TheVariants.{BadRow, WrongVersion};
+ghost use Rattle.rr_store.specs.declared.fault.StoreFault.TheVariants.{Memory};
 
 use crate::checks::{check_objects, naming_objects};
 use crate::creating::create_where_vacant;
@@ -63,17 +66,17 @@ impl<S: Alter> Store<S> {
     pub fn create(
         alloc: Global,
         mut conn: Connection<S>,
-        objects: &[Object],
+        objects: &[&Object],
     ) -> Result<Store<S>, (CreateFault, Connection<S>)>
         requires autocommit { conn.in_transaction ≡ false }
-        ensures ok { IfOk result (λ store. HasCleanDisk (state S.Store store) → IsFilled (map entry_of objects.now) (state S.Store store).now) }
+        ensures ok { IfOk result (λ store. HasCleanDisk (state S.Store store) → IsFilled (map entry_of (lent objects.now)) (state S.Store store).now) }
         ensures is_open { IfOk result (λ store. HasCleanDisk (state S.Store store) → IsTrue (state S.Store store).is_open) }
         ensures vacant { IfOk result (λ store. HasCleanDisk (state S.Store store) → IsVacant (state S.Store conn).now) }
-        ensures crash { IfOk result (λ store. Survives (state S.Store conn) (state S.Store store) (IsLeft (state S.Store conn).is_open (IsFilled (map entry_of objects.now)))) }
+        ensures crash { IfOk result (λ store. Survives (state S.Store conn) (state S.Store store) (IsLeft (state S.Store conn).is_open (IsFilled (map entry_of (lent objects.now))))) }
         ensures err { IfErr result (λ e. HasCleanDisk (state S.Store e.1) → IsTrue (state S.Store e.1).is_open → (state S.Store e.1).now ≡ (state S.Store conn).now) }
         ensures not_empty { IfErr result (λ e. HasCleanDisk (state S.Store e.1) → e.0 ≡ NotEmpty → HasTables (state S.Store conn).now.schema × HasRow (state S.Store conn).now) }
         ensures err_autocommit { IfErr result (λ e. e.1.in_transaction ≡ false) }
-        ensures err_crash { IfErr result (λ e. Survives (state S.Store conn) (state S.Store e.1) (IsLeft (state S.Store conn).is_open (IsFilled (map entry_of objects.now)))) }
+        ensures err_crash { IfErr result (λ e. Survives (state S.Store conn) (state S.Store e.1) (IsLeft (state S.Store conn).is_open (IsFilled (map entry_of (lent objects.now))))) }
     {
         match create_where_vacant(&mut conn, alloc, objects) {
             Ok(()) => Ok(Store { conn }),
@@ -91,6 +94,7 @@ impl<S: Alter> Store<S> {
         requires autocommit { conn.in_transaction ≡ false }
         ensures ok { IfOk result (λ opened. HasCleanDisk (state S.Store opened.0) → AreStored source.now opened.1.items (state S.Store opened.0).now) }
         ensures in_order { IfOk result (λ opened. AreInOrder opened.1.items) }
+        ensures of_source { IfOk result (λ opened. AllByRecursion (IsObjectOf source.now) opened.1.items) }
         ensures same { IfOk result (λ opened. HasCleanDisk (state S.Store opened.0) → (state S.Store opened.0).now ≡ (state S.Store conn).now) }
         ensures is_open { IfOk result (λ opened. HasCleanDisk (state S.Store opened.0) → IsTrue (state S.Store opened.0).is_open) }
         ensures crash { IfOk result (λ opened. Survives (state S.Store conn) (state S.Store opened.0) (λ _. (state S.Store conn).is_open ≡ false)) }
@@ -140,6 +144,7 @@ impl<S: Alter> Store<S> {
         ensures autocommit { conn.new.in_transaction ≡ false }
         ensures ok { HasCleanDisk (state S.Store conn.new) → IfOk result (λ objects. AreOldStored source.now objects.items (state S.Store conn.old).now) }
         ensures order { IfOk result (λ objects. AreInOrder objects.items) }
+        ensures of_source { IfOk result (λ objects. AllByRecursion (IsObjectOf source.now) objects.items) }
         ensures same { HasCleanDisk (state S.Store conn.new) → OnOk result (IsUnchanged (state S.Store conn.old) (state S.Store conn.new)) }
         ensures err { HasCleanDisk (state S.Store conn.new) → IsTrue (state S.Store conn.new).is_open → OnErr result ((state S.Store conn.new).now ≡ (state S.Store conn.old).now) }
         ensures wrong_version { HasCleanDisk (state S.Store conn.new) → IfErr result (λ fault. (number : ℕ) → fault ≡ WrongVersion number → IsNotOld number (state S.Store conn.old).now) }
@@ -248,7 +253,7 @@ impl<S: Alter> Store<S> {
         }
     }
 
-    /// The objects that name the maintainer, as [`Store::all`] gives all.
+    /// The objects that name the maintainer, as [`Store::all`] gives all. Want of memory is told once the rows were read.
     pub fn naming(
         &mut self,
         alloc: Global,
@@ -257,6 +262,7 @@ impl<S: Alter> Store<S> {
     ) -> Result<Vec<Object>, StoreFault>
         ensures ok { HasCleanDisk (state S.Store self.new) → IfOk result (λ those. (objects : FinMap key_cmp Obj) → HasRows objects (state S.Store self.old).now → those.items ≡ filter (names_it name.now) (values objects)) }
         ensures same { HasCleanDisk (state S.Store self.new) → OnOk result (IsUnchanged (state S.Store self.old) (state S.Store self.new)) }
+        ensures memory { HasCleanDisk (state S.Store self.new) → IfErr result (λ fault. fault ≡ Memory → IsUnchanged (state S.Store self.old) (state S.Store self.new)) }
         ensures err { HasCleanDisk (state S.Store self.new) → IsTrue (state S.Store self.new).is_open → OnErr result ((state S.Store self.new).now ≡ (state S.Store self.old).now) }
         ensures crash { Survives (state S.Store self.old) (state S.Store self.new) (λ _. (state S.Store self.old).is_open ≡ false) }
     {

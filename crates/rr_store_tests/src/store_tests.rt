@@ -83,7 +83,8 @@ fn made(
         return Err("in a transaction".into());
     }
     let objects = four(alloc)?;
-    match Store::create(alloc, conn, &objects) {
+    let lent: Vec<&Object> = objects.iter().collect(alloc)?;
+    match Store::create(alloc, conn, &lent) {
         Ok(store) => Ok(Ok(store)),
         Err((fault, _conn)) => Ok(Err(fault)),
     }

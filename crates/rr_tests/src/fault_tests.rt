@@ -8,7 +8,7 @@ use std::process::Abort;
 use std::test::Fail;
 
 /// Two inetnums of the root.
-const TWO: &str = "\
+pub const TWO: &str = "\
 password: bc
 
 inetnum: 10.0.0.0/8
@@ -38,7 +38,7 @@ const BOTH: &str = "\
 ";
 
 /// A new desk over two files in memory, of which the log fails after so many calls.
-fn fused(alloc: Global, calls: u64) -> Result<Desk<FileStore<Fuse<Memory>>>, Fail> {
+pub fn fused(alloc: Global, calls: u64) -> Result<Desk<FileStore<Fuse<Memory>>>, Fail> {
     let log = Fuse::new(Memory::new(alloc), calls);
     let db = Fuse::new(Memory::new(alloc), u64::MAX);
     match Connection::open_files(alloc, Files { log, db }, Options::new(7)) {

@@ -1,10 +1,11 @@
 use Rattle.std.proofs.Common.{◌≡◌, ◌+◌, ◌<◌, [], ◌∷◌, ◌++◌, length, take, sym, ap, subst, ◌∙◌, arith}
 use Rattle.std.proofs.Math.Seq.{take-length}
-use Rattle.std.proofs.lemmas.List.{take_more}
+use Rattle.std.proofs.lemmas.List.{map-append, take_more}
 use Rattle.std.specs.List.{AllByRecursion}
 use Rattle.sqlite_trees.proofs.ListLemmas.{all-append}
 use Rattle.rr_text.specs.Fields.{AreFields}
 use Rattle.rr_rows.specs.Maps.{IsObject}
+use Rattle.rr_store.specs.Lent.{lent}
 use Rattle.rr_desk.proofs.opened.are_read.Goals as goal
 
 pub loop-object-preserved : goal.loop-object-preserved
@@ -13,12 +14,13 @@ loop-object-preserved c =
     let objects = c.args.objects.now in
     let at = c.loop-object.object-index in
     let within : at < length objects = omega arith in
-    let grown : take (at + 1) objects ≡ take at objects ++ object ∷ [] = take_more objects at object within ∙ ap (λ o. take at objects ++ o ∷ []) (sym c.object-item.is) in
-    let is : IsObject object = record { fields = subst AreFields c.paragraph.ensures c.attributes-attributes.ensures.fields; read = c.is_read_from_its_paragraph.ensures } in
-    subst (AllByRecursion IsObject) (sym grown) (all-append IsObject (take at objects) (object ∷ []) c.loop-object.invariant (is, tt))
+    let grown : lent (take (at + 1) objects) ≡ lent (take at objects) ++ object.now ∷ [] =
+    ap lent (take_more objects at object within ∙ ap (λ o. take at objects ++ o ∷ []) (sym c.object-item.is)) ∙ map-append (λ o. o.now) (take at objects) (object ∷ []) in
+    let is : IsObject object.now = record { fields = subst AreFields c.paragraph.ensures c.attributes-attributes.ensures.fields; read = c.is_read_from_its_paragraph.ensures } in
+    subst (AllByRecursion IsObject) (sym grown) (all-append IsObject (lent (take at objects)) (object.now ∷ []) c.loop-object.invariant (is, tt))
 
 pub returns : goal.returns
 returns c =
     let objects = c.args.objects.now in
     let last : c.loop-object.object-index ≡ length objects = omega (arith, c.loop-object-test.false, c.loop-object.auto.object-index-end) in
-    subst (AllByRecursion IsObject) (ap (λ n. take n objects) last ∙ take-length objects) c.loop-object.invariant
+    subst (AllByRecursion IsObject) (ap (λ n. lent (take n objects)) last ∙ ap lent (take-length objects)) c.loop-object.invariant

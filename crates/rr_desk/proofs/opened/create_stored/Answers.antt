@@ -1,14 +1,13 @@
-use Rattle.rr_desk.proofs.ListRows.{left_as}
 use Rattle.rr_desk.proofs.opened.create_stored.Goals as goal
 
-pub create-requires : goal.create-requires
-create-requires g c = record { autocommit = c.requires.autocommit }
+pub create_store-requires : goal.create_store-requires
+create_store-requires g c = record { autocommit = c.requires.autocommit }
 
 pub of-requires-clause-is_open : goal.of-requires-clause-is_open
 of-requires-clause-is_open g c = c.in-Ok.ensures.is_open
 
 pub of-requires-clause-rows : goal.of-requires-clause-rows
-of-requires-clause-rows g c = λ clean. c.requires.rows _ (c.in-Ok.ensures.ok clean)
+of-requires-clause-rows g c = c.in-Ok.ensures.rows
 
 pub returns-in-Ok-clause-running : goal.returns-in-Ok-clause-running
 returns-in-Ok-clause-running g c = c.of.ensures.running
@@ -20,7 +19,7 @@ pub returns-in-Ok-clause-vacant : goal.returns-in-Ok-clause-vacant
 returns-in-Ok-clause-vacant g c = rw c.of.ensures.store c.in-Ok.ensures.vacant
 
 pub returns-in-Ok-clause-crash : goal.returns-in-Ok-clause-crash
-returns-in-Ok-clause-crash g c = rw c.of.ensures.store (left_as _ _ c.requires.rows c.in-Ok.ensures.crash)
+returns-in-Ok-clause-crash g c = rw c.of.ensures.store c.in-Ok.ensures.crash
 
 pub returns-in-Err-clause-err : goal.returns-in-Err-clause-err
 returns-in-Err-clause-err g c = c.in-Err.ensures.err
@@ -29,7 +28,7 @@ pub returns-in-Err-clause-not_empty : goal.returns-in-Err-clause-not_empty
 returns-in-Err-clause-not_empty g c = c.in-Err.ensures.not_empty
 
 pub returns-in-Err-clause-err_crash : goal.returns-in-Err-clause-err_crash
-returns-in-Err-clause-err_crash g c = left_as _ _ c.requires.rows c.in-Err.ensures.err_crash
+returns-in-Err-clause-err_crash g c = c.in-Err.ensures.err_crash
 
 pub returns-in-Err-clause-err_autocommit : goal.returns-in-Err-clause-err_autocommit
 returns-in-Err-clause-err_autocommit g c = c.in-Err.ensures.err_autocommit

@@ -2,6 +2,7 @@ use Rattle.std.proofs.Common.{subst}
 use Rattle.rr_rows.specs.Maps.{HasRows}
 use Rattle.rr_desk.proofs.ListRows.{opened_rows}
 use Rattle.rr_desk.proofs.Listed.{bad_objects, no_version, unreadable_rows}
+use Rattle.rr_desk.proofs.Sources.{taken_of_source}
 use Rattle.rr_desk.proofs.opened.open_stored.Goals as goal
 
 pub open_all-requires : goal.open_all-requires
@@ -58,3 +59,7 @@ returns-in-Err-clause-err_crash g c = c.in-Err.ensures.err_crash
 
 pub returns-in-Err-clause-err_autocommit : goal.returns-in-Err-clause-err_autocommit
 returns-in-Err-clause-err_autocommit g c = c.in-Err.ensures.err_autocommit
+
+pub returns-in-Ok-from_objects-clause-of_source : goal.returns-in-Ok-from_objects-clause-of_source
+returns-in-Ok-from_objects-clause-of_source g c =
+    rw c.of.ensures.registry (taken_of_source c.args.source.now _ _ c.in-Ok-from_objects.ensures c.sound.ensures c.in-Ok.ensures.of_source)

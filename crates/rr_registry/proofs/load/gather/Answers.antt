@@ -6,6 +6,6 @@ use Rattle.rr_registry.proofs.load.gather.Goals as goal
 pub loop-object-init : goal.loop-object-init
 loop-object-init c =
     let rest = c.into_iter-object-iterator.ensures.into_iter_gives in
-    let begun = start c.args.objects.items _ _ c.new-gathered.ensures.items rest.0 in
+    let begun = start c.args.objects.items _ _ c.new-gathered.ensures.none rest.0 in
     let all : into_iter_len c.into_iter-object-iterator.result ≡ length (into_iter_items c.into_iter-object-iterator.result) = search rules in
-    (begun.apart, begun.same_clash, begun.same_whole, omega (arith, rest.2), all)
+    (c.new-gathered.ensures.held, begun.same_clash, begun.same_whole, omega (arith, rest.2), all)

@@ -3,6 +3,7 @@ use Rattle.std.proofs.Math.Seq.{take-length}
 use Rattle.std.proofs.lemmas.List.{take_more, map-append}
 use Rattle.sqlite.specs.Held.{state}
 use Rattle.rr_rows.specs.Entries.{IsAdded, entry_of}
+use Rattle.rr_store.specs.Lent.{lent}
 use Rattle.rr_store.proofs.FillLemmas.{HasFilled, filled_more}
 use Rattle.rr_store.proofs.filling.add_objects.Goals as goal
 
@@ -12,11 +13,12 @@ loop-object-preserved g c =
     let objects = c.args.objects.now in
     let at = c.loop-object.object-index in
     let within : at < length objects = omega arith in
-    let grown : map entry_of (take (at + 1) objects) ≡ map entry_of (take at objects) ++ entry_of object ∷ [] =
-    ap (map entry_of) (take_more objects at object within ∙ ap (λ o. take at objects ++ o ∷ []) (sym c.object-item.is)) ∙ map-append entry_of (take at objects) (object ∷ []) in (
+    let grown : map entry_of (lent (take (at + 1) objects)) ≡ map entry_of (lent (take at objects)) ++ entry_of object.now ∷ [] =
+    ap (λ os. map entry_of (lent os)) (take_more objects at object within ∙ ap (λ o. take at objects ++ o ∷ []) (sym c.object-item.is))
+    ∙ (ap (map entry_of) (map-append (λ o. o.now) (take at objects) (object ∷ [])) ∙ map-append entry_of (lent (take at objects)) (object.now ∷ [])) in (
       c.in_ok-add_entry.ensures.same_reference ∙ c.loop-object.invariant.0,
       subst (HasFilled g.S.Store c.args.tx.now.conn.now c.add_entry.new.tx.conn.now) (sym grown)
-          (filled_more g.S.Store c.args.tx.now.conn.now c.loop-object.tx.conn.now c.add_entry.new.tx.conn.now (map entry_of (take at objects)) (entry_of object) c.loop-object.invariant.1
+          (filled_more g.S.Store c.args.tx.now.conn.now c.loop-object.tx.conn.now c.add_entry.new.tx.conn.now (map entry_of (lent (take at objects))) (entry_of object.now) c.loop-object.invariant.1
           (λ clean. rw c.in_ok-entry.ensures at (c.in_ok-add_entry.ensures.ok clean)) c.in_ok-add_entry.ensures.step c.in_ok-add_entry.ensures.kept c.in_ok-add_entry.ensures.survives),
     )
 
@@ -25,4 +27,4 @@ returns-clause-ok g c clean on =
     let objects = c.args.objects.now in
     let last : c.loop-object.object-index ≡ length objects = omega (arith, c.loop-object-test.false, c.loop-object.auto.object-index-end) in
     let all = ap (λ n. take n objects) last ∙ take-length objects in
-    subst (λ xs. IsAdded (map entry_of xs) (state g.S.Store c.args.tx.now.conn.now).now (state g.S.Store c.loop-object.tx.conn.now).now) all (c.loop-object.invariant.1.done clean on)
+    subst (λ xs. IsAdded (map entry_of (lent xs)) (state g.S.Store c.args.tx.now.conn.now).now (state g.S.Store c.loop-object.tx.conn.now).now) all (c.loop-object.invariant.1.done clean on)

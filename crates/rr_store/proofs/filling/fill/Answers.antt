@@ -1,6 +1,7 @@
 use Rattle.std.proofs.Common.{arith, map}
 use Rattle.sqlite.specs.Held.{state}
 use Rattle.rr_rows.specs.Entries.{entry_of}
+use Rattle.rr_store.specs.Lent.{lent}
 use Rattle.rr_store.proofs.BodyLemmas.{then_ok, filled_so}
 use Rattle.rr_store.proofs.filling.fill.Goals as goal
 
@@ -10,5 +11,5 @@ returns-clause-ok g c clean =
     let first = c.in_ok-_version.ensures.survives.clean in
     let mid = c.in_ok-_version.ensures.step (omega (arith, last)) in
     then_ok c.add_objects.result (c.add_objects.ensures.ok clean mid.is_open)
-    (filled_so (map entry_of c.args.objects.now) (state g.S.Store c.args.tx.now.conn.now).now (state g.S.Store c.add_setting.new.tx.conn.now).now (state g.S.Store c.add_objects.new.tx.conn.now).now
+    (filled_so (map entry_of (lent c.args.objects.now)) (state g.S.Store c.args.tx.now.conn.now).now (state g.S.Store c.add_setting.new.tx.conn.now).now (state g.S.Store c.add_objects.new.tx.conn.now).now
     (c.requires (omega (arith, last, first)) ((c.in_ok-_version.ensures.kept (omega (arith, last))).was_open mid.is_open)) (c.in_ok-_version.ensures.ok (omega (arith, last))))

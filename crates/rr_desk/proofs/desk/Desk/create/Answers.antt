@@ -1,5 +1,6 @@
 use Rattle.std.proofs.Common.{refl}
 use Rattle.rr_desk.proofs.ListRows.{left_as, untouched}
+use Rattle.rr_desk.proofs.Sources.{opened_of_source}
 use Rattle.rr_desk.proofs.desk.Desk.create.Goals as goal
 
 pub returns-in_default-clause-err : goal.returns-in_default-clause-err
@@ -14,11 +15,8 @@ returns-in_default-clause-err_crash g c = untouched _ _
 pub returns-in_default-clause-err_autocommit : goal.returns-in_default-clause-err_autocommit
 returns-in_default-clause-err_autocommit g c = c.requires.autocommit
 
-pub create_stored-requires-clause-autocommit : goal.create_stored-requires-clause-autocommit
-create_stored-requires-clause-autocommit g c = c.requires.autocommit
-
-pub create_stored-requires-clause-rows : goal.create_stored-requires-clause-rows
-create_stored-requires-clause-rows g c = rw c.deref.ensures.value c.in-Ok.ensures.rows
+pub create_stored-requires : goal.create_stored-requires
+create_stored-requires g c = record { autocommit = c.requires.autocommit }
 
 pub same-settings : goal.same-settings
 same-settings g c = refl
@@ -30,7 +28,7 @@ pub returns-in-Ok-create_stored-clause-settings : goal.returns-in-Ok-create_stor
 returns-in-Ok-create_stored-clause-settings g c = refl
 
 pub returns-in-Ok-create_stored-clause-opened : goal.returns-in-Ok-create_stored-clause-opened
-returns-in-Ok-create_stored-clause-opened g c = rw c.in-Ok-create_stored.ensures.registry c.in-Ok.ensures.opened
+returns-in-Ok-create_stored-clause-opened g c = rw c.in-Ok-create_stored.ensures.registry c.in-Ok.ensures
 
 pub returns-in-Ok-create_stored-clause-holds : goal.returns-in-Ok-create_stored-clause-holds
 returns-in-Ok-create_stored-clause-holds g c = c.holds.ensures c.in-Ok-create_stored.ensures.running
@@ -39,7 +37,7 @@ pub returns-in-Ok-create_stored-clause-vacant : goal.returns-in-Ok-create_stored
 returns-in-Ok-create_stored-clause-vacant g c = c.in-Ok-create_stored.ensures.vacant
 
 pub returns-in-Ok-create_stored-clause-crash : goal.returns-in-Ok-create_stored-clause-crash
-returns-in-Ok-create_stored-clause-crash g c = left_as _ _ (λ db rows. record { registry = c.in-Ok.registry; is_opened = c.in-Ok.ensures.opened; rows = rows }) c.in-Ok-create_stored.ensures.crash
+returns-in-Ok-create_stored-clause-crash g c = left_as _ _ (λ db rows. record { registry = c.in-Ok.registry; is_opened = c.in-Ok.ensures; rows = rows }) c.in-Ok-create_stored.ensures.crash
 
 pub returns-in-Err-clause-err : goal.returns-in-Err-clause-err
 returns-in-Err-clause-err g c = c.in-Err.ensures.err
@@ -48,7 +46,11 @@ pub returns-in-Err-clause-not_empty : goal.returns-in-Err-clause-not_empty
 returns-in-Err-clause-not_empty g c = c.in-Err.ensures.not_empty
 
 pub returns-in-Err-clause-err_crash : goal.returns-in-Err-clause-err_crash
-returns-in-Err-clause-err_crash g c = left_as _ _ (λ db rows. record { registry = c.in-Ok.registry; is_opened = c.in-Ok.ensures.opened; rows = rows }) c.in-Err.ensures.err_crash
+returns-in-Err-clause-err_crash g c = left_as _ _ (λ db rows. record { registry = c.in-Ok.registry; is_opened = c.in-Ok.ensures; rows = rows }) c.in-Err.ensures.err_crash
 
 pub returns-in-Err-clause-err_autocommit : goal.returns-in-Err-clause-err_autocommit
 returns-in-Err-clause-err_autocommit g c = c.in-Err.ensures.err_autocommit
+
+pub returns-in-Ok-create_stored-clause-of_source : goal.returns-in-Ok-create_stored-clause-of_source
+returns-in-Ok-create_stored-clause-of_source g c =
+    opened_of_source c.args.settings _ c.are_good.ensures (rw c.registry.ensures at c.sound.ensures) (rw c.in-Ok-create_stored.ensures.registry c.in-Ok.ensures)

@@ -39,3 +39,6 @@ returns-in-Err-clause-err_crash g c = c.in-Err.ensures.err_crash
 
 pub returns-in-Err-clause-err_autocommit : goal.returns-in-Err-clause-err_autocommit
 returns-in-Err-clause-err_autocommit g c = c.in-Err.ensures.err_autocommit
+
+pub returns-in-Ok-clause-of_source : goal.returns-in-Ok-clause-of_source
+returns-in-Ok-clause-of_source g c = rw (← c.source.ensures) c.in-Ok.ensures.of_source

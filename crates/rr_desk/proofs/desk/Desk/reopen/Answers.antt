@@ -35,3 +35,6 @@ returns-clause-err_crash g c = rw (← c.close.ensures.same) c.open.ensures.err_
 
 pub returns-clause-err_autocommit : goal.returns-clause-err_autocommit
 returns-clause-err_autocommit g c = c.open.ensures.err_autocommit
+
+pub returns-clause-of_source : goal.returns-clause-of_source
+returns-clause-of_source g c = c.open.ensures.of_source

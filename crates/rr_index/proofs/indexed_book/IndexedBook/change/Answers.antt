@@ -11,7 +11,6 @@ use Rattle.rr_book.specs.SetIndexes.{stands_under}
 use Rattle.rr_book.specs.SetLists.{names_set}
 use Rattle.rr_object.specs.declared.key.Key.{Key}
 use Rattle.rr_object.specs.Objects.{Obj}
-use Rattle.rr_index.specs.declared.indexes.Indexes.{Indexes}
 use Rattle.rr_index.specs.Indexes.{IsKept}
 use Rattle.rr_index.proofs.Changes.{keys_stay, names_stay, spans_stay}
 use Rattle.rr_index.proofs.Referrers.{fresh, referrers_changed, taken_back}

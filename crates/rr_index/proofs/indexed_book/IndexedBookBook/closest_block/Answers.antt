@@ -1,4 +1,4 @@
-use Rattle.std.proofs.Common.{ap, sym, ◌∙◌}
+use Rattle.std.proofs.Common.{ap, ◌∙◌}
 use Rattle.std.specs.FinMap.{get}
 use Rattle.rr_object.specs.declared.key.Key.TheVariants.{AsBlock}
 use Rattle.rr_auth.specs.Closest.{closest_block}

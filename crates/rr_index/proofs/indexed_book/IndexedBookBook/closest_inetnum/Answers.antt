@@ -1,4 +1,4 @@
-use Rattle.std.proofs.Common.{ap, sym, ◌∙◌}
+use Rattle.std.proofs.Common.{ap, ◌∙◌}
 use Rattle.rr_auth.specs.Closest.{closest_inetnum}
 use Rattle.rr_index.proofs.Questions.{inetnum_of_closest, no_inetnum}
 use Rattle.rr_index.proofs.indexed_book.IndexedBookBook.closest_inetnum.Goals as goal

@@ -1,4 +1,4 @@
-use Rattle.std.proofs.Common.{ap, sym, ◌∙◌}
+use Rattle.std.proofs.Common.{ap, ◌∙◌}
 use Rattle.std.specs.FinMap.{get}
 use Rattle.rr_object.specs.declared.key.Key.TheVariants.{Mntner}
 use Rattle.rr_index.proofs.MntnerNames.{named_key, no_name}

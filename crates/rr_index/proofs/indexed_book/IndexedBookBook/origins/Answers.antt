@@ -1,7 +1,4 @@
-use Rattle.std.proofs.Common.{ap, subst, ◌∙◌}
 use Rattle.std.specs.FinMap.{values}
-use Rattle.std.specs.Prelude.{IfOk}
-use Rattle.rr_auth.specs.Closest.{origins_among}
 use Rattle.rr_book.proofs.Origins.{collected_rise}
 use Rattle.rr_index.proofs.Listed.{in_order}
 use Rattle.rr_index.proofs.indexed_book.IndexedBookBook.origins.Goals as goal

@@ -9,6 +9,6 @@ use Rattle.rr_index.proofs.indexed_book.IndexedBookSetBook.aut_nums.Goals as goa
 
 pub returns : goal.returns
 returns c =
-    IfOk-weaker c.of_class.result _ _
+    IfOk-weaker c.aut_nums.result _ _
     (λ found is. lists_aut_nums c.args.self.now c.sound.ensures found.items (is ∙ ap (λ r. filter (is_of_class AutNum) (values r)) c.self.view_is))
-    c.of_class.ensures
+    c.aut_nums.ensures

@@ -9,6 +9,6 @@ use Rattle.rr_index.proofs.indexed_book.IndexedBookSetBook.routes.Goals as goal
 
 pub returns : goal.returns
 returns c =
-    IfOk-weaker c.of_class.result _ _
+    IfOk-weaker c.routes.result _ _
     (λ found is. lists_routes c.args.self.now c.sound.ensures found.items (is ∙ ap (λ r. filter (is_of_class Route) (values r)) c.self.view_is))
-    c.of_class.ensures
+    c.routes.ensures

@@ -11,7 +11,7 @@ pub returns : goal.returns
 returns c = λ r has stood rest.
     let left : c.args.objects.now ≡ remove r c.key-key.result.now = rest ∙ ap (remove r) (sym c.key-key.ensures) in
     record {
-      spans = subst (λ (m : Reg). HasSpans m c.take.new.self.inetnums c.take.new.self.blocks c.take.new.self.routes) (sym left) (c.take.ensures r has.spans (c.is_routed-is_routed.ensures r c.requires left));
+      spans = subst (λ (m : Reg). HasSpans m c.take.new.self.inetnums c.take.new.self.blocks c.take.new.self.routes) (sym left) (c.take.ensures r has.spans (c.is_routed-is_routed.ensures r left));
       names = subst (λ (m : Reg). HasNames m c.take-2.new.self.keys) (sym left) (c.take-2.ensures r has.names);
       referrers = subst (λ (m : Reg). HasReferrers m c.take_all.new.self.keys) (sym rest) (referrers_gone r c.args.self.now.referrers.keys has.referrers c.args.object.now c.take_all.new.self.keys stood c.take_all.ensures);
     }

@@ -4,7 +4,7 @@ use Rattle.std.specs.List.{filter}
 use Rattle.rr_object.specs.Objects.{Obj}
 use Rattle.rr_book.specs.Listings.{covers_span}
 use Rattle.rr_sets.specs.Lists.{lent}
-use Rattle.rr_index.proofs.Kept.{left_out, taken_in, values_first}
+use Rattle.rr_index.proofs.Kept.{left_out, values_first}
 use Rattle.rr_index.proofs.object_map.ObjectMap.covering.Goals as goal
 
 pub loop-object-init : goal.loop-object-init

@@ -1,16 +1,16 @@
-use Rattle.std.proofs.Common.{List, ℕ, ◌++◌, ap, sym, ◌∙◌}
-use Rattle.std.specs.FinMap.{values}
-use Rattle.std.specs.List.{filter_map}
-use Rattle.rr_auth.specs.Closest.{origin_at}
-use Rattle.rr_index.proofs.Kept.{given_more, given_none, values_first}
+use Rattle.std.proofs.Common.{ℕ, List, ◌++◌, ap, ◌∙◌}
+use Rattle.std.specs.Map.{values_of}
+use Rattle.std.specs.Ordering.{is_gt}
+use Rattle.rr_object.specs.KeyOrders.{key_cmp}
+use Rattle.rr_auth.specs.Closest.{origins_among}
+use Rattle.rr_index.proofs.Ranges.{origins_between_keys, origins_forward}
 use Rattle.rr_index.proofs.object_map.ObjectMap.origins.Goals as goal
 
 pub loop-object-init : goal.loop-object-init
 loop-object-init c =
-    ap (λ (xs : List ℕ). xs ++ filter_map (λ o. origin_at c.args.prefix o.key) c.into_iter-object-iterator.result) c.new-origins.ensures.items
-    ∙ ap (filter_map (λ o. origin_at c.args.prefix o.key)) (values_first c.self.inside.entries c.args.self.now c.values-object-items.result c.into_iter-object-iterator.result c.self.invariant c.self.view_is c.values-object-items.ensures.rest c.into_iter-object-iterator.ensures.into_iter_gives)
+    ap (λ (xs : List ℕ). xs ++ origins_among (values_of c.into_iter-object-iterator.result) c.args.prefix) c.new-origins.ensures.items
+    ∙ ap (λ es. origins_among (values_of es) c.args.prefix) (c.into_iter-object-iterator.ensures.into_iter_gives ∙ c.between-object-items.ensures)
+    ∙ origins_between_keys c.args.self.now c.requires c.args.prefix c.first_of.result c.last_of.result c.first_of.ensures c.last_of.ensures
 
-pub loop-object-preserved : goal.loop-object-preserved
-loop-object-preserved c =
-    given_none (λ o. origin_at c.args.prefix o.key) (values c.args.self.now) c.loop-object.object-iterator c.next.new.self c.loop-object.origins.items c.in-Some.object.now c.loop-object.invariant c.in-Some.ensures.steps
-    (ap (origin_at c.args.prefix) (sym c.key.ensures) ∙ sym c.origin_at.ensures ∙ c.in_default.is)
+pub between-object-items-requires : goal.between-object-items-requires
+between-object-items-requires c = (λ i. is_gt (key_cmp (c.first_of.ensures i) (c.last_of.ensures i))) ∙ origins_forward c.args.prefix

@@ -1,4 +1,4 @@
-use Rattle.std.proofs.Common.{◌≡◌, Ok, Err, Some, None, refl, ap, sym, subst, ◌∙◌}
+use Rattle.std.proofs.Common.{◌≡◌, Some, None, refl, ap, sym, subst, ◌∙◌}
 use Rattle.std.specs.Prelude.{IsSome, OnOk, OnErr, IfErr, IfOk, Result}
 use Rattle.std.specs.BTreeMap.{BTreeMap, get as at_key}
 use Rattle.std.specs.FinMap.{get, insert, is_sorted}
@@ -7,7 +7,7 @@ use Rattle.rr_object.specs.declared.key.Key.{Key}
 use Rattle.rr_object.specs.KeyOrders.{key_cmp}
 use Rattle.rr_object.specs.Objects.{Obj}
 use Rattle.rr_index.specs.declared.object_map.ObjectMap.TheInside.{Inside}
-use Rattle.rr_index.specs.ObjectMaps.{registry_of, IsRising}
+use Rattle.rr_index.specs.ObjectMaps.{registry_of}
 use Rattle.rr_index.proofs.Kept.{looked_up, registry_replaced, rising}
 use Rattle.rr_index.proofs.object_map.ObjectMap.replace.Goals as goal
 use Rattle.rr_index.proofs.object_map.ObjectMap.replace.Goals.{in-Some, in-None}

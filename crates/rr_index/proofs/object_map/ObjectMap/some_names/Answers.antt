@@ -2,7 +2,7 @@ use Rattle.std.proofs.Common.{ap, sym, ◌∙◌}
 use Rattle.std.specs.FinMap.{values}
 use Rattle.std.specs.List.{list_any}
 use Rattle.rr_auth.specs.Registries.{names_another}
-use Rattle.rr_index.proofs.Kept.{come_to, come_to_none, passed_by, values_first}
+use Rattle.rr_index.proofs.Kept.{passed_by, values_first}
 use Rattle.rr_index.proofs.object_map.ObjectMap.some_names.Goals as goal
 
 pub loop-object-init : goal.loop-object-init

@@ -1,4 +1,4 @@
-use Rattle.std.proofs.Common.{sym, subst, ap, ◌∙◌}
+use Rattle.std.proofs.Common.{subst}
 use Rattle.rr_number.specs.Spans.{Ends}
 use Rattle.rr_cover.specs.SpanMaps.{IsClosest, NoneCovers}
 use Rattle.rr_index.proofs.Questions.{no_routes, routes_of_closest}

@@ -1,7 +1,4 @@
-use Rattle.std.proofs.Common.{sym, subst, ℕ}
-use Rattle.std.specs.FinMap.{empty}
 use Rattle.rr_index.proofs.Spans.{has_none}
-use Rattle.rr_index.specs.SpanIndexes.{HasSpans}
 use Rattle.rr_index.proofs.span_index.SpanIndex.new.Goals as goal
 
 pub returns : goal.returns

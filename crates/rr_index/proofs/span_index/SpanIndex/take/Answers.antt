@@ -1,11 +1,11 @@
 use Rattle.std.proofs.Common.{cond, sym, subst, ap, ◌∙◌}
 use Rattle.std.specs.FinMap.{remove}
 use Rattle.rr_object.specs.declared.key.Key.{Key}
-use Rattle.rr_object.specs.declared.key.Key.TheVariants.{AsBlock, Inetnum, Route}
+use Rattle.rr_object.specs.declared.key.Key.TheVariants.{AsBlock, Inetnum}
 use Rattle.rr_cover.specs.SpanMaps.{SpanMap}
 use Rattle.rr_number.specs.Prefixes.{PrefixParts, span_of}
 use Rattle.rr_index.proofs.Spans.{removed_block, removed_inetnum, removed_rest, removed_told}
-use Rattle.rr_index.specs.SpanIndexes.{HasSpans, IsTold}
+use Rattle.rr_index.specs.SpanIndexes.{HasSpans}
 use Rattle.rr_index.proofs.span_index.SpanIndex.take.Goals as goal
 
 pub returns-in-Inetnum : goal.returns-in-Inetnum

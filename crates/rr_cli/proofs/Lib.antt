@@ -1,0 +1,4 @@
+mod NumberLemmas
+mod PlainLemmas
+mod ShownLemmas
+mod WritingLemmas

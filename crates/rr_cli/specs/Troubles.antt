@@ -1,0 +1,91 @@
+-- What goes wrong, the status that it ends the program with, and its words (profile).
+use Rattle.std.specs.Prelude.{ℕ, List, [], Option, None, Some, codes}
+use Rattle.rr_store.specs.declared.fault.CreateFault.TheVariants as creating
+use Rattle.rr_store.specs.declared.fault.OpenFault.TheVariants as opening
+use Rattle.rr_submission.specs.declared.submission.DeskFault.TheVariants as desk
+use Rattle.rr_cli.specs.Causes.{cause_text, database_text}
+use Rattle.rr_cli.specs.declared.settings_file.SettingKey.TheVariants as key
+use Rattle.rr_cli.specs.declared.trouble.Trouble.{Trouble}
+use Rattle.rr_cli.specs.declared.trouble.Trouble.TheVariants.{BadWords, BadPort, BadCount, WordsNotText, SettingsUnread, SettingsNotText, SettingsTooLong, SettingsNotToml, SettingBad, Database, Creating, Opening, FileUnopened, Submission, Unwritten, Memory}
+
+-- the status: 2 at wrong words, 3 at wrong settings, 4 where the store failed or is stopped, and else 5, also where memory ran
+-- out (profile)
+abbrev pub trouble_status : Trouble → ℕ
+trouble_status BadWords = 2
+trouble_status BadPort = 2
+trouble_status BadCount = 2
+trouble_status WordsNotText = 2
+trouble_status (SettingsUnread cause) = 3
+trouble_status SettingsNotText = 3
+trouble_status SettingsTooLong = 3
+trouble_status (SettingsNotToml line) = 3
+trouble_status (SettingBad key) = 3
+trouble_status (Database cause) = 4
+trouble_status (Creating creating.NotEmpty) = 4
+trouble_status (Creating creating.Store) = 4
+trouble_status (Creating creating.Memory) = 5
+trouble_status (Opening (opening.WrongVersion version)) = 4
+trouble_status (Opening opening.BadRow) = 4
+trouble_status (Opening opening.Store) = 4
+trouble_status (Opening opening.Memory) = 5
+trouble_status (FileUnopened cause) = 5
+trouble_status (Submission (desk.ReadFault items)) = 5
+trouble_status (Submission (desk.WriteFault items)) = 5
+trouble_status (Submission (desk.StoreFault items)) = 4
+trouble_status (Submission desk.Memory) = 5
+trouble_status (Submission desk.Stopped) = 4
+trouble_status Unwritten = 5
+trouble_status Memory = 5
+
+-- the words before the number, or all of them (profile)
+abbrev pub before_number : Trouble → List ℕ
+before_number BadWords = codes "`irrdesk --help` lists the commands"
+before_number BadPort = codes "a port is a number from 1 to 65535"
+before_number BadCount = codes "a count is a number from 1 to 1000000"
+before_number WordsNotText = codes "one of the words is no UTF-8 text"
+before_number (SettingsUnread cause) = codes "the settings cannot be read: "
+before_number SettingsNotText = codes "the settings are no UTF-8 text"
+before_number SettingsTooLong = codes "the settings are longer than 1048576 bytes"
+before_number (SettingsNotToml line) = codes "the settings are no TOML: see line "
+before_number (SettingBad key.Source) = codes "`source` is missing or bad: it names the registry, as \"TEST\""
+before_number (SettingBad key.Root) = codes "`root` is missing or bad: it names a maintainer, as \"ROOT-MNT\""
+before_number (SettingBad key.Auth) = codes "`auth` is missing or bad: it is \"SHA256-PW salt:digest\", with 64 hexadecimal digits"
+before_number (SettingBad key.Limit) = codes "`limit` is missing or bad: it is a whole number from 1 to 1000000"
+before_number (SettingBad key.Store) = codes "`store` is missing or bad: it is the path of the database"
+before_number (Database cause) = codes "the database cannot be used: "
+before_number (Creating creating.NotEmpty) = codes "the database has a registry already: take a new one"
+before_number (Creating creating.Store) = codes "the database refuses the tables of a registry"
+before_number (Creating creating.Memory) = codes "out of memory"
+before_number (Opening (opening.WrongVersion version)) = codes "the tables of the database are of version "
+before_number (Opening opening.BadRow) = codes "the rows of the database are no registry of the settings' source"
+before_number (Opening opening.Store) = codes "the database has no registry that can be read: `irrdesk init` makes one"
+before_number (Opening opening.Memory) = codes "out of memory"
+before_number (FileUnopened cause) = codes "the file cannot be opened: "
+before_number (Submission (desk.ReadFault items)) = codes "the submission could not be read to its end; items decided before that: "
+before_number (Submission (desk.WriteFault items)) = codes "the report could not be written; items decided before that: "
+before_number (Submission (desk.StoreFault items)) = codes "the database failed; items decided before that: "
+before_number (Submission desk.Memory) = codes "out of memory"
+before_number (Submission desk.Stopped) = codes "the desk is stopped"
+before_number Unwritten = codes "it could not be written"
+before_number Memory = codes "out of memory"
+
+-- the number that is told: a line, a version, or how many items were decided (profile)
+abbrev pub told_number : Trouble → Option ℕ
+told_number (SettingsNotToml line) = Some line
+told_number (Opening (opening.WrongVersion version)) = Some version
+told_number (Submission (desk.ReadFault items)) = Some items
+told_number (Submission (desk.WriteFault items)) = Some items
+told_number (Submission (desk.StoreFault items)) = Some items
+told_number _ = None
+
+-- the words behind the number (profile)
+abbrev pub behind_number : Trouble → List ℕ
+behind_number (Opening (opening.WrongVersion version)) = codes ", and this program reads version 2"
+behind_number _ = []
+
+-- the last words: the cause (profile)
+abbrev pub detail : Trouble → List ℕ
+detail (SettingsUnread cause) = cause_text cause
+detail (FileUnopened cause) = cause_text cause
+detail (Database cause) = database_text cause
+detail _ = []

@@ -1,0 +1,17 @@
+//! Files that commands read.
+
+use crate::cause::Cause;
+use crate::trouble::Trouble;
+use std::fs::File;
+use std::io::ErrorKind;
+
+/// Opens a file to read it.
+pub fn open_file(rt: &HostRuntime, path: &str) -> Result<File, Trouble> {
+    match File::open(rt, path) {
+        Ok(file) => Ok(file),
+        Err(error) => match error.kind() {
+            ErrorKind::OutOfMemory => Err(Trouble::Memory),
+            _ => Err(Trouble::FileUnopened(Cause::of(&error))),
+        },
+    }
+}

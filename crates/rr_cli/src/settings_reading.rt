@@ -1,0 +1,71 @@
+//! Settings files.
+
+use crate::cause::Cause;
+use crate::fault::ProgramFault;
+use crate::settings_file::{SettingsFault, read_settings};
+use crate::trouble::Trouble;
+use rr_desk::Settings;
+use std::alloc::Global;
+use std::fs::File;
+use std::io;
+use std::io::{ErrorKind, Read};
+
+/// The most bytes of a settings file (profile).
+const MOST_BYTES: u64 = 1_048_576;
+
+/// The settings in a file, and the path of the database. The fault is about the file (status 3), or want of memory (status 5).
+pub fn read_settings_file<'a>(
+    rt: &HostRuntime,
+    file: &'a str,
+) -> Result<(Settings, String), ProgramFault<'a>> {
+    let bytes = match read_bytes(rt, file) {
+        Ok(bytes) => bytes,
+        Err(error) => return Err(ProgramFault::of(file, trouble_of(&error))),
+    };
+    match read_text(rt.alloc(), bytes.as_slice()) {
+        Ok(read) => Ok(read),
+        Err(trouble) => Err(ProgramFault::of(file, trouble)),
+    }
+}
+
+/// The bytes of a file, or one more than the most where it has more.
+fn read_bytes(rt: &HostRuntime, file: &str) -> io::Result<Vec<u8>> {
+    let mut bytes = Vec::new(rt.alloc());
+    File::open(rt, file)?
+        .take(MOST_BYTES + 1)
+        .read_to_end(&mut bytes)?;
+    Ok(bytes)
+}
+
+fn trouble_of(error: &io::Error) -> Trouble {
+    match error.kind() {
+        ErrorKind::OutOfMemory => Trouble::Memory,
+        _ => Trouble::SettingsUnread(Cause::of(error)),
+    }
+}
+
+/// The settings that the bytes of a file are.
+fn read_text(alloc: Global, bytes: &[u8]) -> Result<(Settings, String), Trouble> {
+    if bytes.len() as u64 > MOST_BYTES {
+        return Err(Trouble::SettingsTooLong);
+    }
+    let Ok(text) = std::str::from_utf8(bytes) else {
+        return Err(Trouble::SettingsNotText);
+    };
+    match read_settings(alloc, text) {
+        Ok(read) => Ok(read),
+        Err(SettingsFault::BadToml) => Err(Trouble::SettingsNotToml(bad_line(alloc, text))),
+        Err(SettingsFault::BadKey(key)) => Err(Trouble::SettingBad(key)),
+        Err(SettingsFault::Memory) => Err(Trouble::Memory),
+    }
+}
+
+/// The line, from 1, where it shows that a text is no TOML.
+fn bad_line(alloc: Global, text: &str) -> u64 {
+    let place = match toml::table_from_str(alloc, text) {
+        Ok(_) => 0,
+        Err(error) => error.span().map_or(0, |span| span.start),
+    };
+    let front = text.as_bytes().get(..place).unwrap_or(b"");
+    1 + front.iter().filter(|byte| **byte == b'\n').count() as u64
+}

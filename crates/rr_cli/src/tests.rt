@@ -1,0 +1,3 @@
+//! Settings and words.
+mod settings;
+mod words;

@@ -1,0 +1,221 @@
+//! What went wrong: the status that it ends the program with, and its words.
+
+ghost use Rattle.std.specs.Prelude.{◌≡◌};
+ghost use Rattle.rr_cli.specs.Troubles.{behind_number, before_number, detail, told_number, trouble_status};
+
+use crate::cause::{Cause, DatabaseCause};
+use crate::settings_file::SettingKey;
+use rr_desk::{CreateFault, DeskFault, OpenFault};
+
+/// The status at wrong words.
+const WRONG_WORDS: u8 = 2;
+
+/// The status at wrong settings.
+const WRONG_SETTINGS: u8 = 3;
+
+/// The status at a fault of the database, or where the desk is stopped.
+const STORE_FAILED: u8 = 4;
+
+/// The status at a fault of a file, a socket, or standard output, at a dump that is no registry, or where memory ran out.
+const FAILED: u8 = 5;
+
+/// What went wrong.
+#[derive(Clone, Copy, Debug, PartialEq, Eq)]
+pub enum Trouble {
+    /// The words are none of a command.
+    BadWords,
+    /// A port is no number, or out of its bounds.
+    BadPort,
+    /// A count is no number, or out of its bounds.
+    BadCount,
+    /// A word is no text.
+    WordsNotText,
+    /// The settings file cannot be read.
+    SettingsUnread(Cause),
+    /// The settings file is no text.
+    SettingsNotText,
+    /// The settings file is too long.
+    SettingsTooLong,
+    /// The settings are no TOML: the line where that shows, from 1.
+    SettingsNotToml(u64),
+    /// A setting is missing or bad.
+    SettingBad(SettingKey),
+    /// The database cannot be used.
+    Database(DatabaseCause),
+    /// No registry was made in the database.
+    Creating(CreateFault),
+    /// The registry in the database was not opened.
+    Opening(OpenFault),
+    /// A file cannot be opened.
+    FileUnopened(Cause),
+    /// A submission was cut short.
+    Submission(DeskFault),
+    /// Standard output could not be written.
+    Unwritten,
+    /// Memory ran out.
+    Memory,
+}
+
+impl Trouble {
+    /// The status of the program: 2 at wrong words, 3 at wrong settings, 4 where the store failed or is stopped, and else 5,
+    /// also where memory ran out (profile).
+    pub fn status(self) -> u8
+        ensures { result ≡ trouble_status self }
+    {
+        match self {
+            Trouble::BadWords | Trouble::BadPort | Trouble::BadCount | Trouble::WordsNotText => {
+                WRONG_WORDS
+            }
+            Trouble::SettingsUnread(_)
+            | Trouble::SettingsNotText
+            | Trouble::SettingsTooLong
+            | Trouble::SettingsNotToml(_)
+            | Trouble::SettingBad(_) => WRONG_SETTINGS,
+            Trouble::Database(_) => STORE_FAILED,
+            Trouble::Creating(fault) => creating_status(fault),
+            Trouble::Opening(fault) => opening_status(fault),
+            Trouble::Submission(fault) => submission_status(fault),
+            Trouble::FileUnopened(_) | Trouble::Unwritten | Trouble::Memory => FAILED,
+        }
+    }
+
+    /// The words before the number, or all of them.
+    pub fn before_number(self) -> &'static str
+        ensures { result.now ≡ before_number self }
+    {
+        match self {
+            Trouble::BadWords => "`irrdesk --help` lists the commands",
+            Trouble::BadPort => "a port is a number from 1 to 65535",
+            Trouble::BadCount => "a count is a number from 1 to 1000000",
+            Trouble::WordsNotText => "one of the words is no UTF-8 text",
+            Trouble::SettingsUnread(_) => "the settings cannot be read: ",
+            Trouble::SettingsNotText => "the settings are no UTF-8 text",
+            Trouble::SettingsTooLong => "the settings are longer than 1048576 bytes",
+            Trouble::SettingsNotToml(_) => "the settings are no TOML: see line ",
+            Trouble::SettingBad(key) => setting_words(key),
+            Trouble::Database(_) => "the database cannot be used: ",
+            Trouble::Creating(fault) => creating_words(fault),
+            Trouble::Opening(fault) => opening_words(fault),
+            Trouble::FileUnopened(_) => "the file cannot be opened: ",
+            Trouble::Submission(fault) => submission_words(fault),
+            Trouble::Unwritten => "it could not be written",
+            Trouble::Memory => "out of memory",
+        }
+    }
+
+    /// The number: a line, a version, or how many items were decided.
+    pub fn told_number(self) -> Option<u64>
+        ensures { result ≡ told_number self }
+    {
+        match self {
+            Trouble::SettingsNotToml(line) => Some(line),
+            Trouble::Opening(OpenFault::WrongVersion(version)) => Some(u64::from(version)),
+            Trouble::Submission(
+                DeskFault::ReadFault { items }
+                | DeskFault::WriteFault { items }
+                | DeskFault::StoreFault { items },
+            ) => Some(items),
+            _ => None,
+        }
+    }
+
+    /// The words behind the number.
+    pub fn behind_number(self) -> &'static str
+        ensures { result.now ≡ behind_number self }
+    {
+        match self {
+            Trouble::Opening(OpenFault::WrongVersion(_)) => { ", and this program reads version 2" }
+            _ => "",
+        }
+    }
+
+    /// The last words: the cause.
+    pub fn detail(self) -> &'static str
+        ensures { result.now ≡ detail self }
+    {
+        match self {
+            Trouble::SettingsUnread(cause) | Trouble::FileUnopened(cause) => cause.text(),
+            Trouble::Database(cause) => cause.text(),
+            _ => "",
+        }
+    }
+}
+
+fn creating_status(fault: CreateFault) -> u8
+    ensures { result ≡ trouble_status (Trouble.Creating fault) }
+{
+    match fault {
+        CreateFault::NotEmpty | CreateFault::Store => STORE_FAILED,
+        CreateFault::Memory => FAILED,
+    }
+}
+
+fn opening_status(fault: OpenFault) -> u8
+    ensures { result ≡ trouble_status (Trouble.Opening fault) }
+{
+    match fault {
+        OpenFault::WrongVersion(_) | OpenFault::BadRow | OpenFault::Store => STORE_FAILED,
+        OpenFault::Memory => FAILED,
+    }
+}
+
+fn submission_status(fault: DeskFault) -> u8
+    ensures { result ≡ trouble_status (Trouble.Submission fault) }
+{
+    match fault {
+        DeskFault::StoreFault { .. } | DeskFault::Stopped => STORE_FAILED,
+        DeskFault::ReadFault { .. } | DeskFault::WriteFault { .. } | DeskFault::Memory => FAILED,
+    }
+}
+
+fn setting_words(key: SettingKey) -> &'static str
+    ensures { result.now ≡ before_number (Trouble.SettingBad key) }
+{
+    match key {
+        SettingKey::Source => "`source` is missing or bad: it names the registry, as \"TEST\"",
+        SettingKey::Root => "`root` is missing or bad: it names a maintainer, as \"ROOT-MNT\"",
+        SettingKey::Auth => {
+            "`auth` is missing or bad: it is \"SHA256-PW salt:digest\", with 64 hexadecimal digits"
+        }
+        SettingKey::Limit => "`limit` is missing or bad: it is a whole number from 1 to 1000000",
+        SettingKey::Store => "`store` is missing or bad: it is the path of the database",
+    }
+}
+
+fn creating_words(fault: CreateFault) -> &'static str
+    ensures { result.now ≡ before_number (Trouble.Creating fault) }
+{
+    match fault {
+        CreateFault::NotEmpty => "the database has a registry already: take a new one",
+        CreateFault::Store => "the database refuses the tables of a registry",
+        CreateFault::Memory => "out of memory",
+    }
+}
+
+fn opening_words(fault: OpenFault) -> &'static str
+    ensures { result.now ≡ before_number (Trouble.Opening fault) }
+{
+    match fault {
+        OpenFault::WrongVersion(_) => "the tables of the database are of version ",
+        OpenFault::BadRow => "the rows of the database are no registry of the settings' source",
+        OpenFault::Store =>
+            "the database has no registry that can be read: `irrdesk init` makes one",
+        OpenFault::Memory => "out of memory",
+    }
+}
+
+fn submission_words(fault: DeskFault) -> &'static str
+    ensures { result.now ≡ before_number (Trouble.Submission fault) }
+{
+    match fault {
+        DeskFault::ReadFault { .. } => {
+            "the submission could not be read to its end; items decided before that: "
+        }
+        DeskFault::WriteFault { .. } => {
+            "the report could not be written; items decided before that: "
+        }
+        DeskFault::StoreFault { .. } => "the database failed; items decided before that: ",
+        DeskFault::Memory => "out of memory",
+        DeskFault::Stopped => "the desk is stopped",
+    }
+}

@@ -1,0 +1,22 @@
+-- Lemmas on connections over memory.
+use Rattle.std.proofs.Common.{◌≡◌, ℕ, zero, suc, ◌+◌, List, [], ◌∷◌, ◌++◌, map, replicate, arith, refl, ap, sym, ◌∙◌, subst, append_assoc}
+use Rattle.std.proofs.lemmas.List.{append-nil, map-append}
+use Rattle.rr_desk.specs.declared.memory_peers.MemoryTurn.{MemoryTurn}
+use Rattle.rr_desk.specs.MemoryTurns.{memory_turn}
+use Rattle.rr_desk.specs.Turns.{Turn, unaccepted}
+
+replicate_more : (n : ℕ) (turn : Turn) → replicate (n + 1) turn ≡ replicate n turn ++ turn ∷ []
+replicate_more zero turn = refl
+replicate_more (suc n) turn =
+    ap (λ k. replicate k turn) (let e : suc n + 1 ≡ suc (n + 1) = omega arith in e) ∙ ap (λ turns. turn ∷ turns) (replicate_more n turn)
+
+-- one more accept found no connection
+pub failed_told : (kept : List Turn) (past : ℕ) → kept ++ replicate (past + 1) unaccepted ≡ (kept ++ replicate past unaccepted) ++ unaccepted ∷ []
+failed_told kept past = ap (λ more. kept ++ more) (replicate_more past unaccepted) ∙ sym (append_assoc kept (replicate past unaccepted) (unaccepted ∷ []))
+
+-- one more connection was closed
+pub closed_told : (kept : List MemoryTurn) (turn : MemoryTurn) (past : ℕ) → past ≡ 0 →
+    map memory_turn (kept ++ turn ∷ []) ++ replicate past unaccepted ≡ (map memory_turn kept ++ replicate past unaccepted) ++ memory_turn turn ∷ []
+closed_told kept turn past none =
+    subst (λ n. map memory_turn (kept ++ turn ∷ []) ++ replicate n unaccepted ≡ (map memory_turn kept ++ replicate n unaccepted) ++ memory_turn turn ∷ []) (sym none)
+    (append-nil _ ∙ (map-append memory_turn kept (turn ∷ []) ∙ ap (λ turns. turns ++ memory_turn turn ∷ []) (sym (append-nil (map memory_turn kept)))))

@@ -1,0 +1,164 @@
+-- What migration makes of tables of version 1, and why there is none.
+use Rattle.std.proofs.Common.{◌≡◌, ◌⊎◌, inl, inr, ℕ, Bool, false, List, [], ◌∷◌, ◌++◌, Result, Ok, Err, IfOk, IfErr, OnOk, OnErr, refl, sym, ap, subst, ◌∙◌, arith, IsPermutation}
+use Rattle.std.proofs.lemmas.Bool.{both_ways, or_from, or_parts}
+use Rattle.std.proofs.lemmas.List.Sorted.{IsPermutation-append_left, IsPermutation-map}
+use Rattle.std.specs.List.{AllByRecursion, list_any}
+use Rattle.std.specs.FinMap.{empty, values}
+use Rattle.sqlite_trees.proofs.ListLemmas.{all-append, all-permutation, all_weaker}
+use Rattle.sqlite.specs.Effect.{Database}
+use Rattle.sqlite.specs.State.{State, HasCleanDisk, IsUnchanged, Survives}
+use Rattle.sqlite.proofs.StateLemmas.{survives_then}
+use Rattle.rr_text.specs.Fields.{Field}
+use Rattle.rr_object.specs.declared.fault.ObjectFault.{ObjectFault}
+use Rattle.rr_object.specs.Objects.{Obj}
+use Rattle.rr_object.specs.OldKeys.{old_key_bytes}
+use Rattle.rr_object.specs.Readings.{ReadsAs}
+use Rattle.rr_auth.specs.Registries.{Reg, Sound}
+use Rattle.rr_auth.specs.Sources.{IsRegistryOf}
+use Rattle.rr_auth.proofs.Members.{IsIn, found_in}
+use Rattle.rr_registry.specs.declared.load.LoadFault.{LoadFault}
+use Rattle.rr_registry.specs.declared.load.LoadFault.TheVariants.{Duplicate, Overlap, Unnamed, Memory}
+use Rattle.rr_registry.specs.Loading.{IsFaultOf}
+use Rattle.rr_rows.specs.Entries.{entry_of}
+use Rattle.rr_rows.specs.Maps.{AreOldStored, HasRows, IsKeyed, IsObject, IsObjectOf, old_version}
+use Rattle.rr_rows.proofs.ListForms.{stored_alike}
+use Rattle.rr_rows.proofs.MapLists.{listed_rows, of_any, permuted_map}
+use Rattle.rr_rows.proofs.MapRows.{rows_permuted}
+use Rattle.rr_store.specs.declared.fault.MigrateFault.{MigrateFault}
+use Rattle.rr_store.specs.declared.fault.MigrateFault.TheVariants as migrate
+use Rattle.rr_store.specs.Kept.{IsLeft}
+use Rattle.rr_store.specs.Migrating.{HasNoRoot, IsMigrated, has_mntner, is_mntner_of}
+use Rattle.rr_desk.specs.Migrating.{AreRegistry, HasBlock, HasBlockFault, HasLoadFault, HasNoOldRegistry, IsGrown, IsGrowthFault, IsRootless, told_as}
+use Rattle.rr_desk.specs.Opening.{four_octets_fields}
+use Rattle.rr_desk.specs.Settings.{IsSettings, SettingsParts}
+use Rattle.rr_desk.proofs.Grown.{rootless, the_block}
+use Rattle.rr_desk.proofs.ListRows.{gathered_is}
+use Rattle.rr_desk.proofs.TakenApart.{taken_apart}
+use Rattle.rr_load.proofs.SoundLists.{sound_list}
+use Rattle.rr_desk.proofs.Sources.{IsReadIn, block_read, taken_read}
+
+-- a fault of a list is told as want of memory, or as the fault that it stands for
+pub told_so : (os : List Obj) (fault : LoadFault) (told : MigrateFault) → IsFaultOf os fault → (told_as fault told ≡ migrate.Memory) ⊎ ((told_as fault told ≡ told) × HasLoadFault os)
+told_so os fault told (inl memory) = inl (ap (λ f. told_as f told) memory)
+told_so os (Duplicate n) told (inr is) = inr (refl, record { fault = Duplicate n; is_fault = is })
+told_so os (Overlap n) told (inr is) = inr (refl, record { fault = Overlap n; is_fault = is })
+told_so os (Unnamed n) told (inr is) = inr (refl, record { fault = Unnamed n; is_fault = is })
+told_so os Memory told (inr is) = inl refl
+
+pub block_fault : (s : SettingsParts) (os : List Obj) (block : Obj) (fault : LoadFault) → ReadsAs s.source (four_octets_fields s) block
+    → (told_as fault migrate.NoRoot ≡ migrate.Memory) ⊎ ((told_as fault migrate.NoRoot ≡ migrate.NoRoot) × HasLoadFault (os ++ block ∷ []))
+    → (told_as fault migrate.NoRoot ≡ migrate.Memory) ⊎ ((told_as fault migrate.NoRoot ≡ migrate.NoRoot) × HasBlockFault s os)
+block_fault s os block fault read (inl memory) = inl memory
+block_fault s os block fault read (inr bad) = inr (bad.0, record { block = block; read = read; fault = bad.1 })
+
+pub unsound_growth : (s : SettingsParts) (os : List Obj) (fault : MigrateFault) → (fault ≡ migrate.Memory) ⊎ ((fault ≡ migrate.BadRow) × HasLoadFault os) → IsGrowthFault s os fault
+unsound_growth s os fault (inl memory) = subst (IsGrowthFault s os) (sym memory) tt
+unsound_growth s os fault (inr bad) = subst (IsGrowthFault s os) (sym bad.0) bad.1
+
+pub unowned_growth : (s : SettingsParts) (os : List Obj) (fault : MigrateFault) → AreRegistry os → (fault ≡ migrate.Memory) ⊎ ((fault ≡ migrate.NoRoot) × HasBlockFault s os) → IsGrowthFault s os fault
+unowned_growth s os fault sound (inl memory) = subst (IsGrowthFault s os) (sym memory) tt
+unowned_growth s os fault sound (inr bad) = subst (IsGrowthFault s os) (sym bad.0) (sound, bad.1)
+
+-- what is known of both parts of an answer
+pub each_ok : {X E : Type 0} (r : Result X E) (P Q R : X → Type 0) → IfOk r P → IfOk r Q → ((x : X) → P x → Q x → R x) → IfOk r R
+each_ok (Ok x) P Q R p q f = f x p q
+each_ok (Err e) P Q R p q f = tt
+
+pub each_err : {X E : Type 0} (r : Result X E) (P Q R : E → Type 0) → IfErr r P → IfErr r Q → ((e : E) → P e → Q e → R e) → IfErr r R
+each_err (Ok x) P Q R p q f = tt
+each_err (Err e) P Q R p q f = f e p q
+
+pub always_ok : {X E : Type 0} (r : Result X E) (Q : Type 0) → Q → OnOk r Q
+always_ok (Ok x) Q q = q
+always_ok (Err e) Q q = tt
+
+pub always_err : {X E : Type 0} (r : Result X E) (Q : Type 0) → Q → OnErr r Q
+always_err (Ok x) Q q = tt
+always_err (Err e) Q q = q
+
+-- objects of a source that are no registry are not those of one
+in_all : {A : Type 0} (P : A → Type 0) (x : A) (xs : List A) → AllByRecursion P xs → IsIn x xs → P x
+in_all P x [] all is = absurd is
+in_all P x (y ∷ ys) all (inl same) = subst P (sym same) all.0
+in_all P x (y ∷ ys) all (inr is) = in_all P x ys all.1 is
+
+pub no_old_registry : (source : List ℕ) (os : List Obj) (db : Database) → AreOldStored source os db → HasLoadFault os → HasNoOldRegistry source db
+no_old_registry source os db stored bad r of rows =
+    let keyed : IsKeyed r = record {
+      keyed = of.sound.keyed;
+      formed = of.sound.formed;
+      read = λ k o found. of_any source o (in_all (IsObjectOf source) o (values r) rows.of_source (found_in r k o found));
+    } in
+    let same = permuted_map r os keyed (all_weaker (IsObjectOf source) IsObject (of_any source) os stored.of_source) stored.apart (stored_alike old_key_bytes old_version source os (values r) db stored rows) in
+    let none = sound_list os r stored.apart of.sound (gathered_is empty os ∙ same) in
+    let is = bad.is_fault in
+    absurd (cc)
+
+-- a list in another order has no other mntners
+module _ {A : Type 0} (p : A → Bool) where
+  none_of : (xs : List A) → list_any p xs ≡ false → AllByRecursion (λ x. p x ≡ false) xs
+  none_of [] none = tt
+  none_of (x ∷ xs) none = let parts = or_parts (p x) (list_any p xs) none in (parts.0, none_of xs parts.1)
+
+  not_any : (xs : List A) → AllByRecursion (λ x. p x ≡ false) xs → list_any p xs ≡ false
+  not_any [] all = refl
+  not_any (x ∷ xs) all = or_from _ _ all.0 (not_any xs all.1)
+
+missing_alike : (root : List ℕ) (xs ys : List Obj) → IsPermutation xs ys → has_mntner root xs ≡ false → has_mntner root ys ≡ false
+missing_alike root xs ys same missing =
+    let p : Obj → Bool = λ o. is_mntner_of root o.key in
+    not_any p ys (all-permutation (λ o. p o ≡ false) xs ys same (none_of p xs missing))
+
+pub is_rootless : (s : SettingsParts) (db : Database) (r : Reg) → IsGrown s db r → HasNoRoot s.root s.source db → IsRootless s db
+is_rootless s db r grown none = record {
+  objects = grown.objects;
+  before = grown.before;
+  sound = grown.sound;
+  missing = missing_alike s.root none.objects grown.objects (stored_alike old_key_bytes old_version s.source none.objects grown.objects db none.before grown.before) none.missing;
+}
+
+-- where the root is no maintainer of a registry of version 1, the block is none's
+pub growth_rootless : (s : SettingsParts) (os : List Obj) (db : Database) → IsSettings s → AreOldStored s.source os db → AreRegistry os × HasBlockFault s os → IsRootless s db
+growth_rootless s os db is stored h = record {
+  objects = os;
+  before = stored;
+  sound = h.0;
+  missing = rootless s is os h.0.registry h.0.taken h.0.sound stored.formed h.1.block h.1.read h.1.fault;
+}
+
+-- the registry with the block is of the settings' source
+pub grown_of_source : (s : SettingsParts) (os : List Obj) (r : Reg) → IsSettings s → AllByRecursion (IsObjectOf s.source) os → HasBlock s os r → Sound r → IsRegistryOf s.source r
+grown_of_source s os r is all grown sound =
+    taken_read s.source (os ++ grown.block ∷ []) r grown.taken sound
+    (all-append (IsReadIn s.source) os (grown.block ∷ []) (all_weaker (IsObjectOf s.source) (IsReadIn s.source) (λ o of. of.read) os all) (block_read s grown.block is (the_block s grown.block is grown.read), tt))
+
+-- the registry that was made before has the rows that migration makes
+same_block : (source : List ℕ) (fields : List Field) (a b : Obj) → ReadsAs source fields a → ReadsAs source fields b → a ≡ b
+same_block source fields a b first second =
+    let both : ◌≡◌ {A = Result Obj ObjectFault} (Ok a) (Ok b) = sym first ∙ second in
+    cc
+
+pub migrated_rows : (s : SettingsParts) (r : Reg) (old new : Database) → IsGrown s old r → IsMigrated s.root s.source old new → HasRows r new
+migrated_rows s r old new grown made =
+    let os = grown.objects in
+    let block = grown.grown.block in
+    let taken = grown.grown.taken in
+    let same : made.block ≡ block = same_block s.source (four_octets_fields s) made.block block made.read grown.grown.read in
+    let alike : IsPermutation (made.objects ++ made.block ∷ []) (os ++ block ∷ []) =
+    subst (λ b. IsPermutation (made.objects ++ made.block ∷ []) (os ++ b ∷ [])) same
+    (IsPermutation-append_left (made.block ∷ []) made.objects os (stored_alike old_key_bytes old_version s.source made.objects os old made.before grown.before)) in
+    let all = all_weaker (IsObjectOf s.source) IsObject (of_any s.source) (os ++ block ∷ []) (all-permutation (IsObjectOf s.source) _ _ alike made.after.of_source) in
+    subst (λ m. HasRows m new) (sym (taken.whole ∙ gathered_is empty (os ++ block ∷ [])))
+    (listed_rows (os ++ block ∷ []) new all (taken_apart (os ++ block ∷ []) r taken) (rows_permuted _ _ new (IsPermutation-map entry_of _ _ alike) made.after.rows) made.after.version)
+
+-- a look at the tables before they are migrated changes nothing of what a stop leaves
+pub migrated_then : (root source : List ℕ) (a b c : State) → (HasCleanDisk b → IsUnchanged a b) → Survives a b (λ _. a.is_open ≡ false)
+    → Survives b c (IsLeft b.is_open (IsMigrated root source b.now)) → Survives a c (IsLeft a.is_open (IsMigrated root source a.now))
+migrated_then root source a b c same one two =
+    survives_then a b c (λ _. a.is_open ≡ false) (IsLeft b.is_open (IsMigrated root source b.now)) (IsLeft a.is_open (IsMigrated root source a.now)) (λ clean trees off. inl off)
+    (λ clean trees left.
+    let as_was = same (omega (arith, two.clean)) in
+    elim left [
+      | inl off ↦ absurd (both_ways b.is_open off as_was.0.is_open)
+      | inr made ↦ inr (made.0, subst (λ db. IsMigrated root source db made.0) as_was.0.now_is made.1, made.2)
+    ]) one two

@@ -1,0 +1,102 @@
+-- The registries of desks are of their settings' source.
+use Rattle.std.proofs.Common.{◌≡◌, ℕ, List, [], ◌∷◌, ◌++◌, map, Result, Ok, Err, inl, inr, sym, ap, subst, ◌∙◌}
+use Rattle.std.proofs.lemmas.List.{map-append}
+use Rattle.std.specs.Prelude.{None, Some}
+use Rattle.std.specs.List.{AllByRecursion}
+use Rattle.std.specs.FinMap.{empty, get, insert, get-empty}
+use Rattle.sqlite_trees.specs.declared.store.Store as store
+use Rattle.sqlite_trees.proofs.ListLemmas.{all_weaker}
+use Rattle.rr_io.specs.Told.{Told}
+use Rattle.rr_text.specs.Entries.{entries}
+use Rattle.rr_text.specs.WholePart.{whole_entries}
+use Rattle.rr_object.specs.declared.code.Code.{Code}
+use Rattle.rr_object.specs.declared.key.Key.{Key}
+use Rattle.rr_object.specs.KeyOrders.{key_cmp}
+use Rattle.rr_object.specs.Objects.{Obj}
+use Rattle.rr_object.specs.Readings.{ReadsAs, obj_at}
+use Rattle.rr_auth.specs.declared.item.Item.{Item}
+use Rattle.rr_auth.specs.Registries.{Reg, Sound}
+use Rattle.rr_auth.specs.Sources.{IsRegistryOf}
+use Rattle.rr_auth.proofs.Keeping.{after_insert}
+use Rattle.rr_registry.specs.declared.outcome.Outcome.{Outcome}
+use Rattle.rr_registry.specs.Loading.{IsTaken, gathered}
+use Rattle.rr_registry.specs.Runs.{Decides, Run}
+use Rattle.rr_registry.proofs.Running.{run_more}
+use Rattle.rr_rows.specs.Maps.{IsObjectOf}
+use Rattle.rr_submission.specs.declared.submission.DeskFault.{DeskFault}
+use Rattle.rr_submission.specs.declared.submission.DeskFault.TheVariants.{ReadFault, WriteFault, StoreFault, Memory, Stopped}
+use Rattle.rr_submission.specs.declared.submission.Done.{Done}
+use Rattle.rr_submission.specs.Served.{HaltsAt, ServesStopped}
+use Rattle.rr_submission.specs.SubmissionItems.{submitted}
+use Rattle.rr_submission.specs.Submissions.{Submits}
+use Rattle.rr_submission.proofs.Keeping.{items_keep_the_source}
+use Rattle.rr_desk.specs.Opening.{IsOpened}
+use Rattle.rr_desk.specs.Settings.{IsSettings, SettingsParts}
+use Rattle.rr_desk.specs.Stocks.{Stock, stock_ledger}
+use Rattle.rr_desk.proofs.OpeningReads.{addresses_read, four_octets_read, numbers_read, root_read}
+use Rattle.rr_desk.proofs.OpeningRegistry.{are_these, four_octets_object, opening_objects}
+
+gathered_each : (P : Obj → Type 0) (r : Reg) (os : List Obj) → ((k : Key) (o : Obj) → get r k ≡ Some o → P o) → AllByRecursion P os → (k : Key) (o : Obj) → get (gathered r os) k ≡ Some o → P o
+gathered_each P r [] old all = old
+gathered_each P r (x ∷ os) old all = gathered_each P (insert r x.key x) os (after_insert (λ k o. P o) r x.key x all.0 old) all.1
+
+nothing : {A : Type 0} (x : A) → None ≡ Some x → ⊥
+nothing x e = cc
+
+-- what holds of each object of a list holds of each that its registry has
+pub taken_each : (P : Obj → Type 0) (os : List Obj) (r : Reg) → IsTaken os r → AllByRecursion P os → (k : Key) (o : Obj) → get r k ≡ Some o → P o
+taken_each P os r taken all k o found =
+    gathered_each P empty os (λ l x none. absurd (nothing x (sym (get-empty key_cmp l) ∙ none))) all k o (ap (λ m. get m k) (sym taken.whole) ∙ found)
+
+-- an object is what its paragraph reads as in a source
+abbrev pub IsReadIn : List ℕ → Obj → Type 0
+IsReadIn source o = ReadsAs source o.paragraph o
+
+pub taken_read : (source : List ℕ) (os : List Obj) (r : Reg) → IsTaken os r → Sound r → AllByRecursion (IsReadIn source) os → IsRegistryOf source r
+taken_read source os r taken sound all = record { sound = sound; read = taken_each (IsReadIn source) os r taken all }
+
+-- the registry of objects of a source is of it
+pub taken_of_source : (source : List ℕ) (os : List Obj) (r : Reg) → IsTaken os r → Sound r → AllByRecursion (IsObjectOf source) os → IsRegistryOf source r
+taken_of_source source os r taken sound all = taken_read source os r taken sound (all_weaker (IsObjectOf source) (IsReadIn source) (λ o is. is.read) os all)
+
+-- with the block of the other AS numbers too
+pub block_read : (s : SettingsParts) (b : Obj) → IsSettings s → b ≡ four_octets_object s → IsReadIn s.source b
+unfolding obj_at
+block_read s b is same = subst (IsReadIn s.source) (sym same) (four_octets_read s is)
+
+-- the registry that opens with settings is of their source
+opening_read : (s : SettingsParts) → IsSettings s → AllByRecursion (IsReadIn s.source) (opening_objects s)
+unfolding obj_at
+opening_read s is = (root_read s is, (numbers_read s is, (four_octets_read s is, (addresses_read s is, tt))))
+
+pub opened_of_source : (s : SettingsParts) (r : Reg) → IsSettings s → Sound r → IsOpened s r → IsRegistryOf s.source r
+opened_of_source s r is sound opened =
+    taken_read s.source opened.objects r opened.taken sound (subst (AllByRecursion (IsReadIn s.source)) (sym (are_these s opened.objects is opened.are_opening)) (opening_read s is))
+
+module _ {S : Type 0} (g : store.Ghosts S) (source : List ℕ) (old new : Stock S) where
+  -- what brings the desk to a halt is decided
+  decided : (middle : Stock S) (secrets : List (List ℕ)) (action : Result Item Code) → HaltsAt (stock_ledger g) middle secrets action new → (outcome : Outcome) × Decides middle.registry secrets action outcome new.registry
+  decided middle secrets (Ok item) halts = (halts.outcome, halts.step)
+  decided middle secrets (Err code) halts = absurd halts
+
+  stopped_of_source : (start now before after : Told) (count : ℕ) → ServesStopped (stock_ledger g) source start now old new before after count → IsRegistryOf source old.registry → IsRegistryOf source new.registry
+  stopped_of_source start now before after count served of =
+      let s = served.serves in
+      let last = decided s.middle s.last.secrets s.last.request.action s.halts in
+      let run = run_more old.registry s.middle.registry new.registry (map submitted s.told) (submitted s.last) s.outcomes last.0 s.runs last.1 in
+      items_keep_the_source source (entries served.front) (s.told ++ s.last ∷ []) old.registry new.registry (s.outcomes ++ last.0 ∷ []) of s.are_items
+      (subst (λ items. Run old.registry items (s.outcomes ++ last.0 ∷ []) new.registry) (sym (map-append submitted s.told (s.last ∷ []))) run)
+
+  -- a submission leaves the registry one of its source
+  pub kept_of_source : (start now before after : Told) (result : Result Done DeskFault)
+      → Submits (stock_ledger g) source (record { source_before = start; source_after = now; sink_before = before; sink_after = after; before = old.registry; after = new.registry }) old new result
+      → IsRegistryOf source old.registry → IsRegistryOf source new.registry
+  kept_of_source start now before after (Ok done) h of = items_keep_the_source source (entries h.text) h.items old.registry new.registry h.outcomes of h.are_items h.runs
+  kept_of_source start now before after (Err (ReadFault count)) h of = items_keep_the_source source (whole_entries h.text) h.items old.registry new.registry h.outcomes of h.are_items h.runs
+  kept_of_source start now before after (Err (WriteFault count)) (inl h) of =
+      let s = h.serves in
+      items_keep_the_source source (entries h.front) (s.told ++ s.last ∷ []) old.registry new.registry (s.outcomes ++ s.outcome ∷ []) of s.are_items s.runs
+  kept_of_source start now before after (Err (WriteFault count)) (inr h) of = items_keep_the_source source (entries h.text) h.items old.registry new.registry h.outcomes of h.are_items h.runs
+  kept_of_source start now before after (Err (StoreFault count)) h of = stopped_of_source start now before after count h of
+  kept_of_source start now before after (Err Memory) h of = subst (IsRegistryOf source) (sym h.same) of
+  kept_of_source start now before after (Err Stopped) h of = absurd h

@@ -1,0 +1,32 @@
+use Rattle.std.proofs.lemmas.Result.{err_from_is_err_and}
+use Rattle.rr_load.proofs.Sources.{dumps_of_source}
+use Rattle.rr_desk.proofs.Loads.{taken_loads, unread_fails, unread_unasked, untaken_fails, untaken_unasked}
+use Rattle.rr_desk.proofs.loading.read_registry.Goals as goal
+
+pub returns-in_err-objects-clause-fails : goal.returns-in_err-objects-clause-fails
+returns-in_err-objects-clause-fails g c =
+    let exit = err_from_is_err_and c.from_residual.result c.from_residual.ensures.1 in
+    rw (exit.1, exit.2) (unread_fails _ _ _ _ c.in_err-objects.ensures.reads)
+
+pub returns-in_err-objects-clause-unasked : goal.returns-in_err-objects-clause-unasked
+returns-in_err-objects-clause-unasked g c =
+    let exit = err_from_is_err_and c.from_residual.result c.from_residual.ensures.1 in
+    rw (exit.1, exit.2) (unread_unasked _)
+
+pub returns-in_err-registry-clause-fails : goal.returns-in_err-registry-clause-fails
+returns-in_err-registry-clause-fails g c =
+    let exit = err_from_is_err_and c.from_residual-in_err-registry.result c.from_residual-in_err-registry.ensures.1 in
+    rw (exit.1, exit.2) (untaken_fails _ _ _ _ _ c.in_ok-objects.ensures.reads c.in_err-registry.ensures)
+
+pub returns-in_err-registry-clause-unasked : goal.returns-in_err-registry-clause-unasked
+returns-in_err-registry-clause-unasked g c =
+    let exit = err_from_is_err_and c.from_residual-in_err-registry.result c.from_residual-in_err-registry.ensures.1 in
+    rw (exit.1, exit.2) (untaken_unasked _)
+
+pub returns-clause-loaded : goal.returns-clause-loaded
+returns-clause-loaded g c = taken_loads _ _ _ _ _ c.in_ok-objects.ensures.reads c.in_ok-registry.ensures
+
+pub returns-clause-of_source : goal.returns-clause-of_source
+returns-clause-of_source g c =
+    let loaded = taken_loads _ _ _ _ _ c.in_ok-objects.ensures.reads c.in_ok-registry.ensures in
+    dumps_of_source _ _ _ loaded.dump c.sound.ensures

@@ -1,0 +1,25 @@
+use Rattle.std.proofs.Common.{◌≡◌, ◌+◌, ◌∙◌, arith, if◌then◌else◌}
+use Rattle.rr_desk.proofs.TurnLemmas.{turn_counted}
+use Rattle.rr_desk.proofs.serving.serve_all.Goals as goal
+use Rattle.rr_desk.proofs.serving.serve_all.Goals.{then-take_turn, else-take_turn}
+
+-- one more turn was taken and counted
+pub turns-preserved : goal.turns-preserved
+turns-preserved g c =
+    let before = c.turns.invariant.within in
+    elim c.if-take_turn.branch [
+      | then-take_turn w ↦
+          let is = w.served-is in
+          let more : c.if-take_turn.served ≡ c.turns.served + (if c.take_turn.result then 1 else 0) = rw w.if-take_turn.true (omega arith) in record {
+            within = omega arith;
+            taken = turn_counted _ _ _ _ _ _ _ _ _ _ _ _ _ _ _ c.turns.invariant.taken c.take_turn.ensures.turn before more;
+            settings = c.take_turn.ensures.settings ∙ c.turns.invariant.settings;
+          }
+      | else-take_turn w ↦
+          let is = w.served-is in
+          let more : c.if-take_turn.served ≡ c.turns.served + (if c.take_turn.result then 1 else 0) = rw w.if-take_turn.false (omega arith) in record {
+            within = omega arith;
+            taken = turn_counted _ _ _ _ _ _ _ _ _ _ _ _ _ _ _ c.turns.invariant.taken c.take_turn.ensures.turn before more;
+            settings = c.take_turn.ensures.settings ∙ c.turns.invariant.settings;
+          }
+    ]

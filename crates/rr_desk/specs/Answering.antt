@@ -1,0 +1,70 @@
+-- What a desk answers to queries.
+use Rattle.std.specs.Prelude.{◌≡◌, ◌⊎◌, ◌||◌, ℕ, Bool, true, false, List, Result, Ok, Err, IfOk}
+use Rattle.rr_io.specs.Sending.{Writes}
+use Rattle.rr_io.specs.Told.{Told}
+use Rattle.rr_auth.specs.Registries.{Reg}
+use Rattle.rr_answer.specs.declared.fault.QueryFault.{QueryFault}
+use Rattle.rr_answer.specs.declared.fault.QueryFault.TheVariants.{Bad, TooLong, TooMany, Memory, Store, Stopped}
+use Rattle.rr_answer.specs.declared.query.Query.TheVariants.{Naming}
+use Rattle.rr_answer.specs.Answers.{IsAnswerTo, answer_bytes}
+use Rattle.rr_answer.specs.Faults.{error_number}
+use Rattle.rr_answer.specs.Queries.{is_too_long, query_of}
+use Rattle.rr_answer.specs.Selections.{asked}
+use Rattle.rr_answer.specs.Texts.{objects_text}
+use Rattle.rr_desk.specs.declared.answering.Answered.{Answered}
+use Rattle.rr_desk.specs.declared.answering.WriteFault.{WriteFault}
+
+-- the error is that the store failed (profile)
+abbrev pub is_store_fault : QueryFault → Bool
+is_store_fault Bad = false
+is_store_fault TooLong = false
+is_store_fault TooMany = false
+is_store_fault Memory = false
+is_store_fault Store = true
+is_store_fault Stopped = false
+
+-- the answer that the store failed stops a desk, and no other does (profile)
+abbrev pub stops : Result (List ℕ) QueryFault → Bool
+stops (Ok text) = false
+stops (Err fault) = is_store_fault fault
+
+-- what is told of an answer: 0 of a text, and of an error its number (profile)
+abbrev pub told_number : Result (List ℕ) QueryFault → ℕ
+told_number (Ok text) = 0
+told_number (Err fault) = error_number fault
+
+-- the objects that name a maintainer, as they are answered: where the disk gives back what was written, the tables have those of
+-- the registry; or the store fails (profile)
+abbrev pub IsFound : Type 0 → Reg → List ℕ → Result (List ℕ) QueryFault → Type 0
+IsFound clean registry name (Ok text) = clean → text ≡ objects_text (asked (Naming name) registry)
+IsFound clean registry name (Err fault) = fault ≡ Store
+
+-- the query asks what names a maintainer, which is looked for in the tables (profile)
+pub record IsLookup (clean : Type 0) (registry : Reg) (text : List ℕ) (answer : Result (List ℕ) QueryFault) : Type 0 where
+  pub name : List ℕ
+  pub asks : query_of text ≡ Ok (Naming name)
+  pub found : IsFound clean registry name answer
+
+-- a desk that runs gives the answer of its registry, or what the tables have, or tells that there is no memory for it (profile)
+abbrev pub IsRunningAnswer : Type 0 → Reg → ℕ → List ℕ → Result (List ℕ) QueryFault → Type 0
+IsRunningAnswer clean registry limit text answer =
+    IsAnswerTo registry limit text answer ⊎ (IsLookup clean registry text answer ⊎ (answer ≡ Err Memory))
+
+-- that a query is too long comes before that the desk is stopped, and this before all else (profile)
+abbrev pub IsAnswerWhere : Bool → Bool → Type 0 → Reg → ℕ → List ℕ → Result (List ℕ) QueryFault → Type 0
+IsAnswerWhere true stopped clean registry limit text answer = answer ≡ Err TooLong
+IsAnswerWhere false true clean registry limit text answer = answer ≡ Err Stopped
+IsAnswerWhere false false clean registry limit text answer = IsRunningAnswer clean registry limit text answer
+
+-- the answer of a desk to the text of a query, by its registry and limit, and whether it is stopped before and after; `clean` says
+-- that the disk gives back what was written (profile)
+pub record IsAnswered (clean : Type 0) (registry : Reg) (limit : ℕ) (text : List ℕ) (before after : Bool) (answer : Result (List ℕ) QueryFault) : Type 0 where
+  pub is_answer : IsAnswerWhere (is_too_long text) before clean registry limit text answer
+  pub stopped : after ≡ (before || stops answer)
+
+-- one such answer was made whole, and then written (profile)
+pub record Answers (clean : Type 0) (registry : Reg) (limit : ℕ) (text : List ℕ) (before after : Bool) (old new : Told) (result : Result Answered WriteFault) : Type 0 where
+  pub answer : Result (List ℕ) QueryFault
+  pub answered : IsAnswered clean registry limit text before after answer
+  pub writes : Writes old new (answer_bytes answer) result
+  pub told : IfOk result (λ done. done.error ≡ told_number answer)

@@ -1,0 +1,57 @@
+-- Dumps that a desk loads (profile).
+use Rattle.std.specs.Prelude.{◌≡◌, ℕ, List, Ok, Some}
+use Rattle.sqlite.specs.Effect.{Database}
+use Rattle.rr_io.specs.Told.{Told}
+use Rattle.rr_io.specs.Receiving.{Reads}
+use Rattle.rr_io.specs.declared.receiving.ReadEnd.TheVariants.{Whole}
+use Rattle.rr_object.specs.Objects.{Obj}
+use Rattle.rr_auth.specs.Registries.{Reg}
+use Rattle.rr_registry.specs.declared.load.LoadFault.{LoadFault}
+use Rattle.rr_registry.specs.declared.load.LoadFault.TheVariants as list
+use Rattle.rr_registry.specs.Loading.{load_fault}
+use Rattle.rr_rows.specs.Maps.{HasRows}
+use Rattle.rr_load.specs.Dumps.{IsDumpOf, dump_objects}
+use Rattle.rr_load.specs.Readings.{FailsToRead}
+use Rattle.rr_load.specs.declared.fault.DumpReadFault.TheVariants as dump
+use Rattle.rr_desk.specs.declared.loading.DeskLoadFault.{DeskLoadFault}
+use Rattle.rr_desk.specs.declared.loading.DeskLoadFault.TheVariants.{NotEmpty, Read, Endless, Text, Object, Duplicate, Overlap, Unnamed, Store, Memory}
+
+-- a text was read to its end, and is a dump of this registry of the source (profile)
+pub record IsLoaded (source : List ℕ) (start now : Told) (registry : Reg) : Type 0 where
+  pub text : List ℕ
+  pub reads : Reads start now text Whole
+  pub dump : IsDumpOf source text registry
+
+-- a text was read to its end, and is a dump of a registry of the source (profile)
+pub record HasLoaded (source : List ℕ) (start now : Told) : Type 0 where
+  pub registry : Reg
+  pub is_loaded : IsLoaded source start now registry
+
+-- the tables hold the rows of the registry of which a dump was read (profile)
+pub record HasLoadedRows (source : List ℕ) (start now : Told) (db : Database) : Type 0 where
+  pub registry : Reg
+  pub is_loaded : IsLoaded source start now registry
+  pub rows : HasRows registry db
+
+-- a dump was read to its end, and its objects, all of the source, are no registry for this reason (profile)
+pub record IsUntaken (source : List ℕ) (start now : Told) (fault : LoadFault) : Type 0 where
+  pub text : List ℕ
+  pub objects : List Obj
+  pub reads : Reads start now text Whole
+  pub are : dump_objects source text ≡ Ok objects
+  pub is_fault : load_fault objects ≡ Some fault
+
+-- why a dump was not loaded, by the fault: those of the reading come first, then the first entry that is no object of the source,
+-- then what is the matter with the list of objects; only of a dump of a registry is it told that the tables have a row, or that the
+-- store failed (profile)
+abbrev pub FailsToLoad : List ℕ → Told → Told → DeskLoadFault → Type 0
+FailsToLoad source start now NotEmpty = HasLoaded source start now
+FailsToLoad source start now Read = FailsToRead source start now dump.Read
+FailsToLoad source start now Endless = FailsToRead source start now dump.Endless
+FailsToLoad source start now (Text n) = FailsToRead source start now (dump.Text n)
+FailsToLoad source start now (Object n code) = FailsToRead source start now (dump.Object n code)
+FailsToLoad source start now (Duplicate n) = IsUntaken source start now (list.Duplicate n)
+FailsToLoad source start now (Overlap n) = IsUntaken source start now (list.Overlap n)
+FailsToLoad source start now (Unnamed n) = IsUntaken source start now (list.Unnamed n)
+FailsToLoad source start now Store = HasLoaded source start now
+FailsToLoad source start now Memory = FailsToRead source start now dump.Memory

@@ -1,0 +1,157 @@
+//! What a desk answers to queries.
+
+ghost use Rattle.std.specs.Prelude.{◌≡◌, ◌≢◌, false, true, map, IfErr, IfOk, MatchResult};
+ghost use Rattle.sqlite.specs.Held.{state};
+ghost use Rattle.sqlite.specs.State.{HasCleanDisk};
+ghost use Rattle.rr_io.specs.Sending.{Writes};
+ghost use Rattle.rr_answer.specs.declared.fault.QueryFault.TheVariants.{Memory};
+ghost use Rattle.rr_answer.specs.Answers.{IsAnswer};
+ghost use Rattle.rr_answer.specs.Queries as queries;
+ghost use Rattle.rr_answer.specs.Texts as texts;
+ghost use Rattle.rr_desk.specs.Answering.{Answers, IsAnswered};
+ghost use Rattle.rr_desk.specs.Lookups.{LooksUp};
+ghost use Rattle.rr_desk.specs.Rows.{Holds, KeepsRows};
+
+use crate::desk::Desk;
+use rr_answer::{Query, QueryFault, answer, is_too_long, objects_text, read_query};
+use rr_io::{Sink, write_all};
+use rr_number::Name;
+use rr_object::Object;
+use rr_store::StoreFault;
+use sqlite::Alter;
+use std::alloc::{AllocError, Global};
+use thiserror::Error;
+
+/// What was answered to a query.
+#[derive(Clone, Copy, Debug, PartialEq, Eq)]
+pub struct Answered {
+    /// The number of the error that was written, 1 to 6, or 0 where the answer is none.
+    pub error: u8,
+}
+
+/// A write of an answer failed.
+#[derive(Clone, Copy, Debug, PartialEq, Eq, Error)]
+#[error("write failed")]
+pub struct WriteFault;
+
+impl<S: Alter> Desk<S> {
+    /// Answers a query, the text without the LF that ended it. The answer is made whole and then written: that of the registry,
+    /// under the limit of the settings, or one line `% error n`. Its number is 1 where the text is no query, 2 where it has
+    /// more than 1,024 bytes, 3 for an expansion over the limit, 4 for want of memory, 5 where the store failed, and 6
+    /// where the desk is stopped; of several the order is 2, 6, 1 and then the others (profile). What names a maintainer is
+    /// looked for in the tables: a fault of the store is met there alone, and stops the desk. After a write fault the writer
+    /// has taken a front of the answer.
+    pub fn answer<W: Sink>(
+        &mut self,
+        alloc: Global,
+        query: &[u8],
+        writer: &mut W,
+    ) -> Result<Answered, WriteFault>
+        ensures answers { Answers (HasCleanDisk (state S.Store self.new.stored.store)) self.old.stored.registry self.old.settings.limit query.now
+            self.old.stored.stopped self.new.stored.stopped (W.told writer.old) (W.told writer.new) result }
+        ensures registry { self.new.stored.registry ≡ self.old.stored.registry }
+        ensures settings { self.new.settings ≡ self.old.settings }
+        ensures stopped { self.old.stored.stopped ≡ true → self.new ≡ self.old }
+        ensures rows { self.new.stored.stopped ≡ false → HasCleanDisk (state S.Store self.new.stored.store) → Holds self.new.stored.registry (state S.Store self.new.stored.store) }
+        ensures keeps { self.old.stored.stopped ≡ false → KeepsRows self.old.stored.registry (state S.Store self.new.stored.store) }
+        ensures aside { W.aside writer.new ≡ W.aside writer.old }
+    {
+        let made = self.answer_to(alloc, query);
+        self.stored.holds();
+        match made {
+            Ok(text) => write_answer(writer, &text, 0),
+            Err(fault) => write_answer(writer, fault.line(), fault.number()),
+        }
+    }
+
+    /// The answer to the text of a query.
+    fn answer_to(&mut self, alloc: Global, text: &[u8]) -> Result<Vec<u8>, QueryFault>
+        ensures answered { MatchResult result
+            (λ made. IsAnswered (HasCleanDisk (state S.Store self.new.stored.store)) self.old.stored.registry self.old.settings.limit text.now self.old.stored.stopped self.new.stored.stopped (Ok made.items))
+            (λ fault. IsAnswered (HasCleanDisk (state S.Store self.new.stored.store)) self.old.stored.registry self.old.settings.limit text.now self.old.stored.stopped self.new.stored.stopped (Err fault)) }
+        ensures registry { self.new.stored.registry ≡ self.old.stored.registry }
+        ensures settings { self.new.settings ≡ self.old.settings }
+        ensures stopped { self.old.stored.stopped ≡ true → self.new ≡ self.old }
+        ensures keeps { self.old.stored.stopped ≡ false → KeepsRows self.old.stored.registry (state S.Store self.new.stored.store) }
+    {
+        if is_too_long(text) {
+            self.stored.keeps();
+            return Err(QueryFault::TooLong);
+        }
+        if self.stored.is_stopped() {
+            return Err(QueryFault::Stopped);
+        }
+        self.running_answer(alloc, text)
+    }
+
+    /// The answer of a desk that is not stopped.
+    fn running_answer(&mut self, alloc: Global, text: &[u8]) -> Result<Vec<u8>, QueryFault>
+        requires short { queries.is_too_long text.now ≡ false }
+        requires running { self.old.stored.stopped ≡ false }
+        ensures answered { MatchResult result
+            (λ made. IsAnswered (HasCleanDisk (state S.Store self.new.stored.store)) self.old.stored.registry self.old.settings.limit text.now self.old.stored.stopped self.new.stored.stopped (Ok made.items))
+            (λ fault. IsAnswered (HasCleanDisk (state S.Store self.new.stored.store)) self.old.stored.registry self.old.settings.limit text.now self.old.stored.stopped self.new.stored.stopped (Err fault)) }
+        ensures registry { self.new.stored.registry ≡ self.old.stored.registry }
+        ensures settings { self.new.settings ≡ self.old.settings }
+        ensures keeps { KeepsRows self.old.stored.registry (state S.Store self.new.stored.store) }
+    {
+        self.stored.keeps();
+        match read_query(alloc, text) {
+            Ok(Query::Naming(name)) => self.looked_up(alloc, &name),
+            Ok(query) => self.registry_answer(alloc, &query),
+            Err(fault) => Err(fault),
+        }
+    }
+
+    /// The answer of the registry to a query.
+    fn registry_answer(&self, alloc: Global, query: &Query) -> Result<Vec<u8>, QueryFault>
+        ensures ok { IfOk result (λ text. IsAnswer self.now.stored.registry self.now.settings.limit query.now (Ok text.items)) }
+        ensures fault { IfErr result (λ fault. fault ≢ Memory → IsAnswer self.now.stored.registry self.now.settings.limit query.now (Err fault)) }
+    {
+        let limit = self.settings.limit() as usize;
+        answer(alloc, self.stored.registry(), limit, query)
+    }
+
+    /// The objects that name the maintainer, as they are answered.
+    fn looked_up(&mut self, alloc: Global, name: &Name) -> Result<Vec<u8>, QueryFault>
+        requires running { self.old.stored.stopped ≡ false }
+        ensures looked { MatchResult result
+            (λ text. LooksUp (HasCleanDisk (state S.Store self.new.stored.store)) self.old.stored.registry name.now self.new.stored.stopped (Ok text.items))
+            (λ fault. LooksUp (HasCleanDisk (state S.Store self.new.stored.store)) self.old.stored.registry name.now self.new.stored.stopped (Err fault)) }
+        ensures registry { self.new.stored.registry ≡ self.old.stored.registry }
+        ensures settings { self.new.settings ≡ self.old.settings }
+        ensures keeps { KeepsRows self.old.stored.registry (state S.Store self.new.stored.store) }
+    {
+        match self.stored.naming(alloc, self.settings.source(), name) {
+            Ok(objects) => Ok(text_of(alloc, &objects)?),
+            Err(StoreFault::Store) => Err(QueryFault::Store),
+            Err(StoreFault::Memory) => Err(QueryFault::Memory),
+        }
+    }
+}
+
+/// The objects as they are answered; the error is want of memory.
+fn text_of(alloc: Global, objects: &[Object]) -> Result<Vec<u8>, AllocError>
+    ensures { IfOk result (λ text. text.items ≡ texts.objects_text objects.now) }
+{
+    let lent = lent(alloc, objects)?;
+    objects_text(alloc, &lent)
+}
+
+fn lent(alloc: Global, objects: &[Object]) -> Result<Vec<&Object>, AllocError>
+    ensures { IfOk result (λ found. map (λ object. object.now) found.items ≡ objects.now) }
+{
+    objects.iter().collect(alloc)
+}
+
+/// Writes an answer, whose error has this number.
+fn write_answer<W: Sink>(writer: &mut W, bytes: &[u8], error: u8) -> Result<Answered, WriteFault>
+    ensures writes { Writes (W.told writer.old) (W.told writer.new) bytes.now result }
+    ensures told { IfOk result (λ done. done.error ≡ error) }
+    ensures aside { W.aside writer.new ≡ W.aside writer.old }
+{
+    match write_all(writer, bytes) {
+        Ok(()) => Ok(Answered { error }),
+        Err(_) => Err(WriteFault),
+    }
+}

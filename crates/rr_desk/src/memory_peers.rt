@@ -1,0 +1,148 @@
+//! Connections over memory.
+
+ghost use Rattle.std.specs.Prelude.{◌≡◌, ◌+◌, ◌-◌, ◌<◌, ◌≤◌, ◌^◌, false, is_some, if◌then◌else◌, length, vec_len, vec_capacity};
+ghost use Rattle.rr_desk.specs.Turns.{IsFresh};
+
+use crate::peers::{AcceptFault, Peers};
+use rr_io::{Counted, Cut, Joined, Sink, Source};
+use std::alloc::{AllocError, Global};
+
+/// What a connection over memory gives, and where its calls fail.
+#[derive(Clone, Copy, Debug)]
+pub struct MemoryInput<'a> {
+    /// The bytes that it gives.
+    pub bytes: &'a [u8],
+    /// How many bytes pass in a call at most; none stands for one.
+    pub step: usize,
+    /// After how many bytes each read fails.
+    pub reads: usize,
+    /// After how many bytes each write fails.
+    pub writes: usize,
+}
+
+impl<'a> MemoryInput<'a> {
+    /// A connection that gives these bytes, and of which no call fails for want of bytes that may pass.
+    pub fn whole(bytes: &'a [u8]) -> MemoryInput<'a>
+        ensures { result.bytes.now ≡ bytes.now }
+    {
+        MemoryInput {
+            bytes,
+            step: usize::MAX,
+            reads: usize::MAX,
+            writes: usize::MAX,
+        }
+    }
+}
+
+/// A connection over memory.
+pub type MemoryConnection<'a> = Joined<Cut<Counted<&'a [u8]>>, Cut<Counted<Vec<u8>>>>;
+
+/// A connection over memory that is closed: the bytes that it was asked, and those that it was answered.
+#[derive(Drop)]
+pub struct MemoryTurn<'a> {
+    /// The bytes that it gave, if they were read.
+    pub asked: &'a [u8],
+    /// The bytes that were written to it.
+    pub answered: Vec<u8>,
+}
+
+/// Connections over memory, in order. Once they are all accepted each accept fails; such turns are counted alone.
+#[derive(Drop)]
+pub struct MemoryPeers<'a> {
+    inputs: &'a [MemoryInput<'a>],
+    next: usize,
+    asked: Option<&'a [u8]>,
+    turns: Vec<MemoryTurn<'a>>,
+    past: u64,
+    ghost within: { next ≤ length inputs.now },
+    ghost room: { vec_len turns + ((length inputs.now - next) + (if is_some asked then 1 else 0)) ≤ vec_capacity turns },
+    ghost counts: { vec_len turns + past < 2 ^ 64 },
+    ghost past_all: { 0 < past → (next ≡ length inputs.now) × (is_some asked ≡ false) },
+}
+
+impl<'a> MemoryPeers<'a> {
+    ghost use Rattle.std.specs.Prelude.{◌≡◌, [], IfOk};
+    ghost use Rattle.rr_desk.specs.MemoryTurns.{failed_accepts, inputs_left, open_bytes, turns_closed};
+
+    /// Connections that give these bytes, in this order, with room for the turns of all of them. The error is want of
+    /// memory.
+    pub fn new(alloc: Global, inputs: &'a [MemoryInput<'a>]) -> Result<MemoryPeers<'a>, AllocError>
+        ensures left { IfOk result (λ peers. inputs_left peers ≡ inputs.now) }
+        ensures none_closed { IfOk result (λ peers. turns_closed peers ≡ []) }
+        ensures none_failed { IfOk result (λ peers. failed_accepts peers ≡ 0) }
+    {
+        let turns = Vec::with_capacity(alloc, inputs.len())?;
+        Ok(MemoryPeers {
+            inputs,
+            next: 0,
+            asked: None,
+            turns,
+            past: 0,
+        })
+    }
+
+    /// The connections that are closed, in order.
+    pub fn closed(&self) -> &[MemoryTurn<'a>]
+        ensures { result.now ≡ turns_closed self.now }
+    {
+        &self.turns
+    }
+}
+
+impl<'a> Peers for MemoryPeers<'a> {
+    ghost use Rattle.std.specs.Prelude.{◌≡◌, true};
+    ghost use Rattle.rr_desk.specs.MemoryTurns.{is_open, memory_told, open_bytes, turns_counted};
+    ghost use Rattle.rr_desk.specs.MemoryTold.{told_in_all};
+
+    type Conn = MemoryConnection<'a>;
+
+    ghost counted = { turns_counted };
+
+    ghost told = { memory_told };
+
+    ghost IsOpen = { λ peers. is_open peers ≡ true };
+
+    ghost asked = { open_bytes };
+
+    #[tactic(auto, using(crate::proofs::MemoryLemmas::failed_told))]
+    fn accept(&mut self, alloc: Global) -> Result<MemoryConnection<'a>, AcceptFault> {
+        if self.next < self.inputs.len() {
+            let input = self.inputs[self.next];
+            self.next += 1;
+            self.asked = Some(input.bytes);
+            return Ok(connection(alloc, input));
+        }
+        self.asked = None;
+        self.past += 1;
+        Err(AcceptFault)
+    }
+
+    fn close(&mut self, conn: MemoryConnection<'a>) {
+        let (_, writer) = conn.into_parts();
+        let answered = writer.into_inner().into_inner();
+        match self.asked.take() {
+            Some(asked) => self.turns.push_reserved(MemoryTurn { asked, answered }),
+            None => unreachable!(),
+        }
+    }
+
+    fn turns(&self) -> u64 {
+        self.turns.len() as u64 + self.past
+    }
+
+    ghost all_told = { λ peers turns is. told_in_all peers.turns.items peers.past turns is };
+}
+
+/// The connection that an input is.
+fn connection(alloc: Global, input: MemoryInput<'_>) -> MemoryConnection<'_>
+    ensures fresh { IsFresh (⟦<MemoryConnection<'static> as Source>⟧.told result) (⟦<MemoryConnection<'static> as Sink>⟧.told result) }
+    ensures bytes { (⟦<MemoryConnection<'static> as Source>⟧.told result).bytes ≡ Some input.entry.bytes.now }
+{
+    let reader = Cut::new(Counted::new(input.bytes), input.step.max(1), input.reads);
+    let writer = Cut::new(
+        Counted::new(Vec::new(alloc)),
+        input.step.max(1),
+        input.writes,
+    );
+    Joined::new(reader, writer)
+}

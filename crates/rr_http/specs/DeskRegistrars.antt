@@ -1,0 +1,38 @@
+-- A desk over tables as what connections ask.
+use Rattle.std.specs.Prelude.{◌≡◌, ℕ, false, List, Result}
+use Rattle.sqlite.specs.Held.{state}
+use Rattle.sqlite.specs.State.{HasCleanDisk}
+use Rattle.sqlite_trees.specs.declared.store.Store as store
+use Rattle.rr_answer.specs.declared.fault.QueryFault.{QueryFault}
+use Rattle.rr_answer.specs.Answers.{answer_bytes}
+use Rattle.rr_answer.specs.Dumps.{dump}
+use Rattle.rr_submission.specs.declared.ledger.Ledger as ledger
+use Rattle.rr_desk.specs.declared.desk.Desk.{Desk}
+use Rattle.rr_desk.specs.Answering as desk_answering
+use Rattle.rr_desk.specs.Stocks.{stock_ledger}
+use Rattle.rr_http.specs.declared.registrar.Registrar as registrar
+
+-- a desk decides items as the registry does that it keeps with its store
+abbrev pub desk_ledger : {S : Type 0} → store.Ghosts S → ledger.Ghosts (Desk S)
+desk_ledger g = record {
+  registry = λ desk. desk.stored.registry;
+  Ready = λ desk. desk.stored.stopped ≡ false;
+  Halts = λ old secrets item new. (stock_ledger g).Halts old.stored secrets item new.stored;
+}
+
+-- the text in which a desk answers a query, and what that leaves of the desk: its registry, and whether it is stopped
+pub record IsDeskAnswer {S : Type 0} (g : store.Ghosts S) (before : Desk S) (query text : List ℕ) (after : Desk S) : Type 0 where
+  pub answer : Result (List ℕ) QueryFault
+  pub answered : desk_answering.IsAnswered (HasCleanDisk (state g after.stored.store)) before.stored.registry before.settings.limit query before.stored.stopped after.stored.stopped answer
+  pub is : text ≡ answer_bytes answer
+  pub same : after.stored.registry ≡ before.stored.registry
+
+-- a desk answers queries, gives the public dump of its registry, and takes submissions until it is stopped
+abbrev pub desk_registrar : {S : Type 0} → store.Ghosts S → registrar.Ghosts (Desk S)
+desk_registrar g = record {
+  ledger = desk_ledger g;
+  settings = λ desk. desk.settings;
+  stops = λ desk. desk.stored.stopped;
+  Answers = λ before query text after. IsDeskAnswer g before query text after;
+  dumped = λ desk. dump false desk.stored.registry;
+}

@@ -1,0 +1,16 @@
+-- What the answer to a connection tells of its failed calls.
+use Rattle.std.specs.Prelude.{◌≡◌, ℕ, ◌+◌, ◌<◌, ◌≤◌, ◌^◌, Ok, Err}
+use Rattle.rr_io.specs.Told.{Told}
+use Rattle.rr_desk.specs.declared.peers.ConnFault.TheVariants.{Read, Write}
+use Rattle.rr_desk.specs.Turns.{Answer}
+
+-- a connection was served where no call of it failed; else its fault is the read's where a read failed, and where only writes
+-- failed the write's (profile)
+abbrev pub TellsFaults : Told → Told → Told → Told → Answer → Type 0
+TellsFaults from_old from_new old new (Ok done) = (from_new.faults ≡ from_old.faults) × (new.faults ≤ old.faults)
+TellsFaults from_old from_new old new (Err Read) = from_old.faults < from_new.faults
+TellsFaults from_old from_new old new (Err Write) = (from_new.faults ≡ from_old.faults) × (old.faults < new.faults)
+
+-- one more failed call can be counted
+abbrev pub CanCount : Told → Type 0
+CanCount told = told.faults + 1 < 2 ^ 64

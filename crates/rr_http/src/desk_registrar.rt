@@ -1,0 +1,49 @@
+//! A desk over tables as what connections ask.
+
+ghost use Rattle.std.specs.Prelude.{◌≡◌, false};
+ghost use Rattle.rr_answer.specs.Dumps.{dump};
+ghost use Rattle.rr_http.specs.DeskRegistrars.{IsDeskAnswer, desk_ledger};
+
+use crate::registrar::Registrar;
+use rr_desk::{Answered, Desk, DeskFault, Done, DumpFault, WriteFault};
+use rr_io::{Sink, Source};
+use sqlite::Alter;
+use std::alloc::Global;
+
+impl<S: Alter> Registrar for Desk<S> {
+    ghost ledger = { desk_ledger S.Store };
+
+    ghost settings = { λ desk. desk.settings };
+
+    ghost stops = { λ desk. desk.stored.stopped };
+
+    ghost Answers = { λ before query text after. IsDeskAnswer S.Store before query text after };
+
+    ghost dumped = { λ desk. dump false desk.stored.registry };
+
+    fn stopped(&self) -> bool {
+        Desk::stopped(self)
+    }
+
+    fn answer<W: Sink>(
+        &mut self,
+        alloc: Global,
+        query: &[u8],
+        writer: &mut W,
+    ) -> Result<Answered, WriteFault> {
+        Desk::answer(self, alloc, query, writer)
+    }
+
+    fn dump<W: Sink>(&self, alloc: Global, writer: &mut W) -> Result<usize, DumpFault> {
+        Desk::dump(self, alloc, writer, false)
+    }
+
+    fn submit<R: Source, W: Sink>(
+        &mut self,
+        alloc: Global,
+        reader: &mut R,
+        writer: &mut W,
+    ) -> Result<Done, DeskFault> {
+        Desk::submit(self, alloc, reader, writer)
+    }
+}

@@ -1,0 +1,69 @@
+//! What a connection asks of a desk.
+
+ghost use Rattle.std.specs.Prelude.{◌≡◌, false, Bool, ℕ, List};
+ghost use Rattle.rr_io.specs.Sending.{Writes};
+ghost use Rattle.rr_submission.specs.declared.ledger.Ledger.{Ghosts};
+ghost use Rattle.rr_submission.specs.Submissions.{Submits};
+ghost use Rattle.rr_desk.specs.Dumping.{Dumps};
+ghost use Rattle.rr_desk.specs.Settings.{SettingsParts};
+
+use rr_desk::{Answered, DeskFault, Done, DumpFault, WriteFault};
+use rr_io::{Sink, Source};
+use std::alloc::Global;
+
+/// What answers queries, gives the public dump, and takes submissions, as a desk does.
+pub trait Registrar {
+    // How it decides items, and the registry that it keeps.
+    ghost ledger: { Ghosts Self };
+
+    // Its settings.
+    ghost settings: { Self → SettingsParts };
+
+    // It is stopped: it takes no submission and gives no dump.
+    ghost stops: { Self → Bool };
+
+    // What it answers to a query, and what that leaves.
+    ghost Answers: { Self → List ℕ → List ℕ → Self → Type 0 };
+
+    // The public dump.
+    ghost dumped: { Self → List ℕ };
+
+    /// Whether it is stopped.
+    fn stopped(&self) -> bool
+        ensures { result ≡ stops self.now };
+
+    /// Answers a query. After a failed write the writer has taken a front of the answer.
+    fn answer<W: Sink>(
+        &mut self,
+        alloc: Global,
+        query: &[u8],
+        writer: &mut W,
+    ) -> Result<Answered, WriteFault>
+        ensures answers { (text : List ℕ) × (Answers self.old query.now text self.new) × Writes (W.told writer.old) (W.told writer.new) text result }
+        ensures settings { settings self.new ≡ settings self.old }
+        ensures aside { W.aside writer.new ≡ W.aside writer.old };
+
+    /// Writes the public dump.
+    fn dump<W: Sink>(&self, alloc: Global, writer: &mut W) -> Result<usize, DumpFault>
+        ensures dumps { stops self.now ≡ false → Dumps (dumped self.now) (W.told writer.old) (W.told writer.new) result }
+        ensures aside { W.aside writer.new ≡ W.aside writer.old };
+
+    /// Submits what the reader gives, and writes the report.
+    fn submit<R: Source, W: Sink>(
+        &mut self,
+        alloc: Global,
+        reader: &mut R,
+        writer: &mut W,
+    ) -> Result<Done, DeskFault>
+        ensures submits { stops self.old ≡ false → Submits ledger (settings self.old).source (record {
+          source_before = R.told reader.old;
+          source_after = R.told reader.new;
+          sink_before = W.told writer.old;
+          sink_after = W.told writer.new;
+          before = ledger.registry self.old;
+          after = ledger.registry self.new;
+        }) self.old self.new result }
+        ensures settings { settings self.new ≡ settings self.old }
+        ensures reader_aside { R.aside reader.new ≡ R.aside reader.old }
+        ensures writer_aside { W.aside writer.new ≡ W.aside writer.old };
+}

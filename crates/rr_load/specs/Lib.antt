@@ -1,0 +1,4 @@
+pub mod Dumps
+pub mod Readings
+pub mod Laws
+pub mod Private

@@ -1,0 +1,97 @@
+//! Objects that are put together, one after the other.
+
+ghost use Rattle.std.specs.Prelude.{◌≡◌, ◌⊎◌, [], List, IfErr, IfOk, OnOk, false, true};
+ghost use Rattle.std.specs.FinMap.{insert};
+ghost use Rattle.rr_object.specs.Objects.{Obj};
+ghost use Rattle.rr_cover.specs.SpanMaps.{crosses_some};
+ghost use Rattle.rr_registry.specs.Loading.{clash_of, is_crossed_by_some};
+ghost use Rattle.rr_registry.specs.Private.{HasSpans, IsEntered, IsHeld, IsTakenIn, objects_of};
+
+use crate::load::LoadFault;
+use rr_cover::{InsertFault, SpanNest};
+use rr_number::Span;
+use rr_object::{Key, Object};
+use std::alloc::{AllocError, Global};
+use std::collections::BTreeMap;
+
+/// Objects under their keys, and the spans of the inetnums and the as-blocks among them: whether a key stands there or is
+/// crossed is found in O(log n) steps for n objects.
+#[derive(Drop)]
+pub(crate) struct Gathered {
+    objects: BTreeMap<Key, Object>,
+    spans: Spans,
+}
+
+/// The spans of inetnums and of as-blocks.
+#[derive(Drop)]
+pub(crate) struct Spans {
+    inetnums: SpanNest<()>,
+    blocks: SpanNest<()>,
+}
+
+impl Gathered {
+    /// No objects.
+    pub(crate) fn new(alloc: Global) -> Gathered
+        ensures held { IsHeld result }
+        ensures none { objects_of result ≡ [] }
+    {
+        Gathered {
+            objects: BTreeMap::new(alloc),
+            spans: Spans {
+                inetnums: SpanNest::new(alloc),
+                blocks: SpanNest::new(alloc),
+            },
+        }
+    }
+
+    /// Puts the n-th object among those before it.
+    pub(crate) fn take_in(&mut self, alloc: Global, n: u64, object: Object) -> Result<(), LoadFault>
+        requires { IsHeld self.old }
+        ensures ok { OnOk result (IsTakenIn (objects_of self.old) n object (objects_of self.new)) }
+        ensures held { OnOk result (IsHeld self.new) }
+        ensures err { IfErr result (λ fault. (fault ≡ LoadFault.Memory) ⊎ (clash_of (objects_of self.old) n object ≡ Some fault)) }
+    {
+        object.key_is_well_formed();
+        if self.objects.contains_key(object.key()) {
+            return Err(LoadFault::Duplicate(n));
+        }
+        self.spans.enter(n, object.key())?;
+        self.objects.insert(object.key().copy(alloc)?, object)?;
+        Ok(())
+    }
+
+    /// The objects in the order of class and key; the error is want of memory.
+    pub(crate) fn into_objects(self, alloc: Global) -> Result<Vec<Object>, AllocError>
+        ensures { IfOk result (λ objects. objects.items ≡ objects_of self) }
+    {
+        self.objects.into_values().collect(alloc)
+    }
+}
+
+impl Spans {
+    /// Enters the span of the n-th object, where its key is one.
+    fn enter(&mut self, n: u64, key: &Key) -> Result<(), LoadFault>
+        ensures ok { OnOk result ((os : List Obj) → HasSpans os self.old.inetnums self.old.blocks → IsEntered os key.now self.new.inetnums self.new.blocks) }
+        ensures err { IfErr result (λ fault. (fault ≡ LoadFault.Memory)
+            ⊎ ((os : List Obj) → HasSpans os self.old.inetnums self.old.blocks → (fault ≡ LoadFault.Overlap n) × (is_crossed_by_some key.now os ≡ true))) }
+    {
+        match key {
+            Key::Inetnum(span) => hold(&mut self.inetnums, n, *span),
+            Key::AsBlock(block) => hold(&mut self.blocks, n, block.span()),
+            _ => Ok(()),
+        }
+    }
+}
+
+/// Puts the span of the n-th object among those of its class.
+fn hold(nest: &mut SpanNest<()>, n: u64, span: Span) -> Result<(), LoadFault>
+    ensures ok { OnOk result (nest.new ≡ insert nest.old span tt) }
+    ensures free { OnOk result (crosses_some nest.old span ≡ false) }
+    ensures err { IfErr result (λ fault. (fault ≡ LoadFault.Memory) ⊎ ((fault ≡ LoadFault.Overlap n) × (crosses_some nest.old span ≡ true))) }
+{
+    match nest.insert(span, ()) {
+        Ok(_) => Ok(()),
+        Err(InsertFault::Overlap(_)) => Err(LoadFault::Overlap(n)),
+        Err(InsertFault::Memory(_)) => Err(LoadFault::Memory),
+    }
+}

@@ -38,16 +38,6 @@ fn expect_bad<R: Abort + AllocGlobal>(
     Ok(())
 }
 
-/// Asserts that settings with this limit are read, and have it.
-fn expect_limit<R: Abort + AllocGlobal>(rt: &R, line: &str, limit: u64) -> Result<(), Fail> {
-    let text = text_with(rt.alloc(), 3, line)?;
-    match read_settings(rt.alloc(), text.as_str()) {
-        Ok((settings, _)) => assert_eq!(rt; settings.limit(), limit),
-        Err(fault) => assert!(rt; false, "{line}: {fault:?}"),
-    }
-    Ok(())
-}
-
 #[test]
 fn good_settings_are_read(rt: HostRuntime) -> Result<(), Fail> {
     let alloc = rt.alloc();
@@ -89,15 +79,6 @@ fn bad_values_are_refused(rt: HostRuntime) -> Result<(), Fail> {
     expect_bad(&rt, 3, "limit = \"100\"", SettingKey::Limit)?;
     expect_bad(&rt, 4, "store = \"\"", SettingKey::Store)?;
     expect_bad(&rt, 4, "store = true", SettingKey::Store)
-}
-
-#[test]
-fn whole_numbers_have_the_forms_of_toml(rt: HostRuntime) -> Result<(), Fail> {
-    expect_limit(&rt, "limit = 1", 1)?;
-    expect_limit(&rt, "limit = 0x10", 16)?;
-    expect_limit(&rt, "limit = 1_000", 1_000)?;
-    expect_limit(&rt, "limit = +7", 7)?;
-    expect_limit(&rt, "limit = 1000000", 1_000_000)
 }
 
 #[test]

@@ -11,7 +11,7 @@ use Rattle.rr_object.specs.KeyOrders.{key_cmp}
 use Rattle.rr_object.specs.Objects.{Obj}
 use Rattle.rr_object.specs.Readings.{public_of}
 use Rattle.rr_auth.specs.Registries.{Reg}
-use Rattle.rr_auth.proofs.KeyLaws.{keys_exact, keys_total}
+use Rattle.rr_object.proofs.KeyLaws.{keys_exact, keys_total}
 use Rattle.rr_answer.specs.Secrecy.{IsRead, LookAlike}
 use Rattle.rr_answer.proofs.Seen.{seen, seen_alike}
 

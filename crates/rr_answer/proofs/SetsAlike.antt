@@ -17,11 +17,12 @@ use Rattle.rr_object.specs.declared.key.Key.TheVariants.{AutNum, AsSet, Route, R
 use Rattle.rr_object.specs.declared.member.MemberSet.{MemberSet}
 use Rattle.rr_object.specs.declared.member.MemberSet.TheVariants as set
 use Rattle.rr_object.specs.declared.member.Member.TheVariants as member
+use Rattle.rr_object.specs.Keys.{key_of_kind}
 use Rattle.rr_object.specs.Objects.{Obj}
 use Rattle.rr_object.specs.Parts.{ByRefParts}
 use Rattle.rr_auth.specs.Registries.{Reg}
 use Rattle.rr_sets.specs.AsSets.{BelongsTo, InAsSet, IsAnyNumber, IsDirect, IsMissing, IsReachedSet, ListsNumber, ListsSet, has_as_set}
-use Rattle.rr_sets.specs.RouteSets.{AsSetRefers, HasRange, HasTooMany, InRouteSet, IsAnyRange, IsByReference, IsMissingName, IsOriginated, IsReachedFrom, IsTaken, ListsRange, Refers, RefersAs, RouteSetRefers, has_set, key_of_kind, registered_set}
+use Rattle.rr_sets.specs.RouteSets.{AsSetRefers, HasRange, HasTooMany, InRouteSet, IsAnyRange, IsByReference, IsMissingName, IsOriginated, IsReachedFrom, IsTaken, ListsRange, Refers, RefersAs, RouteSetRefers, has_set, registered_set}
 use Rattle.rr_sets.specs.SetObjects.{takes}
 use Rattle.rr_answer.proofs.Alike.{Alike, other_object}
 use Rattle.rr_answer.proofs.Seen.{seen}

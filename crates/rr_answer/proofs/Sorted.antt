@@ -9,15 +9,15 @@ use Rattle.std.proofs.lemmas.Map.Lookups.{CmpEqualImpliesEq, btree_set_from_cont
 use Rattle.std.proofs.lemmas.Map.Views.{btree_set_contains_iff}
 use Rattle.rr_auth.proofs.Members.{both_or_none}
 
-set_of : {K : Type 0} → List K → BTreeSet K
-set_of keys = record { keys = keys }
+with_keys : {K : Type 0} → List K → BTreeSet K
+with_keys keys = record { keys = keys }
 
 pub same_sorted : {K : Type 0} {R : K → K → Ordering} → IsTotalOrder R → CmpEqualImpliesEq R → (xs ys : List K)
     → IsStrictlySortedBy R xs → IsStrictlySortedBy R ys → ((k : K) → Contains xs k ↔ Contains ys k) → xs ≡ ys
-unfolding set_of
+unfolding with_keys
 same_sorted {K} {R} total exact xs ys p q same =
-    btree_set_from_contains total (set_of xs) (set_of ys) p q (λ k.
-    let first = btree_set_contains_iff total exact (set_of xs) k in
-    let second = btree_set_contains_iff total exact (set_of ys) k in
-    both_or_none (contains R (set_of xs) k) (contains R (set_of ys) k)
+    btree_set_from_contains total (with_keys xs) (with_keys ys) p q (λ k.
+    let first = btree_set_contains_iff total exact (with_keys xs) k in
+    let second = btree_set_contains_iff total exact (with_keys ys) k in
+    both_or_none (contains R (with_keys xs) k) (contains R (with_keys ys) k)
     (λ has. second.1 ((same k).0 (first.0 has))) (λ has. first.1 ((same k).1 (second.0 has)))) exact

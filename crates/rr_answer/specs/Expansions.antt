@@ -13,8 +13,8 @@ use Rattle.rr_answer.specs.declared.fault.QueryFault.{QueryFault}
 use Rattle.rr_answer.specs.declared.fault.QueryFault.TheVariants.{TooMany}
 use Rattle.rr_answer.specs.Texts.{members_text, no_entries}
 
--- What a set stands for: whether there is such a set, what is in it, which names are missing, and whether it is over the
--- limit (RFC 2622, 5; the limit: profile).
+-- What a set stands for: whether there is such a set, what is in it, which names are missing, and whether it is over
+-- the limit (RFC 2622, 5; the limit: profile).
 pub record Meaning (X : Type 0) : Type 1 where
   pub known : Bool
   pub Has : X → Type 0

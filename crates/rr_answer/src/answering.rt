@@ -17,8 +17,8 @@ use rr_registry::Registry;
 use rr_sets::SetBook;
 use std::alloc::Global;
 
-/// The answer to a query: the objects that it asks for, or the members of a set, `limit` bounding its expansion. The fault
-/// is `TooMany` for an expansion over the limit, or want of memory.
+/// The answer to a query: the objects that it asks for, or the members of a set, `limit` bounding its expansion. The
+/// fault is `TooMany` for an expansion over the limit, or want of memory.
 pub fn answer<B: Keeper>(
     alloc: Global,
     registry: &Registry<B>,
@@ -54,7 +54,8 @@ fn expanded<B: SetBook>(
     }
 }
 
-/// The answer to the text of a query. The fault is the first of `TooLong`, `Bad` and `TooMany` that fits, or want of memory.
+/// The answer to the text of a query. The fault is the first of `TooLong`, `Bad` and `TooMany` that fits, or want of
+/// memory.
 pub fn answer_to<B: Keeper>(
     alloc: Global,
     registry: &Registry<B>,

@@ -7,8 +7,8 @@ pub fn registries_of_a_source_are_read()
     ensures { SourcesAreRead }
 {}
 
-/// Registries whose public objects are equal answer each query alike, under the same limit: what is hidden can't be asked
-/// for.
+/// Registries whose public objects are equal answer each query alike, under the same limit: what is hidden can't be
+/// asked for.
 pub fn answers_keep_secrets()
     ensures { AnswersKeepSecrets }
 {}

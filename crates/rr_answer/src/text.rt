@@ -13,8 +13,8 @@ use rr_object::{Object, public};
 use rr_text::{Paragraph, print};
 use std::alloc::{AllocError, Global};
 
-/// The objects as they are answered: the public canonical text of each and an empty line, or `% no entries` where there is
-/// none (profile). The error is want of memory.
+/// The objects as they are answered: the public canonical text of each and an empty line, or `% no entries` where there
+/// is none (profile). The error is want of memory.
 #[tactic(auto, unfolding(crate::specs::Texts::objects_text))]
 pub fn objects_text(alloc: Global, objects: &[&Object]) -> Result<Vec<u8>, AllocError>
     ensures { IfOk result (λ text. text.items ≡ texts.objects_text (lent objects.now)) }

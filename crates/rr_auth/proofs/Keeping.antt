@@ -12,7 +12,8 @@ use Rattle.rr_object.specs.declared.key.Key.{Key}
 use Rattle.rr_object.specs.declared.key.Key.TheVariants.{Mntner, AsBlock, AutNum, Inetnum, Route, AsSet, RouteSet}
 use Rattle.rr_object.specs.Objects.{Obj, names_of}
 use Rattle.rr_object.specs.KeyOrders.{IsKeyValue, key_cmp}
-use Rattle.rr_auth.specs.Registries.{Reg, Sound, is_mntner_of, maintainer, names_another, names_nobody, keys_cross, seen_by, with_mntner}
+use Rattle.rr_object.specs.Keys.{is_mntner_of}
+use Rattle.rr_auth.specs.Registries.{Reg, Sound, maintainer, names_another, names_nobody, keys_cross, seen_by, with_mntner}
 use Rattle.rr_object.specs.declared.code.Code.{Code}
 use Rattle.rr_object.specs.declared.code.Code.TheVariants.{E10, E11, E12, E13, E14, E15, E16, E17, E18}
 use Rattle.rr_auth.specs.declared.item.Item.TheVariants.{Submit, Delete as DeleteItem}
@@ -22,7 +23,7 @@ use Rattle.rr_auth.specs.Passing.{names_pass}
 use Rattle.rr_auth.specs.Conditions.{names_unknown, unauthorised, lacks_origin, origin_refuses, is_uncovered, cover_refuses, crosses_some, is_in_use}
 use Rattle.rr_auth.specs.Verdicts.{verdict, submission, addition, change, deletion, place}
 use Rattle.rr_auth.proofs.Crossing.{keys_cross_back, crosses_itself}
-use Rattle.rr_auth.proofs.KeyLaws.{keys_total, same_key}
+use Rattle.rr_object.proofs.KeyLaws.{keys_total, same_key}
 use Rattle.rr_auth.proofs.Members.{IsIn, found_in, none_passes}
 
 -- what stands in a registry after an addition: the new object under its key, and what stood elsewhere
@@ -104,47 +105,47 @@ kept_or_changed true e = cc
 kept_or_changed false e = cc
 
 -- a change is never an addition, and an addition never a change
-change_is_no_add : (r : Reg) (z : List (List ℕ)) (stored o : Obj) → change r z stored o ≡ Add → ⊥
-change_is_no_add r z stored o e =
+change_is_no_add : (r : Reg) (secrets : List (List ℕ)) (stored o : Obj) → change r secrets stored o ≡ Add → ⊥
+change_is_no_add r secrets stored o e =
     let ten = not_first (names_nobody r (names_of o)) E10 _ _ e (add_differs E10) in
-    let eleven = not_first (not (names_pass r z stored.maintainers)) E11 _ _ ten.1 (add_differs E11) in
+    let eleven = not_first (not (names_pass r secrets stored.maintainers)) E11 _ _ ten.1 (add_differs E11) in
     kept_or_changed (fields_eq stored.paragraph o.paragraph) eleven.1
 
 add_is_no_change : Add ≡ Change → ⊥
 add_is_no_change e = cc
 
-first_five : (r : Reg) (z : List (List ℕ)) (k : Key) → place r z k ≡ Change → ⊥
-first_five r z k e =
+first_five : (r : Reg) (secrets : List (List ℕ)) (k : Key) → place r secrets k ≡ Change → ⊥
+first_five r secrets k e =
     let a = not_first (crosses_some r k) E16 _ _ e (change_differs E16) in
     let b = not_first (lacks_origin r k) E14 _ _ a.1 (change_differs E14) in
-    let c = not_first (origin_refuses r z k) E15 _ _ b.1 (change_differs E15) in
+    let c = not_first (origin_refuses r secrets k) E15 _ _ b.1 (change_differs E15) in
     let d = not_first (is_uncovered r k) E12 _ _ c.1 (change_differs E12) in
-    let f = not_first (cover_refuses r z k) E13 _ _ d.1 (change_differs E13) in
+    let f = not_first (cover_refuses r secrets k) E13 _ _ d.1 (change_differs E13) in
     add_is_no_change f.1
 
-addition_is_no_change : (r : Reg) (z : List (List ℕ)) (o : Obj) → addition r z o ≡ Change → ⊥
-addition_is_no_change r z o e =
+addition_is_no_change : (r : Reg) (secrets : List (List ℕ)) (o : Obj) → addition r secrets o ≡ Change → ⊥
+addition_is_no_change r secrets o e =
     let ten = not_first (names_unknown (seen_by (Some o) r) o) E10 _ _ e (change_differs E10) in
-    let eleven = not_first (unauthorised (seen_by (Some o) r) z o) E11 _ _ ten.1 (change_differs E11) in
-    first_five r z o.key eleven.1
+    let eleven = not_first (unauthorised (seen_by (Some o) r) secrets o) E11 _ _ ten.1 (change_differs E11) in
+    first_five r secrets o.key eleven.1
 
 -- an addition that is not refused leaves a sound registry sound
-pub sound_added : (r : Reg) (z : List (List ℕ)) (o : Obj) → Sound r → IsKeyValue o.key → verdict r z (Submit o) ≡ Add → Sound (insert r o.key o)
-sound_added r z o s formed e =
-    elim (get r o.key) as (λ stored. submission stored r z o ≡ Add → Sound (insert r o.key o)) [
+pub sound_added : (r : Reg) (secrets : List (List ℕ)) (o : Obj) → Sound r → IsKeyValue o.key → verdict r secrets (Submit o) ≡ Add → Sound (insert r o.key o)
+sound_added r secrets o s formed e =
+    elim (get r o.key) as (λ stored. submission stored r secrets o ≡ Add → Sound (insert r o.key o)) [
       | None ↦ λ f.
           let ten = not_first (names_unknown (seen_by (Some o) r) o) E10 _ _ f (add_differs E10) in
-          let eleven = not_first (unauthorised (seen_by (Some o) r) z o) E11 _ _ ten.1 (add_differs E11) in
+          let eleven = not_first (unauthorised (seen_by (Some o) r) secrets o) E11 _ _ ten.1 (add_differs E11) in
           let sixteen = not_first (crosses_some r o.key) E16 _ _ eleven.1 (add_differs E16) in
           sound_insert r o s formed (seen_names r o.key o (names_of o) ten.0) (apart_from r o.key s sixteen.0)
-      | Some stored ↦ λ f. absurd (change_is_no_add r z stored o f)
+      | Some stored ↦ λ f. absurd (change_is_no_add r secrets stored o f)
     ] e
 
 -- a change that is not refused leaves a sound registry sound
-pub sound_changed : (r : Reg) (z : List (List ℕ)) (o : Obj) → Sound r → IsKeyValue o.key → verdict r z (Submit o) ≡ Change → Sound (insert r o.key o)
-sound_changed r z o s formed e =
-    elim (get r o.key) as (λ stored. get r o.key ≡ stored → submission stored r z o ≡ Change → Sound (insert r o.key o)) [
-      | None ↦ λ g f. absurd (addition_is_no_change r z o f)
+pub sound_changed : (r : Reg) (secrets : List (List ℕ)) (o : Obj) → Sound r → IsKeyValue o.key → verdict r secrets (Submit o) ≡ Change → Sound (insert r o.key o)
+sound_changed r secrets o s formed e =
+    elim (get r o.key) as (λ stored. get r o.key ≡ stored → submission stored r secrets o ≡ Change → Sound (insert r o.key o)) [
+      | None ↦ λ g f. absurd (addition_is_no_change r secrets o f)
       | Some stored ↦ λ g f.
           let ten = not_first (names_nobody r (names_of o)) E10 _ _ f (change_differs E10) in
           sound_insert r o s formed (kept_names r o.key o (names_of o) ten.0) (λ l x h. s.apart l o.key x stored h g)
@@ -219,12 +220,12 @@ sound_without r k s e = record {
 }
 
 -- a deletion that is not refused leaves a sound registry sound
-pub sound_removed : (r : Reg) (z : List (List ℕ)) (k : Key) → Sound r → verdict r z (DeleteItem k) ≡ Delete → Sound (remove r k)
-sound_removed r z k s e =
-    elim (get r k) as (λ stored. deletion stored r z k ≡ Delete → Sound (remove r k)) [
+pub sound_removed : (r : Reg) (secrets : List (List ℕ)) (k : Key) → Sound r → verdict r secrets (DeleteItem k) ≡ Delete → Sound (remove r k)
+sound_removed r secrets k s e =
+    elim (get r k) as (λ stored. deletion stored r secrets k ≡ Delete → Sound (remove r k)) [
       | None ↦ λ f. absurd (delete_differs E18 (sym f))
       | Some stored ↦ λ f.
-          let eleven = not_first (not (names_pass r z stored.maintainers)) E11 _ _ f (delete_differs E11) in
+          let eleven = not_first (not (names_pass r secrets stored.maintainers)) E11 _ _ f (delete_differs E11) in
           let seventeen = not_first (is_in_use r k) E17 _ _ eleven.1 (delete_differs E17) in
           sound_without r k s seventeen.0
     ] e

@@ -4,6 +4,7 @@ pub mod Keeping
 pub mod KeyLaws
 pub mod Members
 pub mod Nesting
+pub mod Refusing
 pub mod RouteSpace
 pub mod SecretSets
 pub mod Seen

@@ -12,7 +12,7 @@ use Rattle.rr_object.specs.declared.key.Key.{Key}
 use Rattle.rr_object.specs.Objects.{Obj}
 use Rattle.rr_object.specs.KeyOrders.{key_cmp}
 use Rattle.rr_auth.specs.Registries.{Reg, Sound}
-use Rattle.rr_auth.proofs.KeyLaws.{same_key, tied_key}
+use Rattle.rr_object.proofs.KeyLaws.{same_key, tied_key}
 
 -- x is an element of the list
 abbrev pub IsIn : {A : Type 0} → A → List A → Type 0

@@ -7,6 +7,8 @@ use Rattle.std.specs.Str.{bytes_eq}
 use Rattle.std.specs.FinMap.{get}
 use Rattle.rr_number.specs.Prefixes.{PrefixParts, span_of}
 use Rattle.rr_number.specs.Parents.{parent_of}
+use Rattle.rr_number.specs.declared.set_kind.SetKind.{SetKind}
+use Rattle.rr_number.specs.declared.set_kind.SetKind.TheVariants as kinds
 use Rattle.rr_text.specs.Fields.{fields_eq}
 use Rattle.rr_object.specs.declared.code.Code.TheVariants.{E10, E11, E12, E13, E14, E15, E16, E17}
 use Rattle.rr_object.specs.declared.key.Key.{Key}
@@ -38,7 +40,7 @@ or_later true b e = refl
 or_later false b e = e
 
 -- a secret of a list that passes a test
-pub passing_secret : (p : List ℕ → Bool) (z : List (List ℕ)) (s : List ℕ) → list_any (bytes_eq s) z ≡ true → p s ≡ true → list_any p z ≡ true
+pub passing_secret : (p : List ℕ → Bool) (secrets : List (List ℕ)) (s : List ℕ) → list_any (bytes_eq s) secrets ≡ true → p s ≡ true → list_any p secrets ≡ true
 passing_secret p [] s m h = m
 passing_secret p (x ∷ xs) s m h =
     elim (bytes_eq s x) as (λ b. bytes_eq s x ≡ b → (b || list_any (bytes_eq s) xs) ≡ true → (p x || list_any p xs) ≡ true) [
@@ -47,7 +49,7 @@ passing_secret p (x ∷ xs) s m h =
     ] refl m
 
 -- some secret of the list passes the test
-some_secret : (p : List ℕ → Bool) (z : List (List ℕ)) → list_any p z ≡ true → (s : List ℕ) × (p s ≡ true) × (list_any (bytes_eq s) z ≡ true)
+some_secret : (p : List ℕ → Bool) (secrets : List (List ℕ)) → list_any p secrets ≡ true → (s : List ℕ) × (p s ≡ true) × (list_any (bytes_eq s) secrets ≡ true)
 some_secret p [] e = cc
 some_secret p (x ∷ xs) e =
     elim (p x) as (λ b. p x ≡ b → (b || list_any p xs) ≡ true → (s : List ℕ) × (p s ≡ true) × ((bytes_eq s x || list_any (bytes_eq s) xs) ≡ true)) [
@@ -55,17 +57,17 @@ some_secret p (x ∷ xs) e =
       | false ↦ λ h g. let rest = some_secret p xs g in (rest.0, rest.1, or_later (bytes_eq rest.0 x) _ rest.2)
     ] refl e
 
-carried : (p : List ℕ → Bool) (z y : List (List ℕ)) → SameSecrets z y → list_any p z ≡ true → list_any p y ≡ true
-carried p z y s e = let found = some_secret p z e in passing_secret p y found.0 (sym (s found.0) ∙ found.2) found.1
+carried : (p : List ℕ → Bool) (secrets others : List (List ℕ)) → SameSecrets secrets others → list_any p secrets ≡ true → list_any p others ≡ true
+carried p secrets others s e = let found = some_secret p secrets e in passing_secret p others found.0 (sym (s found.0) ∙ found.2) found.1
 
-module _ (z y : List (List ℕ)) (s : SameSecrets z y) where
-  any_secret : (p : List ℕ → Bool) → list_any p z ≡ list_any p y
-  any_secret p = both_or_none _ _ (carried p z y s) (carried p y z (λ x. sym (s x)))
+module _ (secrets others : List (List ℕ)) (s : SameSecrets secrets others) where
+  any_secret : (p : List ℕ → Bool) → list_any p secrets ≡ list_any p others
+  any_secret p = both_or_none _ _ (carried p secrets others s) (carried p others secrets (λ x. sym (s x)))
 
-  names_say : (r : Reg) (names : List (List ℕ)) → names_pass r z names ≡ names_pass r y names
+  names_say : (r : Reg) (names : List (List ℕ)) → names_pass r secrets names ≡ names_pass r others names
   names_say r names = λ i. list_any (λ n. option_map_or (λ o. list_any (λ line. any_secret (fits_line line) i) o.auths) (maintainer r n) false) names
 
-  origin_says : (r : Reg) (k : Key) → origin_refuses r z k ≡ origin_refuses r y k
+  origin_says : (r : Reg) (k : Key) → origin_refuses r secrets k ≡ origin_refuses r others k
   origin_says r (Route p n) = λ i. not (option_map_or (λ x. names_say r (routes_of x p) i) (get r (AutNum n)) false)
   origin_says r (Mntner n) = refl
   origin_says r (AsBlock n) = refl
@@ -74,26 +76,26 @@ module _ (z y : List (List ℕ)) (s : SameSecrets z y) where
   origin_says r (AsSet n) = refl
   origin_says r (RouteSet n) = refl
 
-  space_says : (r : Reg) (p : PrefixParts) (closest : Option PrefixParts) → space_passes r z p closest ≡ space_passes r y p closest
+  space_says : (r : Reg) (p : PrefixParts) (closest : Option PrefixParts) → space_passes r secrets p closest ≡ space_passes r others p closest
   space_says r p None = λ i. option_map_or (λ x. names_say r (routes_of x p) i) (closest_inetnum r (span_of p)) false
   space_says r p (Some q) = λ i. list_any (λ n. option_map_or (λ x. names_say r (routes_of x p) i) (get r (Route q n)) false) (origins r q)
 
-  below_says : (r : Reg) (cover : Option Obj) → option_map_or (λ x. names_pass r z (lower_of x)) cover false ≡ option_map_or (λ x. names_pass r y (lower_of x)) cover false
+  below_says : (r : Reg) (cover : Option Obj) → option_map_or (λ x. names_pass r secrets (lower_of x)) cover false ≡ option_map_or (λ x. names_pass r others (lower_of x)) cover false
   below_says r cover = λ i. option_map_or (λ x. names_say r (lower_of x) i) cover false
 
-  parent_says : (r : Reg) (set : List ℕ → Key) (name : List ℕ) → parent_refuses r z set name ≡ parent_refuses r y set name
-  parent_says r set name = λ i. option_map_or (λ parent. not (below_says r (parent_object r set parent) i)) (parent_of name) false
+  parent_says : (r : Reg) (kind : SetKind) (name : List ℕ) → parent_refuses r secrets kind name ≡ parent_refuses r others kind name
+  parent_says r kind name = λ i. option_map_or (λ parent. not (below_says r (parent_object r kind parent) i)) (parent_of name) false
 
-  cover_says : (r : Reg) (k : Key) → cover_refuses r z k ≡ cover_refuses r y k
+  cover_says : (r : Reg) (k : Key) → cover_refuses r secrets k ≡ cover_refuses r others k
   cover_says r (Mntner n) = refl
   cover_says r (AsBlock t) = ap not (below_says r (closest_block r t))
   cover_says r (AutNum n) = ap not (below_says r (closest_block r (record { first = n; last = n })))
   cover_says r (Inetnum t) = ap not (below_says r (closest_inetnum r t))
   cover_says r (Route p n) = ap not (space_says r p (closest_routes r p))
-  cover_says r (AsSet name) = parent_says r AsSet name
-  cover_says r (RouteSet name) = parent_says r RouteSet name
+  cover_says r (AsSet name) = parent_says r kinds.AsSet name
+  cover_says r (RouteSet name) = parent_says r kinds.RouteSet name
 
-  place_says : (r : Reg) (k : Key) → place r z k ≡ place r y k
+  place_says : (r : Reg) (k : Key) → place r secrets k ≡ place r others k
   place_says r k = λ i. first_of (
       record { holds = crosses_some r k; code = E16 } ∷ (
       record { holds = lacks_origin r k; code = E14 } ∷ (
@@ -101,7 +103,7 @@ module _ (z y : List (List ℕ)) (s : SameSecrets z y) where
       record { holds = is_uncovered r k; code = E12 } ∷ (
       record { holds = cover_says r k i; code = E13 } ∷ []))))) Add
 
-  submission_says : (r : Reg) (o : Obj) (stored : Option Obj) → submission stored r z o ≡ submission stored r y o
+  submission_says : (r : Reg) (o : Obj) (stored : Option Obj) → submission stored r secrets o ≡ submission stored r others o
   submission_says r o None = λ i. first_of (
       record { holds = names_unknown (seen_by (Some o) r) o; code = E10 } ∷ (
       record { holds = not (names_say (seen_by (Some o) r) o.maintainers i); code = E11 } ∷ [])) (place_says r o.key i)
@@ -110,12 +112,12 @@ module _ (z y : List (List ℕ)) (s : SameSecrets z y) where
       record { holds = not (names_say r stored.maintainers i); code = E11 } ∷ []))
       (cond (fields_eq stored.paragraph o.paragraph) Same Change)
 
-  deletion_says : (r : Reg) (k : Key) (stored : Option Obj) → deletion stored r z k ≡ deletion stored r y k
+  deletion_says : (r : Reg) (k : Key) (stored : Option Obj) → deletion stored r secrets k ≡ deletion stored r others k
   deletion_says r k None = refl
   deletion_says r k (Some stored) = λ i. first_of (
       record { holds = not (names_say r stored.maintainers i); code = E11 } ∷ (
       record { holds = is_in_use r k; code = E17 } ∷ [])) Delete
 
-pub secrets_are_a_set : (r : Reg) (z y : List (List ℕ)) (i : Item) → SameSecrets z y → verdict r z i ≡ verdict r y i
-secrets_are_a_set r z y (Submit o) s = submission_says z y s r o (get r o.key)
-secrets_are_a_set r z y (DeleteItem k) s = deletion_says z y s r k (get r k)
+pub secrets_are_a_set : (r : Reg) (secrets others : List (List ℕ)) (i : Item) → SameSecrets secrets others → verdict r secrets i ≡ verdict r others i
+secrets_are_a_set r secrets others (Submit o) s = submission_says secrets others s r o (get r o.key)
+secrets_are_a_set r secrets others (DeleteItem k) s = deletion_says secrets others s r k (get r k)

@@ -9,13 +9,14 @@ use Rattle.rr_object.specs.declared.key.Key.{Key}
 use Rattle.rr_object.specs.declared.key.Key.TheVariants.{Mntner, AsBlock, AutNum, Inetnum, Route, AsSet, RouteSet}
 use Rattle.rr_object.specs.Objects.{Obj}
 use Rattle.rr_object.specs.KeyOrders.{key_cmp}
-use Rattle.rr_auth.specs.Registries.{Reg, maintainer, is_mntner_of, with_mntner, seen_by}
+use Rattle.rr_auth.specs.Registries.{Reg, maintainer, with_mntner, seen_by}
+use Rattle.rr_object.specs.Keys.{is_mntner_of}
 use Rattle.std.specs.List.{list_any}
 use Rattle.rr_number.specs.Prefixes.{PrefixParts}
 use Rattle.rr_auth.specs.Authority.{grants}
 use Rattle.rr_object.specs.Parts.{GrantParts}
 use Rattle.rr_auth.specs.Passing.{names_pass, name_passes}
-use Rattle.rr_auth.proofs.KeyLaws.{keys_total}
+use Rattle.rr_object.proofs.KeyLaws.{keys_total}
 
 -- mntners' keys tie where their names are equal
 pub mntners_tie : (n m : List ℕ) → eq_by_cmp key_cmp (Mntner n) (Mntner m) ≡ bytes_eq m n
@@ -36,12 +37,12 @@ pub maintainer_seen : (r : Reg) (o : Obj) (n : List ℕ) → maintainer (seen_by
 maintainer_seen r o n = maintainer_with r o.key o n
 
 -- the names of the entries that pass a test pass where some entry passes it and its name passes
-pub passes_granted : (r : Reg) (z : List (List ℕ)) (p : PrefixParts) (es : List GrantParts)
-    → names_pass r z (map (λ g. g.name) (filter (grants p) es)) ≡ list_any (λ g. grants p g && name_passes r z g.name) es
-passes_granted r z p [] = refl
-passes_granted r z p (e ∷ es) =
-    elim (grants p e) as (λ b. names_pass r z (map (λ g. g.name) (cond b (e ∷ filter (grants p) es) (filter (grants p) es)))
-    ≡ ((b && name_passes r z e.name) || list_any (λ g. grants p g && name_passes r z g.name) es)) [
-      | true ↦ ap (λ b. name_passes r z e.name || b) (passes_granted r z p es)
-      | false ↦ passes_granted r z p es
+pub passes_granted : (r : Reg) (secrets : List (List ℕ)) (p : PrefixParts) (es : List GrantParts)
+    → names_pass r secrets (map (λ g. g.name) (filter (grants p) es)) ≡ list_any (λ g. grants p g && name_passes r secrets g.name) es
+passes_granted r secrets p [] = refl
+passes_granted r secrets p (e ∷ es) =
+    elim (grants p e) as (λ b. names_pass r secrets (map (λ g. g.name) (cond b (e ∷ filter (grants p) es) (filter (grants p) es)))
+    ≡ ((b && name_passes r secrets e.name) || list_any (λ g. grants p g && name_passes r secrets g.name) es)) [
+      | true ↦ ap (λ b. name_passes r secrets e.name || b) (passes_granted r secrets p es)
+      | false ↦ passes_granted r secrets p es
     ]

@@ -19,24 +19,24 @@ use Rattle.rr_auth.specs.Verdicts.{deletion, is_met_by, place, submission, verdi
 use Rattle.rr_auth.specs.Conditions.{names_unknown, unauthorised, is_uncovered, cover_refuses, lacks_origin, origin_refuses, crosses_some, is_in_use}
 use Rattle.rr_auth.proofs.Keeping.{after_insert, still_there, sound_added, sound_changed, sound_removed}
 
-pub refusal_leaves : (r : Reg) (z : List (List ℕ)) (i : Item) (code : Code) → verdict r z i ≡ Refuse code → step r z i ≡ r
-refusal_leaves r z i code e = ap (λ v. after v r i) e
+pub refusal_leaves : (r : Reg) (secrets : List (List ℕ)) (i : Item) (code : Code) → verdict r secrets i ≡ Refuse code → step r secrets i ≡ r
+refusal_leaves r secrets i code e = ap (λ v. after v r i) e
 
-pub stays_sound : (r : Reg) (z : List (List ℕ)) (i : Item) → Sound r → IsItem i → Sound (step r z i)
-stays_sound r z (Submit o) s f =
-    elim (verdict r z (Submit o)) as (λ v. verdict r z (Submit o) ≡ v → Sound (after v r (Submit o))) [
-      | Add ↦ λ e. sound_added r z o s f e
-      | Change ↦ λ e. sound_changed r z o s f e
+pub stays_sound : (r : Reg) (secrets : List (List ℕ)) (i : Item) → Sound r → IsItem i → Sound (step r secrets i)
+stays_sound r secrets (Submit o) s f =
+    elim (verdict r secrets (Submit o)) as (λ v. verdict r secrets (Submit o) ≡ v → Sound (after v r (Submit o))) [
+      | Add ↦ λ e. sound_added r secrets o s f e
+      | Change ↦ λ e. sound_changed r secrets o s f e
       | Same ↦ λ e. s
       | Delete ↦ λ e. s
       | Refuse code ↦ λ e. s
     ] refl
-stays_sound r z (DeleteItem k) s f =
-    elim (verdict r z (DeleteItem k)) as (λ v. verdict r z (DeleteItem k) ≡ v → Sound (after v r (DeleteItem k))) [
+stays_sound r secrets (DeleteItem k) s f =
+    elim (verdict r secrets (DeleteItem k)) as (λ v. verdict r secrets (DeleteItem k) ≡ v → Sound (after v r (DeleteItem k))) [
       | Add ↦ λ e. s
       | Change ↦ λ e. s
       | Same ↦ λ e. s
-      | Delete ↦ λ e. sound_removed r z k s e
+      | Delete ↦ λ e. sound_removed r secrets k s e
       | Refuse code ↦ λ e. s
     ] refl
 
@@ -50,32 +50,32 @@ changed_or_same : (o : Obj) (b : Bool) → is_met_by (Submit o) (if b then Same 
 changed_or_same o true = refl
 changed_or_same o false = refl
 
-place_met : (r : Reg) (z : List (List ℕ)) (o : Obj) (k : Key) → is_met_by (Submit o) (place r z k) ≡ true
-place_met r z o k =
+place_met : (r : Reg) (secrets : List (List ℕ)) (o : Obj) (k : Key) → is_met_by (Submit o) (place r secrets k) ≡ true
+place_met r secrets o k =
     met_if (Submit o) (λ code. refl) (crosses_some r k) E16 _ (
     met_if (Submit o) (λ code. refl) (lacks_origin r k) E14 _ (
-    met_if (Submit o) (λ code. refl) (origin_refuses r z k) E15 _ (
+    met_if (Submit o) (λ code. refl) (origin_refuses r secrets k) E15 _ (
     met_if (Submit o) (λ code. refl) (is_uncovered r k) E12 _ (
-    met_if (Submit o) (λ code. refl) (cover_refuses r z k) E13 Add refl))))
+    met_if (Submit o) (λ code. refl) (cover_refuses r secrets k) E13 Add refl))))
 
-submission_met : (r : Reg) (z : List (List ℕ)) (o : Obj) (stored : Option Obj) → is_met_by (Submit o) (submission stored r z o) ≡ true
-submission_met r z o None =
+submission_met : (r : Reg) (secrets : List (List ℕ)) (o : Obj) (stored : Option Obj) → is_met_by (Submit o) (submission stored r secrets o) ≡ true
+submission_met r secrets o None =
     met_if (Submit o) (λ code. refl) (names_unknown (seen_by (Some o) r) o) E10 _ (
-    met_if (Submit o) (λ code. refl) (unauthorised (seen_by (Some o) r) z o) E11 _ (place_met r z o o.key))
-submission_met r z o (Some stored) =
+    met_if (Submit o) (λ code. refl) (unauthorised (seen_by (Some o) r) secrets o) E11 _ (place_met r secrets o o.key))
+submission_met r secrets o (Some stored) =
     met_if (Submit o) (λ code. refl) (names_unknown r o) E10 _ (
-    met_if (Submit o) (λ code. refl) (unauthorised r z stored) E11 _ (changed_or_same o (fields_eq stored.paragraph o.paragraph)))
+    met_if (Submit o) (λ code. refl) (unauthorised r secrets stored) E11 _ (changed_or_same o (fields_eq stored.paragraph o.paragraph)))
 
-deletion_met : (r : Reg) (z : List (List ℕ)) (k : Key) (stored : Option Obj) → is_met_by (DeleteItem k) (deletion stored r z k) ≡ true
-deletion_met r z k None = refl
-deletion_met r z k (Some stored) =
-    met_if (DeleteItem k) (λ code. refl) (unauthorised r z stored) E11 _ (
+deletion_met : (r : Reg) (secrets : List (List ℕ)) (k : Key) (stored : Option Obj) → is_met_by (DeleteItem k) (deletion stored r secrets k) ≡ true
+deletion_met r secrets k None = refl
+deletion_met r secrets k (Some stored) =
+    met_if (DeleteItem k) (λ code. refl) (unauthorised r secrets stored) E11 _ (
     met_if (DeleteItem k) (λ code. refl) (is_in_use r k) E17 Delete refl)
 
 -- each verdict is one that its item can meet
-pub verdicts_are_met : (r : Reg) (z : List (List ℕ)) (i : Item) → is_met_by i (verdict r z i) ≡ true
-verdicts_are_met r z (Submit o) = submission_met r z o (get r o.key)
-verdicts_are_met r z (DeleteItem k) = deletion_met r z k (get r k)
+pub verdicts_are_met : (r : Reg) (secrets : List (List ℕ)) (i : Item) → is_met_by i (verdict r secrets i) ≡ true
+verdicts_are_met r secrets (Submit o) = submission_met r secrets o (get r o.key)
+verdicts_are_met r secrets (DeleteItem k) = deletion_met r secrets k (get r k)
 
 -- an item that is read is well formed
 pub read_item : (source : List ℕ) (i : Item) → IsReadIn source i → IsItem i
@@ -100,8 +100,8 @@ read_after source r Delete (DeleteItem k) s h = λ l x f. s.read l x (still_ther
 read_after source r (Refuse code) (DeleteItem k) s h = s.read
 
 -- a registry of a source stays one
-pub stays_of_source : (source : List ℕ) (r : Reg) (z : List (List ℕ)) (i : Item) → IsRegistryOf source r → IsReadIn source i → IsRegistryOf source (step r z i)
-stays_of_source source r z i s h = record {
-  sound = stays_sound r z i s.sound (read_item source i h);
-  read = read_after source r (verdict r z i) i s h;
+pub stays_of_source : (source : List ℕ) (r : Reg) (secrets : List (List ℕ)) (i : Item) → IsRegistryOf source r → IsReadIn source i → IsRegistryOf source (step r secrets i)
+stays_of_source source r secrets i s h = record {
+  sound = stays_sound r secrets i s.sound (read_item source i h);
+  read = read_after source r (verdict r secrets i) i s h;
 }

@@ -23,8 +23,8 @@ abbrev pub is_aut_num : Key → Bool
 is_aut_num (AutNum n) = true
 is_aut_num _ = false
 
--- For a route of the prefix the entries of an object's mnt-routes that grant it decide, where it has any entry (RFC 2725, 9);
--- else mnt-by of an aut-num, and of another object what decides below it (profile).
+-- For a route of the prefix the entries of an object's mnt-routes that grant it decide, where it has any entry
+-- (RFC 2725, 9); else mnt-by of an aut-num, and of another object what decides below it (profile).
 abbrev pub routes_of : Obj → PrefixParts → List (List ℕ)
 routes_of o p =
     if length o.routes == 0 then (if is_aut_num o.key then o.maintainers else lower_of o)

@@ -1,10 +1,11 @@
--- The conditions under which an item is refused, E10 to E18 in this order. Each is over a registry, the secrets, and the
--- object or key that the item is about; where the registry is that with a new mntner in it, the verdict says so.
+-- The conditions under which an item is refused, E10 to E18 in this order. Each is over a registry, the secrets, and
+-- the object or key that the item is about; where the registry is that with a new mntner in it, the verdict says so.
 use Rattle.std.specs.Prelude.{ℕ, Bool, false, not, ◌&&◌, List, Option, None, Some, is_none}
 use Rattle.std.specs.List.{list_any}
 use Rattle.std.specs.Option.{option_map_or}
 use Rattle.std.specs.FinMap.{get, values}
 use Rattle.rr_number.specs.Prefixes.{PrefixParts, span_of}
+use Rattle.rr_number.specs.declared.set_kind.SetKind.TheVariants as kinds
 use Rattle.rr_object.specs.declared.key.Key.{Key}
 use Rattle.rr_object.specs.declared.key.Key.TheVariants.{Mntner, AsBlock, AutNum, Inetnum, Route, AsSet, RouteSet}
 use Rattle.rr_object.specs.Objects.{Obj, names_of}
@@ -23,16 +24,16 @@ names_unknown r o = names_nobody r (names_of o)
 abbrev pub unauthorised : Reg → List (List ℕ) → Obj → Bool
 unauthorised r secrets o = not (names_pass r secrets o.maintainers)
 
--- E12: nothing covers the new object: no route and no inetnum a route, no inetnum an inetnum, no as-block an as-block or
--- an aut-num; or the parent of a set is not registered (RFC 2725, 9).
+-- E12: nothing covers the new object: no route and no inetnum a route, no inetnum an inetnum, no as-block an as-block
+-- or an aut-num; or the parent of a set is not registered (RFC 2725, 9).
 abbrev pub is_uncovered : Reg → Key → Bool
 is_uncovered r (Mntner name) = false
 is_uncovered r (AsBlock s) = is_none (closest_block r s)
 is_uncovered r (AutNum n) = is_none (closest_block r (record { first = n; last = n }))
 is_uncovered r (Inetnum s) = is_none (closest_inetnum r s)
 is_uncovered r (Route p n) = is_none (closest_routes r p) && is_none (closest_inetnum r (span_of p))
-is_uncovered r (AsSet name) = lacks_parent r AsSet name
-is_uncovered r (RouteSet name) = lacks_parent r RouteSet name
+is_uncovered r (AsSet name) = lacks_parent r kinds.AsSet name
+is_uncovered r (RouteSet name) = lacks_parent r kinds.RouteSet name
 
 -- The route of the prefix and this origin authorises a route of the other prefix.
 abbrev pub route_passes : Reg → List (List ℕ) → PrefixParts → PrefixParts → ℕ → Bool
@@ -52,8 +53,8 @@ cover_refuses r secrets (AutNum n) =
     not (option_map_or (lower_passes r secrets) (closest_block r (record { first = n; last = n })) false)
 cover_refuses r secrets (Inetnum s) = not (option_map_or (lower_passes r secrets) (closest_inetnum r s) false)
 cover_refuses r secrets (Route p n) = not (space_passes r secrets p (closest_routes r p))
-cover_refuses r secrets (AsSet name) = parent_refuses r secrets AsSet name
-cover_refuses r secrets (RouteSet name) = parent_refuses r secrets RouteSet name
+cover_refuses r secrets (AsSet name) = parent_refuses r secrets kinds.AsSet name
+cover_refuses r secrets (RouteSet name) = parent_refuses r secrets kinds.RouteSet name
 
 -- E14: the origin of the route has no aut-num (RFC 2725, 9).
 abbrev pub lacks_origin : Reg → Key → Bool

@@ -13,10 +13,12 @@ use Rattle.rr_object.specs.declared.key.Key.TheVariants.{Route}
 use Rattle.rr_object.specs.Objects.{Obj}
 use Rattle.rr_auth.specs.declared.item.Item.{Item}
 use Rattle.rr_auth.specs.declared.item.Item.TheVariants.{Submit, Delete}
+use Rattle.rr_auth.specs.declared.verdict.Verdict.{Verdict}
 use Rattle.rr_auth.specs.declared.verdict.Verdict.TheVariants.{Refuse}
 use Rattle.rr_auth.specs.Authority.{routes_pass}
 use Rattle.rr_auth.specs.Closest.{block_span, closest_block, closest_inetnum, closest_routes, inetnum_span, is_closest, is_cover, route_prefix, route_span}
 use Rattle.rr_auth.specs.Conditions.{cover_refuses}
+use Rattle.rr_auth.specs.Passing.{names_pass}
 use Rattle.rr_auth.specs.Registries.{Reg, Sound}
 use Rattle.rr_auth.specs.Sources.{IsReadIn, IsRegistryOf}
 use Rattle.rr_auth.specs.Verdicts.{is_met_by, verdict, step}
@@ -46,6 +48,23 @@ StaysOfSource =
 abbrev pub VerdictsAreMet : Type 0
 VerdictsAreMet = (r : Reg) (secrets : List (List ℕ)) (i : Item) → is_met_by i (verdict r secrets i) ≡ true
 
+-- A verdict is a refusal, with some code.
+pub record IsRefusal (v : Verdict) : Type 0 where
+  pub code : Code
+  pub is : v ≡ Refuse code
+
+-- What an item is about: the key of the object that is submitted, or the key that is deleted.
+abbrev pub key_about : Item → Key
+key_about (Submit o) = o.key
+key_about (Delete k) = k
+
+-- Whether what stands under a key may be touched is decided by its own mnt-by, whatever an item names in its place
+-- (RFC 2725, 9).
+abbrev pub StoredNamesDecide : Type 0
+StoredNamesDecide =
+    (r : Reg) (secrets : List (List ℕ)) (i : Item) (stored : Obj) → get r (key_about i) ≡ Some stored
+    → names_pass r secrets stored.maintainers ≡ false → IsRefusal (verdict r secrets i)
+
 -- Two lists hold the same secrets, in whatever order and however often each.
 abbrev pub SameSecrets : List (List ℕ) → List (List ℕ) → Type 0
 SameSecrets secrets others = (secret : List ℕ) → list_any (bytes_eq secret) secrets ≡ list_any (bytes_eq secret) others
@@ -56,7 +75,8 @@ SecretsAreASet =
     (r : Reg) (secrets others : List (List ℕ)) (i : Item) → SameSecrets secrets others
     → verdict r secrets i ≡ verdict r others i
 
--- In a sound registry there is one closest inetnum to a span at most: each one that is closest is the one that is given.
+-- In a sound registry there is one closest inetnum to a span at most: each one that is closest is the one that is
+-- given.
 abbrev pub OneClosestInetnum : Type 0
 OneClosestInetnum =
     (r : Reg) (s : Ends) (k : Key) (o : Obj) → Sound r → IsSpan s → get r k ≡ Some o
@@ -74,8 +94,8 @@ ClosestRoutesAgree =
     (r : Reg) (p : PrefixParts) (k : Key) (o : Obj) → Sound r → get r k ≡ Some o
     → is_closest route_span (values r) (span_of p) o ≡ true → closest_routes r p ≡ route_prefix o.key
 
--- E13 of a route in a sound registry: the names that decide about it pass for no closest route, or, where no route covers
--- it, not for the closest inetnum.
+-- E13 of a route in a sound registry: the names that decide about it pass for no closest route, or, where no route
+-- covers it, not for the closest inetnum.
 abbrev pub RoutesAskTheClosest : Type 0
 RoutesAskTheClosest =
     (r : Reg) (secrets : List (List ℕ)) (p : PrefixParts) (n : ℕ) → Sound r

@@ -1,5 +1,5 @@
--- Who passes with a set of secrets: a secret fits a line, a maintainer passes where some secret fits one of its lines, and a
--- list of names passes where one of them is that of a maintainer that passes.
+-- Who passes with a set of secrets: a secret fits a line, a maintainer passes where some secret fits one of its lines,
+-- and a list of names passes where one of them is that of a maintainer that passes.
 use Rattle.std.specs.Prelude.{ℕ, Bool, false, ◌++◌, List}
 use Rattle.std.specs.List.{list_any}
 use Rattle.std.specs.Option.{option_map_or}

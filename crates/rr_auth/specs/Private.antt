@@ -1,10 +1,10 @@
--- What private functions of src promise each other: the parts of `place` in `Verdicts`, one for each kind of cover, and what
--- a walk over names stands for. The verdict is made of `place` alone, and no caller reads these.
+-- What private functions of src promise each other: the parts of `place` in `Verdicts`, one for each kind of cover, and
+-- what a walk over names stands for. The verdict is made of `place` alone, and no caller reads these.
 use Rattle.std.specs.Prelude.{ℕ, Bool, false, not, ◌&&◌, is_none, List, [], ◌∷◌, map, filter, Option}
 use Rattle.std.specs.Option.{option_map_or}
 use Rattle.rr_number.specs.Prefixes.{PrefixParts, span_of}
+use Rattle.rr_number.specs.declared.set_kind.SetKind.{SetKind}
 use Rattle.rr_object.specs.declared.code.Code.TheVariants.{E12, E13}
-use Rattle.rr_object.specs.declared.key.Key.{Key}
 use Rattle.rr_object.specs.Objects.{Obj}
 use Rattle.rr_auth.specs.declared.authority.RouteNames.{RouteNames}
 use Rattle.rr_auth.specs.declared.authority.RouteNames.TheVariants.{Granted, Named}
@@ -24,10 +24,10 @@ below names_pass cover = first_of (
     record { holds = not (option_map_or names_pass cover false); code = E13 } ∷ [])) Add
 
 -- What a set's parent says of it, where it has one.
-abbrev pub below_parent : Reg → List (List ℕ) → (List ℕ → Key) → List ℕ → Verdict
-below_parent r secrets set name = first_of (
-    record { holds = lacks_parent r set name; code = E12 } ∷ (
-    record { holds = parent_refuses r secrets set name; code = E13 } ∷ [])) Add
+abbrev pub below_parent : Reg → List (List ℕ) → SetKind → List ℕ → Verdict
+below_parent r secrets kind name = first_of (
+    record { holds = lacks_parent r kind name; code = E12 } ∷ (
+    record { holds = parent_refuses r secrets kind name; code = E13 } ∷ [])) Add
 
 -- What the routes and inetnums above a route say of it.
 abbrev pub below_space : Reg → List (List ℕ) → PrefixParts → Verdict

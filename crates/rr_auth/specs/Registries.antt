@@ -6,6 +6,7 @@ use Rattle.std.specs.FinMap.{FinMap, get, insert, values}
 use Rattle.rr_number.specs.Spans.{crosses}
 use Rattle.rr_object.specs.declared.key.Key.{Key}
 use Rattle.rr_object.specs.declared.key.Key.TheVariants.{Mntner, AsBlock, Inetnum}
+pub use Rattle.rr_object.specs.Keys.{is_mntner_of}
 use Rattle.rr_object.specs.Objects.{Obj, names_of}
 use Rattle.rr_object.specs.KeyOrders.{IsKeyValue, key_cmp}
 
@@ -37,11 +38,6 @@ abbrev pub keys_cross : Key → Key → Bool
 keys_cross (AsBlock s) (AsBlock t) = crosses s t
 keys_cross (Inetnum s) (Inetnum t) = crosses s t
 keys_cross _ _ = false
-
--- The key is that of the mntner of this name.
-abbrev pub is_mntner_of : List ℕ → Key → Bool
-is_mntner_of name (Mntner n) = bytes_eq n name
-is_mntner_of name _ = false
 
 -- An object other than the maintainer of this name names it.
 abbrev pub names_another : List ℕ → Obj → Bool

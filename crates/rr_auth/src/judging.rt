@@ -18,7 +18,7 @@ use crate::item::Item;
 use crate::passing::{names_pass, object_names_nobody};
 use crate::secrets::Secrets;
 use crate::verdict::Verdict;
-use rr_number::{AsNumber, Parent, Prefix, SetName, Span};
+use rr_number::{AsNumber, Parent, Prefix, SetKind, SetName, Span};
 use rr_object::{Code, Key, Object};
 use std::alloc::{AllocError, Global};
 
@@ -131,8 +131,8 @@ fn judge_place<B: Book>(
         )),
         Key::Inetnum(span) => Ok(judge_below(book, secrets, book.closest_inetnum(*span))),
         Key::Route(prefix, origin) => judge_route(alloc, book, secrets, *prefix, *origin),
-        Key::AsSet(name) => judge_as_set(alloc, book, secrets, name),
-        Key::RouteSet(name) => judge_route_set(alloc, book, secrets, name),
+        Key::AsSet(name) => judge_set(alloc, book, secrets, SetKind::AsSet, name),
+        Key::RouteSet(name) => judge_set(alloc, book, secrets, SetKind::RouteSet, name),
     }
 }
 
@@ -159,52 +159,29 @@ fn judge_below<B: Book>(book: &B, secrets: &Secrets, cover: Option<&Object>) -> 
     }
 }
 
-fn judge_as_set<B: Book>(
+/// The verdict on a set of the kind: its parent decides, where it has one.
+fn judge_set<B: Book>(
     alloc: Global,
     book: &B,
     secrets: &Secrets,
+    kind: SetKind,
     name: &SetName,
 ) -> Result<Verdict, AllocError>
-    ensures { IfOk result (λ v. v ≡ below_parent (B.contents book.now) secrets.now Key.AsSet name.now) }
+    ensures { IfOk result (λ v. v ≡ below_parent (B.contents book.now) secrets.now kind name.now) }
 {
     match name.parent(alloc)? {
         None => Ok(Verdict::Add),
-        Some(parent) => Ok(judge_below_parent(book, secrets, as_set_parent(parent))),
+        Some(parent) => Ok(judge_below_parent(book, secrets, parent_key(kind, parent))),
     }
 }
 
-fn judge_route_set<B: Book>(
-    alloc: Global,
-    book: &B,
-    secrets: &Secrets,
-    name: &SetName,
-) -> Result<Verdict, AllocError>
-    ensures { IfOk result (λ v. v ≡ below_parent (B.contents book.now) secrets.now Key.RouteSet name.now) }
-{
-    match name.parent(alloc)? {
-        None => Ok(Verdict::Add),
-        Some(parent) => Ok(judge_below_parent(book, secrets, route_set_parent(parent))),
-    }
-}
-
-/// The key of an as-set's parent; none where that is several AS numbers alone.
-fn as_set_parent(parent: Parent) -> Option<Key>
-    ensures { result ≡ parent_key Key.AsSet parent }
+/// The key of the parent of a set of the kind; none where that is several AS numbers alone.
+fn parent_key(kind: SetKind, parent: Parent) -> Option<Key>
+    ensures { result ≡ parent_key kind parent }
 {
     match parent {
         Parent::Number(number) => Some(Key::AutNum(number)),
-        Parent::Set(name) => Some(Key::AsSet(name)),
-        Parent::Bare => None,
-    }
-}
-
-/// The key of a route-set's parent; none where that is several AS numbers alone.
-fn route_set_parent(parent: Parent) -> Option<Key>
-    ensures { result ≡ parent_key Key.RouteSet parent }
-{
-    match parent {
-        Parent::Number(number) => Some(Key::AutNum(number)),
-        Parent::Set(name) => Some(Key::RouteSet(name)),
+        Parent::Set(name) => Some(Key::of_kind(kind, name)),
         Parent::Bare => None,
     }
 }

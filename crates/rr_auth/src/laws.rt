@@ -1,6 +1,6 @@
 //! Laws of verdicts, for readers and for the proofs of other crates. Nothing calls these functions.
 
-ghost use Rattle.rr_auth.specs.Laws.{ClosestRoutesAgree, OneClosestBlock, OneClosestInetnum, RefusalLeaves, RoutesAskTheClosest, SecretsAreASet, StaysOfSource, StaysSound, VerdictsAreMet};
+ghost use Rattle.rr_auth.specs.Laws.{ClosestRoutesAgree, OneClosestBlock, OneClosestInetnum, RefusalLeaves, RoutesAskTheClosest, SecretsAreASet, StaysOfSource, StaysSound, StoredNamesDecide, VerdictsAreMet};
 
 /// An item that is refused leaves the registry as it was.
 #[tactic(auto, using(crate::proofs::Steps::refusal_leaves))]
@@ -22,6 +22,11 @@ pub fn registries_stay_of_their_source()
 /// A submission is never answered as a deletion, nor a deletion as an addition or a change.
 pub fn verdicts_are_met_by_their_items()
     ensures { VerdictsAreMet }
+{}
+
+/// What stands in a registry is changed and deleted by its own maintainers alone, whatever an item names in its place.
+pub fn what_stands_is_touched_by_its_own_maintainers()
+    ensures { StoredNamesDecide }
 {}
 
 /// Secrets are a set: a verdict depends on which are given, and on nothing else of their list.

@@ -5,12 +5,12 @@ ghost use Rattle.std.specs.List.{list_any};
 ghost use Rattle.std.specs.Option.{option_copied};
 ghost use Rattle.rr_object.specs.Objects.{names_of};
 ghost use Rattle.rr_auth.specs.Passing.{fits_line, name_passes, names_pass, passes};
-ghost use Rattle.rr_auth.specs.Registries.{is_mntner_of, maintainer, names_nobody, seen_by};
+ghost use Rattle.rr_auth.specs.Registries.{maintainer, names_nobody, seen_by};
 
 use crate::book::Book;
 use crate::secrets::{Secret, Secrets};
 use rr_number::Name;
-use rr_object::{Auth, Key, Object};
+use rr_object::{Auth, Object};
 use sha2::{Digest, Sha256};
 
 /// Whether the maintainer passes: some secret fits one of its lines, so that SHA-256 of the salt and then the secret is
@@ -54,21 +54,12 @@ pub fn maintainer_seen<'a, B: Book>(
     match own {
         None => book.maintainer(name),
         Some(object) => {
-            if is_mntner_of(object.key(), name) {
+            if object.key().is_mntner_of(name) {
                 Some(object)
             } else {
                 book.maintainer(name)
             }
         }
-    }
-}
-
-fn is_mntner_of(key: &Key, name: &Name) -> bool
-    ensures { result ≡ is_mntner_of name.now key.now }
-{
-    match key {
-        Key::Mntner(own) => own == name,
-        _ => false,
     }
 }
 

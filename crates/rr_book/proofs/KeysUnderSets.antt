@@ -16,7 +16,7 @@ use Rattle.std.proofs.lemmas.Bool.{true≢false}
 use Rattle.std.proofs.lemmas.List.Folds.{list_any_more}
 use Rattle.std.proofs.lemmas.Map.Text.{is_eq-slice_cmp}
 use Rattle.std.proofs.lemmas.Slice.Eq.{bytes_eq-Decides}
-use Rattle.rr_auth.proofs.KeyLaws.{keys_total, same_key}
+use Rattle.rr_object.proofs.KeyLaws.{keys_total, same_key}
 use Rattle.rr_auth.specs.Registries.{Sound}
 use Rattle.rr_object.proofs.DerivedOrder.{derived_order}
 use Rattle.rr_object.specs.contracts.key.KeyOrd.TheImpl as derived
@@ -26,9 +26,8 @@ use Rattle.rr_object.specs.Objects.{Obj}
 use Rattle.rr_book.proofs.Order.{book_others, book_put, empty_is_book, get_of_book, others_are_book, put_is_book}
 use Rattle.rr_book.proofs.Places.{T_parts, is_Less}
 use Rattle.rr_book.specs.Books.{IsBook, book_of, entry, put_in}
-use Rattle.rr_book.specs.SetIndexes.{IsIndexed, stands_under}
+use Rattle.rr_book.specs.SetIndexes.{IsIndexed, is_meant, stands_under}
 use Rattle.rr_book.specs.SetLists.{names_set}
-use Rattle.rr_book.specs.Private.{is_meant}
 
 abbrev Sets : Type 0
 Sets = BTreeMap (List ℕ) (BTreeSet Key)

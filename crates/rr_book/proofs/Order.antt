@@ -10,8 +10,9 @@ use Rattle.rr_object.specs.declared.key.Key.{Key}
 use Rattle.rr_object.specs.declared.key.Key.TheVariants.{Mntner, AsBlock, AutNum, Inetnum, Route, AsSet, RouteSet}
 use Rattle.rr_object.specs.Objects.{Obj}
 use Rattle.rr_object.specs.KeyOrders.{key_cmp}
-use Rattle.rr_auth.specs.Registries.{Reg, Sound, maintainer, is_mntner_of}
-use Rattle.rr_auth.proofs.KeyLaws.{keys_total, keys_exact}
+use Rattle.rr_object.specs.Keys.{is_mntner_of}
+use Rattle.rr_auth.specs.Registries.{Reg, Sound, maintainer}
+use Rattle.rr_object.proofs.KeyLaws.{keys_total, keys_exact}
 use Rattle.rr_auth.proofs.Seen.{mntners_tie}
 use Rattle.rr_book.specs.Books.{entry, is_in_order, book_of, put_in, IsBook}
 

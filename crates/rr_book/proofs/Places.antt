@@ -5,8 +5,8 @@ use Rattle.std.specs.List.Sorted.{IsPartitionPoint, IsPartitionedBy}
 use Rattle.std.specs.FinMap.{is_sorted}
 use Rattle.std.specs.FinMap.Entries.{below_all}
 use Rattle.std.specs.Option.{option_and_then, option_map_or}
-use Rattle.rr_auth.proofs.KeyLaws.{keys_exact, keys_total}
-use Rattle.rr_auth.specs.Registries.{is_mntner_of}
+use Rattle.rr_object.proofs.KeyLaws.{keys_exact, keys_total}
+use Rattle.rr_object.specs.Keys.{is_mntner_of}
 use Rattle.rr_object.specs.declared.key.Key.TheVariants.{Mntner}
 use Rattle.rr_book.proofs.Order.{by_name, mntner_key}
 use Rattle.std.specs.declared.cmp.Ordering.{Ordering}

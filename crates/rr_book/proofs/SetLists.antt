@@ -9,7 +9,7 @@ use Rattle.std.specs.FinMap.{get, entries, values, entries_sorted, get-entries, 
 use Rattle.std.specs.FinMap.Entries.{below_all}
 use Rattle.std.proofs.lemmas.List.Elements.{Contains-get_or}
 use Rattle.std.proofs.lemmas.List.Kept.{AllPairs-cons, AllPairs-filter}
-use Rattle.rr_auth.proofs.KeyLaws.{keys_total}
+use Rattle.rr_object.proofs.KeyLaws.{keys_total}
 use Rattle.rr_object.specs.KeyOrders.{key_cmp}
 use Rattle.rr_auth.specs.Registries.{Reg, Sound}
 use Rattle.rr_graph.proofs.Listings.{Contains-cons_cases}

@@ -1,5 +1,5 @@
 -- What the private functions of src promise each other. No public clause cites these.
-use Rattle.std.specs.Prelude.{ℕ, Bool, true, false, not, ◌&&◌, List, Option, None, slice_get}
+use Rattle.std.specs.Prelude.{ℕ, Bool, true, false, not, List, Option, None, slice_get}
 use Rattle.std.specs.List.{position_or_len}
 use Rattle.std.specs.Option.{option_map_or}
 use Rattle.std.specs.Ordering.{eq_by_cmp, is_gt}
@@ -11,7 +11,7 @@ use Rattle.rr_object.specs.declared.key.Key.TheVariants as key
 use Rattle.rr_object.specs.KeyOrders.{key_cmp}
 use Rattle.rr_object.specs.Objects.{Obj}
 use Rattle.rr_auth.specs.Closest.{inetnum_span, block_span, route_span}
-use Rattle.rr_book.specs.SetLists.{names_set}
+pub use Rattle.rr_book.specs.SetIndexes.{is_meant}
 
 -- The first place whose key is not below the key.
 abbrev pub place_of : Key → List Obj → ℕ
@@ -36,7 +36,3 @@ abbrev pub is_span : Key → Bool
 is_span (key.AsBlock s) = true
 is_span (key.Inetnum s) = true
 is_span _ = false
-
--- Whether the key is the object's, and the object names the set in its `member-of`, which is none that is left out (profile).
-abbrev pub is_meant : Obj → (List ℕ → Bool) → List ℕ → Key → Bool
-is_meant o is_left_out name key = eq_by_cmp key_cmp o.key key && (names_set name o && not (is_left_out name))

@@ -1,11 +1,11 @@
 -- Keys of objects, under the sets that these name in their `member-of`.
-use Rattle.std.specs.Prelude.{◌≡◌, ℕ, Bool, false, List}
+use Rattle.std.specs.Prelude.{◌≡◌, ℕ, Bool, false, not, ◌&&◌, List}
 use Rattle.std.specs.BTreeMap.{BTreeMap, get as keys_at}
 use Rattle.std.specs.BTreeSet.{BTreeSet, contains}
 use Rattle.std.specs.Cmp.Lexicographic.{slice_cmp}
 use Rattle.std.specs.FinMap.{get}
 use Rattle.std.specs.Option.{option_map_or}
-use Rattle.std.specs.Ordering.{nat_cmp}
+use Rattle.std.specs.Ordering.{eq_by_cmp, nat_cmp}
 use Rattle.rr_object.specs.declared.key.Key.{Key}
 use Rattle.rr_object.specs.KeyOrders.{key_cmp}
 use Rattle.rr_object.specs.Objects.{Obj}
@@ -16,6 +16,11 @@ use Rattle.rr_book.specs.SetLists.{names_set}
 -- Whether the key stands under the set of the name.
 abbrev pub stands_under : BTreeMap (List ℕ) (BTreeSet Key) → List ℕ → Key → Bool
 stands_under sets name key = option_map_or (λ keys. contains key_cmp keys key) (keys_at (slice_cmp nat_cmp) sets name) false
+
+-- Whether the key is the object's, and the object names the set in its `member-of`, which is none that is left out
+-- (profile).
+abbrev pub is_meant : Obj → (List ℕ → Bool) → List ℕ → Key → Bool
+is_meant o is_left_out name key = eq_by_cmp key_cmp o.key key && (names_set name o && not (is_left_out name))
 
 -- Under a set stand the keys of the registered objects that name it in their `member-of`, and no others (RFC 2622, 5).
 abbrev pub HasReferrers : Reg → BTreeMap (List ℕ) (BTreeSet Key) → Type 0

@@ -24,8 +24,8 @@ pub trait Keeper: SetBook {
         requires { IsBook objects.items }
         ensures { IfOk result (λ book. Self.contents book ≡ book_of objects.items) };
 
-    /// Puts the object under its key, in place of one that stood there. The registry has to stay sound. The error leaves
-    /// the book as it was.
+    /// Puts the object under its key, in place of one that stood there. The registry has to stay sound. The error
+    /// leaves the book as it was.
     fn insert(&mut self, alloc: Global, object: Object) -> Result<(), AllocError>
         requires { Sound (insert (Self.contents self.old) object.key object) }
         ensures ok { OnOk result (Self.contents self.new ≡ insert (Self.contents self.old) object.key object) }

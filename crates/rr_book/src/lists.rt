@@ -7,7 +7,8 @@ ghost use Rattle.std.specs.Ordering.{eq_by_cmp, is_gt};
 ghost use Rattle.std.specs.Str.{bytes_eq};
 ghost use Rattle.rr_object.specs.Objects.{names_of};
 ghost use Rattle.rr_object.specs.KeyOrders.{key_cmp};
-ghost use Rattle.rr_auth.specs.Registries.{is_mntner_of, keys_cross, names_another};
+ghost use Rattle.rr_object.specs.Keys.{is_mntner_of};
+ghost use Rattle.rr_auth.specs.Registries.{keys_cross, names_another};
 ghost use Rattle.rr_auth.specs.Closest.{origin_at, origins_among, same_prefix};
 ghost use Rattle.rr_book.specs.Books.{is_in_order, put_in};
 ghost use Rattle.rr_book.specs.Private.{is_span, place_of, stands_at};
@@ -42,7 +43,7 @@ pub(crate) fn find_mntner_in_order<'a>(objects: &'a [Object], name: &Name) -> Op
 {
     match objects.get(place_of_mntner(objects, name)) {
         Some(object) => {
-            if is_mntner_of(object.key(), name) {
+            if object.key().is_mntner_of(name) {
                 Some(object)
             } else {
                 None
@@ -66,24 +67,6 @@ fn is_above(name: &Name, key: &Key) -> bool
 {
     match key {
         Key::Mntner(own) => name > own,
-        _ => false,
-    }
-}
-
-/// The mntner of the name.
-pub fn find_mntner<'a>(objects: &'a [Object], name: &Name) -> Option<&'a Object>
-    ensures { option_copied result ≡ find (λ o. is_mntner_of name.now o.key) objects.now }
-{
-    objects
-        .iter()
-        .find(|object| is_mntner_of(object.key(), name))
-}
-
-fn is_mntner_of(key: &Key, name: &Name) -> bool
-    ensures { result ≡ is_mntner_of name.now key.now }
-{
-    match key {
-        Key::Mntner(own) => own == name,
         _ => false,
     }
 }
@@ -129,7 +112,7 @@ pub(crate) fn some_names(objects: &[Object], name: &Name) -> bool
 pub fn names_another(object: &Object, name: &Name) -> bool
     ensures { result ≡ names_another name.now object.now }
 {
-    !is_mntner_of(object.key(), name) && object_names(object, name)
+    !object.key().is_mntner_of(name) && object_names(object, name)
 }
 
 /// Whether the object names the maintainer.
@@ -175,8 +158,8 @@ fn is_same_prefix(prefix: Prefix, other: Prefix) -> bool
     prefix.address().to_bits() == other.address().to_bits() && prefix.length() == other.length()
 }
 
-/// Puts the object into its place among objects in the order of their keys, for one of its key that stood there, which is
-/// given back; the error is want of memory and gives the new one back.
+/// Puts the object into its place among objects in the order of their keys, for one of its key that stood there, which
+/// is given back; the error is want of memory and gives the new one back.
 #[tactic(auto, using(crate::proofs::Places::put_in_place))]
 pub fn put(objects: &mut Vec<Object>, object: Object) -> Result<Option<Object>, AllocFailed<Object>>
     requires { is_in_order objects.old.items ≡ true }

@@ -1,4 +1,5 @@
-//! The lists that expansions of sets ask for: of a class by one pass over the objects, of referrers by the keys under the set.
+//! The lists that expansions of sets ask for: of a class by one pass over the objects, of referrers by the keys under
+//! the set.
 
 ghost use Rattle.std.specs.Prelude.{◌≡◌, IfOk, filter};
 ghost use Rattle.rr_book.specs.SetLists.{is_of_class};

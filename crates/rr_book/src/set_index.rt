@@ -13,9 +13,8 @@ ghost use Rattle.rr_object.specs.declared.key.Key.{Key};
 ghost use Rattle.rr_object.specs.KeyOrders.{key_cmp};
 ghost use Rattle.rr_sets.specs.Lists.{lent};
 ghost use Rattle.rr_book.specs.Books.{is_in_order};
-ghost use Rattle.rr_book.specs.SetIndexes.{stands_under};
+ghost use Rattle.rr_book.specs.SetIndexes.{is_meant, stands_under};
 ghost use Rattle.rr_book.specs.SetLists.{names_set};
-ghost use Rattle.rr_book.specs.Private.{is_meant};
 
 use crate::lists::find_key;
 use rr_number::SetName;
@@ -59,8 +58,8 @@ impl SetIndex {
         self.keys.get(name)
     }
 
-    /// Puts the object's key, which stands under none of them, under each set that it names, save the others. The error is
-    /// want of memory and changes nothing.
+    /// Puts the object's key, which stands under none of them, under each set that it names, save the others. The error
+    /// is want of memory and changes nothing.
     pub fn add(
         &mut self,
         alloc: Global,
@@ -81,8 +80,8 @@ impl SetIndex {
         }
     }
 
-    /// Puts the object's key under each set that it names, save the others. Where memory is wanting it may stand under some
-    /// of them.
+    /// Puts the object's key under each set that it names, save the others. Where memory is wanting it may stand under
+    /// some of them.
     fn add_each(
         &mut self,
         alloc: Global,
@@ -177,13 +176,13 @@ pub fn sets_named(alloc: Global, object: Option<&Object>) -> Result<BTreeSet<Set
         option_map_or (names_set name) (option_copied object.entry) false) }
 {
     match object {
-        Some(object) => set_of(alloc, object.member_of()),
+        Some(object) => sets_among(alloc, object.member_of()),
         None => Ok(BTreeSet::new(alloc)),
     }
 }
 
-/// The names as a set.
-fn set_of(alloc: Global, names: &[SetName]) -> Result<BTreeSet<SetName>, AllocError>
+/// The sets of these names.
+fn sets_among(alloc: Global, names: &[SetName]) -> Result<BTreeSet<SetName>, AllocError>
     ensures { IfOk result (λ sets. (name : List ℕ) → contains (slice_cmp nat_cmp) sets name ≡
         list_any (λ own. bytes_eq own name) names.now) }
 {

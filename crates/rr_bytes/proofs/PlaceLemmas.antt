@@ -1,8 +1,11 @@
 -- A text is cut at the first byte that separates its parts.
-use Rattle.std.proofs.Common.{◌≡◌, ◌<◌, ◌+◌, ◌≤◌, ℕ, Bool, true, false, List, [], ◌∷◌, length, take, drop, nat_lt, Some, None, refl, arith, ap, ◌∙◌, sym, cond, not, unwrap_or}
+use Rattle.std.proofs.Common.{◌≡◌, ◌<◌, ◌+◌, ◌≤◌, ℕ, Bool, true, false, List, [], ◌∷◌, length, take, drop, nat_lt, Option, Some, None, refl, arith, ap, ◌∙◌, sym, cond, not, unwrap_or, get_or}
 use Rattle.std.specs.List.{position, slice_split, position_or_len}
 use Rattle.std.proofs.lemmas.List.Splits.{slice_split_first}
 use Rattle.std.proofs.lemmas.List.{drop-drop}
+use Rattle.std.proofs.lemmas.List.Sums.{position_or_len_is}
+use Rattle.std.proofs.lemmas.Bool.Decides.{nat_tests}
+use Rattle.memchr.specs.Find.{IsFirstByte}
 
 -- where no byte separates, the text is the one part
 whole_step : (p : ℕ → Bool) (x : ℕ) (xs : List ℕ) (b : Bool) → p x ≡ b
@@ -57,3 +60,19 @@ place_step p xs false e = grind (arith, e, position_within p xs)
 -- the place of the first byte that passes, or the end
 pub place_is : (p : ℕ → Bool) (xs : List ℕ) → unwrap_or (position p xs) (length xs) ≡ position_or_len p xs
 place_is p xs = place_step p xs (nat_lt (position_or_len p xs) (length xs)) refl
+
+untrue : (t : Bool) → ¬ (t ≡ true) → t ≡ false
+untrue true h = absurd (h refl)
+untrue false h = refl
+
+-- a byte's first place, by what `memchr` says
+pub place_found : (test : ℕ → Bool) (bs : List ℕ) (place : Option ℕ) → IsFirstByte test bs place → place ≡ position test bs
+place_found test bs None h =
+    let at : position_or_len test bs ≡ length bs =
+    position_or_len_is test bs (length bs) 0 (omega arith) (λ k lt. untrue (test (get_or bs k 0)) (h k (omega arith) lt)) (λ lt. absurd (omega arith))
+    in grind (arith, nat_tests)
+place_found test bs (Some k) h =
+    let within : k < length bs = h.0.high in
+    let at : position_or_len test bs ≡ k =
+    position_or_len_is test bs k 0 (omega arith) (λ j lt. untrue (test (get_or bs j 0)) (h.0.before j (omega arith) lt)) (λ lt. h.1)
+    in grind (arith, nat_tests)

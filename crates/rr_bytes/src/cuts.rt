@@ -5,12 +5,15 @@ ghost use Rattle.std.specs.List.{after_first, before_first, position_or_len};
 ghost use Rattle.std.specs.Option.{option_map};
 ghost use Rattle.rr_bytes.specs.Cuts.{cut_at, from_first};
 
+use memchr::memchr;
+
 /// The place of the first such byte of the text, if it has one.
 #[inline]
+#[tactic(auto, using(crate::proofs::PlaceLemmas::place_found))]
 pub fn place_of(text: &[u8], byte: u8) -> Option<usize>
     ensures { result ≡ position (λ b. b == byte) text.now }
 {
-    text.iter().position(|b| *b == byte)
+    memchr(byte, text)
 }
 
 /// What stands before and after the first such byte of the text, if it has one.

@@ -1,5 +1,5 @@
-//! Bytes, and texts as their bytes: blanks and the line feed, texts less the blanks round them, texts cut at a byte and into
-//! parts, letter case, and what names are made of. Each notion has one definition and one body for all crates.
+//! Bytes, and texts as their bytes: blanks and the line feed, texts less the blanks round them, texts cut at a byte and
+//! into parts, letter case, and what names are made of. Each notion has one definition and one body for all crates.
 #![tactic(auto)]
 
 mod byte_set;

@@ -1,3 +1,4 @@
+mod AskedLemmas
 mod NumberLemmas
 mod PlainLemmas
 mod ShownLemmas

@@ -48,7 +48,7 @@ database_cause _ = database.Other
 
 -- a cause in words (profile)
 abbrev pub database_text : DatabaseCause → List ℕ
-database_text database.Missing = codes "there is no such file: `irrdesk init` makes it"
+database_text database.Missing = codes "there is no such file: `irrdesk init` or `irrdesk load` makes it"
 database_text database.Unopened = codes "it cannot be opened or made: look at its folder and its permissions"
 database_text database.Busy = codes "another process has it open"
 database_text database.Damaged = codes "it is no database of a registry, or it is damaged"

@@ -1,12 +1,19 @@
 -- What goes wrong, the status that it ends the program with, and its words (profile).
 use Rattle.std.specs.Prelude.{ℕ, List, [], Option, None, Some, codes}
 use Rattle.rr_store.specs.declared.fault.CreateFault.TheVariants as creating
+use Rattle.rr_store.specs.declared.fault.MigrateFault.TheVariants as migrating
 use Rattle.rr_store.specs.declared.fault.OpenFault.TheVariants as opening
+use Rattle.rr_object.specs.declared.code.Code.{Code}
+use Rattle.rr_object.specs.declared.code.Code.TheVariants.{E02, E03, E04, E05, E06}
+use Rattle.rr_object.specs.Codes.{code_name}
 use Rattle.rr_submission.specs.declared.submission.DeskFault.TheVariants as desk
+use Rattle.rr_desk.specs.declared.dumping.DumpFault.TheVariants as dumping
+use Rattle.rr_desk.specs.declared.loading.DeskLoadFault.{DeskLoadFault}
+use Rattle.rr_desk.specs.declared.loading.DeskLoadFault.TheVariants as loading
 use Rattle.rr_cli.specs.Causes.{cause_text, database_text}
 use Rattle.rr_cli.specs.declared.settings_file.SettingKey.TheVariants as key
 use Rattle.rr_cli.specs.declared.trouble.Trouble.{Trouble}
-use Rattle.rr_cli.specs.declared.trouble.Trouble.TheVariants.{BadWords, BadPort, BadCount, WordsNotText, SettingsUnread, SettingsNotText, SettingsTooLong, SettingsNotToml, SettingBad, Database, Creating, Opening, FileUnopened, Submission, Unwritten, Memory}
+use Rattle.rr_cli.specs.declared.trouble.Trouble.TheVariants.{BadWords, BadPort, BadCount, WordsNotText, SettingsUnread, SettingsNotText, SettingsTooLong, SettingsNotToml, SettingBad, Database, Creating, Opening, FileUnopened, Submission, Dumping, Loading, Migrating, ListenerUnopened, ProbeFailed, Unwritten, Memory}
 
 -- the status: 2 at wrong words, 3 at wrong settings, 4 where the store failed or is stopped, and else 5, also where memory ran
 -- out (profile)
@@ -34,6 +41,26 @@ trouble_status (Submission (desk.WriteFault items)) = 5
 trouble_status (Submission (desk.StoreFault items)) = 4
 trouble_status (Submission desk.Memory) = 5
 trouble_status (Submission desk.Stopped) = 4
+trouble_status (Dumping dumping.Write) = 5
+trouble_status (Dumping dumping.Memory) = 5
+trouble_status (Dumping dumping.Stopped) = 4
+trouble_status (Loading loading.NotEmpty) = 4
+trouble_status (Loading loading.Read) = 5
+trouble_status (Loading loading.Endless) = 5
+trouble_status (Loading (loading.Text number)) = 5
+trouble_status (Loading (loading.Object number code)) = 5
+trouble_status (Loading (loading.Duplicate number)) = 5
+trouble_status (Loading (loading.Overlap number)) = 5
+trouble_status (Loading (loading.Unnamed number)) = 5
+trouble_status (Loading loading.Store) = 4
+trouble_status (Loading loading.Memory) = 5
+trouble_status (Migrating (migrating.WrongVersion version)) = 4
+trouble_status (Migrating migrating.BadRow) = 4
+trouble_status (Migrating migrating.NoRoot) = 4
+trouble_status (Migrating migrating.Store) = 4
+trouble_status (Migrating migrating.Memory) = 5
+trouble_status (ListenerUnopened cause) = 5
+trouble_status (ProbeFailed cause) = 5
 trouble_status Unwritten = 5
 trouble_status Memory = 5
 
@@ -58,7 +85,7 @@ before_number (Creating creating.Store) = codes "the database refuses the tables
 before_number (Creating creating.Memory) = codes "out of memory"
 before_number (Opening (opening.WrongVersion version)) = codes "the tables of the database are of version "
 before_number (Opening opening.BadRow) = codes "the rows of the database are no registry of the settings' source"
-before_number (Opening opening.Store) = codes "the database has no registry that can be read: `irrdesk init` makes one"
+before_number (Opening opening.Store) = codes "the database has no registry that can be read: `irrdesk init` or `irrdesk load` makes one"
 before_number (Opening opening.Memory) = codes "out of memory"
 before_number (FileUnopened cause) = codes "the file cannot be opened: "
 before_number (Submission (desk.ReadFault items)) = codes "the submission could not be read to its end; items decided before that: "
@@ -66,13 +93,53 @@ before_number (Submission (desk.WriteFault items)) = codes "the report could not
 before_number (Submission (desk.StoreFault items)) = codes "the database failed; items decided before that: "
 before_number (Submission desk.Memory) = codes "out of memory"
 before_number (Submission desk.Stopped) = codes "the desk is stopped"
+before_number (Dumping dumping.Write) = codes "the dump could not be written whole"
+before_number (Dumping dumping.Memory) = codes "out of memory: the dump is not whole"
+before_number (Dumping dumping.Stopped) = codes "the desk is stopped"
+before_number (Loading loading.NotEmpty) = codes "the database has a registry already: take a new one"
+before_number (Loading loading.Read) = codes "the dump could not be read to its end"
+before_number (Loading loading.Endless) = codes "the dump has no end within 16777216 reads"
+before_number (Loading (loading.Text number)) = codes "nothing is loaded, since paragraph "
+before_number (Loading (loading.Object number code)) = codes "nothing is loaded, since paragraph "
+before_number (Loading (loading.Duplicate number)) = codes "nothing is loaded, since paragraph "
+before_number (Loading (loading.Overlap number)) = codes "nothing is loaded, since paragraph "
+before_number (Loading (loading.Unnamed number)) = codes "nothing is loaded, since paragraph "
+before_number (Loading loading.Store) = codes "the database refuses the tables of a registry"
+before_number (Loading loading.Memory) = codes "out of memory"
+before_number (Migrating (migrating.WrongVersion version)) = codes "the tables of the database are of version "
+before_number (Migrating migrating.BadRow) = codes "the rows of the database are no registry of version 1 of the settings' source"
+before_number (Migrating migrating.NoRoot) = codes "the root of the settings is no maintainer of the registry"
+before_number (Migrating migrating.Store) = codes "the database has no registry that can be read"
+before_number (Migrating migrating.Memory) = codes "out of memory"
+before_number (ListenerUnopened cause) = codes "no connection can be listened for: "
+before_number (ProbeFailed cause) = codes "the program's own listener cannot be asked: "
 before_number Unwritten = codes "it could not be written"
 before_number Memory = codes "out of memory"
 
--- the number that is told: a line, a version, or how many items were decided (profile)
+-- the paragraph of a dump, from 1, that is the matter (profile)
+abbrev pub paragraph_of : DeskLoadFault → Option ℕ
+paragraph_of (loading.Text number) = Some number
+paragraph_of (loading.Object number code) = Some number
+paragraph_of (loading.Duplicate number) = Some number
+paragraph_of (loading.Overlap number) = Some number
+paragraph_of (loading.Unnamed number) = Some number
+paragraph_of _ = None
+
+-- why a paragraph of a dump is no object: the code of its refusal, with what an object alone can have (profile)
+abbrev pub reason : Code → List ℕ
+reason E02 = codes "E02, its class is unknown"
+reason E03 = codes "E03, its key is bad"
+reason E04 = codes "E04, an attribute that it needs is missing, empty or repeated"
+reason E05 = codes "E05, an attribute has a bad value, as `auth` in a dump that is not full"
+reason E06 = codes "E06, its `source` is not that of the settings"
+reason code = code_name code
+
+-- the number that is told: a line, a version, a paragraph, or how many items were decided (profile)
 abbrev pub told_number : Trouble → Option ℕ
 told_number (SettingsNotToml line) = Some line
 told_number (Opening (opening.WrongVersion version)) = Some version
+told_number (Migrating (migrating.WrongVersion version)) = Some version
+told_number (Loading fault) = paragraph_of fault
 told_number (Submission (desk.ReadFault items)) = Some items
 told_number (Submission (desk.WriteFault items)) = Some items
 told_number (Submission (desk.StoreFault items)) = Some items
@@ -80,7 +147,13 @@ told_number _ = None
 
 -- the words behind the number (profile)
 abbrev pub behind_number : Trouble → List ℕ
-behind_number (Opening (opening.WrongVersion version)) = codes ", and this program reads version 2"
+behind_number (Opening (opening.WrongVersion version)) = codes ", and this program reads version 2: `irrdesk migrate` makes it of version 1"
+behind_number (Migrating (migrating.WrongVersion version)) = codes ", and what is migrated is version 1"
+behind_number (Loading (loading.Text number)) = codes " is no RPSL, or over 65536 bytes"
+behind_number (Loading (loading.Object number code)) = codes " is no object: "
+behind_number (Loading (loading.Duplicate number)) = codes " has the key of one before it"
+behind_number (Loading (loading.Overlap number)) = codes " has a span that crosses one before it"
+behind_number (Loading (loading.Unnamed number)) = codes " names a maintainer who is not in the dump"
 behind_number _ = []
 
 -- the last words: the cause (profile)
@@ -88,4 +161,7 @@ abbrev pub detail : Trouble → List ℕ
 detail (SettingsUnread cause) = cause_text cause
 detail (FileUnopened cause) = cause_text cause
 detail (Database cause) = database_text cause
+detail (Loading (loading.Object number code)) = reason code
+detail (ListenerUnopened cause) = cause_text cause
+detail (ProbeFailed cause) = cause_text cause
 detail _ = []

@@ -107,7 +107,8 @@ impl DatabaseCause {
         ensures { result.now ≡ database_text self }
     {
         match self {
-            DatabaseCause::Missing => "there is no such file: `irrdesk init` makes it",
+            DatabaseCause::Missing =>
+                "there is no such file: `irrdesk init` or `irrdesk load` makes it",
             DatabaseCause::Unopened =>
                 "it cannot be opened or made: look at its folder and its permissions",
             DatabaseCause::Busy => "another process has it open",

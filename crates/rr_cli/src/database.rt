@@ -72,21 +72,3 @@ fn open_desk_at(
         }
     }
 }
-
-/// Makes the desk of a new registry in the database at a path.
-pub fn create_desk_at(
-    rt: &HostRuntime,
-    settings: Settings,
-    store: &str,
-) -> Result<Desk<FileStore<File>>, Trouble>
-    ensures { IfOk result (λ desk. desk.stored.stopped ≡ false) }
-{
-    let conn = open_or_make(rt, store)?;
-    match Desk::create(rt.alloc(), conn, settings) {
-        Ok(desk) => Ok(desk),
-        Err((fault, conn)) => {
-            close(conn);
-            Err(Trouble::Creating(fault))
-        }
-    }
-}

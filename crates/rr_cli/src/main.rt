@@ -6,13 +6,13 @@ mod cause;
 mod commands;
 mod database;
 mod fault;
+mod help;
+mod listener;
 mod output;
 mod progress;
 mod run;
 mod settings_file;
 mod settings_reading;
-#[cfg(test)]
-mod tests;
 mod trouble;
 
 use rr_io::Counted;

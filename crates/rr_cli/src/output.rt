@@ -1,6 +1,7 @@
 //! Standard output.
 
-ghost use Rattle.std.specs.Prelude.{◌≡◌, Err, Ok, OnErr, OnOk};
+ghost use Rattle.std.specs.Prelude.{◌≡◌};
+ghost use Rattle.rr_cli.specs.Printed.{Tells};
 
 use crate::fault::ProgramFault;
 use crate::trouble::Trouble;
@@ -11,8 +12,19 @@ pub const STANDARD_OUTPUT: &str = "standard output";
 
 /// Prints a text, and gives the status 0; the fault is that it could not be written whole (status 5).
 pub fn print<'a, W: Sink>(output: &mut W, text: &[u8]) -> Result<u8, ProgramFault<'a>> {
-    match write_all(output, text) {
+    match tell(output, text) {
+        Ok(status) => Ok(status),
+        Err(trouble) => Err(ProgramFault::of(STANDARD_OUTPUT, trouble)),
+    }
+}
+
+/// Writes a text, and gives the status 0; the fault is that it could not be written whole.
+pub fn tell<W: Sink>(writer: &mut W, text: &[u8]) -> Result<u8, Trouble>
+    ensures tells { Tells text.now (W.told writer.old) (W.told writer.new) result }
+    ensures aside { W.aside writer.new ≡ W.aside writer.old }
+{
+    match write_all(writer, text) {
         Ok(()) => Ok(0),
-        Err(_) => Err(ProgramFault::of(STANDARD_OUTPUT, Trouble::Unwritten)),
+        Err(_) => Err(Trouble::Unwritten),
     }
 }

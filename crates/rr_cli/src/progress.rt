@@ -1,6 +1,6 @@
 //! How far a long command has come, on the last line of a terminal.
 
-use rr_io::Sink;
+use rr_io::{Sink, Source};
 use std::io;
 use std::io::{IsTerminal, Write};
 use std::time::{Duration, Instant};
@@ -11,20 +11,42 @@ const QUIET: u64 = 1_000;
 /// The fewest milliseconds between two lines.
 const PAUSE: u64 = 200;
 
+/// What is counted of the bytes that pass.
+#[derive(Clone, Copy, Debug, PartialEq, Eq)]
+pub enum Things {
+    /// The items of a report: each has a line.
+    Items,
+    /// The objects of a dump: an empty line ends each.
+    Objects,
+    /// The bytes themselves.
+    Bytes,
+}
+
+impl Things {
+    fn name(self) -> &'static str {
+        match self {
+            Things::Items => "items",
+            Things::Objects => "objects",
+            Things::Bytes => "bytes",
+        }
+    }
+}
+
 /// A count on one line of standard error, which is written over, and only where standard error is a terminal.
 #[derive(Drop)]
 pub struct Meter<'a> {
     rt: &'a HostRuntime,
-    things: &'static str,
+    things: Things,
     begun: Option<Instant>,
     drawn: Option<Instant>,
     is_shown: bool,
+    is_line_empty: bool,
     count: u64,
 }
 
 impl<'a> Meter<'a> {
     /// A count of these things, which begins now.
-    pub fn new(rt: &'a HostRuntime, things: &'static str) -> Meter<'a> {
+    pub fn new(rt: &'a HostRuntime, things: Things) -> Meter<'a> {
         let begun = if rt.stderr().is_terminal() {
             Instant::now(rt).ok()
         } else {
@@ -36,6 +58,20 @@ impl<'a> Meter<'a> {
             begun,
             drawn: None,
             is_shown: false,
+            is_line_empty: true,
+            count: 0,
+        }
+    }
+
+    /// A count that is never drawn, and takes away the line of one that may be.
+    fn eraser(rt: &'a HostRuntime) -> Meter<'a> {
+        Meter {
+            rt,
+            things: Things::Items,
+            begun: None,
+            drawn: None,
+            is_shown: rt.stderr().is_terminal(),
+            is_line_empty: true,
             count: 0,
         }
     }
@@ -48,12 +84,34 @@ impl<'a> Meter<'a> {
         }
     }
 
-    /// Counts so many more.
-    pub fn add(&mut self, more: u64) {
-        self.count = self.count.saturating_add(more);
-        let Some(begun) = self.begun else {
-            return;
-        };
+    /// Counts what is in the bytes that pass.
+    pub fn pass(&mut self, bytes: &[u8]) {
+        if let Some(begun) = self.begun {
+            let more = match self.things {
+                Things::Items => line_ends(bytes),
+                Things::Objects => self.empty_lines(bytes),
+                Things::Bytes => bytes.len() as u64,
+            };
+            self.count = self.count.saturating_add(more);
+            self.show(begun);
+        }
+    }
+
+    /// How many empty lines end in the bytes.
+    fn empty_lines(&mut self, bytes: &[u8]) -> u64 {
+        let mut count = 0u64;
+        for byte in bytes {
+            let ends_line = *byte == b'\n';
+            if ends_line && self.is_line_empty {
+                count = count.saturating_add(1);
+            }
+            self.is_line_empty = ends_line;
+        }
+        count
+    }
+
+    /// Draws the line, where it is time to.
+    fn show(&mut self, begun: Instant) {
         let Ok(now) = Instant::now(self.rt) else {
             return;
         };
@@ -72,14 +130,14 @@ impl<'a> Meter<'a> {
 
     fn draw(&mut self, now: Instant) {
         let count = self.count;
-        let things = self.things;
+        let things = self.things.name();
         self.drawn = Some(now);
         self.is_shown = true;
         let _ = eprint!(self.rt; "\r\x1b[K{count} {things} so far");
     }
 }
 
-/// A writer of a report whose lines are counted.
+/// A writer whose text is counted.
 #[derive(Drop)]
 pub struct Progress<'a, 'b, W> {
     report: &'b mut W,
@@ -87,11 +145,19 @@ pub struct Progress<'a, 'b, W> {
 }
 
 impl<'a, 'b, W: Sink> Progress<'a, 'b, W> {
-    /// The writer, with its lines counted from now on.
-    pub fn new(rt: &'a HostRuntime, report: &'b mut W) -> Progress<'a, 'b, W> {
+    /// The writer, with these things of its text counted from now on.
+    pub fn new(rt: &'a HostRuntime, things: Things, report: &'b mut W) -> Progress<'a, 'b, W> {
         Progress {
             report,
-            meter: Meter::new(rt, "items"),
+            meter: Meter::new(rt, things),
+        }
+    }
+
+    /// The writer of what is printed where the count of something else may stand, which goes before it.
+    pub fn behind(rt: &'a HostRuntime, report: &'b mut W) -> Progress<'a, 'b, W> {
+        Progress {
+            report,
+            meter: Meter::eraser(rt),
         }
     }
 
@@ -110,12 +176,51 @@ impl<W: Sink> Sink for Progress<'_, '_, W> {
     fn write(&mut self, bytes: &[u8]) -> io::Result<usize> {
         self.meter.clear();
         let count = self.report.write(bytes)?;
-        self.meter.add(line_ends(&bytes[..count]));
+        self.meter.pass(&bytes[..count]);
         Ok(count)
     }
 
     fn failed_writes(&self) -> u64 {
         self.report.failed_writes()
+    }
+}
+
+/// A reader whose bytes are counted.
+#[derive(Drop)]
+pub struct Reading<'a, 'b, R> {
+    reader: &'b mut R,
+    meter: Meter<'a>,
+}
+
+impl<'a, 'b, R: Source> Reading<'a, 'b, R> {
+    /// The reader, with its bytes counted from now on.
+    pub fn new(rt: &'a HostRuntime, reader: &'b mut R) -> Reading<'a, 'b, R> {
+        Reading {
+            reader,
+            meter: Meter::new(rt, Things::Bytes),
+        }
+    }
+
+    /// Takes the count away.
+    pub fn end(&mut self) {
+        self.meter.clear();
+    }
+}
+
+/// It passes each read on, and tells what the reader tells.
+impl<R: Source> Source for Reading<'_, '_, R> {
+    ghost told = { λ p. R.told p.reader.now };
+
+    ghost aside = { λ p. R.aside p.reader.now };
+
+    fn read(&mut self, buf: &mut [u8]) -> io::Result<usize> {
+        let count = self.reader.read(buf)?;
+        self.meter.pass(&buf[..count]);
+        Ok(count)
+    }
+
+    fn failed_reads(&self) -> u64 {
+        self.reader.failed_reads()
     }
 }
 

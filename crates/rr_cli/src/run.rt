@@ -1,7 +1,7 @@
 //! A run of the program, over its words and its three streams.
 
 use crate::arguments::{Command, read_command};
-use crate::commands::{init, plain, submit};
+use crate::commands::{dump, init, load, migrate, plain, probe, query, serve, submit};
 use crate::fault::ProgramFault;
 use crate::output::print;
 use crate::trouble::Trouble;
@@ -54,6 +54,19 @@ fn perform<'a, R: Source, W: Sink>(
         Command::Plain => plain(rt.alloc(), input, output),
         Command::Init { settings } => init(rt, settings, output),
         Command::Submit { settings, file } => submit(rt, settings, file, output),
+        Command::Query {
+            settings,
+            query: words,
+        } => query(rt, settings, words.as_str(), output),
+        Command::Dump { settings, full } => dump(rt, settings, full, output),
+        Command::Load { settings, file } => load(rt, settings, file, output),
+        Command::Migrate { settings } => migrate(rt, settings, output),
+        Command::Serve {
+            settings,
+            port,
+            count,
+        } => serve(rt, settings, port, count, output),
+        Command::Probe { settings } => probe(rt, settings, output),
         Command::Print(text) => print(output, text.as_bytes()),
     }
 }

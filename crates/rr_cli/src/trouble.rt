@@ -1,11 +1,12 @@
 //! What went wrong: the status that it ends the program with, and its words.
 
 ghost use Rattle.std.specs.Prelude.{◌≡◌};
-ghost use Rattle.rr_cli.specs.Troubles.{behind_number, before_number, detail, told_number, trouble_status};
+ghost use Rattle.rr_cli.specs.Troubles.{behind_number, before_number, detail, paragraph_of, reason, told_number, trouble_status};
 
 use crate::cause::{Cause, DatabaseCause};
 use crate::settings_file::SettingKey;
-use rr_desk::{CreateFault, DeskFault, OpenFault};
+use rr_desk::{CreateFault, DeskFault, DeskLoadFault, DumpFault, MigrateFault, OpenFault};
+use rr_object::Code;
 
 /// The status at wrong words.
 const WRONG_WORDS: u8 = 2;
@@ -50,6 +51,16 @@ pub enum Trouble {
     FileUnopened(Cause),
     /// A submission was cut short.
     Submission(DeskFault),
+    /// A dump was cut short.
+    Dumping(DumpFault),
+    /// No registry was made of a dump.
+    Loading(DeskLoadFault),
+    /// The tables of the database were not migrated.
+    Migrating(MigrateFault),
+    /// No listener was opened.
+    ListenerUnopened(Cause),
+    /// The program's own listener could not be asked.
+    ProbeFailed(Cause),
     /// Standard output could not be written.
     Unwritten,
     /// Memory ran out.
@@ -75,7 +86,14 @@ impl Trouble {
             Trouble::Creating(fault) => creating_status(fault),
             Trouble::Opening(fault) => opening_status(fault),
             Trouble::Submission(fault) => submission_status(fault),
-            Trouble::FileUnopened(_) | Trouble::Unwritten | Trouble::Memory => FAILED,
+            Trouble::Dumping(fault) => dumping_status(fault),
+            Trouble::Loading(fault) => loading_status(fault),
+            Trouble::Migrating(fault) => migrating_status(fault),
+            Trouble::FileUnopened(_)
+            | Trouble::ListenerUnopened(_)
+            | Trouble::ProbeFailed(_)
+            | Trouble::Unwritten
+            | Trouble::Memory => FAILED,
         }
     }
 
@@ -98,18 +116,25 @@ impl Trouble {
             Trouble::Opening(fault) => opening_words(fault),
             Trouble::FileUnopened(_) => "the file cannot be opened: ",
             Trouble::Submission(fault) => submission_words(fault),
+            Trouble::Dumping(fault) => dumping_words(fault),
+            Trouble::Loading(fault) => loading_words(fault),
+            Trouble::Migrating(fault) => migrating_words(fault),
+            Trouble::ListenerUnopened(_) => "no connection can be listened for: ",
+            Trouble::ProbeFailed(_) => "the program's own listener cannot be asked: ",
             Trouble::Unwritten => "it could not be written",
             Trouble::Memory => "out of memory",
         }
     }
 
-    /// The number: a line, a version, or how many items were decided.
+    /// The number: a line, a version, a paragraph, or how many items were decided.
     pub fn told_number(self) -> Option<u64>
         ensures { result ≡ told_number self }
     {
         match self {
             Trouble::SettingsNotToml(line) => Some(line),
             Trouble::Opening(OpenFault::WrongVersion(version)) => Some(u64::from(version)),
+            Trouble::Migrating(MigrateFault::WrongVersion(version)) => Some(u64::from(version)),
+            Trouble::Loading(fault) => paragraph_of(fault),
             Trouble::Submission(
                 DeskFault::ReadFault { items }
                 | DeskFault::WriteFault { items }
@@ -124,7 +149,11 @@ impl Trouble {
         ensures { result.now ≡ behind_number self }
     {
         match self {
-            Trouble::Opening(OpenFault::WrongVersion(_)) => { ", and this program reads version 2" }
+            Trouble::Opening(OpenFault::WrongVersion(_)) =>
+                ", and this program reads version 2: `irrdesk migrate` makes it of version 1",
+            Trouble::Migrating(MigrateFault::WrongVersion(_)) =>
+                ", and what is migrated is version 1",
+            Trouble::Loading(fault) => behind_paragraph(fault),
             _ => "",
         }
     }
@@ -134,8 +163,12 @@ impl Trouble {
         ensures { result.now ≡ detail self }
     {
         match self {
-            Trouble::SettingsUnread(cause) | Trouble::FileUnopened(cause) => cause.text(),
+            Trouble::SettingsUnread(cause)
+            | Trouble::FileUnopened(cause)
+            | Trouble::ListenerUnopened(cause)
+            | Trouble::ProbeFailed(cause) => cause.text(),
             Trouble::Database(cause) => cause.text(),
+            Trouble::Loading(DeskLoadFault::Object(_, code)) => reason(code),
             _ => "",
         }
     }
@@ -165,6 +198,43 @@ fn submission_status(fault: DeskFault) -> u8
     match fault {
         DeskFault::StoreFault { .. } | DeskFault::Stopped => STORE_FAILED,
         DeskFault::ReadFault { .. } | DeskFault::WriteFault { .. } | DeskFault::Memory => FAILED,
+    }
+}
+
+fn dumping_status(fault: DumpFault) -> u8
+    ensures { result ≡ trouble_status (Trouble.Dumping fault) }
+{
+    match fault {
+        DumpFault::Stopped => STORE_FAILED,
+        DumpFault::Write | DumpFault::Memory => FAILED,
+    }
+}
+
+fn loading_status(fault: DeskLoadFault) -> u8
+    ensures { result ≡ trouble_status (Trouble.Loading fault) }
+{
+    match fault {
+        DeskLoadFault::NotEmpty | DeskLoadFault::Store => STORE_FAILED,
+        DeskLoadFault::Read
+        | DeskLoadFault::Endless
+        | DeskLoadFault::Text(_)
+        | DeskLoadFault::Object(_, _)
+        | DeskLoadFault::Duplicate(_)
+        | DeskLoadFault::Overlap(_)
+        | DeskLoadFault::Unnamed(_)
+        | DeskLoadFault::Memory => FAILED,
+    }
+}
+
+fn migrating_status(fault: MigrateFault) -> u8
+    ensures { result ≡ trouble_status (Trouble.Migrating fault) }
+{
+    match fault {
+        MigrateFault::WrongVersion(_)
+        | MigrateFault::BadRow
+        | MigrateFault::NoRoot
+        | MigrateFault::Store => STORE_FAILED,
+        MigrateFault::Memory => FAILED,
     }
 }
 
@@ -199,7 +269,7 @@ fn opening_words(fault: OpenFault) -> &'static str
         OpenFault::WrongVersion(_) => "the tables of the database are of version ",
         OpenFault::BadRow => "the rows of the database are no registry of the settings' source",
         OpenFault::Store =>
-            "the database has no registry that can be read: `irrdesk init` makes one",
+            "the database has no registry that can be read: `irrdesk init` or `irrdesk load` makes one",
         OpenFault::Memory => "out of memory",
     }
 }
@@ -217,5 +287,96 @@ fn submission_words(fault: DeskFault) -> &'static str
         DeskFault::StoreFault { .. } => "the database failed; items decided before that: ",
         DeskFault::Memory => "out of memory",
         DeskFault::Stopped => "the desk is stopped",
+    }
+}
+
+fn dumping_words(fault: DumpFault) -> &'static str
+    ensures { result.now ≡ before_number (Trouble.Dumping fault) }
+{
+    match fault {
+        DumpFault::Write => "the dump could not be written whole",
+        DumpFault::Memory => "out of memory: the dump is not whole",
+        DumpFault::Stopped => "the desk is stopped",
+    }
+}
+
+fn loading_words(fault: DeskLoadFault) -> &'static str
+    ensures { result.now ≡ before_number (Trouble.Loading fault) }
+{
+    match fault {
+        DeskLoadFault::NotEmpty => "the database has a registry already: take a new one",
+        DeskLoadFault::Read => "the dump could not be read to its end",
+        DeskLoadFault::Endless => "the dump has no end within 16777216 reads",
+        DeskLoadFault::Text(_)
+        | DeskLoadFault::Object(_, _)
+        | DeskLoadFault::Duplicate(_)
+        | DeskLoadFault::Overlap(_)
+        | DeskLoadFault::Unnamed(_) => "nothing is loaded, since paragraph ",
+        DeskLoadFault::Store => "the database refuses the tables of a registry",
+        DeskLoadFault::Memory => "out of memory",
+    }
+}
+
+/// The paragraph of a dump, from 1, that is the matter.
+pub fn paragraph_of(fault: DeskLoadFault) -> Option<u64>
+    ensures { result ≡ paragraph_of fault }
+{
+    match fault {
+        DeskLoadFault::Text(number)
+        | DeskLoadFault::Object(number, _)
+        | DeskLoadFault::Duplicate(number)
+        | DeskLoadFault::Overlap(number)
+        | DeskLoadFault::Unnamed(number) => Some(number),
+        DeskLoadFault::NotEmpty
+        | DeskLoadFault::Read
+        | DeskLoadFault::Endless
+        | DeskLoadFault::Store
+        | DeskLoadFault::Memory => None,
+    }
+}
+
+/// What is the matter with a paragraph of a dump, behind its number.
+fn behind_paragraph(fault: DeskLoadFault) -> &'static str
+    ensures { result.now ≡ behind_number (Trouble.Loading fault) }
+{
+    match fault {
+        DeskLoadFault::Text(_) => " is no RPSL, or over 65536 bytes",
+        DeskLoadFault::Object(_, _) => " is no object: ",
+        DeskLoadFault::Duplicate(_) => " has the key of one before it",
+        DeskLoadFault::Overlap(_) => " has a span that crosses one before it",
+        DeskLoadFault::Unnamed(_) => " names a maintainer who is not in the dump",
+        DeskLoadFault::NotEmpty
+        | DeskLoadFault::Read
+        | DeskLoadFault::Endless
+        | DeskLoadFault::Store
+        | DeskLoadFault::Memory => "",
+    }
+}
+
+/// Why a paragraph of a dump is no object: the code of its refusal, with what an object alone can have.
+fn reason(code: Code) -> &'static str
+    ensures { result.now ≡ reason code }
+{
+    match code {
+        Code::E02 => "E02, its class is unknown",
+        Code::E03 => "E03, its key is bad",
+        Code::E04 => "E04, an attribute that it needs is missing, empty or repeated",
+        Code::E05 => "E05, an attribute has a bad value, as `auth` in a dump that is not full",
+        Code::E06 => "E06, its `source` is not that of the settings",
+        _ => code.name(),
+    }
+}
+
+fn migrating_words(fault: MigrateFault) -> &'static str
+    ensures { result.now ≡ before_number (Trouble.Migrating fault) }
+{
+    match fault {
+        MigrateFault::WrongVersion(_) => "the tables of the database are of version ",
+        MigrateFault::BadRow => {
+            "the rows of the database are no registry of version 1 of the settings' source"
+        }
+        MigrateFault::NoRoot => "the root of the settings is no maintainer of the registry",
+        MigrateFault::Store => "the database has no registry that can be read",
+        MigrateFault::Memory => "out of memory",
     }
 }

@@ -12,9 +12,10 @@ use Rattle.rr_auth.specs.declared.item.Item.{Item}
 use Rattle.rr_auth.specs.declared.item.Item.TheVariants.{Submit, Delete as DeleteItem}
 use Rattle.rr_auth.specs.declared.verdict.Verdict.{Verdict}
 use Rattle.rr_auth.specs.declared.verdict.Verdict.TheVariants.{Add, Change, Same, Delete, Refuse}
+use Rattle.rr_auth.specs.Laws.{key_about}
 use Rattle.rr_auth.specs.Registries.{Reg}
 use Rattle.rr_auth.specs.Verdicts.{after}
-use Rattle.rr_auth.proofs.KeyLaws.{keys_total, same_key}
+use Rattle.rr_object.proofs.KeyLaws.{keys_total, same_key}
 use Rattle.rr_auth.proofs.Nesting.{covers_itself}
 use Rattle.rr_confinement.specs.Holdings.{Agree, Holding, IsHeld, is_held, space_of}
 
@@ -41,11 +42,6 @@ agree_back h r q agree k e = sym (agree k e)
 
 pub agree_on : (h : Holding) (r q t : Reg) → Agree h r q → Agree h q t → Agree h r t
 agree_on h r q t first second k e = first k e ∙ second k e
-
--- what an item is about
-abbrev pub key_about : Item → Key
-key_about (Submit o) = o.key
-key_about (DeleteItem k) = k
 
 -- an object under a key that is not held, and one taken away from there, leave what is held
 aside_insert : (h : Holding) (r : Reg) (k : Key) (o : Obj) → is_held h k ≡ false → Agree h r (insert r k o)

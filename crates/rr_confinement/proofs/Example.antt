@@ -12,7 +12,7 @@ use Rattle.rr_object.specs.declared.key.Key.TheVariants.{Mntner, AutNum, Inetnum
 use Rattle.rr_object.specs.KeyOrders.{IsKeyValue, key_cmp}
 use Rattle.rr_object.specs.Objects.{Obj, names_of}
 use Rattle.rr_auth.specs.Registries.{Sound, keys_cross, maintainer, names_nobody}
-use Rattle.rr_auth.proofs.KeyLaws.{keys_total, same_key}
+use Rattle.rr_object.proofs.KeyLaws.{keys_total, same_key}
 use Rattle.rr_auth.proofs.Members.{IsIn, all_fail, each_passes}
 use Rattle.rr_bytes.specs.LetterCase.{upper as upper_of}
 use Rattle.rr_bytes.specs.NameBytes.{is_name}

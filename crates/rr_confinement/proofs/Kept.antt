@@ -15,7 +15,7 @@ use Rattle.rr_auth.specs.declared.verdict.Verdict.TheVariants.{Add, Change, Same
 use Rattle.rr_auth.specs.Registries.{Reg}
 use Rattle.rr_auth.specs.Verdicts.{after}
 use Rattle.rr_auth.proofs.Keeping.{after_insert, still_there}
-use Rattle.rr_auth.proofs.KeyLaws.{keys_total, same_key}
+use Rattle.rr_object.proofs.KeyLaws.{keys_total, same_key}
 use Rattle.rr_confinement.specs.Holdings.{Holding, IsHeld, is_held, is_own, is_whole, is_within, names_holders, space_of}
 use Rattle.rr_confinement.proofs.Holders.{NamesHolders, names_theirs, said_theirs}
 

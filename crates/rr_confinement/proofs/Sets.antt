@@ -8,12 +8,14 @@ use Rattle.std.specs.Option.{option_map, option_map_or}
 use Rattle.rr_number.specs.AsNumbers.{IsAsNumber, as_number_of}
 use Rattle.rr_number.specs.Parents.{but_last, front_by, front_of, named_by, parent_of}
 use Rattle.rr_number.specs.SetNames.{components, is_as_number}
+use Rattle.rr_number.specs.declared.set_kind.SetKind.{SetKind}
 use Rattle.rr_number.specs.declared.set_name.parent.Parent.{Parent}
 use Rattle.rr_number.specs.declared.set_name.parent.Parent.TheVariants.{Number, Set, Bare}
 use Rattle.rr_number.proofs.Components.{components-alone, lacks-upper, some_component}
 use Rattle.rr_bytes.proofs.CutLemmas.{lacks, lacks-append, lacks-digits}
 use Rattle.rr_number.proofs.AsNumberLemmas.{as_number_of-spelled}
 use Rattle.rr_number.proofs.ParentLemmas.{front_parts}
+use Rattle.rr_object.specs.Keys.{key_of_kind}
 use Rattle.rr_object.specs.declared.key.Key.{Key}
 use Rattle.rr_object.specs.declared.key.Key.TheVariants.{AutNum}
 use Rattle.rr_auth.specs.SetParents.{parent_key}
@@ -58,43 +60,43 @@ begins_so h c [] e = cc
 begins_so h c (d ∷ ds) e = e
 
 -- a set that what precedes the last component names
-set_under : (h : Holding) (set : List ℕ → Key) (front : List ℕ) (b : Bool) (k : Key) → ((name : List ℕ) → is_held h (set name) ≡ is_under h name)
-    → is_under h front ≡ true → parent_key set (if b then Bare else Set front) ≡ Some k → is_held h k ≡ true
-set_under h set front true k of_sets under e = cc
-set_under h set front false k of_sets under e = ap (is_held h) (some_same (sym e)) ∙ of_sets front ∙ under
+set_under : (h : Holding) (kind : SetKind) (front : List ℕ) (b : Bool) (k : Key) → ((name : List ℕ) → is_held h (key_of_kind kind name) ≡ is_under h name)
+    → is_under h front ≡ true → parent_key kind (if b then Bare else Set front) ≡ Some k → is_held h k ≡ true
+set_under h kind front true k of_sets under e = cc
+set_under h kind front false k of_sets under e = ap (is_held h) (some_same (sym e)) ∙ of_sets front ∙ under
 
 -- the parent by its components
-by_components : (h : Holding) (set : List ℕ → Key) (front c : List ℕ) (cs : List (List ℕ)) (k : Key) → ((name : List ℕ) → is_held h (set name) ≡ is_under h name)
-    → components front ≡ c ∷ cs → option_map_or (has_number h) (as_number_of c) false ≡ true → parent_key set (named_by front) ≡ Some k → is_held h k ≡ true
-by_components h set front c [] k of_sets parts number e =
+by_components : (h : Holding) (kind : SetKind) (front c : List ℕ) (cs : List (List ℕ)) (k : Key) → ((name : List ℕ) → is_held h (key_of_kind kind name) ≡ is_under h name)
+    → components front ≡ c ∷ cs → option_map_or (has_number h) (as_number_of c) false ≡ true → parent_key kind (named_by front) ≡ Some k → is_held h k ≡ true
+by_components h kind front c [] k of_sets parts number e =
     let whole : front ≡ c = sym (join_with_byte-slice_split 58 front) ∙ ap (join_with_byte 58) parts in
     let theirs = number_theirs h (as_number_of c) number in
     let read : as_number_of front ≡ Some theirs.0 = ap as_number_of whole ∙ theirs.1.0 in
     let key : AutNum theirs.0 ≡ k =
-    some_same (sym (ap (λ v. parent_key set (option_map_or Number v (if list_all is_as_number (components front) then Bare else Set front))) read) ∙ e) in
+    some_same (sym (ap (λ v. parent_key kind (option_map_or Number v (if list_all is_as_number (components front) then Bare else Set front))) read) ∙ e) in
     ap (is_held h) (sym key) ∙ theirs.1.1
-by_components h set front c (d ∷ ds) k of_sets parts number e =
+by_components h kind front c (d ∷ ds) k of_sets parts number e =
     let under : is_under h front ≡ true = ap (begins_with_number h) parts ∙ number in
-    let other : parent_key set (if list_all is_as_number (components front) then Bare else Set front) ≡ Some k =
-    sym (ap (λ v. parent_key set (option_map_or Number v (if list_all is_as_number (components front) then Bare else Set front))) (no_number front c d ds parts)) ∙ e in
-    set_under h set front (list_all is_as_number (components front)) k of_sets under other
+    let other : parent_key kind (if list_all is_as_number (components front) then Bare else Set front) ≡ Some k =
+    sym (ap (λ v. parent_key kind (option_map_or Number v (if list_all is_as_number (components front) then Bare else Set front))) (no_number front c d ds parts)) ∙ e in
+    set_under h kind front (list_all is_as_number (components front)) k of_sets under other
 
 -- the parent of a set under an AS of the holders is held
-pub parent_held : (h : Holding) (set : List ℕ → Key) (name : List ℕ) (parent : Parent) (k : Key) → ((name : List ℕ) → is_held h (set name) ≡ is_under h name)
-    → is_under h name ≡ true → parent_of name ≡ Some parent → parent_key set parent ≡ Some k → is_held h k ≡ true
-parent_held h set name parent k of_sets under has key =
+pub parent_held : (h : Holding) (kind : SetKind) (name : List ℕ) (parent : Parent) (k : Key) → ((name : List ℕ) → is_held h (key_of_kind kind name) ≡ is_under h name)
+    → is_under h name ≡ true → parent_of name ≡ Some parent → parent_key kind parent ≡ Some k → is_held h k ≡ true
+parent_held h kind name parent k of_sets under has key =
     let front = mapped (front_of name) parent has in
     let parts = front_parts name front.0 front.1.0 in
     let some = some_component front.0 in
     let first : components name ≡ some.0 ∷ (some.1 ++ (parts.0 ∷ [])) = parts.1 ∙ ap (λ cs. cs ++ (parts.0 ∷ [])) some.2 in
     let number = begins_so h some.0 (some.1 ++ (parts.0 ∷ [])) (sym (ap (begins_with_number h) first) ∙ under) in
-    by_components h set front.0 some.0 some.1 k of_sets some.2 number (ap (parent_key set) front.1.1 ∙ key)
+    by_components h kind front.0 some.0 some.1 k of_sets some.2 number (ap (parent_key kind) front.1.1 ∙ key)
 
 -- and it is no mntner
-pub parent_no_mntner : (set : List ℕ → Key) (parent : Parent) (k : Key) → ((name : List ℕ) → is_mntner (set name) ≡ false) → parent_key set parent ≡ Some k → is_mntner k ≡ false
-parent_no_mntner set (Number n) k of_sets e = ap is_mntner (some_same (sym e))
-parent_no_mntner set (Set name) k of_sets e = ap is_mntner (some_same (sym e)) ∙ of_sets name
-parent_no_mntner set Bare k of_sets e = cc
+pub parent_no_mntner : (kind : SetKind) (parent : Parent) (k : Key) → ((name : List ℕ) → is_mntner (key_of_kind kind name) ≡ false) → parent_key kind parent ≡ Some k → is_mntner k ≡ false
+parent_no_mntner kind (Number n) k of_sets e = ap is_mntner (some_same (sym e))
+parent_no_mntner kind (Set name) k of_sets e = ap is_mntner (some_same (sym e)) ∙ of_sets name
+parent_no_mntner kind Bare k of_sets e = cc
 
 front_there : (name c d : List ℕ) (ds : List (List ℕ)) → components name ≡ c ∷ (d ∷ ds) → (front : List ℕ) × (front_of name ≡ Some front)
 unfolding front_of

@@ -1,5 +1,5 @@
--- The worked example: A-MNT holds 10.1.0.0/16 with AS1 in a registry of its neighbours. Only what authority speaks of is
--- written down: the texts of the objects are left out.
+-- The worked example: A-MNT holds 10.1.0.0/16 with AS1 in a registry of its neighbours. Only what authority speaks of
+-- is written down: the texts of the objects are left out.
 use Rattle.std.specs.Prelude.{ℕ, false, List, [], ◌∷◌, codes, map}
 use Rattle.std.specs.FinMap.{from_entries}
 use Rattle.rr_number.specs.Spans.{Ends}

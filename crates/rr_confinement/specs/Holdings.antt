@@ -45,8 +45,8 @@ begins_with_number h (c ∷ d ∷ ds) = option_map_or (has_number h) (as_number_
 abbrev pub is_under : Holding → List ℕ → Bool
 is_under h name = begins_with_number h (components name)
 
--- What is held: the mntners of the holders, their aut-nums, the inetnums and routes inside the prefix, and the sets under
--- their ASes.
+-- What is held: the mntners of the holders, their aut-nums, the inetnums and routes inside the prefix, and the sets
+-- under their ASes.
 abbrev pub is_held : Holding → Key → Bool
 is_held h (Mntner name) = is_holder h name
 is_held h (AsBlock s) = false
@@ -67,8 +67,8 @@ names_holders h k o =
     list_all (is_holder h) o.maintainers
     && (is_mntner k || (list_all (is_holder h) o.lower && list_all (λ g. is_holder h g.name) o.routes))
 
--- The prefix is held in a registry: the holders are registered, and so are an inetnum and a route of exactly the prefix and
--- the aut-nums of the holders' AS numbers; and all that is held names holders alone.
+-- The prefix is held in a registry: the holders are registered, and so are an inetnum and a route of exactly the prefix
+-- and the aut-nums of the holders' AS numbers; and all that is held names holders alone.
 pub record IsHeld (h : Holding) (r : Reg) : Type 0 where
   pub registered : (name : List ℕ) → is_holder h name ≡ true → is_some (get r (Mntner name)) ≡ true
   pub space : is_some (get r (Inetnum (space_of h))) ≡ true
@@ -85,7 +85,8 @@ Agree h r q = (k : Key) → is_held h k ≡ true → get r k ≡ get q k
 abbrev pub is_foreign : Holding → Reg → List (List ℕ) → Bool
 is_foreign h r secrets = not (names_pass r secrets h.holders)
 
--- A key of an inetnum inside the prefix, of a route inside it with an origin of the holders, or of a set under their ASes.
+-- A key of an inetnum inside the prefix, of a route inside it with an origin of the holders, or of a set under their
+-- ASes.
 abbrev pub is_within : Holding → Key → Bool
 is_within h (Inetnum s) = covers (space_of h) s
 is_within h (Route p n) = covers (space_of h) (span_of p) && has_number h n

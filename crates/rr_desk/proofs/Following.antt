@@ -1,47 +1,77 @@
 -- What an item does to the registry, and how the rows follow it.
 use Rattle.std.proofs.Common.{◌≡◌, ℕ, Bool, true, false, cond, List, Ok, Err, Result, OnOk, IsTrue, inl, inr, refl, sym, ap, subst, ◌∙◌, arith}
-use Rattle.std.specs.Prelude.{Option, None, Some}
+use Rattle.std.specs.Prelude.{Option, None, Some, if◌then◌else◌}
 use Rattle.std.proofs.lemmas.Bool.{true≢false}
 use Rattle.std.specs.FinMap.{get, insert, remove, get-insert}
 use Rattle.sqlite_trees.specs.Tree.{Trees}
 use Rattle.sqlite.specs.Effect.{Database}
 use Rattle.sqlite.specs.State.{State, HasCleanDisk, Survives}
+use Rattle.rr_text.specs.Fields.{fields_eq}
+use Rattle.rr_object.specs.declared.code.Code.{Code}
+use Rattle.rr_object.specs.declared.code.Code.TheVariants.{E10, E11}
 use Rattle.rr_object.specs.declared.key.Key.{Key}
 use Rattle.rr_object.specs.Objects.{Obj}
+use Rattle.rr_auth.specs.Conditions.{names_unknown, unauthorised}
 use Rattle.rr_auth.specs.declared.item.Item.{Item}
 use Rattle.rr_auth.specs.declared.item.Item.TheVariants.{Submit, Delete as DeleteItem}
 use Rattle.rr_auth.specs.declared.verdict.Verdict.{Verdict}
 use Rattle.rr_auth.specs.declared.verdict.Verdict.TheVariants.{Add, Change, Same, Delete, Refuse}
 use Rattle.rr_auth.specs.Registries.{Reg}
-use Rattle.rr_auth.specs.Verdicts.{is_met_by, verdict, after}
-use Rattle.rr_auth.proofs.KeyLaws.{keys_total, tied_key}
+use Rattle.rr_auth.specs.Verdicts.{after, change, is_met_by, submission, verdict}
+use Rattle.rr_object.proofs.KeyLaws.{keys_total, tied_key}
 use Rattle.rr_auth.proofs.Steps.{verdicts_are_met}
 use Rattle.rr_registry.specs.declared.outcome.Outcome.{Outcome}
 use Rattle.rr_registry.specs.declared.outcome.Outcome.TheVariants.{Deleted}
 use Rattle.rr_registry.specs.Runs.{IsStep, outcome_of}
 use Rattle.rr_rows.specs.Entries.{TreesOf}
 use Rattle.rr_rows.specs.Maps.{HasRows, Puts, Takes}
+use Rattle.rr_store.specs.Adding.{AddsTo}
 use Rattle.rr_desk.specs.Halts.{IsHalted, changes}
 use Rattle.rr_desk.specs.Rows.{Holds}
-use Rattle.rr_desk.specs.Private.{Follows, FollowsGain, Gains, Leads, key_of}
+use Rattle.rr_desk.specs.Private.{Follows, FollowsGain, FollowsNew, Gains, GainsNew, Leads, key_of}
+
+-- a change is never an addition
+behind : (b : Bool) (c : Code) (v : Verdict) → (if b then Refuse c else v) ≡ Add → v ≡ Add
+behind true c v e = absurd (cc)
+behind false c v e = e
+
+kept_or_changed : (b : Bool) → (if b then Same else Change) ≡ Add → ⊥
+kept_or_changed true e = cc
+kept_or_changed false e = cc
+
+change_is_no_add : (r : Reg) (secrets : List (List ℕ)) (stored o : Obj) → change r secrets stored o ≡ Add → ⊥
+change_is_no_add r secrets stored o e =
+    let eleven = behind (names_unknown r o) E10 _ e in
+    kept_or_changed (fields_eq stored.paragraph o.paragraph) (behind (unauthorised r secrets stored) E11 _ eleven)
+
+-- so an object is added where none stands under its key
+absent_if_added : (r : Reg) (secrets : List (List ℕ)) (o : Obj) → verdict r secrets (Submit o) ≡ Add → get r o.key ≡ None
+absent_if_added r secrets o added =
+    elim (get r o.key) as (λ stored. submission stored r secrets o ≡ Add → stored ≡ None) [
+      | None ↦ λ e. refl
+      | Some stored ↦ λ e. absurd (change_is_no_add r secrets stored o e)
+    ] added
 
 -- a verdict that an item can meet leads where its outcome says
-effect_leads : (before : Reg) (item : Item) (judged : Verdict) → is_met_by item judged ≡ true → Leads before (key_of item) (outcome_of judged) (after judged before item)
-effect_leads before (Submit o) Add met = record { object = o; of_key = refl; is = refl }
-effect_leads before (Submit o) Change met = record { object = o; of_key = refl; is = refl }
-effect_leads before (Submit o) Same met = refl
-effect_leads before (Submit o) Delete met = absurd (true≢false (sym met))
-effect_leads before (Submit o) (Refuse code) met = refl
-effect_leads before (DeleteItem k) Add met = absurd (true≢false (sym met))
-effect_leads before (DeleteItem k) Change met = absurd (true≢false (sym met))
-effect_leads before (DeleteItem k) Same met = absurd (true≢false (sym met))
-effect_leads before (DeleteItem k) Delete met = refl
-effect_leads before (DeleteItem k) (Refuse code) met = refl
+effect_leads : (before : Reg) (item : Item) (judged : Verdict) → is_met_by item judged ≡ true → ((o : Obj) → item ≡ Submit o → judged ≡ Add → get before o.key ≡ None)
+    → Leads before (key_of item) (outcome_of judged) (after judged before item)
+effect_leads before (Submit o) Add met absent = record { gain = record { object = o; of_key = refl; is = refl }; absent = absent o refl refl }
+effect_leads before (Submit o) Change met absent = record { object = o; of_key = refl; is = refl }
+effect_leads before (Submit o) Same met absent = refl
+effect_leads before (Submit o) Delete met absent = absurd (true≢false (sym met))
+effect_leads before (Submit o) (Refuse code) met absent = refl
+effect_leads before (DeleteItem k) Add met absent = absurd (true≢false (sym met))
+effect_leads before (DeleteItem k) Change met absent = absurd (true≢false (sym met))
+effect_leads before (DeleteItem k) Same met absent = absurd (true≢false (sym met))
+effect_leads before (DeleteItem k) Delete met absent = refl
+effect_leads before (DeleteItem k) (Refuse code) met absent = refl
 
 -- so does an item, which is refused for want of memory or meets its verdict
-pub leads : (before : Reg) (z : List (List ℕ)) (item : Item) (outcome : Outcome) (then : Reg) → IsStep before z item outcome then → Leads before (key_of item) outcome then
-leads before z item outcome then (inl e) = rw (e.outcome_is, e.effect) (effect_leads before item (verdict before z item) (verdicts_are_met before z item))
-leads before z item outcome then (inr w) = rw (w.outcome_is, w.effect) refl
+pub leads : (before : Reg) (secrets : List (List ℕ)) (item : Item) (outcome : Outcome) (later : Reg) → IsStep before secrets item outcome later → Leads before (key_of item) outcome later
+leads before secrets item outcome later (inl e) =
+    rw (e.outcome_is, e.effect) (effect_leads before item (verdict before secrets item) (verdicts_are_met before secrets item)
+    (λ o is added. absent_if_added before secrets o (subst (λ i. verdict before secrets i ≡ Add) is added)))
+leads before secrets item outcome later (inr w) = rw (w.outcome_is, w.effect) refl
 
 -- the object that stands under the key of one that was put in is that one
 the_gained : (key : Key) (before after : Reg) (object : Obj) → get after key ≡ Some object → (gain : Gains before key after) → object ≡ gain.object
@@ -55,6 +85,14 @@ pub gain_follows : (key : Key) (after : Reg) (object : Obj) (old new : Database)
 gain_follows key after object old new found puts before gain rows =
     let same = the_gained key before after object found gain in
     subst (λ r. HasRows r new) (ap (λ o. insert before o.key o) same ∙ (ap (λ k. insert before k gain.object) gain.of_key ∙ sym gain.is)) (puts before rows)
+
+-- and added where there was none
+pub new_follows : (key : Key) (after : Reg) (object : Obj) (old new : Database) → get after key ≡ Some object → AddsTo object.key object old new → FollowsNew key after old new
+new_follows key after object old new found adds before begun rows =
+    let gain = begun.gain in
+    let same = the_gained key before after object found gain in
+    let here : object.key ≡ key = ap (λ o. o.key) same ∙ gain.of_key in
+    subst (λ r. HasRows r new) (ap (λ o. insert before o.key o) same ∙ (ap (λ k. insert before k gain.object) gain.of_key ∙ sym gain.is)) (adds before rows (ap (get before) here ∙ begun.absent))
 
 -- and those of one that is deleted are taken out
 pub loss_follows : (key : Key) (after : Reg) (old new : Database) → Takes key old new → Follows key Deleted after old new
@@ -77,12 +115,12 @@ still_held old new before after key outcome P held leading survives follows on s
     record { is_open = on clean was.is_open; rows = follows clean before leading was.rows; leaves = settled (on clean was.is_open) }
 
 -- where they could not follow, those of the registry before the item stand
-pub halts_there : (old new : State) (before after : Reg) (z : List (List ℕ)) (item : Item) (key : Key) (outcome : Outcome) → key ≡ key_of item → IsStep before z item outcome after → changes outcome ≡ true
+pub halts_there : (old new : State) (before after : Reg) (secrets : List (List ℕ)) (item : Item) (key : Key) (outcome : Outcome) → key ≡ key_of item → IsStep before secrets item outcome after → changes outcome ≡ true
     → (HasCleanDisk old → Holds before old) → (HasCleanDisk new → IsTrue new.is_open → new.now ≡ old.now) → Survives old new (TreesOf (Follows key outcome after old.now))
-    → IsHalted before z item after true new
-halts_there old new before after z item key outcome is_key step changing held same survives =
+    → IsHalted before secrets item after true new
+halts_there old new before after secrets item key outcome is_key step changing held same survives =
     let earlier : HasCleanDisk new → HasCleanDisk old = λ clean. omega (arith, survives.clean) in
-    let leading : Leads before key outcome after = subst (λ k. Leads before k outcome after) (sym is_key) (leads before z item outcome after step) in
+    let leading : Leads before key outcome after = subst (λ k. Leads before k outcome after) (sym is_key) (leads before secrets item outcome after step) in
     record {
       outcome = outcome;
       step = step;

@@ -7,7 +7,7 @@ use Rattle.rr_object.specs.declared.fault.ObjectFault.{ObjectFault}
 use Rattle.rr_object.specs.declared.key.Key.TheVariants.{Mntner, AsBlock, Inetnum}
 use Rattle.rr_object.specs.Objects.{Obj, names_of}
 use Rattle.rr_object.specs.Readings.{obj_at, object_of}
-use Rattle.rr_auth.specs.Registries.{is_mntner_of}
+use Rattle.rr_object.specs.Keys.{is_mntner_of}
 use Rattle.rr_registry.specs.Loading.{clash, load_fault}
 use Rattle.rr_registry.proofs.Gathering.{found_fault}
 use Rattle.rr_desk.specs.Opening.{AreOpening, opening_paragraphs}

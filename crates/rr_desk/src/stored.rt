@@ -9,7 +9,7 @@ ghost use Rattle.rr_rows.specs.Entries.{TreesOf};
 ghost use Rattle.rr_rows.specs.Maps.{HasRows};
 ghost use Rattle.rr_desk.specs.Halts.{IsHalted, changes};
 ghost use Rattle.rr_desk.specs.Lookups.{is_refused};
-ghost use Rattle.rr_desk.specs.Private.{Follows, FollowsGain, key_of};
+ghost use Rattle.rr_desk.specs.Private.{Follows, FollowsGain, FollowsNew, key_of};
 ghost use Rattle.rr_desk.specs.Rows.{Holds, KeepsRows};
 
 use rr_auth::{Book, Item, Secrets};
@@ -181,9 +181,28 @@ fn follow<S: Alter>(
     ensures changing { OnErr result (changes outcome ≡ true) }
 {
     match outcome {
-        Outcome::Added | Outcome::Changed => put_stored(alloc, registry, store, key),
+        Outcome::Added => add_stored(alloc, registry, store, key),
+        Outcome::Changed => put_stored(alloc, registry, store, key),
         Outcome::Deleted => store.remove(alloc, key),
         Outcome::Same | Outcome::Refused(_) => Ok(()),
+    }
+}
+
+/// Adds the rows of the object that stands under the key in the registry.
+fn add_stored<S: Alter>(
+    alloc: Global,
+    registry: &Registry<IndexedBook>,
+    store: &mut Store<S>,
+    key: &Key,
+) -> Result<(), StoreFault>
+    ensures ok { HasCleanDisk (state S.Store store.new) → OnOk result (FollowsNew key.now registry.now (state S.Store store.old).now (state S.Store store.new).now) }
+    ensures is_open { HasCleanDisk (state S.Store store.new) → IsTrue (state S.Store store.old).is_open → OnOk result (IsTrue (state S.Store store.new).is_open) }
+    ensures err { HasCleanDisk (state S.Store store.new) → IsTrue (state S.Store store.new).is_open → OnErr result ((state S.Store store.new).now ≡ (state S.Store store.old).now) }
+    ensures crash { Survives (state S.Store store.old) (state S.Store store.new) (TreesOf (FollowsNew key.now registry.now (state S.Store store.old).now)) }
+{
+    match registry.book().get(key) {
+        Some(object) => store.add(alloc, object),
+        None => Err(StoreFault::Store),
     }
 }
 

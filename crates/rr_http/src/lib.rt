@@ -28,6 +28,3 @@ pub use registrar::Registrar;
 pub use replying::{write_given_head, write_refusal};
 pub use serving::serve_one;
 pub use wanting::{FIELD_LIMIT, Wanted, read_front, wanted_of};
-
-#[cfg(test)]
-mod tests;

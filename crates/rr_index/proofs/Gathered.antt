@@ -6,8 +6,10 @@ use Rattle.std.specs.FinMap.Entries.{below_all, find-append}
 use Rattle.std.specs.Ordering.{eq_by_cmp, is_eq, is_lt, ordering_reverse}
 use Rattle.std.specs.declared.cmp.Ordering.{Ordering}
 use Rattle.std.specs.declared.cmp.Ordering.TheVariants.{Less, Equal, Greater}
-use Rattle.rr_auth.proofs.KeyLaws.{keys_exact, keys_total}
+use Rattle.rr_object.proofs.KeyLaws.{keys_exact, keys_total, tied_key}
+use Rattle.rr_auth.specs.Registries.{Sound}
 use Rattle.rr_book.specs.Books.{book_of, entry, is_in_order}
+use Rattle.rr_index.specs.Indexes.{IsApart}
 use Rattle.rr_object.specs.declared.key.Key.{Key}
 use Rattle.rr_object.specs.KeyOrders.{key_cmp}
 use Rattle.rr_object.specs.Objects.{Obj}
@@ -15,19 +17,19 @@ use Rattle.rr_object.specs.Objects.{Obj}
 T_of : {b : Bool} → b ≡ true → T b
 T_of e = subst T (sym e) tt
 
-first_of : (a b : Bool) → T (a && b) → T a
+pub first_of : (a b : Bool) → T (a && b) → T a
 first_of true b h = tt
 first_of false b h = h
 
-second_of : (a b : Bool) → T (a && b) → T b
+pub second_of : (a b : Bool) → T (a && b) → T b
 second_of true b h = h
 second_of false b h = absurd h
 
-both : (a b : Bool) → T a → T b → T (a && b)
+pub both : (a b : Bool) → T a → T b → T (a && b)
 both true b p q = q
 both false b p q = p
 
-less : (r : Ordering) → T (is_lt r) → r ≡ Less
+pub less : (r : Ordering) → T (is_lt r) → r ≡ Less
 less Less h = refl
 less Equal h = absurd h
 less Greater h = absurd h
@@ -50,6 +52,22 @@ free_behind (y ∷ ys) o rest h =
     let below = below_there y.key ys o rest (first_of _ _ h) in
     ap (λ r. cond (is_eq r) (Some y) (find_entry key_cmp o.key (map entry ys))) (keys_total.antisymm o.key y.key ∙ ap ordering_reverse below)
     ∙ free_behind ys o rest (second_of (below_all key_cmp y.key (map entry (ys ++ o ∷ rest))) _ h)
+
+found_front : (k : Key) (ys rest : List Obj) (x : Obj) → find_entry key_cmp k (map entry ys) ≡ Some x → find_entry key_cmp k (map entry (ys ++ rest)) ≡ Some x
+found_front k [] rest x e = cc
+found_front k (y ∷ ys) rest x e =
+    elim (eq_by_cmp key_cmp k y.key) as (λ b. cond b (Some y) (find_entry key_cmp k (map entry ys)) ≡ Some x → cond b (Some y) (find_entry key_cmp k (map entry (ys ++ rest))) ≡ Some x) [
+      | true ↦ λ f. f
+      | false ↦ λ f. found_front k ys rest x f
+    ] e
+
+found_behind : (ys : List Obj) (o : Obj) (rest : List Obj) → find_entry key_cmp o.key (map entry ys) ≡ None → find_entry key_cmp o.key (map entry (ys ++ o ∷ rest)) ≡ Some o
+found_behind [] o rest e = ap (λ b. cond b (Some o) (find_entry key_cmp o.key (map entry rest))) (tied_key o.key)
+found_behind (y ∷ ys) o rest e =
+    elim (eq_by_cmp key_cmp o.key y.key) as (λ b. cond b (Some y) (find_entry key_cmp o.key (map entry ys)) ≡ None → cond b (Some y) (find_entry key_cmp o.key (map entry (ys ++ o ∷ rest))) ≡ Some o) [
+      | true ↦ λ f. cc
+      | false ↦ λ f. found_behind ys o rest f
+    ] e
 
 entries_end : (ys : List Obj) (o : Obj) → map entry (ys ++ o ∷ []) ≡ map entry ys ++ (o.key, o) ∷ []
 entries_end [] o = refl
@@ -75,3 +93,15 @@ module _ (all ys left rest : List Obj) (o : Obj) (order : is_in_order all ≡ tr
       ∙ sym (find-append key_cmp keys_total (map entry ys) o.key o q (free_behind ys o rest sorted))
       ∙ ap (find_entry key_cmp q) (sym (entries_end ys o))
       ∙ sym (get-from_sorted key_cmp (map entry (ys ++ o ∷ [])) q (front (ys ++ o ∷ []) rest (subst (λ (xs : List Obj). T (is_sorted key_cmp (map entry xs))) (sym (next_whole ∙ sym whole ∙ ap (λ xs. ys ++ xs) step)) sorted))))
+
+  -- the next object crosses none of those before it
+  pub next_apart : Sound (book_of all) → IsApart (book_of ys) o.key
+  next_apart sound =
+      let split : ys ++ o ∷ rest ≡ all = ap (λ xs. ys ++ xs) (sym step) ∙ whole in
+      let all_sound : Sound (book_of (ys ++ o ∷ rest)) = subst (λ (xs : List Obj). Sound (book_of xs)) (sym split) sound in
+      record {
+        apart = λ l x at. all_sound.apart l o.key x o
+            (get-from_sorted key_cmp (map entry (ys ++ o ∷ rest)) l sorted
+            ∙ found_front l ys (o ∷ rest) x (sym (get-from_sorted key_cmp (map entry ys) l (front ys (o ∷ rest) sorted)) ∙ at))
+            (get-from_sorted key_cmp (map entry (ys ++ o ∷ rest)) o.key sorted ∙ found_behind ys o rest (free_behind ys o rest sorted));
+      }

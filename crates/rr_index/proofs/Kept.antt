@@ -1,19 +1,19 @@
 -- A map of objects by key and the registry that it is.
-use Rattle.std.proofs.Common.{◌≡◌, Bool, true, false, cond, not, T, List, [], ◌∷◌, ◌++◌, Bor, refl, sym, ap, subst, ◌∙◌}
-use Rattle.std.specs.Prelude.{Option, None, Some, ◌&&◌, ◌||◌}
+use Rattle.std.proofs.Common.{◌≡◌, Bool, true, cond, not, T, List, [], ◌∷◌, ◌++◌, Bor, refl, sym, ap, subst, ◌∙◌}
+use Rattle.std.specs.Prelude.{Option, None, Some, ◌&&◌}
 use Rattle.std.specs.BTreeMap.{BTreeMap, Updates, get as at_key, is_at}
 use Rattle.std.specs.BTreeMap.Range.{entries_between}
 use Rattle.std.specs.declared.ops.Bound.TheVariants.{Included}
 use Rattle.std.specs.FinMap.{empty, entries, get, insert, remove, values, from_sorted, is_sorted, entries-from_sorted, get-from_sorted, get-insert, get-remove, get-empty, same_map, find as find_entry}
 use Rattle.std.specs.FinMap.Entries.{below_all}
-use Rattle.std.specs.List.{AllByRecursion, cons_option, filter, filter_map, list_any}
+use Rattle.std.specs.List.{AllByRecursion, filter}
 use Rattle.std.specs.List.Sorted.{IsStrictlySortedBy}
 use Rattle.std.specs.Map.{keys_of, lookup, values_of}
 use Rattle.std.specs.Cmp.{eq_by_cmp_equiv}
 use Rattle.std.specs.declared.cmp.Ordering.{Ordering}
 use Rattle.std.specs.declared.cmp.Ordering.TheVariants.{Less}
 use Rattle.std.specs.Ordering.{eq_by_cmp, is_le, is_lt}
-use Rattle.rr_auth.proofs.KeyLaws.{keys_total, keys_exact}
+use Rattle.rr_object.proofs.KeyLaws.{keys_total, keys_exact}
 use Rattle.rr_auth.specs.Registries.{Reg}
 use Rattle.rr_object.proofs.DerivedOrder.{derived_order}
 use Rattle.rr_object.specs.contracts.key.KeyOrd.TheImpl as derived
@@ -94,13 +94,6 @@ registry_replaced old new given k placed o before after same_key same_object upd
 pub registry_values : (m : BTreeMap Key Obj) → IsRising m → values (registry_of m) ≡ values_of m.entries
 registry_values m rise = ap values_of (entries-from_sorted key_cmp m.entries (T_of rise))
 
--- the same entries
-pub same_registry : (old new : BTreeMap Key Obj) → new.entries ≡ old.entries → registry_of new ≡ registry_of old
-same_registry old new e = ap (λ (es : List (Key × Obj)). from_sorted {R = key_cmp} es) e
-
-pub same_rising : (old new : BTreeMap Key Obj) → new.entries ≡ old.entries → IsRising old → IsRising new
-same_rising old new e rise = ap (is_sorted key_cmp) e ∙ rise
-
 -- no entries
 pub registry_empty : (m : BTreeMap Key Obj) → m.entries ≡ [] → registry_of m ≡ empty
 registry_empty m e =
@@ -117,73 +110,9 @@ found_one found more o os left rest before step put =
     pushed [] = refl
     pushed (x ∷ xs) = ap (λ ys. x.now ∷ ys) (pushed xs)
 
--- a pass over the objects, by what is left of them
-pub passed_by : (p : Obj → Bool) (all left rest : List Obj) (o : Obj) → list_any p all ≡ list_any p left → left ≡ o ∷ rest → p o ≡ false → list_any p all ≡ list_any p rest
-passed_by p all left rest o before step fails = before ∙ ap (list_any p) step ∙ ap (λ b. b || list_any p rest) fails
-
-pub come_to : (p : Obj → Bool) (all left rest : List Obj) (o : Obj) → list_any p all ≡ list_any p left → left ≡ o ∷ rest → p o ≡ true → true ≡ list_any p all
-come_to p all left rest o before step passes = sym (before ∙ ap (list_any p) step ∙ ap (λ b. b || list_any p rest) passes)
-
-pub come_to_none : (p : Obj → Bool) (all left : List Obj) → list_any p all ≡ list_any p left → left ≡ [] → false ≡ list_any p all
-come_to_none p all left before step = sym (before ∙ ap (list_any p) step)
-
-pub given_more : {X : Type 0} (f : Obj → Option X) (all left rest : List Obj) (found more : List X) (o : Obj) (x : X) → found ++ filter_map f left ≡ filter_map f all → left ≡ o ∷ rest
-    → f o ≡ Some x → more ≡ found ++ x ∷ [] → more ++ filter_map f rest ≡ filter_map f all
-given_more f all left rest found more o x before step gives put =
-    ap (λ xs. xs ++ filter_map f rest) put
-    ∙ pushed found
-    ∙ ap (λ v. found ++ cons_option v (filter_map f rest)) (sym gives)
-    ∙ ap (λ os. found ++ filter_map f os) (sym step)
-    ∙ before
-  where
-    pushed : (xs : List _) → (xs ++ x ∷ []) ++ filter_map f rest ≡ xs ++ x ∷ filter_map f rest
-    pushed [] = refl
-    pushed (y ∷ xs) = ap (λ ys. y ∷ ys) (pushed xs)
-
-pub given_none : {X : Type 0} (f : Obj → Option X) (all left rest : List Obj) (found : List X) (o : Obj) → found ++ filter_map f left ≡ filter_map f all → left ≡ o ∷ rest
-    → f o ≡ None → found ++ filter_map f rest ≡ filter_map f all
-given_none f all left rest found o before step gives =
-    ap (λ v. found ++ cons_option v (filter_map f rest)) (sym gives) ∙ ap (λ os. found ++ filter_map f os) (sym step) ∙ before
-
-pub taken_in : (p : Obj → Bool) (all left rest : List Obj) (found more : List (Bor Obj)) (o : Bor Obj) → lent found ++ filter p left ≡ filter p all → left ≡ o.now ∷ rest
-    → p o.now ≡ true → more ≡ found ++ o ∷ [] → lent more ++ filter p rest ≡ filter p all
-taken_in p all left rest found more o before step passes put =
-    ap (λ (xs : List (Bor Obj)). lent xs ++ filter p rest) put
-    ∙ pushed found
-    ∙ ap (λ b. lent found ++ cond b (o.now ∷ filter p rest) (filter p rest)) (sym passes)
-    ∙ ap (λ os. lent found ++ filter p os) (sym step)
-    ∙ before
-  where
-    pushed : (xs : List (Bor Obj)) → lent (xs ++ o ∷ []) ++ filter p rest ≡ lent xs ++ o.now ∷ filter p rest
-    pushed [] = refl
-    pushed (x ∷ xs) = ap (λ ys. x.now ∷ ys) (pushed xs)
-
-pub left_out : (p : Obj → Bool) (all left rest : List Obj) (found : List (Bor Obj)) (o : Obj) → lent found ++ filter p left ≡ filter p all → left ≡ o ∷ rest
-    → p o ≡ false → lent found ++ filter p rest ≡ filter p all
-left_out p all left rest found o before step fails =
-    ap (λ b. lent found ++ cond b (o ∷ filter p rest) (filter p rest)) (sym fails) ∙ ap (λ os. lent found ++ filter p os) (sym step) ∙ before
-
--- what a pass over the values begins with
-pub values_first : (m : BTreeMap Key Obj) (r : Reg) (given begun : List Obj) → IsRising m → registry_of m ≡ r → given ≡ values_of m.entries → begun ≡ given → begun ≡ values r
-values_first m r given begun rise is rest start = start ∙ rest ∙ sym (registry_values m rise) ∙ ap values is
-
 -- what a part of the entries holds
 pub part_of : (m : BTreeMap Key Obj) (r : Reg) (low high first last : Key) → low ≡ first → high ≡ last → IsRising m → registry_of m ≡ r
     → entries_between (derived.ghosts).cmp (Included low) (Included high) m.entries ≡ filter (λ e. lies_between first last e.0) (entries r)
 part_of m r low high first last from to rise is =
     (λ i. filter (λ (e : Key × Obj). is_le (one_order i (from i) e.0) && not (is_lt (one_order i (to i) e.0))) m.entries)
     ∙ ap (filter (λ (e : Key × Obj). lies_between first last e.0)) (sym (entries-from_sorted key_cmp m.entries (T_of rise)) ∙ ap entries is)
-
--- what a pass over entries begins with, and one more object of them
-pub found_next : (found more : List (Bor Obj)) (o : Bor Obj) (k : Key) (os : List Obj) (left rest : List (Key × Obj)) → lent found ++ values_of left ≡ os → left ≡ (k, o.now) ∷ rest → more ≡ found ++ o ∷ []
-    → lent more ++ values_of rest ≡ os
-found_next found more o k os left rest before step put = found_one found more o os (values_of left) (values_of rest) before (ap values_of step) put
-
--- one more origin of the objects of entries, or none
-pub given_more_next : {X : Type 0} (f : Obj → Option X) (os : List Obj) (left rest : List (Key × Obj)) (found more : List X) (o : Obj) (k : Key) (x : X) → found ++ filter_map f (values_of left) ≡ filter_map f os
-    → left ≡ (k, o) ∷ rest → f o ≡ Some x → more ≡ found ++ x ∷ [] → more ++ filter_map f (values_of rest) ≡ filter_map f os
-given_more_next f os left rest found more o k x before step gives put = given_more f os (values_of left) (values_of rest) found more o x before (ap values_of step) gives put
-
-pub given_none_next : {X : Type 0} (f : Obj → Option X) (os : List Obj) (left rest : List (Key × Obj)) (found : List X) (o : Obj) (k : Key) → found ++ filter_map f (values_of left) ≡ filter_map f os
-    → left ≡ (k, o) ∷ rest → f o ≡ None → found ++ filter_map f (values_of rest) ≡ filter_map f os
-given_none_next f os left rest found o k before step gives = given_none f os (values_of left) (values_of rest) found o before (ap values_of step) gives

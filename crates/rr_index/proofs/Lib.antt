@@ -1,8 +1,11 @@
 pub mod Changes
+pub mod Choices
+pub mod Counts
 pub mod Gathered
 pub mod Kept
 pub mod Listed
 pub mod MntnerNames
+pub mod Namings
 pub mod Questions
 pub mod Ranges
 pub mod Referrers

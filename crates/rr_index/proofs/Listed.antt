@@ -10,7 +10,7 @@ use Rattle.std.specs.List.{filter_map}
 use Rattle.std.specs.List.Sorted.{IsStrictlySortedBy}
 use Rattle.std.specs.declared.cmp.Ordering.TheVariants.{Less, Equal, Greater}
 use Rattle.std.specs.Ordering.{eq_by_cmp, is_eq, is_lt, nat_cmp}
-use Rattle.rr_auth.proofs.KeyLaws.{keys_exact, keys_total, same_key, tied_key}
+use Rattle.rr_object.proofs.KeyLaws.{keys_exact, keys_total, same_key, tied_key}
 use Rattle.rr_auth.specs.Registries.{Reg, Sound}
 use Rattle.rr_book.proofs.IndexedObjects.{lists_named, lists_none}
 use Rattle.rr_book.proofs.Order.{get_of_book}
@@ -34,7 +34,7 @@ true_of : (b : Bool) → T b → b ≡ true
 true_of true h = refl
 true_of false h = absurd h
 
-missed : (k : Key) (es : List (Key × Obj)) → T (below_all key_cmp k es) → find_entry key_cmp k es ≡ None
+pub missed : (k : Key) (es : List (Key × Obj)) → T (below_all key_cmp k es) → find_entry key_cmp k es ≡ None
 missed k [] h = refl
 missed k (e ∷ es) h =
     elim (key_cmp k e.0) as (λ o. T (is_lt o && below_all key_cmp k es) → cond (is_eq o) (Some e.1) (find_entry key_cmp k es) ≡ None) [

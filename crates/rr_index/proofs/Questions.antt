@@ -2,7 +2,8 @@
 use Rattle.std.proofs.Common.{◌≡◌, Bool, true, false, refl, sym, ap, ◌∙◌}
 use Rattle.std.specs.Prelude.{Option, None, Some, is_some}
 use Rattle.std.specs.FinMap.{contains_key, get, values}
-use Rattle.rr_number.specs.Prefixes.{PrefixParts, span_of}
+use Rattle.rr_number.proofs.PrefixSpans.{spans_tell}
+use Rattle.rr_number.specs.Prefixes.{IsMasked, PrefixParts, span_of}
 use Rattle.rr_number.specs.Spans.{Ends, IsSpan, crosses}
 use Rattle.rr_object.specs.declared.key.Key.{Key}
 use Rattle.rr_object.specs.declared.key.Key.TheVariants.{AsBlock, AsSet, AutNum, Inetnum, Mntner, Route, RouteSet}
@@ -16,7 +17,8 @@ use Rattle.rr_auth.specs.Registries.{Reg, Sound, keys_cross}
 use Rattle.rr_book.proofs.Crossing.{none_crosses}
 use Rattle.rr_cover.proofs.Ordered.{crosses_found, crosses_missed}
 use Rattle.rr_cover.specs.SpanMaps.{IsClosest, NoneCovers, SpanMap, crosses_some}
-use Rattle.rr_index.specs.SpanIndexes.{HasSpans}
+use Rattle.rr_index.specs.Indexes.{IsApart}
+use Rattle.rr_index.specs.SpanIndexes.{HasSpans, is_crossed}
 
 there_is : {A : Type 0} (v : Option A) → is_some v ≡ true → (x : A) × (v ≡ Some x)
 there_is None e = cc
@@ -26,7 +28,21 @@ same_of : (a b : Bool) → (b ≡ true → a ≡ true) → (b ≡ false → a �
 same_of a true f g = f refl
 same_of a false f g = g refl
 
-module _ (r : Reg) (inetnums blocks : SpanMap (Unit {0})) (routes : SpanMap PrefixParts) (sound : Sound r) (has : HasSpans r inetnums blocks routes) where
+-- no span that is held crosses a key that none in the registry crosses
+pub none_crossed : (r : Reg) (inetnums blocks routes : SpanMap (Unit {0})) → HasSpans r inetnums blocks routes → (k : Key) → IsApart r k → is_crossed inetnums blocks k ≡ false
+none_crossed r inetnums blocks routes has (Mntner n) apart = refl
+none_crossed r inetnums blocks routes has (AsBlock s) apart = crosses_missed blocks s (λ t held.
+    let one = there_is (get r (AsBlock t)) (sym (has.blocks_are t) ∙ held) in
+    apart.apart (AsBlock t) one.0 one.1)
+none_crossed r inetnums blocks routes has (AutNum n) apart = refl
+none_crossed r inetnums blocks routes has (Inetnum s) apart = crosses_missed inetnums s (λ t held.
+    let one = there_is (get r (Inetnum t)) (sym (has.inetnums_are t) ∙ held) in
+    apart.apart (Inetnum t) one.0 one.1)
+none_crossed r inetnums blocks routes has (Route p n) apart = refl
+none_crossed r inetnums blocks routes has (AsSet n) apart = refl
+none_crossed r inetnums blocks routes has (RouteSet n) apart = refl
+
+module _ (r : Reg) (inetnums blocks routes : SpanMap (Unit {0})) (sound : Sound r) (has : HasSpans r inetnums blocks routes) where
   -- the closest inetnum is the one of the closest span
   pub inetnum_of_closest : (s t : Ends) (v : Unit {0}) → IsSpan s → IsClosest inetnums s t v → get r (Inetnum t) ≡ closest_inetnum r s
   inetnum_of_closest s t v is closest =
@@ -67,17 +83,18 @@ module _ (r : Reg) (inetnums blocks : SpanMap (Unit {0})) (routes : SpanMap Pref
   routed_span k x u f of_class =
       let key = route_key k u of_class in
       let there : contains_key r (Route key.0 key.1.0) ≡ true = ap is_some (ap (λ l. get r l) (sym key.1.1.0) ∙ f) in
-      ap is_some (ap (get routes) (sym key.1.1.1) ∙ has.routes_are key.0 key.1.0 there)
+      ap (λ s. contains_key routes s) (sym key.1.1.1) ∙ has.routes_are key.0 key.1.0 there
 
-  -- the prefix of the closest routes is the one at the closest span
-  pub routes_of_closest : (p : PrefixParts) (t : Ends) (q : PrefixParts) → IsClosest routes (span_of p) t q → Some q ≡ closest_routes r p
-  routes_of_closest p t q closest =
-      let is = has.routed t q closest.held in
-      let one = there_is (get r (Route q is.origin)) is.there in
-      let key = sound.keyed (Route q is.origin) one.0 one.1 in
-      sym (ap route_prefix key) ∙ sym (closest_routes_there r p one.0 sound (record {
+  -- the prefix of the closest routes is the one of the closest span
+  pub routes_of_closest : (p q : PrefixParts) (v : Unit {0}) → IsMasked q → IsClosest routes (span_of p) (span_of q) v → Some q ≡ closest_routes r p
+  routes_of_closest p q v masked closest =
+      let is = has.routed (span_of q) (ap is_some closest.held) in
+      let one = there_is (get r (Route is.prefix is.origin)) is.there in
+      let key = sound.keyed (Route is.prefix is.origin) one.0 one.1 in
+      let same : is.prefix ≡ q = spans_tell is.prefix q (has.masked is.prefix is.origin is.there) masked is.span_is in
+      ap Some (sym same) ∙ sym (ap route_prefix key) ∙ sym (closest_routes_there r p one.0 sound (record {
         there = ap (λ k. get r k) key ∙ one.1;
-        span = t;
+        span = span_of q;
         class_is = ap route_span key ∙ ap Some is.span_is;
         covering = closest.above;
         least = λ k x u f of_class over. closest.least u (routed_span k x u f of_class) over;

@@ -10,9 +10,9 @@ use Rattle.std.specs.Ordering.{eq_by_cmp}
 use Rattle.rr_object.specs.declared.key.Key.{Key}
 use Rattle.rr_object.specs.KeyOrders.{key_cmp}
 use Rattle.rr_object.specs.Objects.{Obj}
-use Rattle.rr_auth.proofs.KeyLaws.{keys_exact, keys_total, same_key, tied_key}
+use Rattle.rr_object.proofs.KeyLaws.{keys_exact, keys_total, same_key, tied_key}
 use Rattle.rr_auth.specs.Registries.{Reg}
-use Rattle.rr_book.specs.Private.{is_meant}
+use Rattle.rr_book.specs.SetIndexes.{is_meant}
 use Rattle.rr_book.specs.SetIndexes.{HasReferrers, stands_under}
 use Rattle.rr_book.specs.SetLists.{names_set}
 

@@ -12,14 +12,14 @@ use Rattle.rr_auth.specs.Closest.{origin_at, same_prefix}
 use Rattle.rr_auth.specs.Registries.{Reg, Sound}
 use Rattle.rr_index.specs.SpanIndexes.{IsTold}
 
-same_parts : (p q : PrefixParts) → same_prefix p q ≡ true → p ≡ q
+pub same_parts : (p q : PrefixParts) → same_prefix p q ≡ true → p ≡ q
 same_parts p q e =
     let parts = and_parts (p.address == q.address) (p.length == q.length) e in
     let one_address : p.address ≡ q.address = eqb-true p.address q.address parts.0 in
     let one_length : p.length ≡ q.length = eqb-true p.length q.length parts.1 in
     λ i. record { address = one_address i; length = one_length i }
 
-itself : (p : PrefixParts) → same_prefix p p ≡ true
+pub itself : (p : PrefixParts) → same_prefix p p ≡ true
 itself p = and_from _ _ (eq-eqb p.address p.address refl) (eq-eqb p.length p.length refl)
 
 own_origin : (p : PrefixParts) (m : ℕ) → is_some (origin_at p (Route p m)) ≡ true

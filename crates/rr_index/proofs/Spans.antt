@@ -1,6 +1,6 @@
 -- The spans of a registry's objects, as objects come and go.
 use Rattle.std.proofs.Common.{◌≡◌, ◌||◌, ◌&&◌, ℕ, Bool, true, false, cond, not, refl, sym, ap, subst, ◌∙◌}
-use Rattle.std.specs.Prelude.{Option, None, Some, is_some, Result, Ok, Err, OnOk}
+use Rattle.std.specs.Prelude.{Option, None, Some, is_some}
 use Rattle.std.specs.FinMap.{contains_key, empty, get, insert, remove, get-empty, get-insert, get-remove}
 use Rattle.std.specs.Ordering.{eq_by_cmp, is_eq, nat_cmp, ordering_then}
 use Rattle.std.proofs.Math.Bool.{or-true}
@@ -14,7 +14,7 @@ use Rattle.rr_object.specs.declared.key.Key.{Key}
 use Rattle.rr_object.specs.declared.key.Key.TheVariants.{AsBlock, AsSet, AutNum, Inetnum, Mntner, Route, RouteSet}
 use Rattle.rr_object.specs.KeyOrders.{key_cmp}
 use Rattle.rr_object.specs.Objects.{Obj}
-use Rattle.rr_auth.proofs.KeyLaws.{keys_total, same_key, tied_key}
+use Rattle.rr_object.proofs.KeyLaws.{keys_total, same_key, tied_key}
 use Rattle.rr_auth.specs.Registries.{Reg}
 use Rattle.rr_cover.proofs.Among.{same_tied, tied_same}
 use Rattle.rr_cover.specs.SpanMaps.{SpanMap}
@@ -27,16 +27,6 @@ some_or false x v = refl
 none_or : {A : Type 0} (b : Bool) (v : Option A) → is_some (cond b None v) ≡ (not b && is_some v)
 none_or true v = refl
 none_or false v = refl
-
-some_same : {A : Type 0} {x y : A} → Some x ≡ Some y → x ≡ y
-some_same e = cc
-
-nothing : {A : Type 0} (x : A) → None ≡ Some x → ⊥
-nothing x e = cc
-
-there_is : {A : Type 0} (v : Option A) → is_some v ≡ true → (x : A) × (v ≡ Some x)
-there_is None e = cc
-there_is (Some x) e = (x, refl)
 
 right_of : (a b : Bool) → (not a && b) ≡ true → b ≡ true
 right_of true b e = cc
@@ -56,7 +46,7 @@ spans_out : {T : Type 0} (m : SpanMap T) (s t : Ends) → contains_key (remove m
 spans_out m s t = ap is_some (get-remove span_cmp_total m s t) ∙ none_or (eq_by_cmp span_cmp t s) (get m t)
 
 -- keys of a class tie where their spans do
-inetnums_tie : (s t : Ends) → eq_by_cmp key_cmp (Inetnum s) (Inetnum t) ≡ eq_by_cmp span_cmp s t
+pub inetnums_tie : (s t : Ends) → eq_by_cmp key_cmp (Inetnum s) (Inetnum t) ≡ eq_by_cmp span_cmp s t
 inetnums_tie s t = ap is_eq (ap (ordering_then (nat_cmp s.first t.first)) (then_equal (nat_cmp s.last t.last)))
 
 blocks_tie : (s t : Ends) → eq_by_cmp key_cmp (AsBlock s) (AsBlock t) ≡ eq_by_cmp span_cmp s t
@@ -80,25 +70,27 @@ pub has_none : HasSpans empty empty empty empty
 has_none = record {
   inetnums_are = λ s. ap is_some (get-empty span_cmp s) ∙ sym (ap is_some (get-empty key_cmp (Inetnum s)));
   blocks_are = λ s. ap is_some (get-empty span_cmp s) ∙ sym (ap is_some (get-empty key_cmp (AsBlock s)));
-  routed = λ s p at. absurd (nothing p (sym (get-empty span_cmp s) ∙ at));
+  routed = λ s at. absurd (true≢false (sym at ∙ ap is_some (get-empty span_cmp s)));
   routes_are = λ p n there. absurd (true≢false (sym there ∙ ap is_some (get-empty key_cmp (Route p n))));
+  masked = λ p n there. absurd (true≢false (sym there ∙ ap is_some (get-empty key_cmp (Route p n))));
 }
 
-module _ (r : Reg) (inetnums blocks : SpanMap (Unit {0})) (routes : SpanMap PrefixParts) (has : HasSpans r inetnums blocks routes) where
-  routed_in : (k : Key) (o : Obj) (s : Ends) (p : PrefixParts) → IsRouted r s p → IsRouted (insert r k o) s p
-  routed_in k o s p is = record {
+module _ (r : Reg) (inetnums blocks routes : SpanMap (Unit {0})) (has : HasSpans r inetnums blocks routes) where
+  routed_in : (k : Key) (o : Obj) (s : Ends) → IsRouted r s → IsRouted (insert r k o) s
+  routed_in k o s is = record {
+    prefix = is.prefix;
     span_is = is.span_is;
-    masked = is.masked;
     origin = is.origin;
-    there = keys_in r k o (Route p is.origin) ∙ ap (λ b. eq_by_cmp key_cmp (Route p is.origin) k || b) is.there ∙ or-true (eq_by_cmp key_cmp (Route p is.origin) k);
+    there = keys_in r k o (Route is.prefix is.origin) ∙ ap (λ b. eq_by_cmp key_cmp (Route is.prefix is.origin) k || b) is.there
+        ∙ or-true (eq_by_cmp key_cmp (Route is.prefix is.origin) k);
   }
 
-  routed_out : (k : Key) (s : Ends) (p : PrefixParts) → (is : IsRouted r s p) → eq_by_cmp key_cmp (Route p is.origin) k ≡ false → IsRouted (remove r k) s p
-  routed_out k s p is other = record {
+  routed_out : (k : Key) (s : Ends) → (is : IsRouted r s) → eq_by_cmp key_cmp (Route is.prefix is.origin) k ≡ false → IsRouted (remove r k) s
+  routed_out k s is other = record {
+    prefix = is.prefix;
     span_is = is.span_is;
-    masked = is.masked;
     origin = is.origin;
-    there = keys_out r k (Route p is.origin) ∙ (λ i. not (other i) && is.there i);
+    there = keys_out r k (Route is.prefix is.origin) ∙ (λ i. not (other i) && is.there i);
   }
 
   stayed : (k : Key) (q : Key) → contains_key (remove r k) q ≡ true → contains_key r q ≡ true
@@ -108,16 +100,18 @@ module _ (r : Reg) (inetnums blocks : SpanMap (Unit {0})) (routes : SpanMap Pref
   added_inetnum s o = record {
     inetnums_are = λ t. spans_in inetnums s tt t ∙ (λ i. sym (inetnums_tie t s) i || has.inetnums_are t i) ∙ sym (keys_in r (Inetnum s) o (Inetnum t));
     blocks_are = λ t. has.blocks_are t ∙ sym (keys_in r (Inetnum s) o (AsBlock t));
-    routed = λ t p at. routed_in (Inetnum s) o t p (has.routed t p at);
+    routed = λ t at. routed_in (Inetnum s) o t (has.routed t at);
     routes_are = λ p n there. has.routes_are p n (sym (keys_in r (Inetnum s) o (Route p n)) ∙ there);
+    masked = λ p n there. has.masked p n (sym (keys_in r (Inetnum s) o (Route p n)) ∙ there);
   }
 
   pub added_block : (s : Ends) (o : Obj) → HasSpans (insert r (AsBlock s) o) inetnums (insert blocks s tt) routes
   added_block s o = record {
     inetnums_are = λ t. has.inetnums_are t ∙ sym (keys_in r (AsBlock s) o (Inetnum t));
     blocks_are = λ t. spans_in blocks s tt t ∙ (λ i. sym (blocks_tie t s) i || has.blocks_are t i) ∙ sym (keys_in r (AsBlock s) o (AsBlock t));
-    routed = λ t p at. routed_in (AsBlock s) o t p (has.routed t p at);
+    routed = λ t at. routed_in (AsBlock s) o t (has.routed t at);
     routes_are = λ p n there. has.routes_are p n (sym (keys_in r (AsBlock s) o (Route p n)) ∙ there);
+    masked = λ p n there. has.masked p n (sym (keys_in r (AsBlock s) o (Route p n)) ∙ there);
   }
 
   pub added_other : (k : Key) (o : Obj) → ((s : Ends) → eq_by_cmp key_cmp (Inetnum s) k ≡ false) → ((s : Ends) → eq_by_cmp key_cmp (AsBlock s) k ≡ false)
@@ -125,13 +119,10 @@ module _ (r : Reg) (inetnums blocks : SpanMap (Unit {0})) (routes : SpanMap Pref
   added_other k o no_inetnum no_block no_route = record {
     inetnums_are = λ t. has.inetnums_are t ∙ ap (λ b. b || contains_key r (Inetnum t)) (sym (no_inetnum t)) ∙ sym (keys_in r k o (Inetnum t));
     blocks_are = λ t. has.blocks_are t ∙ ap (λ b. b || contains_key r (AsBlock t)) (sym (no_block t)) ∙ sym (keys_in r k o (AsBlock t));
-    routed = λ t p at. routed_in k o t p (has.routed t p at);
+    routed = λ t at. routed_in k o t (has.routed t at);
     routes_are = λ p n there. has.routes_are p n (ap (λ b. b || contains_key r (Route p n)) (sym (no_route p n)) ∙ sym (keys_in r k o (Route p n)) ∙ there);
+    masked = λ p n there. has.masked p n (ap (λ b. b || contains_key r (Route p n)) (sym (no_route p n)) ∙ sym (keys_in r k o (Route p n)) ∙ there);
   }
-
-  -- a prefix of a route of r is held at its span, and no other is
-  held_same : (p q : PrefixParts) → IsMasked p → get routes (span_of p) ≡ Some q → q ≡ p
-  held_same p q masked at = let is = has.routed (span_of p) q at in spans_tell q p is.masked masked is.span_is
 
   route_key_in : (p q : PrefixParts) (n m : ℕ) (o : Obj) (P : Type 0) → contains_key (insert r (Route p n) o) (Route q m) ≡ true
       → (q ≡ p → P) → (contains_key r (Route q m) ≡ true → P) → P
@@ -141,65 +132,44 @@ module _ (r : Reg) (inetnums blocks : SpanMap (Unit {0})) (routes : SpanMap Pref
         | false ↦ λ e f. other f
       ] refl (sym (keys_in r (Route p n) o (Route q m)) ∙ there)
 
-  -- one more route of a prefix that is held
-  added_route_held : (p : PrefixParts) (n : ℕ) (o : Obj) → get routes (span_of p) ≡ Some p → HasSpans (insert r (Route p n) o) inetnums blocks routes
-  added_route_held p n o held = record {
+  pub added_route : (p : PrefixParts) (n : ℕ) (o : Obj) → IsMasked p → HasSpans (insert r (Route p n) o) inetnums blocks (insert routes (span_of p) tt)
+  added_route p n o masked = record {
     inetnums_are = λ t. has.inetnums_are t ∙ sym (keys_in r (Route p n) o (Inetnum t));
     blocks_are = λ t. has.blocks_are t ∙ sym (keys_in r (Route p n) o (AsBlock t));
-    routed = λ t q at. routed_in (Route p n) o t q (has.routed t q at);
-    routes_are = λ q m there. route_key_in p q n m o (get routes (span_of q) ≡ Some q) there
-        (λ same. subst (λ x. get routes (span_of x) ≡ Some x) (sym same) held) (has.routes_are q m);
-  }
-
-  -- the first route of a prefix
-  added_route_first : (p : PrefixParts) (n : ℕ) (o : Obj) → IsMasked p → get routes (span_of p) ≡ None
-      → HasSpans (insert r (Route p n) o) inetnums blocks (insert routes (span_of p) p)
-  added_route_first p n o masked free = record {
-    inetnums_are = λ t. has.inetnums_are t ∙ sym (keys_in r (Route p n) o (Inetnum t));
-    blocks_are = λ t. has.blocks_are t ∙ sym (keys_in r (Route p n) o (AsBlock t));
-    routed = λ t q at.
-        elim (eq_by_cmp span_cmp t (span_of p)) as (λ b. eq_by_cmp span_cmp t (span_of p) ≡ b → cond b (Some p) (get routes t) ≡ Some q → IsRouted (insert r (Route p n) o) t q) [
-          | true ↦ λ e f. subst (λ x. IsRouted (insert r (Route p n) o) t x) (some_same f) (record {
+    routed = λ t at.
+        elim (eq_by_cmp span_cmp t (span_of p)) as (λ b. eq_by_cmp span_cmp t (span_of p) ≡ b → (b || contains_key routes t) ≡ true → IsRouted (insert r (Route p n) o) t) [
+          | true ↦ λ e f. record {
+            prefix = p;
             span_is = sym (tied_same t (span_of p) e);
-            masked = masked;
             origin = n;
             there = keys_in r (Route p n) o (Route p n) ∙ ap (λ b. b || contains_key r (Route p n)) (tied_key (Route p n));
-          })
-          | false ↦ λ e f. routed_in (Route p n) o t q (has.routed t q f)
-        ] refl (sym (get-insert span_cmp_total routes (span_of p) p t) ∙ at);
+          }
+          | false ↦ λ e f. routed_in (Route p n) o t (has.routed t f)
+        ] refl (sym (spans_in routes (span_of p) tt t) ∙ at);
     routes_are = λ q m there.
-        get-insert span_cmp_total routes (span_of p) p (span_of q)
-        ∙ route_key_in p q n m o (cond (eq_by_cmp span_cmp (span_of q) (span_of p)) (Some p) (get routes (span_of q)) ≡ Some q) there
-        (λ same. ap (λ b. cond b (Some p) (get routes (span_of q))) (same_tied (span_of q) (span_of p) (ap span_of same)) ∙ ap Some (sym same))
-        (λ other.
-        elim (eq_by_cmp span_cmp (span_of q) (span_of p)) as (λ b. eq_by_cmp span_cmp (span_of q) (span_of p) ≡ b → cond b (Some p) (get routes (span_of q)) ≡ Some q) [
-          | true ↦ λ e. absurd (nothing q (sym free ∙ ap (get routes) (sym (tied_same (span_of q) (span_of p) e)) ∙ has.routes_are q m other))
-          | false ↦ λ e. has.routes_are q m other
-        ] refl);
+        spans_in routes (span_of p) tt (span_of q)
+        ∙ route_key_in p q n m o ((eq_by_cmp span_cmp (span_of q) (span_of p) || contains_key routes (span_of q)) ≡ true) there
+        (λ same. ap (λ b. b || contains_key routes (span_of q)) (same_tied (span_of q) (span_of p) (ap span_of same)))
+        (λ other. ap (λ b. eq_by_cmp span_cmp (span_of q) (span_of p) || b) (has.routes_are q m other) ∙ or-true (eq_by_cmp span_cmp (span_of q) (span_of p)));
+    masked = λ q m there. route_key_in p q n m o (IsMasked q) there (λ same. subst IsMasked (sym same) masked) (has.masked q m);
   }
-
-  pub added_route : (p : PrefixParts) (n : ℕ) (o : Obj) → IsMasked p
-      → HasSpans (insert r (Route p n) o) inetnums blocks (cond (contains_key routes (span_of p)) routes (insert routes (span_of p) p))
-  added_route p n o masked =
-      elim (get routes (span_of p)) as (λ v. get routes (span_of p) ≡ v → HasSpans (insert r (Route p n) o) inetnums blocks (cond (is_some v) routes (insert routes (span_of p) p))) [
-        | None ↦ λ e. added_route_first p n o masked e
-        | Some q ↦ λ e. added_route_held p n o (e ∙ ap Some (held_same p q masked e))
-      ] refl
 
   pub removed_inetnum : (s : Ends) → HasSpans (remove r (Inetnum s)) (remove inetnums s) blocks routes
   removed_inetnum s = record {
     inetnums_are = λ t. spans_out inetnums s t ∙ (λ i. not (sym (inetnums_tie t s) i) && has.inetnums_are t i) ∙ sym (keys_out r (Inetnum s) (Inetnum t));
     blocks_are = λ t. has.blocks_are t ∙ sym (keys_out r (Inetnum s) (AsBlock t));
-    routed = λ t p at. routed_out (Inetnum s) t p (has.routed t p at) refl;
+    routed = λ t at. routed_out (Inetnum s) t (has.routed t at) refl;
     routes_are = λ p n there. has.routes_are p n (stayed (Inetnum s) (Route p n) there);
+    masked = λ p n there. has.masked p n (stayed (Inetnum s) (Route p n) there);
   }
 
   pub removed_block : (s : Ends) → HasSpans (remove r (AsBlock s)) inetnums (remove blocks s) routes
   removed_block s = record {
     inetnums_are = λ t. has.inetnums_are t ∙ sym (keys_out r (AsBlock s) (Inetnum t));
     blocks_are = λ t. spans_out blocks s t ∙ (λ i. not (sym (blocks_tie t s) i) && has.blocks_are t i) ∙ sym (keys_out r (AsBlock s) (AsBlock t));
-    routed = λ t p at. routed_out (AsBlock s) t p (has.routed t p at) refl;
+    routed = λ t at. routed_out (AsBlock s) t (has.routed t at) refl;
     routes_are = λ p n there. has.routes_are p n (stayed (AsBlock s) (Route p n) there);
+    masked = λ p n there. has.masked p n (stayed (AsBlock s) (Route p n) there);
   }
 
   pub removed_other : (k : Key) → ((s : Ends) → eq_by_cmp key_cmp (Inetnum s) k ≡ false) → ((s : Ends) → eq_by_cmp key_cmp (AsBlock s) k ≡ false)
@@ -207,8 +177,9 @@ module _ (r : Reg) (inetnums blocks : SpanMap (Unit {0})) (routes : SpanMap Pref
   removed_other k no_inetnum no_block no_route = record {
     inetnums_are = λ t. has.inetnums_are t ∙ ap (λ b. not b && contains_key r (Inetnum t)) (sym (no_inetnum t)) ∙ sym (keys_out r k (Inetnum t));
     blocks_are = λ t. has.blocks_are t ∙ ap (λ b. not b && contains_key r (AsBlock t)) (sym (no_block t)) ∙ sym (keys_out r k (AsBlock t));
-    routed = λ t p at. let is = has.routed t p at in routed_out k t p is (no_route p is.origin);
+    routed = λ t at. let is = has.routed t at in routed_out k t is (no_route is.prefix is.origin);
     routes_are = λ p n there. has.routes_are p n (stayed k (Route p n) there);
+    masked = λ p n there. has.masked p n (stayed k (Route p n) there);
   }
 
   -- a route of a prefix that has another
@@ -216,18 +187,19 @@ module _ (r : Reg) (inetnums blocks : SpanMap (Unit {0})) (routes : SpanMap Pref
   removed_route_other p n m other = record {
     inetnums_are = λ t. has.inetnums_are t ∙ sym (keys_out r (Route p n) (Inetnum t));
     blocks_are = λ t. has.blocks_are t ∙ sym (keys_out r (Route p n) (AsBlock t));
-    routed = λ t q at.
-        let is = has.routed t q at in
-        elim (eq_by_cmp key_cmp (Route q is.origin) (Route p n)) as (λ b. eq_by_cmp key_cmp (Route q is.origin) (Route p n) ≡ b → IsRouted (remove r (Route p n)) t q) [
+    routed = λ t at.
+        let is = has.routed t at in
+        elim (eq_by_cmp key_cmp (Route is.prefix is.origin) (Route p n)) as (λ b. eq_by_cmp key_cmp (Route is.prefix is.origin) (Route p n) ≡ b → IsRouted (remove r (Route p n)) t) [
           | true ↦ λ e. record {
+            prefix = is.prefix;
             span_is = is.span_is;
-            masked = is.masked;
             origin = m;
-            there = subst (λ x. contains_key (remove r (Route p n)) (Route x m) ≡ true) (sym (same_prefix q p is.origin n e)) other;
+            there = subst (λ x. contains_key (remove r (Route p n)) (Route x m) ≡ true) (sym (same_prefix is.prefix p is.origin n e)) other;
           }
-          | false ↦ λ e. routed_out (Route p n) t q is e
+          | false ↦ λ e. routed_out (Route p n) t is e
         ] refl;
     routes_are = λ q m there. has.routes_are q m (stayed (Route p n) (Route q m) there);
+    masked = λ q m there. has.masked q m (stayed (Route p n) (Route q m) there);
   }
 
   -- the last route of a prefix
@@ -236,27 +208,27 @@ module _ (r : Reg) (inetnums blocks : SpanMap (Unit {0})) (routes : SpanMap Pref
   removed_route_last p n masked none = record {
     inetnums_are = λ t. has.inetnums_are t ∙ sym (keys_out r (Route p n) (Inetnum t));
     blocks_are = λ t. has.blocks_are t ∙ sym (keys_out r (Route p n) (AsBlock t));
-    routed = λ t q at.
-        elim (eq_by_cmp span_cmp t (span_of p)) as (λ b. eq_by_cmp span_cmp t (span_of p) ≡ b → cond b None (get routes t) ≡ Some q → IsRouted (remove r (Route p n)) t q) [
-          | true ↦ λ e f. absurd (nothing q f)
+    routed = λ t at.
+        elim (eq_by_cmp span_cmp t (span_of p)) as (λ b. eq_by_cmp span_cmp t (span_of p) ≡ b → (not b && contains_key routes t) ≡ true → IsRouted (remove r (Route p n)) t) [
+          | true ↦ λ e f. cc
           | false ↦ λ e f.
-              let is = has.routed t q f in
-              routed_out (Route p n) t q is (
-              elim (eq_by_cmp key_cmp (Route q is.origin) (Route p n)) as (λ b. eq_by_cmp key_cmp (Route q is.origin) (Route p n) ≡ b → b ≡ false) [
-                | true ↦ λ g. absurd (true≢false (sym (same_tied t (span_of p) (sym is.span_is ∙ ap span_of (same_prefix q p is.origin n g))) ∙ e))
+              let is = has.routed t f in
+              routed_out (Route p n) t is (
+              elim (eq_by_cmp key_cmp (Route is.prefix is.origin) (Route p n)) as (λ b. eq_by_cmp key_cmp (Route is.prefix is.origin) (Route p n) ≡ b → b ≡ false) [
+                | true ↦ λ g. absurd (true≢false (sym (same_tied t (span_of p) (sym is.span_is ∙ ap span_of (same_prefix is.prefix p is.origin n g))) ∙ e))
                 | false ↦ λ g. refl
               ] refl)
-        ] refl (sym (get-remove span_cmp_total routes (span_of p) t) ∙ at);
+        ] refl (sym (spans_out routes (span_of p) t) ∙ at);
     routes_are = λ q m there.
-        let held = has.routes_are q m (stayed (Route p n) (Route q m) there) in
-        get-remove span_cmp_total routes (span_of p) (span_of q)
-        ∙ elim (eq_by_cmp span_cmp (span_of q) (span_of p)) as (λ b. eq_by_cmp span_cmp (span_of q) (span_of p) ≡ b → cond b None (get routes (span_of q)) ≡ Some q) [
+        let before = stayed (Route p n) (Route q m) there in
+        spans_out routes (span_of p) (span_of q)
+        ∙ elim (eq_by_cmp span_cmp (span_of q) (span_of p)) as (λ b. eq_by_cmp span_cmp (span_of q) (span_of p) ≡ b → (not b && contains_key routes (span_of q)) ≡ true) [
           | true ↦ λ e.
-              let is = has.routed (span_of q) q held in
-              let same = spans_tell q p is.masked masked (tied_same (span_of q) (span_of p) e) in
+              let same = spans_tell q p (has.masked q m before) masked (tied_same (span_of q) (span_of p) e) in
               absurd (true≢false (sym (subst (λ x. contains_key (remove r (Route p n)) (Route x m) ≡ true) same there) ∙ none m))
-          | false ↦ λ e. held
+          | false ↦ λ e. has.routes_are q m before
         ] refl;
+    masked = λ q m there. has.masked q m (stayed (Route p n) (Route q m) there);
   }
 
   -- a key that is no span and no route's
@@ -288,8 +260,3 @@ module _ (r : Reg) (inetnums blocks : SpanMap (Unit {0})) (routes : SpanMap Pref
   removed_told k p n false is masked none =
       subst (λ (l : Key). HasSpans (remove r l) inetnums blocks (remove routes (span_of p))) (sym is)
       (removed_route_last p n masked (subst (λ (l : Key). IsTold r l false) is none))
-
--- what follows from a result that is good
-pub on_ok : {X E P Q : Type 0} (r : Result X E) → OnOk r P → (P → Q) → OnOk r Q
-on_ok (Ok x) p f = f p
-on_ok (Err e) p f = tt

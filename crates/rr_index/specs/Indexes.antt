@@ -1,17 +1,34 @@
 -- What is kept beside the objects of a registry.
-use Rattle.rr_auth.specs.Registries.{Reg, Sound}
+use Rattle.std.specs.Prelude.{◌≡◌, false, Some}
+use Rattle.std.specs.FinMap.{get}
+use Rattle.rr_auth.specs.Registries.{Reg, Sound, keys_cross}
 use Rattle.rr_book.specs.SetIndexes.{HasReferrers}
+use Rattle.rr_book.specs.declared.set_index.SetIndex.{SetIndex}
+use Rattle.rr_object.specs.declared.key.Key.{Key}
+use Rattle.rr_object.specs.Objects.{Obj}
 use Rattle.rr_index.specs.NameIndexes.{HasNames}
+use Rattle.rr_index.specs.NamingIndexes.{HasNamings}
 use Rattle.rr_index.specs.SpanIndexes.{HasSpans}
 use Rattle.rr_index.specs.declared.indexes.Indexes.{Indexes}
+use Rattle.rr_index.specs.declared.name_index.NameIndex.{NameIndex}
+use Rattle.rr_index.specs.declared.span_index.SpanIndex.{SpanIndex}
 
--- The spans, the names and the referrers are those of the registry's objects (profile).
+-- The spans, the mntners' names and the referrers are those of the registry's objects (profile).
+pub record HasKeys (r : Reg) (of_spans : SpanIndex) (of_names : NameIndex) (of_sets : SetIndex) : Type 0 where
+  pub spans : HasSpans r of_spans.inetnums of_spans.blocks of_spans.routes
+  pub names : HasNames r of_names.keys
+  pub referrers : HasReferrers r of_sets.keys
+
+-- And so are the counts of the maintainers that they name (profile).
 pub record HasIndexes (r : Reg) (kept : Indexes) : Type 0 where
-  pub spans : HasSpans r kept.spans.inetnums kept.spans.blocks kept.spans.routes
-  pub names : HasNames r kept.names.keys
-  pub referrers : HasReferrers r kept.referrers.keys
+  pub keys : HasKeys r kept.spans kept.names kept.referrers
+  pub namings : HasNamings r kept.namings.counts
 
 -- A sound registry with what is kept beside its objects (profile).
 pub record IsKept (r : Reg) (kept : Indexes) : Type 0 where
   pub sound : Sound r
   pub indexes : HasIndexes r kept
+
+-- No registered inetnum or as-block crosses the key (profile).
+pub record IsApart (r : Reg) (k : Key) : Type 0 where
+  pub apart : (l : Key) (x : Obj) → get r l ≡ Some x → keys_cross l k ≡ false

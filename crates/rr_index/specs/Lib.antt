@@ -1,5 +1,7 @@
+pub mod ChosenKeys
 pub mod Indexes
 pub mod KeyRanges
 pub mod NameIndexes
+pub mod NamingIndexes
 pub mod ObjectMaps
 pub mod SpanIndexes

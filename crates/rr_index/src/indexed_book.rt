@@ -1,6 +1,6 @@
 //! A registry as objects by key, with what answers questions about spans, sets and maintainers beside them.
 
-ghost use Rattle.std.specs.Prelude.{◌≡◌, OnErr, OnOk, None};
+ghost use Rattle.std.specs.Prelude.{◌≡◌, OnErr, OnOk, None, true, is_some};
 ghost use Rattle.std.specs.FinMap.{get, insert};
 ghost use Rattle.rr_auth.specs.Registries.{Sound};
 
@@ -15,10 +15,11 @@ use rr_sets::SetBook;
 use std::alloc::{AllocError, Global};
 use std::marker::Model;
 
-/// Objects by key in a balanced tree, their spans in nests, the names of the maintainers, and the keys under the sets that
-/// they name in `member-of`; contracts see the finite map from keys to objects. It is always sound. A key, a maintainer,
-/// a closest inetnum, as-block or route, and a crossing are found in O(log n) steps for n objects; k aut-nums, routes or
-/// origins, or referrers of a set, in O(k log n), and each other answer by one pass over the objects.
+/// Objects by key in a balanced tree, the spans of inetnums and as-blocks in nests, the prefixes of routes in a prefix tree,
+/// the names of the maintainers and how often each is named, and the keys under the sets that the objects name in
+/// `member-of`; contracts see the finite map from keys to objects. It is always sound. A key, a maintainer and whether it is
+/// named, a closest inetnum, as-block or route, and a crossing are found in O(log n) steps for n objects; k objects of any
+/// list, or k origins, in O(k log n).
 #[derive(Drop)]
 pub struct IndexedBook {
     objects: ObjectMap,
@@ -45,22 +46,25 @@ impl Model for IndexedBook {
 impl IndexedBook {
     /// Puts an object in place of the one of its key.
     fn change(&mut self, alloc: Global, object: Object) -> Result<(), AllocError>
-        requires { Sound (insert self.old object.key object) }
+        requires sound { Sound (insert self.old object.key object) }
+        requires stands { is_some (get self.old object.key) ≡ true }
         ensures ok { OnOk result (self.new ≡ insert self.old object.key object) }
         ensures err { OnErr result (self.new ≡ self.old) }
     {
         let before = sets_named(alloc, self.objects.get(object.key()))?;
         let after = sets_named(alloc, Some(&object))?;
         self.indexes.referrers.add(alloc, &object, &before)?;
+        if let Err(refused) = self.indexes.namings.add(alloc, &object) {
+            self.indexes.referrers.take(&object, &before);
+            return Err(refused);
+        }
         match self.objects.replace(object) {
             Ok(old) => {
                 self.indexes.referrers.take(&old, &after);
+                self.indexes.namings.take(&old);
                 Ok(())
             }
-            Err(object) => {
-                self.indexes.referrers.take(&object, &before);
-                Err(AllocError)
-            }
+            Err(_) => unreachable!(),
         }
     }
 
@@ -129,7 +133,7 @@ impl Book for IndexedBook {
     }
 
     fn names_maintainer(&self, name: &Name) -> bool {
-        self.objects.some_names(name)
+        self.indexes.namings.is_named(name)
     }
 }
 
@@ -192,11 +196,15 @@ impl Keeper for IndexedBook {
     }
 
     fn covering(&self, alloc: Global, span: Span) -> Result<Vec<&Object>, AllocError> {
-        self.objects.covering(alloc, span)
+        let spans = self.indexes.spans.inetnums.covering(alloc, span)?;
+        let prefixes = self.indexes.spans.routes.covering(alloc, span)?;
+        self.objects.chosen(alloc, &spans, &prefixes)
     }
 
     fn inside(&self, alloc: Global, span: Span) -> Result<Vec<&Object>, AllocError> {
-        self.objects.inside(alloc, span)
+        let spans = self.indexes.spans.inetnums.inside(alloc, span)?;
+        let prefixes = self.indexes.spans.routes.inside(alloc, span)?;
+        self.objects.chosen(alloc, &spans, &prefixes)
     }
 }
 

@@ -1,13 +1,14 @@
 //! What is kept beside the objects of a registry.
 
-ghost use Rattle.std.specs.Prelude.{◌≡◌, None, Some, OnErr, OnOk};
+ghost use Rattle.std.specs.Prelude.{◌≡◌, None, Some, OnErr, OnOk, false};
 ghost use Rattle.std.specs.FinMap.{empty, get, insert, remove};
 ghost use Rattle.rr_auth.specs.Registries.{Reg, Sound};
-ghost use Rattle.rr_index.specs.Indexes.{HasIndexes};
+ghost use Rattle.rr_index.specs.Indexes.{HasIndexes, HasKeys, IsApart};
 ghost use Rattle.rr_index.specs.NameIndexes.{HasNames};
-ghost use Rattle.rr_index.specs.SpanIndexes.{HasSpans};
+ghost use Rattle.rr_index.specs.SpanIndexes.{HasSpans, is_crossed};
 
 use crate::name_index::NameIndex;
+use crate::naming_index::NamingIndex;
 use crate::object_map::ObjectMap;
 use crate::span_index::SpanIndex;
 use rr_book::set_index::SetIndex;
@@ -15,12 +16,14 @@ use rr_object::Object;
 use std::alloc::{AllocError, Global};
 use std::collections::BTreeSet;
 
-/// The spans of the objects, the names of the mntners, and the keys under the sets that the objects name in `member-of`.
+/// The spans of the objects, the names of the mntners, the keys under the sets that the objects name in `member-of`, and how
+/// often they name each maintainer.
 #[derive(Drop)]
 pub(crate) struct Indexes {
     pub(crate) spans: SpanIndex,
     pub(crate) names: NameIndex,
     pub(crate) referrers: SetIndex,
+    pub(crate) namings: NamingIndex,
 }
 
 impl Indexes {
@@ -32,11 +35,12 @@ impl Indexes {
             spans: SpanIndex::new(alloc),
             names: NameIndex::new(alloc),
             referrers: SetIndex::new(alloc),
+            namings: NamingIndex::new(alloc),
         }
     }
 
-    /// Enters an object of a key that is not among these objects. The error is want of memory, and leaves the indexes
-    /// those of the objects.
+    /// Enters an object of a key that is not among these objects, and that none of them crosses. The error is want of
+    /// memory, and leaves the indexes those of the objects.
     pub(crate) fn enter(
         &mut self,
         alloc: Global,
@@ -45,8 +49,33 @@ impl Indexes {
     ) -> Result<(), AllocError>
         requires indexed { HasIndexes objects.now self.old }
         requires free { get objects.now object.now.key ≡ None }
+        requires apart { IsApart objects.now object.now.key }
         ensures ok { OnOk result (HasIndexes (insert objects.now object.now.key object.now) self.new) }
         ensures err { OnErr result (HasIndexes objects.now self.new) }
+    {
+        self.namings.add(alloc, object)?;
+        match self.enter_keys(alloc, objects, object) {
+            Ok(()) => Ok(()),
+            Err(refused) => {
+                self.namings.take(object);
+                Err(refused)
+            }
+        }
+    }
+
+    /// Enters the key of the object, under the sets that it names too.
+    fn enter_keys(
+        &mut self,
+        alloc: Global,
+        objects: &ObjectMap,
+        object: &Object,
+    ) -> Result<(), AllocError>
+        requires indexed { HasKeys objects.now self.old.spans self.old.names self.old.referrers }
+        requires free { get objects.now object.now.key ≡ None }
+        requires apart { IsApart objects.now object.now.key }
+        ensures ok { OnOk result (HasKeys (insert objects.now object.now.key object.now) self.new.spans self.new.names self.new.referrers) }
+        ensures err { OnErr result (HasKeys objects.now self.new.spans self.new.names self.new.referrers) }
+        ensures aside { self.new.namings ≡ self.old.namings }
     {
         let none = BTreeSet::new(alloc);
         self.referrers.add(alloc, object, &none)?;
@@ -69,11 +98,13 @@ impl Indexes {
         requires spans { HasSpans objects.now self.old.spans.inetnums self.old.spans.blocks self.old.spans.routes }
         requires names { HasNames objects.now self.old.names.keys }
         requires free { get objects.now object.now.key ≡ None }
+        requires apart { is_crossed self.old.spans.inetnums self.old.spans.blocks object.now.key ≡ false }
         ensures ok { OnOk result (HasSpans (insert objects.now object.now.key object.now) self.new.spans.inetnums self.new.spans.blocks self.new.spans.routes
             × HasNames (insert objects.now object.now.key object.now) self.new.names.keys) }
         ensures err { OnErr result (HasSpans objects.now self.new.spans.inetnums self.new.spans.blocks self.new.spans.routes
             × HasNames objects.now self.new.names.keys) }
         ensures aside { self.new.referrers ≡ self.old.referrers }
+        ensures uncounted { self.new.namings ≡ self.old.namings }
     {
         let key = object.key();
         self.names.add(alloc, key)?;
@@ -87,15 +118,16 @@ impl Indexes {
     }
 
     /// Takes out an object that is no longer among these objects.
-    pub(crate) fn leave(&mut self, objects: &ObjectMap, object: &Object)
+    pub(crate) fn leave(&mut self, objects: &ObjectMap, gone: &Object)
         requires { Sound objects.now }
-        ensures { (r : Reg) → HasIndexes r self.old → get r object.now.key ≡ Some object.now → objects.now ≡ remove r object.now.key
+        ensures { (r : Reg) → HasIndexes r self.old → get r gone.now.key ≡ Some gone.now → objects.now ≡ remove r gone.now.key
             → HasIndexes objects.now self.new }
     {
-        let key = object.key();
+        let key = gone.key();
         let is_routed = objects.is_routed(key);
         self.spans.take(key, is_routed);
         self.names.take(key);
-        self.referrers.take_all(object);
+        self.referrers.take_all(gone);
+        self.namings.take(gone);
     }
 }

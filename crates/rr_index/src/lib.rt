@@ -5,6 +5,7 @@
 mod indexed_book;
 mod indexes;
 mod name_index;
+mod naming_index;
 mod object_map;
 mod span_index;
 

@@ -1,27 +1,29 @@
 //! Objects by key.
 
-ghost use Rattle.std.specs.Prelude.{◌≡◌, None, Some, false, filter, is_some, IfErr, IfOk, OnErr, OnOk};
-ghost use Rattle.std.specs.FinMap.{empty, entries, get, insert, remove, values};
+ghost use Rattle.std.specs.Prelude.{◌≡◌, ◌&&◌, ◌||◌, [], ◌∷◌, None, Some, false, filter, is_some, map, IfErr, IfOk, OnErr, OnOk};
+ghost use Rattle.std.specs.BTreeSet.{contains};
+ghost use Rattle.std.specs.FinMap.{contains_key, empty, entries, get, insert, remove, values};
 ghost use Rattle.std.specs.List.{filter_map, list_any};
 ghost use Rattle.std.specs.List.Sorted.{IsStrictlySortedBy};
 ghost use Rattle.std.specs.Map.{values_of};
 ghost use Rattle.std.specs.Option.{option_copied};
 ghost use Rattle.std.specs.Ordering.{is_gt};
 ghost use Rattle.rr_number.specs.AsNumbers.{greatest_as_number};
+ghost use Rattle.rr_number.specs.Prefixes.{span_of};
 ghost use Rattle.rr_object.specs.declared.class.Class.TheVariants as class;
+ghost use Rattle.rr_object.specs.declared.key.Key.{Key};
 ghost use Rattle.rr_object.specs.declared.key.Key.TheVariants.{Route};
 ghost use Rattle.rr_object.specs.KeyOrders.{key_cmp};
 ghost use Rattle.rr_auth.specs.Closest.{origin_at, origins_among};
-ghost use Rattle.rr_auth.specs.Registries.{Reg, Sound, names_another};
-ghost use Rattle.rr_book.specs.Listings.{covers_span, lies_in};
+ghost use Rattle.rr_auth.specs.Registries.{Reg, Sound};
 ghost use Rattle.rr_book.specs.SetLists.{is_of_class};
 ghost use Rattle.rr_sets.specs.Lists.{lent};
+ghost use Rattle.rr_index.specs.ChosenKeys.{is_chosen};
 ghost use Rattle.rr_index.specs.KeyRanges.{lies_between};
 ghost use Rattle.rr_index.specs.SpanIndexes.{IsTold};
 
-use rr_book::listings::{covers_span, lies_in};
-use rr_book::lists::{names_another, origin_at};
-use rr_number::{Address, AsNumber, Name, Prefix, Span};
+use rr_book::lists::origin_at;
+use rr_number::{Address, AsNumber, Prefix, Span};
 use rr_object::{Key, Object};
 use std::alloc::{AllocError, AllocFailed, Global};
 use std::collections::btree_map::Range;
@@ -181,32 +183,55 @@ impl ObjectMap {
         self.entries.range(first..=last)
     }
 
-    /// The inetnums and routes that cover the span, in the order of class and key, by a pass over all; the error is want of
+    /// The inetnums of these spans and the routes of these prefixes, in the order of class and key; the error is want of
     /// memory.
-    pub(crate) fn covering(&self, alloc: Global, span: Span) -> Result<Vec<&Object>, AllocError>
-        ensures { IfOk result (λ found. lent found.items ≡ filter (covers_span span) (values self.now)) }
+    pub(crate) fn chosen(
+        &self,
+        alloc: Global,
+        spans: &[Span],
+        prefixes: &[Prefix],
+    ) -> Result<Vec<&Object>, AllocError>
+        requires { Sound self.now }
+        ensures { IfOk result (λ found. lent found.items ≡ filter (λ o. is_chosen spans.now (map span_of prefixes.now) o.key) (values self.now)) }
     {
-        let mut found = Vec::new(alloc);
-        for object in self.entries.values() {
-            if covers_span(object, span) {
-                found.push(object)?;
-            }
-        }
-        Ok(found)
+        let mut keys = inetnum_keys(alloc, spans)?;
+        self.add_routes(alloc, prefixes, &mut keys)?;
+        self.at_keys(alloc, &keys)
     }
 
-    /// The inetnums and routes that lie inside the span, in the order of class and key, by a pass over all; the error is
-    /// want of memory.
-    pub(crate) fn inside(&self, alloc: Global, span: Span) -> Result<Vec<&Object>, AllocError>
-        ensures { IfOk result (λ found. lent found.items ≡ filter (lies_in span) (values self.now)) }
+    /// Puts the keys of the routes of these prefixes among the keys. Where memory is wanting some may be missing.
+    fn add_routes(
+        &self,
+        alloc: Global,
+        prefixes: &[Prefix],
+        keys: &mut BTreeSet<Key>,
+    ) -> Result<(), AllocError>
+        requires { Sound self.now }
+        ensures { OnOk result ((k : Key) → contains key_cmp keys.new k ≡
+            (contains key_cmp keys.old k || (contains_key self.now k && is_chosen [] (map span_of prefixes.now) k))) }
     {
-        let mut found = Vec::new(alloc);
-        for object in self.entries.values() {
-            if lies_in(object, span) {
-                found.push(object)?;
-            }
+        for prefix in prefixes {
+            self.add_routes_of(alloc, *prefix, keys)?;
         }
-        Ok(found)
+        Ok(())
+    }
+
+    /// Puts the keys of the routes of the prefix among the keys. Where memory is wanting some may be missing.
+    fn add_routes_of(
+        &self,
+        alloc: Global,
+        prefix: Prefix,
+        keys: &mut BTreeSet<Key>,
+    ) -> Result<(), AllocError>
+        requires { Sound self.now }
+        ensures { OnOk result ((k : Key) → contains key_cmp keys.new k ≡
+            (contains key_cmp keys.old k || (contains_key self.now k && is_chosen [] (span_of prefix ∷ []) k))) }
+    {
+        prefix.length();
+        for (key, _) in self.between(first_of(prefix), last_of(prefix)) {
+            keys.insert(key.copy(alloc)?)?;
+        }
+        Ok(())
     }
 
     /// The origins of the routes of the prefix, ascending; the error is want of memory.
@@ -221,18 +246,6 @@ impl ObjectMap {
             }
         }
         Ok(origins)
-    }
-
-    /// Whether an object other than the maintainer of the name names it, by a pass over all.
-    pub(crate) fn some_names(&self, name: &Name) -> bool
-        ensures { result ≡ list_any (names_another name.now) (values self.now) }
-    {
-        for object in self.entries.values() {
-            if names_another(object, name) {
-                return true;
-            }
-        }
-        false
     }
 
     /// Whether a route of the key's prefix is there; no for a key that is no route's.
@@ -255,6 +268,17 @@ impl ObjectMap {
             .next()
             .is_some()
     }
+}
+
+/// The keys of the inetnums of these spans.
+fn inetnum_keys(alloc: Global, spans: &[Span]) -> Result<BTreeSet<Key>, AllocError>
+    ensures { IfOk result (λ keys. (k : Key) → contains key_cmp keys k ≡ is_chosen spans.now [] k) }
+{
+    let mut keys = BTreeSet::new(alloc);
+    for span in spans {
+        keys.insert(Key::Inetnum(*span))?;
+    }
+    Ok(keys)
 }
 
 /// The least key that a route of the prefix can have.

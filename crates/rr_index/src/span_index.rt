@@ -1,27 +1,26 @@
 //! The spans of registered objects.
 
-ghost use Rattle.std.specs.Prelude.{◌≡◌, Some, None, OnErr, OnOk, IfSome, IfNone, cond, ℕ, false};
-ghost use Rattle.std.specs.FinMap.{contains_key, empty, insert, remove};
+ghost use Rattle.std.specs.Prelude.{◌≡◌, OnErr, OnOk, IfSome, IfNone, false};
+ghost use Rattle.std.specs.FinMap.{empty, insert, remove};
 ghost use Rattle.rr_number.specs.Prefixes.{span_of};
-ghost use Rattle.rr_object.specs.declared.key.Key.TheVariants.{Route};
 ghost use Rattle.rr_cover.specs.SpanMaps.{IsClosest, NoneCovers, crosses_some};
 ghost use Rattle.rr_object.specs.Objects.{Obj};
 ghost use Rattle.rr_auth.specs.Registries.{Reg, Sound};
 ghost use Rattle.rr_auth.specs.Closest.{closest_routes};
 ghost use Rattle.rr_auth.specs.Conditions.{crosses_some as crosses_key};
-ghost use Rattle.rr_index.specs.SpanIndexes.{HasSpans, IsTold};
+ghost use Rattle.rr_index.specs.SpanIndexes.{HasSpans, IsTold, is_crossed};
 
-use rr_cover::SpanNest;
+use rr_cover::{InsertFault, PrefixTree, SpanNest};
 use rr_number::{Prefix, Span};
 use rr_object::Key;
 use std::alloc::{AllocError, Global};
 
-/// The spans of the inetnums and of the as-blocks, and the prefixes of the routes by their spans.
+/// The spans of the inetnums and of the as-blocks, and the prefixes of the routes.
 #[derive(Drop)]
 pub(crate) struct SpanIndex {
-    inetnums: SpanNest<()>,
+    pub(crate) inetnums: SpanNest<()>,
     blocks: SpanNest<()>,
-    routes: SpanNest<Prefix>,
+    pub(crate) routes: PrefixTree<()>,
 }
 
 impl SpanIndex {
@@ -32,12 +31,14 @@ impl SpanIndex {
         SpanIndex {
             inetnums: SpanNest::new(alloc),
             blocks: SpanNest::new(alloc),
-            routes: SpanNest::new(alloc),
+            routes: PrefixTree::new(alloc),
         }
     }
 
-    /// Enters the span of an object that is registered under the key. The error is want of memory and changes nothing.
+    /// Enters the span of an object that is registered under the key, which no span held crosses. The error is want of memory
+    /// and changes nothing.
     pub(crate) fn add(&mut self, key: &Key) -> Result<(), AllocError>
+        requires { is_crossed self.old.inetnums self.old.blocks key.now ≡ false }
         ensures ok { OnOk result ((r : Reg) (o : Obj) → HasSpans r self.old.inetnums self.old.blocks self.old.routes
             → HasSpans (insert r key.now o) self.new.inetnums self.new.blocks self.new.routes) }
         ensures err { OnErr result ((r : Reg) → HasSpans r self.old.inetnums self.old.blocks self.old.routes
@@ -70,7 +71,7 @@ impl SpanIndex {
             Key::Route(prefix, _) => {
                 prefix.length();
                 if !is_routed {
-                    self.routes.remove(prefix.span());
+                    self.routes.remove(*prefix);
                 }
             }
             _ => {}
@@ -103,8 +104,11 @@ impl SpanIndex {
     pub(crate) fn closest_routes(&self, prefix: Prefix) -> Option<Prefix>
         ensures { (r : Reg) → Sound r → HasSpans r self.now.inetnums self.now.blocks self.now.routes → result ≡ closest_routes r prefix }
     {
-        match self.routes.closest(prefix.span()) {
-            Some((_, own)) => Some(*own),
+        match closest_prefix(&self.routes, prefix) {
+            Some(own) => {
+                own.length();
+                Some(own)
+            }
             None => None,
         }
     }
@@ -121,27 +125,38 @@ impl SpanIndex {
     }
 }
 
-/// Puts the span into the nest; the error is want of memory and changes nothing.
+/// The longest prefix of the tree that covers the prefix.
+fn closest_prefix(tree: &PrefixTree<()>, prefix: Prefix) -> Option<Prefix>
+    ensures found { IfSome result (λ own. IsClosest tree.now (span_of prefix) (span_of own) tt) }
+    ensures none { IfNone result (NoneCovers tree.now (span_of prefix)) }
+{
+    match tree.closest(prefix) {
+        Some((own, _)) => Some(own),
+        None => None,
+    }
+}
+
+/// Puts a span into the nest that none held crosses; the error is want of memory and changes nothing.
 fn hold(nest: &mut SpanNest<()>, span: Span) -> Result<(), AllocError>
+    requires { crosses_some nest.old span ≡ false }
     ensures ok { OnOk result (nest.new ≡ insert nest.old span tt) }
     ensures err { OnErr result (nest.new ≡ nest.old) }
 {
     match nest.insert(span, ()) {
         Ok(_) => Ok(()),
-        Err(_) => Err(AllocError),
+        Err(InsertFault::Memory(_)) => Err(AllocError),
+        Err(InsertFault::Overlap(_)) => unreachable!(),
     }
 }
 
-/// Puts the prefix at its span into the nest, if none is there; the error is want of memory and changes nothing.
-fn hold_prefix(nest: &mut SpanNest<Prefix>, prefix: Prefix) -> Result<(), AllocError>
-    ensures ok { OnOk result (nest.new ≡ cond (contains_key nest.old (span_of prefix)) nest.old (insert nest.old (span_of prefix) prefix)) }
-    ensures err { OnErr result (nest.new ≡ nest.old) }
+/// Puts the prefix into the tree; the error is want of memory and changes nothing.
+fn hold_prefix(tree: &mut PrefixTree<()>, prefix: Prefix) -> Result<(), AllocError>
+    ensures ok { OnOk result (tree.new ≡ insert tree.old (span_of prefix) tt) }
+    ensures err { OnErr result (tree.new ≡ tree.old) }
 {
-    if nest.get(prefix.span()).is_some() {
-        return Ok(());
-    }
-    match nest.insert(prefix.span(), prefix) {
+    match tree.insert(prefix, ()) {
         Ok(_) => Ok(()),
-        Err(_) => Err(AllocError),
+        Err(InsertFault::Memory(_)) => Err(AllocError),
+        Err(InsertFault::Overlap(_)) => unreachable!(),
     }
 }

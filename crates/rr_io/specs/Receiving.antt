@@ -23,8 +23,8 @@ pub record BreaksOff (old new : Told) (bytes : List ℕ) : Type 0 where
   pub gives : Gives old between bytes
   pub fails : Fails between new
 
--- the reading of these bytes, by how it ended: with no byte left after at most 16,777,216 reads, by a failed call after fewer
--- reads, or after exactly 16,777,216 reads, with at least as many bytes and no fault (profile)
+-- the reading of these bytes, by how it ended: with no byte left after at most 16,777,216 reads, by a failed call after
+-- fewer reads, or after exactly 16,777,216 reads, with at least as many bytes and no fault (profile)
 abbrev pub Reads : Told → Told → List ℕ → ReadEnd → Type 0
 Reads old new bytes Whole = Gives old new bytes × IsSpent new × (new.reads ≤ old.reads + 2 ^ 24)
 Reads old new bytes Broken = BreaksOff old new bytes × (new.reads < old.reads + 2 ^ 24)

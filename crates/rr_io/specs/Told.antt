@@ -2,8 +2,8 @@
 use Rattle.std.specs.Prelude.{◌≡◌, ℕ, ◌+◌, ◌-◌, ◌^◌, ◌<◌, ◌≤◌, List, Option, None, Some, max}
 
 -- `bytes` are those that a reader has left, or that a writer has taken: None where it does not say, as over a file or a
--- socket. `faults` counts the failed reads of a reader or the failed writes of a writer, and `reads` a reader's reads that
--- did not fail: a writer has none. Each count stays at 2^64 - 1 once it is there (profile).
+-- socket. `faults` counts the failed reads of a reader or the failed writes of a writer, and `reads` a reader's reads
+-- that did not fail: a writer has none. Each count stays at 2^64 - 1 once it is there (profile).
 pub record Told : Type 0 where
   pub bytes : Option (List ℕ)
   pub faults : ℕ

@@ -11,7 +11,7 @@ use Rattle.rr_object.specs.KeyOrders.{key_cmp}
 use Rattle.rr_object.specs.Objects.{Obj}
 use Rattle.rr_object.proofs.Parsed.{of_any_source}
 use Rattle.rr_auth.specs.Registries.{Reg}
-use Rattle.rr_auth.proofs.KeyLaws.{keys_total}
+use Rattle.rr_object.proofs.KeyLaws.{keys_total}
 use Rattle.rr_registry.specs.Loading.{IsTaken, gathered}
 use Rattle.rr_rows.specs.Maps.{IsKeyed}
 use Rattle.rr_rows.proofs.MapEntries.{first_part, is_less, second_part}

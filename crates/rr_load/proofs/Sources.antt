@@ -14,7 +14,7 @@ use Rattle.rr_object.specs.Readings.{object_of}
 use Rattle.rr_object.proofs.Parsed.{kept_paragraph, of_any_source}
 use Rattle.rr_auth.specs.Registries.{Reg, Sound}
 use Rattle.rr_auth.specs.Sources.{IsRegistryOf}
-use Rattle.rr_auth.proofs.KeyLaws.{keys_total}
+use Rattle.rr_object.proofs.KeyLaws.{keys_total}
 use Rattle.rr_registry.specs.Loading.{IsTaken, gathered}
 use Rattle.rr_load.specs.Dumps.{IsDumpOf, before, entry_object, object_result, objects_from}
 use Rattle.rr_load.specs.Laws.{DumpsAreOfTheirSource}

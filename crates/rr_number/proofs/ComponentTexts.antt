@@ -18,7 +18,8 @@ use Rattle.rr_number.proofs.NameLemmas.{upper-upper}
 use Rattle.rr_number.proofs.NumberCase.{as_number_of-upper, length-as_number_text}
 use Rattle.rr_number.proofs.SetWords.{is_component-upper, is_set_word-upper, number_is_no_word}
 
--- what is true of the printed number where the component is an AS number, and else of the component in upper case, is true of the printed text
+-- what is true of the printed number where the component is an AS number, and else of the component in upper case, is
+-- true of the printed text
 pub by_sort : (P : List ℕ → Type 0) (c : List ℕ) → ((n : ℕ) → as_number_of c ≡ Some n → P (as_number_text n)) → (as_number_of c ≡ None → P (upper c)) → P (component_text c)
 by_sort P c number word = sort (as_number_of c) refl where
   sort : (o : Option ℕ) → as_number_of c ≡ o → P (option_map_or as_number_text o (upper c))

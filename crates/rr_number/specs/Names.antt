@@ -26,7 +26,8 @@ reserved_words =
 unfoldable pub is_reserved : List ℕ → Bool
 is_reserved name = list_any (bytes_eq name) reserved_words
 
--- A name, in upper case, may be a maintainer's where it is not reserved and does not begin as sets' names do (RFC 2622, 2).
+-- A name, in upper case, may be a maintainer's where it is not reserved and does not begin as sets' names do
+-- (RFC 2622, 2).
 abbrev pub is_maintainer_name : List ℕ → Bool
 is_maintainer_name name =
     not (is_reserved name) && (not (starts_with nat_eq name (codes "AS-")) && not (starts_with nat_eq name (codes "RS-")))

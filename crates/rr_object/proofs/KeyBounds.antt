@@ -34,7 +34,7 @@ use Rattle.rr_object.specs.Items.{only, values_of, words}
 use Rattle.rr_object.specs.KeyOrders.{HasKeyParts, IsKeyValue, IsSetKey}
 use Rattle.rr_object.specs.KeySpellings.{as_set_key_of, key_at, key_in, key_of, key_of_text, or_bad_key, route_key_of, route_key_of_words, route_set_key_of}
 use Rattle.rr_object.specs.Kinds.{kind_name}
-use Rattle.rr_object.specs.Members.{is_as_set}
+use Rattle.rr_object.specs.Members.{is_as_set_kind}
 use Rattle.rr_object.specs.Objects.{Obj}
 use Rattle.rr_object.specs.Readings.{obj_of, object_of}
 use Rattle.rr_object.proofs.Parsed.{kept_its_key, of_any_source}
@@ -94,11 +94,11 @@ set_formed text name e =
     let parts = cond_some (is_set_name text) (set_text text) name e in
     subst IsSetText parts.1 (IsSetText-set_text text parts.0)
 
-as_set_kind : (k : SetKind) → is_as_set k ≡ true → k ≡ kinds.AsSet
+as_set_kind : (k : SetKind) → is_as_set_kind k ≡ true → k ≡ kinds.AsSet
 as_set_kind kinds.AsSet e = refl
 as_set_kind kinds.RouteSet e = cc
 
-route_set_kind : (k : SetKind) → not (is_as_set k) ≡ true → k ≡ kinds.RouteSet
+route_set_kind : (k : SetKind) → not (is_as_set_kind k) ≡ true → k ≡ kinds.RouteSet
 route_set_kind kinds.AsSet e = cc
 route_set_kind kinds.RouteSet e = refl
 
@@ -109,8 +109,8 @@ not_true false e = refl
 as_set_formed : (text name : List ℕ) → as_set_key_of text ≡ Some name → IsSetKey kinds.AsSet name
 as_set_formed text name e =
     option_and_then_some _ (set_name_of text) name e (λ x is_x test.
-    let chosen = cond_some (is_as_set (kind_of x) && not (is_any_set x)) x name test in
-    let parts = and_parts (is_as_set (kind_of x)) (not (is_any_set x)) chosen.0 in
+    let chosen = cond_some (is_as_set_kind (kind_of x) && not (is_any_set x)) x name test in
+    let parts = and_parts (is_as_set_kind (kind_of x)) (not (is_any_set x)) chosen.0 in
     subst (IsSetKey kinds.AsSet) chosen.1 (record {
       text = set_formed text x is_x;
       of_kind = as_set_kind (kind_of x) parts.0;
@@ -120,8 +120,8 @@ as_set_formed text name e =
 route_set_formed : (text name : List ℕ) → route_set_key_of text ≡ Some name → IsSetKey kinds.RouteSet name
 route_set_formed text name e =
     option_and_then_some _ (set_name_of text) name e (λ x is_x test.
-    let chosen = cond_some (not (is_as_set (kind_of x)) && not (is_any_set x)) x name test in
-    let parts = and_parts (not (is_as_set (kind_of x))) (not (is_any_set x)) chosen.0 in
+    let chosen = cond_some (not (is_as_set_kind (kind_of x)) && not (is_any_set x)) x name test in
+    let parts = and_parts (not (is_as_set_kind (kind_of x))) (not (is_any_set x)) chosen.0 in
     subst (IsSetKey kinds.RouteSet) chosen.1 (record {
       text = set_formed text x is_x;
       of_kind = route_set_kind (kind_of x) parts.0;

@@ -5,6 +5,7 @@ pub mod Digits
 pub mod Faulted
 pub mod GrantSpellings
 pub mod KeyBounds
+pub mod KeyLaws
 pub mod KeysByBytes
 pub mod Listed
 pub mod Maintained

@@ -42,8 +42,8 @@ with_range grant None = grant
 with_range grant (Some range) =
     record { name = grant.name; any = grant.any; ranges = grant.ranges ++ range ∷ [] }
 
--- what an item adds to the entry that was begun: the entry that it ends, if it ends one, and what is begun
--- then. An entry is a maintainer's name, then `ANY`, ranges in braces, or nothing, which means `ANY` (RFC 2725, 10; profile)
+-- what an item adds to the entry that was begun: the entry that it ends, if it ends one, and what is begun then. An
+-- entry is a maintainer's name, then `ANY`, ranges in braces, or nothing, which means `ANY` (RFC 2725, 10; profile)
 unfoldable pub next_entry : Begun → List ℕ → Option (Option GrantParts × Begun)
 next_entry Nothing item = option_map (λ name. (None, Named name)) (maintainer_name_of item)
 next_entry (Named name) item =

@@ -1,5 +1,5 @@
--- What the private functions that make the bytes of keys promise. The definitions of these bytes stand in `KeyTexts` and
--- `OldKeys`, and no caller reads these.
+-- What the private functions that make the bytes of keys promise. The definitions of these bytes stand in `KeyTexts`
+-- and `OldKeys`, and no caller reads these.
 use Rattle.std.specs.Prelude.{ℕ, Bool, true, List}
 use Rattle.std.specs.Option.{option_map_or}
 use Rattle.rr_number.specs.AsNumbers.{as_number_of}

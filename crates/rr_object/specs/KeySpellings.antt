@@ -19,17 +19,17 @@ use Rattle.rr_object.specs.declared.kind.Kind.TheVariants.{Origin}
 use Rattle.rr_object.specs.Classes.{class_named}
 use Rattle.rr_object.specs.Items.{only, values_of, words}
 use Rattle.rr_object.specs.Kinds.{kind_name}
-use Rattle.rr_object.specs.Members.{is_as_set}
+use Rattle.rr_object.specs.Members.{is_as_set_kind}
 
 -- the name of an as-set, but not `AS-ANY` (RFC 2622, 5; profile)
 abbrev pub as_set_key_of : List ℕ → Option (List ℕ)
 as_set_key_of text =
-    option_and_then (λ name. if is_as_set (kind_of name) && not (is_any_set name) then Some name else None) (set_name_of text)
+    option_and_then (λ name. if is_as_set_kind (kind_of name) && not (is_any_set name) then Some name else None) (set_name_of text)
 
 -- the name of a route-set, but not `RS-ANY` (RFC 2622, 5; profile)
 abbrev pub route_set_key_of : List ℕ → Option (List ℕ)
 route_set_key_of text =
-    option_and_then (λ name. if not (is_as_set (kind_of name)) && not (is_any_set name) then Some name else None) (set_name_of text)
+    option_and_then (λ name. if not (is_as_set_kind (kind_of name)) && not (is_any_set name) then Some name else None) (set_name_of text)
 
 -- a route is named by its prefix and its origin (RFC 2622, 4)
 abbrev pub route_key_of : List ℕ → List ℕ → Option Key
@@ -43,7 +43,8 @@ route_key_of_words (prefix ∷ []) = None
 route_key_of_words (prefix ∷ (origin ∷ [])) = route_key_of prefix origin
 route_key_of_words (prefix ∷ (origin ∷ (other ∷ others))) = None
 
--- the key that a text spells: for a route its prefix, blanks and its origin, and else the value of the class attribute (profile)
+-- the key that a text spells: for a route its prefix, blanks and its origin, and else the value of the class attribute
+-- (profile)
 unfoldable pub key_of_text : Class → List ℕ → Option Key
 key_of_text class.Mntner text = option_map Mntner (maintainer_name_of text)
 key_of_text class.AsBlock text = option_map AsBlock (as_span_of text)

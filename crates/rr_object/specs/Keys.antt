@@ -1,4 +1,8 @@
 -- The keys of objects.
+use Rattle.std.specs.Prelude.{ℕ, Bool, false, List}
+use Rattle.std.specs.Str.{bytes_eq}
+use Rattle.rr_number.specs.declared.set_kind.SetKind.{SetKind}
+use Rattle.rr_number.specs.declared.set_kind.SetKind.TheVariants as kinds
 use Rattle.rr_object.specs.declared.class.Class.{Class}
 use Rattle.rr_object.specs.declared.key.Key.{Key}
 use Rattle.rr_object.specs.declared.class.Class.TheVariants as class
@@ -13,3 +17,13 @@ class_of (Inetnum span) = class.Inetnum
 class_of (Route prefix origin) = class.Route
 class_of (AsSet name) = class.AsSet
 class_of (RouteSet name) = class.RouteSet
+
+-- the key of the set of a kind and a name: as-sets and route-sets are told apart by their names (RFC 2622, 5)
+abbrev pub key_of_kind : SetKind → List ℕ → Key
+key_of_kind kinds.AsSet name = AsSet name
+key_of_kind kinds.RouteSet name = RouteSet name
+
+-- the key is that of the mntner of this name (RFC 2622, 3)
+abbrev pub is_mntner_of : List ℕ → Key → Bool
+is_mntner_of name (Mntner n) = bytes_eq n name
+is_mntner_of name _ = false

@@ -29,31 +29,31 @@ abbrev pub referrer_item : List ℕ → Option (Option (List ℕ))
 referrer_item item = if is_any item then Some None else maintainer_item item
 
 -- the kind of as-sets (RFC 2622, 5)
-abbrev pub is_as_set : SetKind → Bool
-is_as_set AsSet = true
-is_as_set RouteSet = false
+abbrev pub is_as_set_kind : SetKind → Bool
+is_as_set_kind AsSet = true
+is_as_set_kind RouteSet = false
 
 -- an AS number, or a set's name (RFC 2622, 5)
-unfoldable pub set_of : List ℕ → Option MemberSet
-set_of item =
+unfoldable pub member_set_of : List ℕ → Option MemberSet
+member_set_of item =
     if is_some (as_number_of item) then option_map AutNum (as_number_of item) else option_map Set (set_name_of item)
 
 -- as-sets list AS numbers and as-sets (RFC 2622, 5)
 abbrev pub is_in_as_sets : MemberSet → Bool
 is_in_as_sets (AutNum number) = true
-is_in_as_sets (Set name) = is_as_set (kind_of name)
+is_in_as_sets (Set name) = is_as_set_kind (kind_of name)
 
 -- an item of an as-set: an AS number, or an as-set's name, `AS-ANY` among them; no operator (RFC 2622, 5)
 unfoldable pub as_set_item : List ℕ → Option (Option Member)
 as_set_item item =
-    option_and_then (λ set. if is_in_as_sets set then Some (Some (member.Set set Plain)) else None) (set_of item)
+    option_and_then (λ set. if is_in_as_sets set then Some (Some (member.Set set Plain)) else None) (member_set_of item)
 
 -- an AS number or a set's name, with an operator or none (RFC 2622, 5)
 unfoldable pub operated_set : List ℕ → Option Member
 operated_set item =
     option_and_then
     (λ set. option_map (member.Set set) (operator_of (from_first caret item)))
-    (set_of (before_first (λ b. b == caret) item))
+    (member_set_of (before_first (λ b. b == caret) item))
 
 -- an item of a route-set: a range, which may be dropped, or a set (RFC 2622, 5)
 unfoldable pub route_set_item : List ℕ → Option (Option Member)

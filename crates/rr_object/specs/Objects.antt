@@ -1,5 +1,6 @@
 -- Objects as plain data.
 use Rattle.std.specs.Prelude.{ℕ, List, ◌++◌, map}
+use Rattle.std.proofs.Common.{Bor}
 use Rattle.rr_text.specs.Fields.{Field}
 use Rattle.rr_object.specs.declared.key.Key.{Key}
 use Rattle.rr_object.specs.declared.member.Member.{Member}
@@ -17,7 +18,12 @@ pub record Obj : Type 0 where
   pub by_ref : ByRefParts
   pub member_of : List (List ℕ)
 
--- the maintainers that an object names in `mnt-by`, `mnt-lower`, `mnt-routes` and `mbrs-by-ref`, without `ANY` (profile)
+-- the maintainers that an object names in `mnt-by`, `mnt-lower`, `mnt-routes` and `mbrs-by-ref`, without `ANY`
+-- (profile)
 abbrev pub names_of : Obj → List (List ℕ)
 names_of object =
     ((object.maintainers ++ object.lower) ++ map (λ grant. grant.name) object.routes) ++ object.by_ref.names
+
+-- the objects that references lend
+abbrev pub lent : List (Bor Obj) → List Obj
+lent objects = map (λ object. object.now) objects

@@ -36,8 +36,8 @@ numbers_in (Route prefix origin) = origin ∷ []
 numbers_in (AsSet name) = numbers_among name
 numbers_in (RouteSet name) = numbers_among name
 
--- a key as bytes in tables of version 1: an AS number has four digits there, and a key with a greater number has no such
--- bytes (profile)
+-- a key as bytes in tables of version 1: an AS number has four digits there, and a key with a greater number has no
+-- such bytes (profile)
 abbrev pub old_key_bytes : Key → Option (List ℕ)
 old_key_bytes key = if list_all has_two_octets (numbers_in key) then Some (bytes_with four_digits key) else None
 

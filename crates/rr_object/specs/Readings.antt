@@ -81,8 +81,8 @@ is_miscounted class fields =
     not (count_of (class_name class) fields == 1)
     || (is_miscounted_in class MntBy fields || (is_miscounted_in class Source fields || is_miscounted_in class Auth fields))
 
--- an item of `members` in an object of a class: as-sets have their own rule, route-sets the other; the other classes stand
--- with route-sets here, but `members` is not read in them (RFC 2622, 5)
+-- an item of `members` in an object of a class: as-sets have their own rule, route-sets the other; the other classes
+-- stand with route-sets here, but `members` is not read in them (RFC 2622, 5)
 abbrev pub member_item : Class → List ℕ → Option (Option Member)
 member_item class.Mntner item = route_set_item item
 member_item class.AsBlock item = route_set_item item

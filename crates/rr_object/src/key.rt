@@ -2,10 +2,10 @@
 
 ghost use Rattle.std.specs.Prelude.{◌≡◌, IfOk};
 ghost use Rattle.rr_object.specs.KeyOrders.{HasKeyParts};
-ghost use Rattle.rr_object.specs.Keys.{class_of};
+ghost use Rattle.rr_object.specs.Keys.{class_of, is_mntner_of, key_of_kind};
 
 use crate::class::Class;
-use rr_number::{AsNumber, AsSpan, Name, Prefix, SetName, Span};
+use rr_number::{AsNumber, AsSpan, Name, Prefix, SetKind, SetName, Span};
 use std::alloc::{AllocError, Global};
 
 /// What names an object among those of the registry. Keys are ordered by the numbers of their classes, then by
@@ -29,6 +29,16 @@ pub enum Key {
 }
 
 impl Key {
+    /// The key of the set of this kind and name.
+    pub fn of_kind(kind: SetKind, name: SetName) -> Key
+        ensures { result ≡ key_of_kind kind name }
+    {
+        match kind {
+            SetKind::AsSet => Key::AsSet(name),
+            SetKind::RouteSet => Key::RouteSet(name),
+        }
+    }
+
     /// The class of the object.
     pub fn class(&self) -> Class
         ensures { result ≡ class_of self.now }
@@ -41,6 +51,16 @@ impl Key {
             Key::Route(_, _) => Class::Route,
             Key::AsSet(_) => Class::AsSet,
             Key::RouteSet(_) => Class::RouteSet,
+        }
+    }
+
+    /// Whether the key is that of the mntner of this name.
+    pub fn is_mntner_of(&self, name: &Name) -> bool
+        ensures { result ≡ is_mntner_of name.now self.now }
+    {
+        match self {
+            Key::Mntner(own) => own == name,
+            _ => false,
         }
     }
 

@@ -40,8 +40,8 @@ impl Key {
         bytes_with(alloc, Digits::Eight, self)
     }
 
-    /// The bytes of the key in tables of version 1; `None` where an AS number in it has more than two octets, which those could
-    /// not write. The error is want of memory.
+    /// The bytes of the key in tables of version 1; `None` where an AS number in it has more than two octets, which
+    /// those could not write. The error is want of memory.
     pub fn old_bytes(&self, alloc: Global) -> Result<Option<Vec<u8>>, AllocError>
         ensures { IfOk result (λ old. option_map (λ bytes. bytes.items) old ≡ old_key_bytes self.now) }
     {

@@ -7,13 +7,13 @@ ghost use Rattle.rr_object.specs.declared.class.Class.TheVariants as class;
 use crate::class::Class;
 use crate::key::Key;
 use crate::lists::words;
-use crate::members::is_as_set;
+use crate::members::is_as_set_kind;
 use rr_number::{AsNumber, AsSpan, Name, Prefix, SetName, Span};
 use std::alloc::{AllocError, Global};
 
 impl Key {
-    /// The key of a class that a text spells, as in a query: for a route its prefix, blanks and its origin. `None` where it
-    /// spells none; the error is want of memory.
+    /// The key of a class that a text spells, as in a query: for a route its prefix, blanks and its origin. `None`
+    /// where it spells none; the error is want of memory.
     #[tactic(auto, unfolding(crate::specs::KeySpellings::key_of_text))]
     pub fn read(alloc: Global, class: Class, text: &[u8]) -> Result<Option<Key>, AllocError>
         ensures { IfOk result (λ key. key ≡ key_of_text class text.now) }
@@ -60,7 +60,7 @@ fn read_as_set(alloc: Global, text: &[u8]) -> Result<Option<SetName>, AllocError
     ensures { IfOk result (λ name. name ≡ as_set_key_of text.now) }
 {
     match SetName::read(alloc, text)? {
-        Some(name) if is_as_set(name.kind()) && !name.is_any() => Ok(Some(name)),
+        Some(name) if is_as_set_kind(name.kind()) && !name.is_any() => Ok(Some(name)),
         _ => Ok(None),
     }
 }
@@ -69,7 +69,7 @@ fn read_route_set(alloc: Global, text: &[u8]) -> Result<Option<SetName>, AllocEr
     ensures { IfOk result (λ name. name ≡ route_set_key_of text.now) }
 {
     match SetName::read(alloc, text)? {
-        Some(name) if !is_as_set(name.kind()) && !name.is_any() => Ok(Some(name)),
+        Some(name) if !is_as_set_kind(name.kind()) && !name.is_any() => Ok(Some(name)),
         _ => Ok(None),
     }
 }

@@ -1,4 +1,5 @@
-//! What follows of an object from how it is read, and of keys from their bytes. Each function states a law and does nothing.
+//! What follows of an object from how it is read, and of keys from their bytes. Each function states a law and does
+//! nothing.
 
 ghost use Rattle.std.specs.Prelude.{◌≡◌, ◌<◌, List, Ok, Some, length, ℕ};
 ghost use Rattle.rr_text.specs.Fields.{Field};

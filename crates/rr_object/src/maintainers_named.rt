@@ -9,8 +9,8 @@ use crate::object::Object;
 use rr_number::Name;
 use std::marker::Model;
 
-/// The maintainers in `mnt-by`, `mnt-lower`, `mnt-routes` and `mbrs-by-ref` of an object, in this order and without `ANY`; one
-/// that is named twice comes twice.
+/// The maintainers in `mnt-by`, `mnt-lower`, `mnt-routes` and `mbrs-by-ref` of an object, in this order and without
+/// `ANY`; one that is named twice comes twice.
 #[derive(Debug, Drop)]
 pub struct MaintainersNamed<'a> {
     maintainers: &'a [Name],

@@ -3,7 +3,7 @@
 ghost use Rattle.std.specs.Prelude.{◌≡◌, ◌≢◌, IfErr, IfOk, None, Some};
 ghost use Rattle.rr_number.specs.SetNames.{set_name_of};
 ghost use Rattle.rr_object.specs.Auths.{auth_item};
-ghost use Rattle.rr_object.specs.Members.{as_set_item, is_as_set, is_in_as_sets, maintainer_item, operated_set, referrer_item, route_set_item, set_item, set_of};
+ghost use Rattle.rr_object.specs.Members.{as_set_item, is_as_set_kind, is_in_as_sets, maintainer_item, operated_set, referrer_item, route_set_item, set_item, member_set_of};
 ghost use Rattle.rr_object.specs.declared.fault.ObjectFault.TheVariants.{BadValue, Memory};
 
 use crate::auth::Auth;
@@ -113,13 +113,13 @@ fn is_in_as_sets(set: &MemberSet) -> bool
 {
     match set {
         MemberSet::AutNum(_) => true,
-        MemberSet::Set(name) => is_as_set(name.kind()),
+        MemberSet::Set(name) => is_as_set_kind(name.kind()),
     }
 }
 
 /// Whether sets of a kind are as-sets.
-pub(crate) fn is_as_set(kind: SetKind) -> bool
-    ensures { result ≡ is_as_set kind }
+pub(crate) fn is_as_set_kind(kind: SetKind) -> bool
+    ensures { result ≡ is_as_set_kind kind }
 {
     match kind {
         SetKind::AsSet => true,
@@ -139,10 +139,10 @@ fn read_set_name(alloc: Global, item: &[u8]) -> Result<SetName, ObjectFault>
 }
 
 /// The AS number or the set that an item names.
-#[tactic(auto, unfolding(crate::specs::Members::set_of))]
+#[tactic(auto, unfolding(crate::specs::Members::member_set_of))]
 fn read_set(alloc: Global, item: &[u8]) -> Result<MemberSet, ObjectFault>
-    ensures good { IfOk result (λ set. set_of item.now ≡ Some set) }
-    ensures bad { IfErr result (λ fault. fault ≢ Memory → (fault ≡ BadValue) × (set_of item.now ≡ None)) }
+    ensures good { IfOk result (λ set. member_set_of item.now ≡ Some set) }
+    ensures bad { IfErr result (λ fault. fault ≢ Memory → (fault ≡ BadValue) × (member_set_of item.now ≡ None)) }
 {
     match AsNumber::read(item) {
         Some(number) => Ok(MemberSet::AutNum(number)),

@@ -52,8 +52,8 @@ impl Model for Object {
 }
 
 impl Object {
-    /// The object that a paragraph is in the registry of this source, whose letter case is ignored. The fault is the first that fits, in
-    /// the order of `ObjectFault`, or want of memory.
+    /// The object that a paragraph is in the registry of this source, whose letter case is ignored. The fault is the
+    /// first that fits, in the order of `ObjectFault`, or want of memory.
     #[tactic(auto, using(crate::proofs::Parsed::keyless))]
     pub fn read(alloc: Global, paragraph: Paragraph, source: &Name) -> Result<Object, ObjectFault>
         ensures ok { IfOk result (λ object. object_of paragraph source.now ≡ Ok object) }

@@ -16,8 +16,8 @@ use crate::lists::values_of;
 use rr_text::{Attribute, Paragraph, Text, meaning};
 use std::alloc::{AllocError, Global};
 
-/// The key of a paragraph: its first attribute names the class, and the value of that is the key; a route's key
-/// is the prefix and the one `origin` (RFC 2622, 2 and 4). `UnknownClass` where there is no attribute or the first names no
+/// The key of a paragraph: its first attribute names the class, and the value of that is the key; a route's key is the
+/// prefix and the one `origin` (RFC 2622, 2 and 4). `UnknownClass` where there is no attribute or the first names no
 /// class, `BadKey` where what it says is no key of the class, or want of memory.
 pub fn key_of(alloc: Global, paragraph: &Paragraph) -> Result<Key, ObjectFault>
     ensures ok { IfOk result (λ key. key_of paragraph.now ≡ Ok key) }

@@ -46,7 +46,8 @@ pub(crate) struct Membership {
     pub(crate) member_of: Vec<SetName>,
 }
 
-/// The source that a paragraph names. It is a fault that it names none, and that an attribute has a name that is kept out.
+/// The source that a paragraph names. It is a fault that it names none, and that an attribute has a name that is kept
+/// out.
 #[tactic(auto, unfolding(crate::specs::Readings::has_bad_text))]
 pub(crate) fn read_source(
     alloc: Global,

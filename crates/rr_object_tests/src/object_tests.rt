@@ -1,6 +1,6 @@
 //! Outside examples of objects, keys and their faults.
 use rr_number::Name;
-use rr_object::{Class, Key, Member, Object, ObjectFault, public, read_auth};
+use rr_object::{Class, Key, Member, Object, ObjectFault, key_of, public, read_auth};
 use rr_text::{Paragraph, next_paragraph, print};
 use std::alloc::Global;
 use std::test::Fail;
@@ -333,6 +333,56 @@ fn some_texts_are_no_keys(rt: HostRuntime) -> Result<(), Fail> {
             Key::read(rt.alloc(), class, text.as_bytes())?.is_none(),
             "{text}"
         );
+    }
+    Ok(())
+}
+
+/// The bytes of the key that the text's paragraph has, and the code of what is read with it, or `ok`; no bytes and the code
+/// of the key's fault where it has none.
+fn read_in_two(alloc: Global, text: &str) -> Result<(Vec<u8>, &'static str), Fail> {
+    let source = Name::read(alloc, b"TEST")?.ok_or("no name")?;
+    let paragraph = paragraph(alloc, text)?;
+    match key_of(alloc, &paragraph) {
+        Ok(key) => {
+            let bytes = key.bytes(alloc)?;
+            match Object::read_with_key(alloc, key, paragraph, &source) {
+                Ok(_) => Ok((bytes, "ok")),
+                Err(fault) => Ok((bytes, fault.code().name())),
+            }
+        }
+        Err(fault) => Ok((Vec::new(alloc), fault.code().name())),
+    }
+}
+
+#[test]
+fn a_key_is_read_before_its_object(rt: HostRuntime) -> Result<(), Fail> {
+    for (text, bytes, code) in [
+        ("person: X\nmnt-by: A-MNT\nsource: TEST\n", "", "E02"),
+        (
+            "route: 10.0.0.0/8\nmnt-by: A-MNT\nsource: TEST\n",
+            "",
+            "E03",
+        ),
+        ("aut-num: as03\nmnt-by: A-MNT\n", "00000003", "E04"),
+        (
+            "as-set: as01:as-x\nmnt-by: any\nsource: TEST\n",
+            "AS1:AS-X",
+            "E05",
+        ),
+        (
+            "as-set: as-x\nmnt-by: A-MNT\nsource: OTHER\n",
+            "AS-X",
+            "E06",
+        ),
+        (
+            "route: 10.0.0.5/8\norigin: AS1\nmnt-by: A-MNT\nsource: TEST\n",
+            "0a000000/08-00000001",
+            "ok",
+        ),
+    ] {
+        let (found, told) = read_in_two(rt.alloc(), text)?;
+        assert_eq!(rt; found.as_slice(), bytes.as_bytes(), "{text}");
+        assert_eq!(rt; told, code, "{text}");
     }
     Ok(())
 }

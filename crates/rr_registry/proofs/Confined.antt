@@ -23,7 +23,8 @@ use Rattle.rr_registry.specs.Runs.{Decides, IsStep, Run, outcome_of}
 use Rattle.rr_registry.specs.declared.outcome.Outcome.{Outcome}
 use Rattle.rr_registry.specs.declared.run.Submitted.{Submitted}
 
--- two registries in which the prefix is held, which agree on it, and the first of which has the mntners of the one in which the run began
+-- two registries in which the prefix is held, which agree on it, and the first of which has the mntners of the one in
+-- which the run began
 record Beside (h : Holding) (begun r q : Reg) : Type 0 where
   sound : Sound r
   sound_too : Sound q

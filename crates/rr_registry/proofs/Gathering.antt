@@ -15,8 +15,9 @@ use Rattle.rr_object.specs.declared.key.Key.TheVariants.{Mntner}
 use Rattle.rr_object.specs.Objects.{Obj, names_of}
 use Rattle.rr_object.specs.KeyOrders.{IsKeyValue, key_cmp}
 use Rattle.rr_auth.specs.Conditions.{crosses_some}
-use Rattle.rr_auth.specs.Registries.{Reg, maintainer, names_nobody, keys_cross, is_mntner_of}
-use Rattle.rr_auth.proofs.KeyLaws.{keys_total}
+use Rattle.rr_object.specs.Keys.{is_mntner_of}
+use Rattle.rr_auth.specs.Registries.{Reg, maintainer, names_nobody, keys_cross}
+use Rattle.rr_object.proofs.KeyLaws.{keys_total}
 use Rattle.rr_auth.proofs.Crossing.{keys_cross_back, crosses_itself}
 use Rattle.rr_auth.proofs.Members.{IsIn, found_in, none_passes}
 use Rattle.rr_auth.proofs.Keeping.{after_insert}

@@ -20,7 +20,7 @@ use Rattle.rr_object.specs.declared.key.Key.{Key}
 use Rattle.rr_object.specs.declared.key.Key.TheVariants.{AsBlock, AsSet, AutNum, Inetnum, Mntner, Route, RouteSet}
 use Rattle.rr_object.specs.KeyOrders.{IsKeyValue, key_cmp}
 use Rattle.rr_object.specs.Objects.{Obj}
-use Rattle.rr_auth.proofs.KeyLaws.{keys_exact, same_key, tied_key}
+use Rattle.rr_object.proofs.KeyLaws.{keys_exact, same_key, tied_key}
 use Rattle.rr_auth.proofs.Members.{none_passes, passing_one, some_passes}
 use Rattle.rr_auth.specs.Registries.{keys_cross}
 use Rattle.rr_book.proofs.Crossing.{none_crosses}

@@ -11,7 +11,7 @@ use Rattle.std.proofs.lemmas.Map.Text.{is_eq-slice_cmp}
 use Rattle.rr_object.specs.declared.key.Key.{Key}
 use Rattle.rr_object.specs.declared.key.Key.TheVariants.{AsBlock, AsSet, AutNum, Inetnum, Mntner, Route, RouteSet}
 use Rattle.rr_object.specs.Objects.{Obj}
-use Rattle.rr_auth.specs.Registries.{is_mntner_of}
+use Rattle.rr_object.specs.Keys.{is_mntner_of}
 
 turned : (b s : Bool) → cond b true s ≡ (s || b)
 turned true true = refl

@@ -30,8 +30,8 @@ own_outcomes h r (s ∷ ss) [] = []
 own_outcomes h r (s ∷ ss) (o ∷ os) =
     if is_foreign h r s.secrets then own_outcomes h r ss os else o ∷ own_outcomes h r ss os
 
--- What the holders submitted, with the outcomes that it had, is by itself a run from where the run began, and both runs end
--- agreeing on what is held, with the prefix held; and where all was foreign, what is held is what it was.
+-- What the holders submitted, with the outcomes that it had, is by itself a run from where the run began, and both runs
+-- end agreeing on what is held, with the prefix held; and where all was foreign, what is held is what it was.
 pub record IsConfined (h : Holding) (before : Reg) (submitted : List Submitted) (outcomes : List Outcome) (ended : Reg) : Type 0 where
   pub alone : Reg
   pub run : Run before (own_submitted h before submitted) (own_outcomes h before submitted outcomes) alone

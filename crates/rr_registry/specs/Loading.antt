@@ -24,8 +24,8 @@ is_key_of_some k os = list_any (λ o. eq_by_cmp key_cmp k o.key) os
 abbrev pub is_crossed_by_some : Key → List Obj → Bool
 is_crossed_by_some k os = list_any (λ o. keys_cross o.key k) os
 
--- The fault of an object that is the n-th of a list: some object before it has its key, or else one before it crosses it
--- (profile).
+-- The fault of an object that is the n-th of a list: some object before it has its key, or else one before it crosses
+-- it (profile).
 abbrev pub clash_of : List Obj → ℕ → Obj → Option LoadFault
 clash_of before n o =
     if is_key_of_some o.key before then Some (Duplicate n)

@@ -13,7 +13,8 @@ RunsJoin =
     (r s t : Reg) (first later : List Submitted) (outcomes others : List Outcome)
     → Run r first outcomes s → Run s later others t → Run r (first ++ later) (outcomes ++ others) t
 
--- What a run of two lists, one behind the other, is made of: a run of the first, and one of the second from where that led.
+-- What a run of two lists, one behind the other, is made of: a run of the first, and one of the second from where that
+-- led.
 pub record IsSplit (r t : Reg) (first later : List Submitted) (outcomes : List Outcome) : Type 0 where
   pub between : Reg
   pub fore : List Outcome

@@ -6,7 +6,7 @@ ghost use Rattle.std.specs.Cmp.Lexicographic.{slice_cmp};
 ghost use Rattle.std.specs.List.{list_any};
 ghost use Rattle.std.specs.Ordering.{nat_cmp};
 ghost use Rattle.rr_object.specs.Objects.{names_of};
-ghost use Rattle.rr_auth.specs.Registries.{is_mntner_of};
+ghost use Rattle.rr_object.specs.Keys.{is_mntner_of};
 ghost use Rattle.rr_registry.specs.Loading.{clash};
 ghost use Rattle.rr_registry.specs.Private.{IsGathered};
 

@@ -70,16 +70,16 @@ impl<B: Keeper> Registry<B> {
         self.book.objects(alloc)
     }
 
-    /// The inetnums and routes whose addresses cover the span, in the order of class and key; equal ones count. The error
-    /// is want of memory.
+    /// The inetnums and routes whose addresses cover the span, in the order of class and key; equal ones count. The
+    /// error is want of memory.
     pub fn covering(&self, alloc: Global, span: Span) -> Result<Vec<&Object>, AllocError>
         ensures { IfOk result (λ found. lent found.items ≡ covering self.now span) }
     {
         self.book.covering(alloc, span)
     }
 
-    /// The inetnums and routes whose addresses lie inside the span, in the order of class and key; equal ones count. The
-    /// error is want of memory.
+    /// The inetnums and routes whose addresses lie inside the span, in the order of class and key; equal ones count.
+    /// The error is want of memory.
     pub fn inside(&self, alloc: Global, span: Span) -> Result<Vec<&Object>, AllocError>
         ensures { IfOk result (λ found. lent found.items ≡ inside self.now span) }
     {
@@ -94,8 +94,8 @@ impl<B: Keeper> Registry<B> {
     }
 
     /// Does with the item what its verdict says, over this registry and these secrets (RFC 2725, 9; profile). Where
-    /// memory is wanting the item is refused with E90 and nothing changes. What the holders of a prefix hold stays as it
-    /// was where none of the secrets is theirs.
+    /// memory is wanting the item is refused with E90 and nothing changes. What the holders of a prefix hold stays as
+    /// it was where none of the secrets is theirs.
     pub fn apply(&mut self, alloc: Global, secrets: &Secrets, item: Item) -> Outcome
         ensures step { IsStep self.old secrets.now item result self.new }
         ensures leaves { LeavesOthers self.old secrets.now self.new }

@@ -1,11 +1,8 @@
 -- The order of keys, and the tests by which SQL tells them.
 use Rattle.std.proofs.Common.{◌≡◌, ℕ, pos, Bool, true, false, ◌&&◌, List, [], ◌∷◌, Some, refl, sym, ap, ◌∙◌, Ordering, Less, Equal, Greater, nat_cmp, int_cmp, arith}
 use Rattle.std.proofs.lemmas.Bool.Decides.{nat_tests}
-use Rattle.std.specs.Prelude.{◌==◌, if◌then◌else◌}
-use Rattle.std.specs.Ordering.{eq_by_cmp, is_eq, ordering_then}
-use Rattle.std.specs.Cmp.{IsTotalOrder, then_total, on_total, nat_cmp_total, Equal-is}
-use Rattle.std.specs.Cmp.Lexicographic.{slice_cmp, nat_list_cmp_total}
-use Rattle.std.specs.FinMap.{IsAntisymmetric, nat_cmp-IsAntisymmetric, slice_cmp-IsAntisymmetric}
+use Rattle.std.specs.Ordering.{is_eq, ordering_then}
+use Rattle.std.specs.Cmp.Lexicographic.{slice_cmp}
 use Rattle.sqlite_value.specs.declared.value.Value.{Value}
 use Rattle.sqlite_value.specs.declared.value.Value.TheVariants.{Int, Text}
 use Rattle.sqlite_value.specs.declared.keys.Collation.TheVariants.{Binary}
@@ -14,61 +11,19 @@ use Rattle.sqlite_value.proofs.OrderLemmas.{value_cmp-Int, value_cmp-Text}
 use Rattle.sqlite_sql.specs.Ops.{binary, is_null, is_true}
 use Rattle.sqlite_sql.specs.declared.ops.BinaryOp.TheVariants.{Compare}
 use Rattle.sqlite_sql.specs.declared.ops.CompareOp.TheVariants.{Eq}
-use Rattle.rr_number.proofs.NumberOrders.{ties}
 use Rattle.rr_object.specs.Classes.{class_number}
 use Rattle.rr_object.specs.Keys.{class_of}
 use Rattle.rr_object.specs.declared.key.Key.{Key}
-use Rattle.rr_object.specs.declared.key.Key.TheVariants.{Mntner, AsBlock, AutNum, Inetnum, Route, AsSet, RouteSet}
-use Rattle.rr_object.specs.KeyOrders.{HasKeyParts, IsKeyValue, class_and_bytes_cmp, key_cmp, words_of}
+use Rattle.rr_object.specs.KeyOrders.{HasKeyParts, IsKeyValue, class_and_bytes_cmp, key_cmp}
 use Rattle.rr_object.specs.KeyTexts.{key_bytes}
 use Rattle.rr_object.specs.OldKeys.{old_key_bytes}
 use Rattle.rr_object.proofs.DerivedOrder.{derived_order}
 use Rattle.rr_object.proofs.KeyBounds.{has_parts}
+pub use Rattle.rr_object.proofs.KeyLaws.{keys_exact}
 use Rattle.rr_object.proofs.KeysByBytes.{ordered_by_bytes, old_bytes_keep_order}
 use Rattle.rr_rows.specs.Entries.{Entry}
 use Rattle.rr_rows.specs.Maps.{KeyForm, this_form}
 use Rattle.rr_rows.proofs.EntryLemmas.{is_at}
-
-pub keys_total : IsTotalOrder key_cmp
-keys_total = then_total (on_total (λ k. class_number (class_of k)) nat_cmp_total) (on_total words_of nat_list_cmp_total)
-
-first : List ℕ → ℕ
-first [] = 0
-first (x ∷ xs) = x
-
-rest : List ℕ → List ℕ
-rest [] = []
-rest (x ∷ xs) = xs
-
--- the key of a class's number and of words
-key_from : ℕ → List ℕ → Key
-key_from n ws =
-    if n == 1 then Mntner ws else (
-    if n == 2 then AsBlock (record { first = first ws; last = first (rest ws) }) else (
-    if n == 3 then AutNum (first ws) else (
-    if n == 4 then Inetnum (record { first = first ws; last = first (rest ws) }) else (
-    if n == 5 then Route (record { address = first ws; length = first (rest ws) }) (first (rest (rest ws))) else (
-    if n == 6 then AsSet ws else RouteSet ws)))))
-
-from_parts : (k : Key) → key_from (class_number (class_of k)) (words_of k) ≡ k
-unfolding key_from first rest
-from_parts (Mntner n) = refl
-from_parts (AsBlock s) = refl
-from_parts (AutNum n) = refl
-from_parts (Inetnum s) = refl
-from_parts (Route p n) = refl
-from_parts (AsSet n) = refl
-from_parts (RouteSet n) = refl
-
--- only equal keys tie
-pub keys_exact : IsAntisymmetric key_cmp
-keys_exact a b e =
-    let same_class = nat_cmp-IsAntisymmetric (class_number (class_of a)) (class_number (class_of b)) ((ties _ _ e).0) in
-    let same_words = slice_cmp-IsAntisymmetric nat_cmp-IsAntisymmetric (words_of a) (words_of b) ((ties _ _ e).1) in
-    sym (from_parts a) ∙ (λ i. key_from (same_class i) (same_words i)) ∙ from_parts b
-
-pub same_key : (a b : Key) → eq_by_cmp key_cmp a b ≡ true → a ≡ b
-same_key a b e = keys_exact a b ((Equal-is (key_cmp a b)).0 e)
 
 -- the texts of keys in this form stand in the order of the keys of a class
 abbrev pub KeepsOrder : KeyForm → Type 0

@@ -17,11 +17,11 @@ use Rattle.rr_object.specs.KeyOrders.{IsKeyValue, key_cmp}
 use Rattle.rr_object.specs.Objects.{Obj}
 use Rattle.rr_object.specs.Readings.{obj_of}
 use Rattle.rr_object.proofs.KeyBounds.{obj_key_formed}
+use Rattle.rr_object.proofs.KeyLaws.{keys_exact, keys_total, same_key}
 use Rattle.rr_object.proofs.Parsed.{of_any_source}
 use Rattle.rr_rows.specs.Contents.{contents}
 use Rattle.rr_rows.specs.Entries.{AreRowsOf, entry_of, object_row}
 use Rattle.rr_rows.specs.Maps.{AreApart, AreInOrder, AreStored, HasRows, HasVersion, IsKeyed, IsObject, IsObjectOf, this_version}
-use Rattle.rr_rows.proofs.MapKeys.{keys_exact, keys_total, same_key}
 use Rattle.rr_rows.proofs.MapEntries.{first_part, is_less, second_part, values_with_new}
 use Rattle.rr_rows.proofs.MapRows.{each_value, keys_told, put_keyed, rows_permuted}
 

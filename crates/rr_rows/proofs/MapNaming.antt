@@ -3,7 +3,7 @@ use Rattle.std.proofs.Common.{◌≡◌, ◌≢◌, inl, inr, ℕ, pos, Bool, tr
 use Rattle.std.specs.Prelude.{if◌then◌else◌}
 use Rattle.std.specs.List.{AllByRecursion, list_any}
 use Rattle.std.specs.Ordering.{eq_by_cmp, is_eq}
-use Rattle.std.specs.Cmp.{Equal-is, eq_by_cmp_equiv, tied_itself}
+use Rattle.std.specs.Cmp.{eq_by_cmp_equiv}
 use Rattle.std.specs.Cmp.Lexicographic.{nat_list_cmp_total, slice_cmp}
 use Rattle.std.proofs.lemmas.Grind.{flat_map-append}
 use Rattle.std.specs.FinMap.{FinMap, values}
@@ -21,11 +21,12 @@ use Rattle.rr_object.specs.KeyOrders.{IsKeyValue, key_cmp}
 use Rattle.rr_object.specs.KeyTexts.{key_bytes}
 use Rattle.rr_object.specs.Objects.{Obj, names_of}
 use Rattle.rr_object.proofs.KeyBounds.{has_parts}
+use Rattle.rr_object.proofs.KeyLaws.{same_key, tied_key}
 use Rattle.rr_rows.specs.Contents.{are_joined, contents, named_values, pointed}
 use Rattle.rr_rows.specs.Entries.{Entry, entry_of, named_rows, object_row, once}
 use Rattle.rr_rows.specs.Maps.{AreApart, AreInOrder, HasRows, IsObject}
 use Rattle.rr_rows.proofs.EntryLemmas.{is_at}
-use Rattle.rr_rows.proofs.MapKeys.{is_same, keys_total, same_key, texts_tie}
+use Rattle.rr_rows.proofs.MapKeys.{is_same, texts_tie}
 use Rattle.rr_rows.proofs.MapRows.{keys_formed, same_at}
 use Rattle.rr_rows.proofs.MapLists.{IsIn, in_itself, in_order_apart, of_each, same_objects, values_are_objects, values_in_order}
 
@@ -78,9 +79,6 @@ filter_both p false xs = filter_none (λ x. p x && false) xs (each xs)
     each [] = tt
     each (y ∷ ys) = (never (p y), each ys)
 
-tied : (k : Key) → eq_by_cmp key_cmp k k ≡ true
-tied k = (Equal-is (key_cmp k k)).1 (tied_itself keys_total k)
-
 untied : (a b : Key) → a ≢ b → eq_by_cmp key_cmp a b ≡ false
 untied a b apart =
     elim (eq_by_cmp key_cmp a b) as (λ t. eq_by_cmp key_cmp a b ≡ t → t ≡ false) [ true ↦ λ t. absurd (apart (same_key a b t)) | false ↦ λ t. refl ] refl
@@ -89,7 +87,7 @@ untied a b apart =
 alone : (o : Obj) (os : List Obj) → AreApart os → IsIn o os → filter (λ x. eq_by_cmp key_cmp o.key x.key) os ≡ o ∷ []
 alone o [] apart is = absurd is
 alone o (y ∷ ys) apart (inl same) =
-    let here : eq_by_cmp key_cmp o.key y.key ≡ true = ap (λ (x : Obj). eq_by_cmp key_cmp o.key x.key) (sym same) ∙ tied o.key in
+    let here : eq_by_cmp key_cmp o.key y.key ≡ true = ap (λ (x : Obj). eq_by_cmp key_cmp o.key x.key) (sym same) ∙ tied_key o.key in
     let none = filter_none (λ x. eq_by_cmp key_cmp o.key x.key) ys (all_weaker _ _ (λ x other. untied o.key x.key (λ e. other (ap (λ (z : Obj). z.key) (sym same) ∙ e))) ys apart.0) in
     rw (here, none) (ap (λ x. x ∷ []) (sym same))
 alone o (y ∷ ys) apart (inr is) =

@@ -14,11 +14,12 @@ use Rattle.rr_object.specs.KeyOrders.{HasKeyParts, IsKeyValue, key_cmp}
 use Rattle.rr_object.specs.KeyTexts.{key_bytes}
 use Rattle.rr_object.specs.Objects.{Obj}
 use Rattle.rr_object.proofs.KeyBounds.{has_parts}
+use Rattle.rr_object.proofs.KeyLaws.{keys_exact, keys_total, same_key}
 use Rattle.rr_rows.specs.Contents.{settings}
 use Rattle.rr_rows.specs.Entries.{Entry, AreRowsOf, IsPut, IsTaken, entry_of, object_row, named_rows}
 use Rattle.rr_rows.specs.Maps.{HasVersion, IsKeyed, IsObject, Puts, Takes}
 use Rattle.rr_rows.proofs.EntryLemmas.{is_at, put_rows, taken_rows, without_key}
-use Rattle.rr_rows.proofs.MapKeys.{at_ties, keys_exact, keys_total, same_key, ordered_as_bytes}
+use Rattle.rr_rows.proofs.MapKeys.{at_ties, ordered_as_bytes}
 use Rattle.rr_rows.proofs.MapEntries.{each_entry, entries_without, values_with}
 
 -- the rows of entries are those of the same entries in another order

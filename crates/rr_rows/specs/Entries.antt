@@ -23,7 +23,8 @@ abbrev pub once : List (List ℕ) → List (List ℕ)
 once [] = []
 once (name ∷ names) = if list_any (bytes_eq name) names then once names else name ∷ once names
 
--- the class's number, the bytes of the key, the canonical text, and each maintainer once, however often it is named (profile)
+-- the class's number, the bytes of the key, the canonical text, and each maintainer once, however often it is named
+-- (profile)
 abbrev pub entry_of : Obj → Entry
 entry_of object = record { class = class_number (class_of object.key); key = key_bytes object.key; body = canonical object.paragraph; names = once (names_of object) }
 

@@ -32,8 +32,8 @@ pub record IsFilled (entries : List Entry) (db : Database) : Type 0 where
   pub rows : AreRowsOf entries db
   pub version : HasVersion this_version db
 
--- an object as readers make it: of good attributes, and what these read as in a registry of any source (RFC 2622, 2 to 6;
--- RFC 2725, 10)
+-- an object as readers make it: of good attributes, and what these read as in a registry of any source (RFC 2622, 2 to
+-- 6; RFC 2725, 10)
 pub record IsObject (object : Obj) : Type 0 where
   pub fields : AreFields object.paragraph
   pub read : obj_of object.paragraph ≡ Ok object
@@ -79,8 +79,8 @@ KeyForm = Key → Option (List ℕ)
 abbrev pub entry_in : KeyForm → Obj → Entry
 entry_in form object = record (entry_of object) { key = unwrap_or (form object.key) [] }
 
--- the tables hold the rows of a list of objects of one source and no others, with keys in this form and of this version; no
--- two of the objects have the same key (profile)
+-- the tables hold the rows of a list of objects of one source and no others, with keys in this form and of this
+-- version; no two of the objects have the same key (profile)
 pub record AreStoredIn (form : KeyForm) (number : List ℕ) (source : List ℕ) (objects : List Obj) (db : Database) : Type 0 where
   pub rows : AreRowsOf (map (entry_in form) objects) db
   pub version : HasVersion number db

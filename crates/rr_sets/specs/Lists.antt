@@ -1,17 +1,14 @@
 -- What the lists of a registry's objects have.
-use Rattle.std.specs.Prelude.{◌≡◌, ◌↔◌, ℕ, List, Contains, Some, map}
+use Rattle.std.specs.Prelude.{◌≡◌, ◌↔◌, ℕ, List, Contains, Some}
 use Rattle.std.proofs.Common.{Bor}
 use Rattle.std.specs.FinMap.{get}
 use Rattle.rr_auth.specs.Registries.{Reg}
 use Rattle.rr_graph.specs.Chain.{HasNoRepeats}
 use Rattle.rr_number.specs.Prefixes.{PrefixParts}
 use Rattle.rr_object.specs.Objects.{Obj}
+pub use Rattle.rr_object.specs.Objects.{lent}
 use Rattle.rr_object.specs.declared.key.Key.{Key}
 use Rattle.rr_object.specs.declared.key.Key.TheVariants.{AutNum, Route}
-
--- the objects that references lend
-abbrev pub lent : List (Bor Obj) → List Obj
-lent objects = map (λ object. object.now) objects
 
 -- The list lends exactly the objects that have the property, each once.
 pub record ListsOnce (P : Obj → Type 0) (objects : List (Bor Obj)) : Type 0 where

@@ -1,5 +1,5 @@
--- The orders of sets and of ranges tell them apart. These are proofs; they stand here since ghost items of src, by which
--- the graph of route-sets promises its orders, name them.
+-- The orders of sets and of ranges tell them apart. These are proofs; they stand here since ghost items of src, by
+-- which the graph of route-sets promises its orders, name them.
 use Rattle.std.proofs.Common.{ap}
 use Rattle.std.proofs.lemmas.Map.Lookups.{CmpEqualImpliesEq, exact_bytes, exact_unsigned}
 use Rattle.rr_number.proofs.NumberOrders.{ranges_ordered}

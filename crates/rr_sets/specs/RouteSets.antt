@@ -13,20 +13,15 @@ use Rattle.rr_number.specs.declared.operator.Operator.{Operator}
 use Rattle.rr_number.specs.declared.operator.Operator.TheVariants.{Plain}
 use Rattle.rr_number.specs.declared.set_kind.SetKind.{SetKind}
 use Rattle.rr_number.specs.declared.set_kind.SetKind.TheVariants.{AsSet, RouteSet}
+use Rattle.rr_object.specs.Keys.{key_of_kind}
 use Rattle.rr_object.specs.Objects.{Obj}
 use Rattle.rr_object.specs.Parts.{ByRefParts}
-use Rattle.rr_object.specs.declared.key.Key.{Key}
 use Rattle.rr_object.specs.declared.key.Key.TheVariants as key
 use Rattle.rr_object.specs.declared.member.Member.TheVariants as member
 use Rattle.rr_object.specs.declared.member.MemberSet.{MemberSet}
 use Rattle.rr_object.specs.declared.member.MemberSet.TheVariants.{AutNum, Set}
 use Rattle.rr_sets.specs.AsSets.{IsDirect, ListsSet}
 use Rattle.rr_sets.specs.SetObjects.{takes}
-
--- The key of a set: as-sets and route-sets are told apart by their names (RFC 2622, 5).
-abbrev pub key_of_kind : SetKind → List ℕ → Key
-key_of_kind AsSet name = key.AsSet name
-key_of_kind RouteSet name = key.RouteSet name
 
 -- The registered set of a name (RFC 2622, 5).
 abbrev pub registered_set : Reg → List ℕ → Option Obj
@@ -63,8 +58,8 @@ IsOriginated r n range = (prefix : PrefixParts) × (o : Obj) × (get r (key.Rout
 abbrev pub ListsRange : Reg → List ℕ → RangeParts → Type 0
 ListsRange r name range = (o : Obj) × (registered_set r name ≡ Some o) × Contains o.members (member.Range range)
 
--- A registered route names the set in its `member-of`, and `mbrs-by-ref` takes its word; the range is that of its prefix
--- alone (RFC 2622, 5; that an as-set takes routes: profile).
+-- A registered route names the set in its `member-of`, and `mbrs-by-ref` takes its word; the range is that of its
+-- prefix alone (RFC 2622, 5; that an as-set takes routes: profile).
 abbrev pub IsTaken : Reg → ByRefParts → List ℕ → RangeParts → Type 0
 IsTaken r by_ref name range = (prefix : PrefixParts) × (n : ℕ) × (route : Obj) × (get r (key.Route prefix n) ≡ Some route) × Contains route.member_of name × IsTrue (takes by_ref route) × (range ≡ bare prefix)
 

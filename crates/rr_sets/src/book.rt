@@ -19,8 +19,8 @@ pub trait SetBook: Book {
     fn routes(&self, alloc: Global) -> Result<Vec<&Object>, AllocError>
         ensures { IfOk result (λ objects. ListsOnce (IsRoute (Self.contents self.now)) objects.items) };
 
-    /// Lists the objects whose `member-of` names the set, each once, in any order. An expansion asks for those of each set
-    /// that it reaches and that has `mbrs-by-ref`, so a book should not look at all its objects for them.
+    /// Lists the objects whose `member-of` names the set, each once, in any order. An expansion asks for those of each
+    /// set that it reaches and that has `mbrs-by-ref`, so a book should not look at all its objects for them.
     fn referrers(&self, alloc: Global, name: &SetName) -> Result<Vec<&Object>, AllocError>
         ensures { IfOk result (λ objects. ListsOnce (IsReferrer (Self.contents self.now) name.now) objects.items) };
 }

@@ -17,8 +17,8 @@ use std::alloc::{AllocError, Global};
 use std::collections::BTreeSet;
 
 /// The objects that belong to the set of the name by their own word, where `by_ref` is its `mbrs-by-ref`. The registry
-/// is not asked where that is empty, and else once for `referrers`. The steps outside the book are O(n log n) for n names in
-/// `by_ref` and in `mnt-by` of the referrers.
+/// is not asked where that is empty, and else once for `referrers`. The steps outside the book are O(n log n) for n
+/// names in `by_ref` and in `mnt-by` of the referrers.
 pub fn belonging<'a, B: SetBook>(
     alloc: Global,
     book: &'a B,

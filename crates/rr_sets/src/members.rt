@@ -10,7 +10,8 @@ use thiserror::Error;
 pub struct Members<T> {
     /// What is in the set, in ascending order.
     pub found: Vec<T>,
-    /// The names of sets that are reached and not registered, in ascending order; `AS-ANY` and `RS-ANY` always stand for something.
+    /// The names of sets that are reached and not registered, in ascending order; `AS-ANY` and `RS-ANY` always stand
+    /// for something.
     pub missing: Vec<SetName>,
 }
 

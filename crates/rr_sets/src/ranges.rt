@@ -6,13 +6,13 @@ ghost use Rattle.std.specs.Option.{option_copied};
 ghost use Rattle.rr_number.specs.Ranges.{RangeParts, bare};
 ghost use Rattle.rr_sets.specs.KeyParts.{range_of_key};
 ghost use Rattle.rr_sets.specs.MemberParts.{range_listed};
-ghost use Rattle.rr_sets.specs.RouteSets.{HasRange, IsAnyRange, IsByReference, IsTaken, ListsRange, has_set, key_of_kind, registered_set};
+ghost use Rattle.rr_sets.specs.RouteSets.{HasRange, IsAnyRange, IsByReference, IsTaken, ListsRange, has_set, registered_set};
 ghost use Rattle.rr_object.specs.declared.member.MemberSet.{MemberSet};
 
 use crate::book::SetBook;
 use crate::by_reference::belonging;
 use crate::origins::route_of;
-use rr_number::{Prefix, Range, SetKind, SetName};
+use rr_number::{Prefix, Range, SetName};
 use rr_object::{ByRef, Key, Member, Object};
 use std::alloc::{AllocError, Global};
 
@@ -81,18 +81,8 @@ pub fn registered_set<'a, B: SetBook>(
 ) -> Result<Option<&'a Object>, AllocError>
     ensures { IfOk result (λ object. option_copied object ≡ registered_set (B.contents book.now) name.now) }
 {
-    let key = key_of_kind(name.kind(), name.copy(alloc)?);
+    let key = Key::of_kind(name.kind(), name.copy(alloc)?);
     Ok(book.get(&key))
-}
-
-/// The key of the set of this name and kind.
-fn key_of_kind(kind: SetKind, name: SetName) -> Key
-    ensures { result ≡ key_of_kind kind name }
-{
-    match kind {
-        SetKind::AsSet => Key::AsSet(name),
-        SetKind::RouteSet => Key::RouteSet(name),
-    }
 }
 
 /// Whether there is a set of the name.

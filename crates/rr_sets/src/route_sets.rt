@@ -23,19 +23,19 @@ use rr_object::MemberSet;
 use std::alloc::{AllocError, Global};
 
 /// Lists the ranges of prefixes that a set stands for, of either kind, `AS-ANY` and `RS-ANY` among them: those that it
-/// lists, those of the routes of its ASes and of the routes that it has by `mbrs-by-ref`, and those of the sets to which
-/// it refers, each put through the operator of the reference unless this drops it (RFC 2622, 5). The names of sets
-/// reached that are neither registered nor `AS-ANY` or `RS-ANY` are missing.
+/// lists, those of the routes of its ASes and of the routes that it has by `mbrs-by-ref`, and those of the sets to
+/// which it refers, each put through the operator of the reference unless this drops it (RFC 2622, 5). The names of
+/// sets reached that are neither registered nor `AS-ANY` or `RS-ANY` are missing.
 ///
-/// The fault is `NoSuchSet` where the name itself is such a one, else `TooMany` exactly where more than `limit` sets are
-/// reached, ASes among them, or more than `limit` pairs of one of these and a range that it stands for; want of memory
-/// aside.
+/// The fault is `NoSuchSet` where the name itself is such a one, else `TooMany` exactly where more than `limit` sets
+/// are reached, ASes among them, or more than `limit` pairs of one of these and a range that it stands for; want of
+/// memory aside.
 ///
-/// The steps outside the book are O((P + E) log P). P counts the routes of the registry, the sets reached, the members of
-/// each, listed or by reference, the names in its `mbrs-by-ref` and in `mnt-by` of its referrers, and those pairs; E
-/// counts for each pair the references to its set: m route-sets that each list all the others and the same V ranges have
-/// mV pairs and about m²V references to them. The book is asked at most three times for the `referrers` of each set
-/// reached that has `mbrs-by-ref`.
+/// The steps outside the book are O((P + E) log P). P counts the routes of the registry, the sets reached, the members
+/// of each, listed or by reference, the names in its `mbrs-by-ref` and in `mnt-by` of its referrers, and those pairs; E
+/// counts for each pair the references to its set: m route-sets that each list all the others and the same V ranges
+/// have mV pairs and about m²V references to them. The book is asked at most three times for the `referrers` of each
+/// set reached that has `mbrs-by-ref`.
 pub fn expand_route_set<B: SetBook>(
     alloc: Global,
     book: &B,

@@ -1,4 +1,5 @@
 pub mod CallLemmas
+pub mod AddLemmas
 pub mod AddingLemmas
 pub mod FillLemmas
 pub mod BodyLemmas
@@ -7,6 +8,7 @@ pub mod CommitLemmas
 pub mod LookLemmas
 pub mod ObjectLemmas
 pub mod NamingLemmas
+pub mod OnceLemmas
 pub mod OrderLemmas
 pub mod SortedLemmas
 pub mod ShownLemmas

@@ -3,18 +3,12 @@ use Rattle.std.proofs.Common.{◌≡◌, Bool, true, false, List, [], ◌∷◌,
 use Rattle.std.specs.Prelude.{⊤}
 use Rattle.std.specs.Ordering.{is_lt}
 use Rattle.std.specs.List.{AllByRecursion}
-use Rattle.std.specs.Cmp.{IsTotalOrder, then_total, on_total, nat_cmp_total}
-use Rattle.std.specs.Cmp.Lexicographic.{nat_list_cmp_total}
 use Rattle.sqlite_trees.proofs.ListLemmas.{all_weaker}
 use Rattle.rr_object.specs.Objects.{Obj}
-use Rattle.rr_object.specs.Classes.{class_number}
-use Rattle.rr_object.specs.Keys.{class_of}
-use Rattle.rr_object.specs.KeyOrders.{key_cmp, words_of}
+use Rattle.rr_object.specs.KeyOrders.{key_cmp}
+use Rattle.rr_object.proofs.KeyLaws.{keys_total}
 use Rattle.rr_rows.specs.Maps.{AreInOrder}
 use Rattle.rr_store.specs.Reading.{is_below}
-
-pub keys_total : IsTotalOrder key_cmp
-keys_total = then_total (on_total (λ k. class_number (class_of k)) nat_cmp_total) (on_total words_of nat_list_cmp_total)
 
 less : (o : Ordering) → IsTrue (is_lt o) → o ≡ Less
 less Less h = refl

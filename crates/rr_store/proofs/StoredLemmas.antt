@@ -1,9 +1,11 @@
 -- When the tables hold the rows of objects of one source, and when of none.
-use Rattle.std.proofs.Common.{◌≡◌, ◌≢◌, ℕ, pos, Bool, true, false, List, [], ◌∷◌, map, Option, Some, None, refl, sym, ap, subst, ◌∙◌, Ordering, Less, Equal, Greater, is_gt, IsPermutation}
-use Rattle.std.specs.Prelude.{is_some, unwrap_or}
+use Rattle.std.proofs.Common.{◌≡◌, ◌≢◌, ℕ, ◌<◌, ◌^◌, pos, Bool, true, false, List, [], ◌∷◌, map, Option, Some, None, Result, Ok, Err, IfErr, refl, sym, ap, subst, ◌∙◌, arith, codes, Ordering, Less, Equal, Greater, is_gt, IsPermutation}
+use Rattle.std.specs.Prelude.{Contains, decimal, is_some, slice_index_or, unwrap_or}
+use Rattle.std.specs.Fmt.{digits}
 use Rattle.std.specs.List.{AllByRecursion, flat_map}
 use Rattle.std.specs.Ordering.{ordering_then}
 use Rattle.std.specs.Cmp.{IsTotalOrder}
+use Rattle.std.proofs.lemmas.Fmt.{decimal_injective}
 use Rattle.std.proofs.lemmas.List.Sorted.{IsPermutation-cons, IsPermutation-map, IsPermutation-middle, IsPermutation-refl, IsPermutation-sym, IsPermutation-trans}
 use Rattle.sqlite_value.specs.declared.keys.Collation.TheVariants.{Binary}
 use Rattle.sqlite_value.specs.Keys.{ascending}
@@ -18,15 +20,15 @@ use Rattle.rr_object.specs.Objects.{Obj}
 use Rattle.rr_object.specs.KeyOrders.{key_cmp, IsKeyValue}
 use Rattle.rr_object.specs.Classes.{class_number}
 use Rattle.rr_object.specs.Keys.{class_of}
-use Rattle.rr_rows.specs.Contents.{IsTidy, by_two, contents, object_values, settings}
+use Rattle.rr_rows.specs.Contents.{IsTidy, by_two, contents, object_values, setting, settings}
 use Rattle.rr_rows.specs.Entries.{named_rows, object_row}
 use Rattle.rr_rows.specs.Maps.{AreApart, AreInOrder, AreStoredIn, HasVersion, IsObjectOf, KeyForm, entry_in}
 use Rattle.rr_rows.proofs.MapKeys.{KeepsOrder, keys_exact, old_form_keeps_order, this_form_keeps_order}
 use Rattle.rr_rows.proofs.MapLists.{formed_key, in_order_apart, of_any}
-use Rattle.rr_store.specs.Checks.{HoldsNone, HoldsObjects, IsVersionFault}
-use Rattle.rr_store.specs.Opening.{HoldNone, SaysOther}
+use Rattle.rr_store.specs.Checks.{HoldsNone, HoldsObjects, IsVersionFault, SaysVersion}
+use Rattle.rr_store.specs.Opening.{HoldNone, SaysNoOther, SaysOther}
 use Rattle.rr_store.specs.Reading.{AreRead}
-use Rattle.rr_store.specs.Versions.{form_of}
+use Rattle.rr_store.specs.Versions.{form_of, version_number, version_text}
 use Rattle.rr_store.specs.declared.fault.OpenFault.{OpenFault}
 use Rattle.rr_store.specs.declared.fault.OpenFault.TheVariants.{WrongVersion, BadRow, Store, Memory}
 use Rattle.rr_store.specs.declared.version.Version.{Version}
@@ -75,6 +77,41 @@ says_other version db (WrongVersion n) told number is = let same : n ≡ number 
 says_other version db BadRow told number is = absurd (cc)
 says_other version db Store told number is = absurd (cc)
 says_other version db Memory told number is = absurd (cc)
+
+-- tables whose version is told amiss say no other
+pub no_other_told : (version : Version) (db : Database) (fault : OpenFault) → IsVersionFault version (settings (db.trees 0)) fault → fault ≡ BadRow → SaysNoOther version db
+no_other_told version db (WrongVersion n) told is = absurd (cc)
+no_other_told version db BadRow told is = record { only = told.no_other }
+no_other_told version db Store told is = absurd (cc)
+no_other_told version db Memory told is = absurd (cc)
+
+number_text : (version : Version) → version_text version ≡ decimal (version_number version)
+unfolding digits
+number_text Old = refl
+number_text This = refl
+
+number_low : (version : Version) → version_number version < 2 ^ 64
+number_low Old = omega arith
+number_low This = omega arith
+
+said_alone : (name text other : List ℕ) → Contains (setting name text ∷ []) (setting name other) → text ≡ other
+said_alone name text other says =
+    let first : says.0 ≡ 0 = omega (arith, says.1) in
+    let same : setting name text ≡ setting name other = subst (λ (k : ℕ). slice_index_or (setting name text ∷ []) k (setting name other) ≡ setting name other) first says.2 in
+    cc
+
+-- and so do tables whose one setting is the version
+pub only_said : (version : Version) (db : Database) → HasVersion (version_text version) db → SaysNoOther version db
+only_said version db is = record {
+  only = λ number low says.
+      let alone = said_alone (codes "version") (version_text version) (decimal number) (subst (SaysVersion number) is says) in
+      decimal_injective number (version_number version) (omega (arith, low)) (number_low version) (sym alone ∙ number_text version);
+}
+
+-- what holds anyway holds of any fault
+pub of_any_fault : {X E : Type 0} (r : Result X E) (P : E → Type 0) → ((e : E) → P e) → IfErr r P
+of_any_fault (Ok x) P all = tt
+of_any_fault (Err e) P all = all e
 
 module _ (form : KeyForm) (source : List ℕ) where
   pub read_rows : (rows : List Row) (objects : List Obj) → AreRead form source rows objects → rows ≡ map (λ o. object_row (entry_in form o)) objects

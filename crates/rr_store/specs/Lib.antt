@@ -1,3 +1,4 @@
+pub mod Adding
 pub mod Checks
 pub mod Empty
 pub mod Faults

@@ -11,7 +11,7 @@ ghost use Rattle.rr_rows.specs.Maps.{AreOldStored, IsFilled};
 ghost use Rattle.rr_store.specs.Kept.{IsLeft};
 ghost use Rattle.rr_store.specs.Lent.{lent};
 ghost use Rattle.rr_store.specs.Migrating.{HasNoRoot, IsMigrated, IsRewritten, has_mntner, is_mntner_of};
-ghost use Rattle.rr_store.specs.Opening.{IsNotOld};
+ghost use Rattle.rr_store.specs.Opening.{IsNotOld, IsOfNoneButOld};
 ghost use Rattle.rr_store.specs.declared.fault.MigrateFault.TheVariants.{BadRow, NoRoot, WrongVersion};
 
 use crate::fault::{MigrateFault, StoreFault};
@@ -147,6 +147,7 @@ pub(crate) fn migrate_rows<S: Alter>(
     ensures err { HasCleanDisk (state S.Store conn.new) → IsTrue (state S.Store conn.new).is_open → OnErr result ((state S.Store conn.new).now ≡ (state S.Store conn.old).now) }
     ensures wrong_version { HasCleanDisk (state S.Store conn.new) → IfErr result (λ fault. (number : ℕ) → fault ≡ WrongVersion number → IsNotOld number (state S.Store conn.old).now) }
     ensures bad_row { HasCleanDisk (state S.Store conn.new) → IfErr result (λ fault. fault ≡ BadRow → (objects : List Obj) → AreOldStored source.now objects (state S.Store conn.old).now → ⊥) }
+    ensures no_other_said { HasCleanDisk (state S.Store conn.new) → IfErr result (λ fault. fault ≡ BadRow → IsOfNoneButOld (state S.Store conn.old).now) }
     ensures no_root { HasCleanDisk (state S.Store conn.new) → IfErr result (λ fault. fault ≡ NoRoot → HasNoRoot root.now source.now (state S.Store conn.old).now) }
     ensures crash { Survives (state S.Store conn.old) (state S.Store conn.new) (IsLeft (state S.Store conn.old).is_open (IsMigrated root.now source.now (state S.Store conn.old).now)) }
 {

@@ -1,13 +1,13 @@
 //! The maintainers that an object names, each once.
 
-ghost use Rattle.std.specs.Prelude.{◌≡◌, ◌++◌, IfOk, OnOk, bytes_eq, map};
-ghost use Rattle.std.specs.List.{list_any};
+ghost use Rattle.std.specs.Prelude.{◌≡◌, ◌++◌, IfOk, OnOk, map};
 ghost use Rattle.rr_object.specs.Objects.{names_of};
 ghost use Rattle.rr_rows.specs.Entries.{once};
 
 use rr_number::Name;
 use rr_object::{Grant, Object};
 use std::alloc::{AllocError, Global};
+use std::collections::BTreeSet;
 
 fn push_names(all: &mut Vec<Name>, alloc: Global, names: &[Name]) -> Result<(), AllocError>
     ensures { OnOk result (all.new.items ≡ all.old.items ++ names.now) }
@@ -39,26 +39,18 @@ fn named(alloc: Global, object: &Object) -> Result<Vec<Name>, AllocError>
     Ok(all)
 }
 
-fn is_among(names: &[Name], name: &Name) -> bool
-    ensures { result ≡ list_any (bytes_eq name.now) names.now }
-{
-    names
-        .iter()
-        .any(|other| name.as_bytes() == other.as_bytes())
-}
-
-/// The names of a list, each once.
+/// The names of a list, each once: a name stands where it is last named.
 fn each_once(alloc: Global, names: &[Name]) -> Result<Vec<Name>, AllocError>
     ensures { IfOk result (λ kept. kept.items ≡ once names.now) }
 {
+    let mut seen = BTreeSet::new(alloc);
     let mut kept = Vec::new(alloc);
-    let mut rest = names;
-    while let [first, later @ ..] = rest {
-        if !is_among(later, first) {
-            kept.push(first.copy(alloc)?)?;
+    for name in names.iter().rev() {
+        if seen.insert(name)? {
+            kept.push(name.copy(alloc)?)?;
         }
-        rest = later;
     }
+    kept.reverse();
     Ok(kept)
 }
 

@@ -6,7 +6,7 @@ ghost use Rattle.sqlite.specs.Held.{state};
 ghost use Rattle.sqlite.specs.State.{HasCleanDisk, IsUnchanged, Survives};
 ghost use Rattle.rr_rows.specs.Contents.{IsTidy};
 ghost use Rattle.rr_rows.specs.Maps.{AreInOrder, AreStoredIn, HasVersion, IsObjectOf};
-ghost use Rattle.rr_store.specs.Opening.{HoldNone, SaysOther};
+ghost use Rattle.rr_store.specs.Opening.{HoldNone, SaysNoOther, SaysOther};
 ghost use Rattle.rr_store.specs.Versions.{form_of, version_text};
 ghost use Rattle.rr_store.specs.declared.fault.OpenFault.TheVariants.{BadRow, WrongVersion};
 
@@ -60,6 +60,7 @@ fn read_tidy<S: Alter>(
     ensures err { HasCleanDisk (state S.Store conn.new) → IsTrue (state S.Store conn.new).is_open → OnErr result ((state S.Store conn.new).now ≡ (state S.Store conn.old).now) }
     ensures wrong_version { HasCleanDisk (state S.Store conn.new) → IfErr result (λ fault. (number : ℕ) → fault ≡ WrongVersion number → SaysOther version number (state S.Store conn.old).now) }
     ensures bad_row { HasCleanDisk (state S.Store conn.new) → IfErr result (λ fault. fault ≡ BadRow → HoldNone version source.now (state S.Store conn.old).now) }
+    ensures no_other_said { HasCleanDisk (state S.Store conn.new) → IfErr result (λ fault. fault ≡ BadRow → SaysNoOther version (state S.Store conn.old).now) }
     ensures crash { Survives (state S.Store conn.old) (state S.Store conn.new) (λ _. (state S.Store conn.old).is_open ≡ false) }
 {
     check_version(conn, version)?;
@@ -82,6 +83,7 @@ pub(crate) fn stored_objects<S: Alter>(
     ensures err { HasCleanDisk (state S.Store conn.new) → IsTrue (state S.Store conn.new).is_open → OnErr result ((state S.Store conn.new).now ≡ (state S.Store conn.old).now) }
     ensures wrong_version { HasCleanDisk (state S.Store conn.new) → IfErr result (λ fault. (number : ℕ) → fault ≡ WrongVersion number → SaysOther version number (state S.Store conn.old).now) }
     ensures bad_row { HasCleanDisk (state S.Store conn.new) → IfErr result (λ fault. fault ≡ BadRow → HoldNone version source.now (state S.Store conn.old).now) }
+    ensures no_other_said { HasCleanDisk (state S.Store conn.new) → IfErr result (λ fault. fault ≡ BadRow → SaysNoOther version (state S.Store conn.old).now) }
     ensures crash { Survives (state S.Store conn.old) (state S.Store conn.new) (λ _. (state S.Store conn.old).is_open ≡ false) }
 {
     match is_tidy(conn) {

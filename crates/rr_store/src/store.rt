@@ -1,6 +1,6 @@
 //! The store.
 
-ghost use Rattle.std.specs.Prelude.{◌≡◌, ℕ, List, false, filter, map, IfErr, IfOk, IsTrue, OnErr, OnOk};
+ghost use Rattle.std.specs.Prelude.{◌≡◌, ℕ, List, [], ◌∷◌, false, filter, map, IfErr, IfOk, IsTrue, OnErr, OnOk};
 ghost use Rattle.sqlite.specs.Held.{state};
 ghost use Rattle.sqlite.specs.State.{HasCleanDisk, IsUnchanged, Survives};
 ghost use Rattle.sqlite_trees.specs.Tree.{Trees};
@@ -10,15 +10,16 @@ ghost use Rattle.std.specs.List.{AllByRecursion};
 ghost use Rattle.rr_object.specs.KeyOrders.{key_cmp};
 ghost use Rattle.rr_object.specs.Keys.{class_of};
 ghost use Rattle.rr_object.specs.KeyTexts.{key_bytes};
-ghost use Rattle.rr_rows.specs.Entries.{IsPut, IsTaken, TreesOf, entry_of};
+ghost use Rattle.rr_rows.specs.Entries.{IsAdded, IsPut, IsTaken, TreesOf, entry_of};
 ghost use Rattle.rr_rows.specs.Made.{HasRow, IsVacant};
 ghost use Rattle.rr_object.specs.Objects.{Obj};
 ghost use Rattle.rr_rows.specs.Maps.{AreInOrder, AreOldStored, AreStored, HasRows, IsFilled, IsObjectOf, Puts, Takes};
 ghost use Rattle.rr_rows.specs.Tables.{HasTables};
+ghost use Rattle.rr_store.specs.Adding.{AddsTo};
 ghost use Rattle.rr_store.specs.Kept.{IsLeft};
 ghost use Rattle.rr_store.specs.Lent.{lent};
 ghost use Rattle.rr_store.specs.Migrating.{HasNoRoot, IsMigrated};
-ghost use Rattle.rr_store.specs.Opening.{IsOtherVersion, IsNotOld, IsReadable, IsUnreadable};
+ghost use Rattle.rr_store.specs.Opening.{IsNotOld, IsOfNoOther, IsOfNoneButOld, IsOtherVersion, IsReadable, IsUnreadable};
 ghost use Rattle.rr_store.specs.Reading.{names_it};
 ghost use Rattle.rr_store.specs.declared.fault.CreateFault.TheVariants.{NotEmpty};
 ghost use Rattle.rr_store.specs.declared.fault.MigrateFault.TheVariants.{BadRow as UnreadRow, NoRoot, WrongVersion as NotOld};
@@ -32,7 +33,7 @@ use crate::migrating::migrate_rows;
 use crate::names::maintainers_of;
 use crate::opening::stored_objects;
 use crate::version::Version;
-use crate::writes::{put_entry, remove_entry};
+use crate::writes::{insert_entry, put_entry, remove_entry};
 use rr_number::Name;
 use rr_object::{Key, Object};
 use rr_text::print;
@@ -100,6 +101,7 @@ impl<S: Alter> Store<S> {
         ensures crash { IfOk result (λ opened. Survives (state S.Store conn) (state S.Store opened.0) (λ _. (state S.Store conn).is_open ≡ false)) }
         ensures wrong_version { IfErr result (λ fault. (number : ℕ) → fault.0 ≡ WrongVersion number → HasCleanDisk (state S.Store fault.1) → IsOtherVersion number (state S.Store conn).now) }
         ensures bad_row { IfErr result (λ fault. fault.0 ≡ BadRow → HasCleanDisk (state S.Store fault.1) → IsUnreadable source.now (state S.Store conn).now) }
+        ensures no_other_said { IfErr result (λ fault. fault.0 ≡ BadRow → HasCleanDisk (state S.Store fault.1) → IsOfNoOther (state S.Store conn).now) }
         ensures err { IfErr result (λ fault. HasCleanDisk (state S.Store fault.1) → IsTrue (state S.Store fault.1).is_open → (state S.Store fault.1).now ≡ (state S.Store conn).now) }
         ensures err_crash { IfErr result (λ fault. Survives (state S.Store conn) (state S.Store fault.1) (λ _. (state S.Store conn).is_open ≡ false)) }
         ensures err_autocommit { IfErr result (λ fault. fault.1.in_transaction ≡ false) }
@@ -123,6 +125,7 @@ impl<S: Alter> Store<S> {
         ensures crash { IfOk result (λ store. Survives (state S.Store conn) (state S.Store store) (λ _. (state S.Store conn).is_open ≡ false)) }
         ensures wrong_version { IfErr result (λ fault. (number : ℕ) → fault.0 ≡ WrongVersion number → HasCleanDisk (state S.Store fault.1) → IsOtherVersion number (state S.Store conn).now) }
         ensures bad_row { IfErr result (λ fault. fault.0 ≡ BadRow → HasCleanDisk (state S.Store fault.1) → IsUnreadable source.now (state S.Store conn).now) }
+        ensures no_other_said { IfErr result (λ fault. fault.0 ≡ BadRow → HasCleanDisk (state S.Store fault.1) → IsOfNoOther (state S.Store conn).now) }
         ensures err { IfErr result (λ fault. HasCleanDisk (state S.Store fault.1) → IsTrue (state S.Store fault.1).is_open → (state S.Store fault.1).now ≡ (state S.Store conn).now) }
         ensures err_crash { IfErr result (λ fault. Survives (state S.Store conn) (state S.Store fault.1) (λ _. (state S.Store conn).is_open ≡ false)) }
         ensures err_autocommit { IfErr result (λ fault. fault.1.in_transaction ≡ false) }
@@ -149,6 +152,7 @@ impl<S: Alter> Store<S> {
         ensures err { HasCleanDisk (state S.Store conn.new) → IsTrue (state S.Store conn.new).is_open → OnErr result ((state S.Store conn.new).now ≡ (state S.Store conn.old).now) }
         ensures wrong_version { HasCleanDisk (state S.Store conn.new) → IfErr result (λ fault. (number : ℕ) → fault ≡ WrongVersion number → IsNotOld number (state S.Store conn.old).now) }
         ensures bad_row { HasCleanDisk (state S.Store conn.new) → IfErr result (λ fault. fault ≡ BadRow → (objects : List Obj) → AreOldStored source.now objects (state S.Store conn.old).now → ⊥) }
+        ensures no_other_said { HasCleanDisk (state S.Store conn.new) → IfErr result (λ fault. fault ≡ BadRow → IsOfNoneButOld (state S.Store conn.old).now) }
         ensures crash { Survives (state S.Store conn.old) (state S.Store conn.new) (λ _. (state S.Store conn.old).is_open ≡ false) }
     {
         stored_objects(conn, alloc, source, Version::Old)
@@ -170,6 +174,7 @@ impl<S: Alter> Store<S> {
         ensures err { IfErr result (λ e. HasCleanDisk (state S.Store e.1) → IsTrue (state S.Store e.1).is_open → (state S.Store e.1).now ≡ (state S.Store conn).now) }
         ensures wrong_version { IfErr result (λ e. (number : ℕ) → HasCleanDisk (state S.Store e.1) → e.0 ≡ NotOld number → IsNotOld number (state S.Store conn).now) }
         ensures bad_row { IfErr result (λ e. HasCleanDisk (state S.Store e.1) → e.0 ≡ UnreadRow → (objects : List Obj) → AreOldStored source.now objects (state S.Store conn).now → ⊥) }
+        ensures no_other_said { IfErr result (λ e. HasCleanDisk (state S.Store e.1) → e.0 ≡ UnreadRow → IsOfNoneButOld (state S.Store conn).now) }
         ensures no_root { IfErr result (λ e. HasCleanDisk (state S.Store e.1) → e.0 ≡ NoRoot → HasNoRoot root.now source.now (state S.Store conn).now) }
         ensures err_autocommit { IfErr result (λ e. e.1.in_transaction ≡ false) }
         ensures err_crash { IfErr result (λ e. Survives (state S.Store conn) (state S.Store e.1) (IsLeft (state S.Store conn).is_open (IsMigrated root.now source.now (state S.Store conn).now))) }
@@ -206,6 +211,38 @@ impl<S: Alter> Store<S> {
         let body = print(alloc, object.paragraph())?;
         let names = maintainers_of(alloc, object)?;
         match put_entry(&mut self.conn, class, &key, body.as_slice(), &names) {
+            Ok(()) => Ok(()),
+            Err(_) => Err(StoreFault::Store),
+        }
+    }
+
+    /// Adds the rows of an object whose key no stored one has: those of its key are not looked for, as [`Store::put`] does. That some
+    /// stand is a fault of the store. After a fault the rows are as they were.
+    pub fn add(&mut self, alloc: Global, object: &Object) -> Result<(), StoreFault>
+        ensures ok { HasCleanDisk (state S.Store self.new) → OnOk result (IsAdded (entry_of object.now ∷ []) (state S.Store self.old).now (state S.Store self.new).now) }
+        ensures adds { HasCleanDisk (state S.Store self.new) → OnOk result (AddsTo object.now.key object.now (state S.Store self.old).now (state S.Store self.new).now) }
+        ensures is_open { HasCleanDisk (state S.Store self.new) → OnOk result (IsTrue (state S.Store self.new).is_open) }
+        ensures err { HasCleanDisk (state S.Store self.new) → IsTrue (state S.Store self.new).is_open → OnErr result ((state S.Store self.new).now ≡ (state S.Store self.old).now) }
+        ensures crash { Survives (state S.Store self.old) (state S.Store self.new) (TreesOf (IsAdded (entry_of object.now ∷ []) (state S.Store self.old).now)) }
+        ensures crash_adds { Survives (state S.Store self.old) (state S.Store self.new) (TreesOf (AddsTo object.now.key object.now (state S.Store self.old).now)) }
+    {
+        object.key_is_well_formed();
+        object.is_read_from_its_paragraph();
+        let _attributes = object.paragraph().attributes();
+        self.add_rows_of(alloc, object)
+    }
+
+    fn add_rows_of(&mut self, alloc: Global, object: &Object) -> Result<(), StoreFault>
+        ensures ok { HasCleanDisk (state S.Store self.new) → OnOk result (IsAdded (entry_of object.now ∷ []) (state S.Store self.old).now (state S.Store self.new).now) }
+        ensures is_open { HasCleanDisk (state S.Store self.new) → OnOk result (IsTrue (state S.Store self.new).is_open) }
+        ensures err { HasCleanDisk (state S.Store self.new) → IsTrue (state S.Store self.new).is_open → OnErr result ((state S.Store self.new).now ≡ (state S.Store self.old).now) }
+        ensures crash { Survives (state S.Store self.old) (state S.Store self.new) (TreesOf (IsAdded (entry_of object.now ∷ []) (state S.Store self.old).now)) }
+    {
+        let class = object.key().class().number();
+        let key = object.key().bytes(alloc)?;
+        let body = print(alloc, object.paragraph())?;
+        let names = maintainers_of(alloc, object)?;
+        match insert_entry(&mut self.conn, class, &key, body.as_slice(), &names) {
             Ok(()) => Ok(()),
             Err(_) => Err(StoreFault::Store),
         }

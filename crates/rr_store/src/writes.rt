@@ -1,12 +1,12 @@
 //! The writes of a store, each one transaction.
 
-ghost use Rattle.std.specs.Prelude.{◌≡◌, false, IsTrue, OnErr, OnOk};
+ghost use Rattle.std.specs.Prelude.{◌≡◌, [], ◌∷◌, false, IsTrue, OnErr, OnOk};
 ghost use Rattle.sqlite.specs.State.{HasCleanDisk, Survives};
 ghost use Rattle.sqlite.specs.Held.{state};
 ghost use Rattle.rr_rows.specs.Contents.{IsTidy};
-ghost use Rattle.rr_rows.specs.Entries.{IsPut, IsTaken, TreesOf};
+ghost use Rattle.rr_rows.specs.Entries.{IsAdded, IsPut, IsTaken, TreesOf};
 
-use crate::bodies::{put_rows, remove_rows};
+use crate::bodies::{add_rows, put_rows, remove_rows};
 use rr_number::Name;
 use sqlite::{Alter, Connection, Error};
 
@@ -30,6 +30,29 @@ pub(crate) fn put_entry<S: Alter>(
     let _settled = conn.is_autocommit();
     let mut tx = conn.transaction();
     put_rows(&mut tx, class, key, body, names)?;
+    tx.commit()
+}
+
+/// Adds the rows of an object. After an error the rows are as they were; a stop leaves those that stood before or those with
+/// this one.
+pub(crate) fn insert_entry<S: Alter>(
+    conn: &mut Connection<S>,
+    class: u8,
+    key: &[u8],
+    body: &[u8],
+    names: &[Name],
+) -> Result<(), Error>
+    requires autocommit { conn.old.in_transaction ≡ false }
+    requires tidy { HasCleanDisk (state S.Store conn.old) → IsTrue (state S.Store conn.old).is_open → IsTidy (state S.Store conn.old).now }
+    ensures autocommit { conn.new.in_transaction ≡ false }
+    ensures ok { HasCleanDisk (state S.Store conn.new) → OnOk result (IsAdded (record { class = class; key = key.now; body = body.now; names = names.now } ∷ []) (state S.Store conn.old).now (state S.Store conn.new).now) }
+    ensures is_open { HasCleanDisk (state S.Store conn.new) → OnOk result (IsTrue (state S.Store conn.new).is_open) }
+    ensures err { HasCleanDisk (state S.Store conn.new) → IsTrue (state S.Store conn.new).is_open → OnErr result (((state S.Store conn.new).now ≡ (state S.Store conn.old).now) × IsTrue (state S.Store conn.old).is_open) }
+    ensures crash { Survives (state S.Store conn.old) (state S.Store conn.new) (TreesOf (IsAdded (record { class = class; key = key.now; body = body.now; names = names.now } ∷ []) (state S.Store conn.old).now)) }
+{
+    let _settled = conn.is_autocommit();
+    let mut tx = conn.transaction();
+    add_rows(&mut tx, class, key, body, names)?;
     tx.commit()
 }
 

@@ -4,7 +4,6 @@ pub mod Refusals
 pub mod Endings
 pub mod Reports
 pub mod ItemReaders
-pub mod Ledgers
 pub mod Served
 pub mod Submissions
 pub mod SubmissionLaws

@@ -58,7 +58,8 @@ lines_from number (item ∷ items) [] = []
 lines_from number (item ∷ items) (outcome ∷ outcomes) =
     item_line number item.request.key outcome ++ lines_from (number + 1) items outcomes
 
--- what ends a report where the ledger comes to a halt at an item behind so many: the line of the item, and the last line
+-- what ends a report where the ledger comes to a halt at an item behind so many: the line of the item, and the last
+-- line
 unfoldable pub stop_lines : ℕ → Option Key → List ℕ
 stop_lines count key = item_line (count + 1) key (Refused E91) ++ last_line Stopped count
 

@@ -65,7 +65,7 @@ abbrev pub item_key : Item → Key
 item_key (Submit object) = object.key
 item_key (Delete key) = key
 
--- what is asked is tied to what is shown and to the source: the key of an item is the one that is shown, and the item is as it is
--- read in the source
+-- what is asked is tied to what is shown and to the source: the key of an item is the one that is shown, and the item
+-- is as it is read in the source
 abbrev pub IsTied : List ℕ → Request → Type 0
 IsTied source request = IfOk request.action (λ item. (request.key ≡ Some (item_key item)) × IsReadIn source item)

@@ -33,8 +33,8 @@ pub record ServesAll (source : List ℕ) (entries : List (Result (List Field) Te
   pub counted : done.items ≡ length items
   pub refused : done.refused ≡ refusals outcomes
 
--- the line of the last item could not be written: it was decided, the items told before it had been decided and their lines
--- written whole
+-- the line of the last item could not be written: it was decided, the items told before it had been decided and their
+-- lines written whole
 pub record ServesSome (source : List ℕ) (entries : List (Result (List Field) TextFault)) (old new : Reg) (before after : Told) (count : ℕ) : Type 0 where
   pub told : List Asked
   pub last : Asked
@@ -52,8 +52,8 @@ abbrev pub HaltsAt : {L : Type 0} → Ghosts L → L → List (List ℕ) → Res
 HaltsAt g old secrets (Ok item) new = g.Halts old secrets item new
 HaltsAt g old secrets (Err code) new = ⊥
 
--- the ledger came to a halt at the last item: the items told before it had been decided and their lines written whole, and it has
--- its line with the code E91 and the last line behind that, as far as they could be written
+-- the ledger came to a halt at the last item: the items told before it had been decided and their lines written whole,
+-- and it has its line with the code E91 and the last line behind that, as far as they could be written
 pub record ServesHalted {L : Type 0} (g : Ghosts L) (source : List ℕ) (entries : List (Result (List Field) TextFault)) (old new : L) (before after : Told) (count : ℕ) : Type 0 where
   pub told : List Asked
   pub last : Asked
@@ -68,8 +68,8 @@ pub record ServesHalted {L : Type 0} (g : Ghosts L) (source : List ℕ) (entries
   pub ends : TakesSome between after (stop_lines count last.request.key)
   pub counted : count ≡ length told
 
--- a front of the text was read, and at most one block behind it, whose bytes are passed unread: the front ends with a blank line, so
--- that its entries are the first of the text whatever follows, or with the text (profile)
+-- a front of the text was read, and at most one block behind it, whose bytes are passed unread: the front ends with a
+-- blank line, so that its entries are the first of the text whatever follows, or with the text (profile)
 pub record ReadsFront (start now : Told) (front : List ℕ) : Type 0 where
   pub left : List ℕ
   pub gives : Gives start now (front ++ left)
@@ -95,8 +95,8 @@ pub record ServesStopped {L : Type 0} (g : Ghosts L) (source : List ℕ) (start 
   pub reads : ReadsFront start now front
   pub serves : ServesHalted g source (entries front) old new before after count
 
--- all of the items, with what is counted; those up to the one whose line could not be written, with their number; or those before
--- the one at which the ledger came to a halt
+-- all of the items, with what is counted; those up to the one whose line could not be written, with their number; or
+-- those before the one at which the ledger came to a halt
 abbrev pub Serves : {L : Type 0} → Ghosts L → List ℕ → Told → Told → L → L → Told → Told → Result (Done × ReadEnd) Stop → Type 0
 Serves g source start now old new before after (Ok served) = ServesRead source start now served.1 (g.registry old) (g.registry new) before after served.0
 Serves g source start now old new before after (Err (Unwritten count)) = ServesUnwritten source start now (g.registry old) (g.registry new) before after count

@@ -44,8 +44,8 @@ pub record IsDone (source : List ℕ) (sides : Sides) (done : Done) : Type 0 whe
   pub counted : done.items ≡ length items
   pub refused : done.refused ≡ refusals outcomes
 
--- a read failed or there were too many: the items before that were decided and their lines written whole, and the last line was
--- written or cut short
+-- a read failed or there were too many: the items before that were decided and their lines written whole, and the last
+-- line was written or cut short
 pub record IsReadFault (source : List ℕ) (sides : Sides) (count : ℕ) : Type 0 where
   pub text : List ℕ
   pub end : ReadEnd
@@ -65,7 +65,8 @@ abbrev pub IsLineFault : List ℕ → Sides → ℕ → Type 0
 IsLineFault source sides count =
     ServesUnwritten source sides.source_before sides.source_after sides.before sides.after sides.sink_before sides.sink_after count
 
--- the text was read to its end, and a write failed in the last line: all items were decided and their lines written whole
+-- the text was read to its end, and a write failed in the last line: all items were decided and their lines written
+-- whole
 pub record IsLastLineFault (source : List ℕ) (sides : Sides) (count : ℕ) : Type 0 where
   pub text : List ℕ
   pub items : List Asked

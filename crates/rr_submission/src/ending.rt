@@ -43,8 +43,8 @@ impl Ending {
     }
 }
 
-/// Writes the last line of a report on this many items, whole in the first call of the writer. After a fault the writer has
-/// taken a front of it.
+/// Writes the last line of a report on this many items, whole in the first call of the writer. After a fault the writer
+/// has taken a front of it.
 pub fn write_last_line<W: Sink>(writer: &mut W, ending: Ending, items: u64) -> io::Result<()>
     ensures writes { Writes (W.told writer.old) (W.told writer.new) (last_line ending items) result }
     ensures aside { W.aside writer.new ≡ W.aside writer.old }

@@ -16,8 +16,8 @@ use rr_object::Code;
 use rr_text::{Attribute, Paragraph, Paragraphs, TextFault};
 use std::alloc::{AllocError, Global};
 
-/// What the next item of the text that this reader gives asks; the error is how the reading ended, where there is no more.
-/// The secrets of the paragraphs that it passes are added to `secrets`. Want of memory is the refusal E90.
+/// What the next item of the text that this reader gives asks; the error is how the reading ended, where there is no
+/// more. The secrets of the paragraphs that it passes are added to `secrets`. Want of memory is the refusal E90.
 pub fn next_item<R: Source>(
     alloc: Global,
     paragraphs: &mut Paragraphs,

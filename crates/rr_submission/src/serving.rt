@@ -27,10 +27,10 @@ use std::alloc::Global;
 use std::io;
 
 /// Submits what the reader gives to a ledger with a registry of this source, and writes the report. The items are read,
-/// decided and reported one by one, in order, in memory that does not grow with the text. Where the line of an item cannot
-/// be written, that item and those before it stand, and those behind it are not read. Where the ledger comes to a halt at
-/// an item, those before it stand, the item has a line with the code E91, and a last line follows. What the holders of a
-/// prefix hold is changed by nobody else.
+/// decided and reported one by one, in order, in memory that does not grow with the text. Where the line of an item
+/// cannot be written, that item and those before it stand, and those behind it are not read. Where the ledger comes to
+/// a halt at an item, those before it stand, the item has a line with the code E91, and a last line follows. What the
+/// holders of a prefix hold is changed by nobody else.
 pub fn submit<L: Ledger, R: Source, W: Sink>(
     alloc: Global,
     ledger: &mut L,

@@ -1,8 +1,7 @@
 //! What a stranger can do to a held prefix, and to what its holder may add.
 use crate::desks::{expect_report, submitted};
 use crate::texts::{HELD, HOLDERS};
-use rr_number::Span;
-use rr_text::print;
+use rr_answer::answer_to;
 use std::alloc::Global;
 use std::test::Fail;
 
@@ -112,15 +111,13 @@ fn the_holder_may_add_as_if_no_stranger_had_come(rt: HostRuntime) -> Result<(), 
     expect_report(&rt, &[HOLDERS, HELD, HOLDING, HOSTILE, AFTERWARDS], report)
 }
 
-/// The texts of the inetnums and routes inside the held prefix, after these submissions.
+/// What is answered to `more` about the held prefix, after these submissions.
 fn held_after(alloc: Global, submissions: &[&str]) -> Result<Vec<u8>, Fail> {
-    let prefix = Span::read(b"10.1.0.0/16").ok_or("no span")?;
-    let (desk, _) = submitted(alloc, submissions)?;
-    let mut texts = Vec::new(alloc);
-    for object in &desk.registry().inside(alloc, prefix)? {
-        texts.extend_from_slice(print(alloc, object.paragraph())?.as_slice())?;
+    let (registry, _) = submitted(alloc, submissions)?;
+    match answer_to(alloc, &registry, 10_000, b"more 10.1.0.0/16") {
+        Ok(text) => Ok(text),
+        Err(fault) => Ok(Vec::from_slice(alloc, fault.line())?),
     }
-    Ok(texts)
 }
 
 #[test]
@@ -129,10 +126,12 @@ fn a_held_prefix_stays_as_it_was(rt: HostRuntime) -> Result<(), Fail> {
 inetnum:        10.1.0.0/16
 mnt-by:         A-MNT
 source:         TEST
+
 route:          10.1.0.0/16
 origin:         AS1
 mnt-by:         A-MNT
 source:         TEST
+
 ";
     let before = held_after(rt.alloc(), &[HOLDERS, HELD, HOLDING])?;
     assert_eq!(rt; before.as_slice(), wanted.as_bytes());

@@ -1,6 +1,8 @@
-//! Desks and registries of given texts.
-use rr_desk::{PlainDesk, Settings};
-use rr_io::Counted;
+//! Registries in memory, to which texts are submitted, and registries of given texts.
+use crate::book_tests::plain_report;
+use rr_desk::{DeskFault, Done, Settings, opening_registry};
+use rr_index::IndexedBook;
+use rr_io::{Counted, Sink, Source};
 use rr_object::Object;
 use rr_registry::{LoadFault, PlainBook, Registry};
 use rr_text::next_paragraph;
@@ -8,20 +10,49 @@ use std::alloc::Global;
 use std::process::Abort;
 use std::test::Fail;
 
-/// The desk after these submissions, and the report on the last of them.
-pub fn submitted(alloc: Global, submissions: &[&str]) -> Result<(PlainDesk, Vec<u8>), Fail> {
-    let mut desk = PlainDesk::new(alloc)?;
-    let mut report = Vec::new(alloc);
-    for text in submissions {
-        let mut reader = Counted::new(text.as_bytes());
-        let mut writer = Counted::new(Vec::new(alloc));
-        desk.submit(alloc, &mut reader, &mut writer)?;
-        report = writer.into_inner();
-    }
-    Ok((desk, report))
+/// The registry of the objects that one of the built-in settings opens with.
+pub fn opened(alloc: Global) -> Result<Registry<IndexedBook>, Fail> {
+    let settings = Settings::built_in(alloc)?;
+    Ok(opening_registry(alloc, &settings)?)
 }
 
-/// Asserts that the report on the last of these submissions to one desk is this.
+/// Submits what the reader gives to a registry of the built-in settings, and writes the report.
+pub fn submit<R: Source, W: Sink>(
+    alloc: Global,
+    registry: &mut Registry<IndexedBook>,
+    reader: &mut R,
+    writer: &mut W,
+) -> Result<Result<Done, DeskFault>, Fail> {
+    let settings = Settings::built_in(alloc)?;
+    let done = rr_submission::submit(alloc, registry, settings.source(), reader, writer);
+    Ok(done)
+}
+
+/// The report on what the reader gives, once it was submitted.
+pub fn report<R: Source>(
+    alloc: Global,
+    registry: &mut Registry<IndexedBook>,
+    reader: &mut R,
+) -> Result<Vec<u8>, Fail> {
+    let mut writer = Counted::new(Vec::new(alloc));
+    let _done = submit(alloc, registry, reader, &mut writer)??;
+    Ok(writer.into_inner())
+}
+
+/// The registry after these submissions, and the report on the last of them.
+pub fn submitted(
+    alloc: Global,
+    submissions: &[&str],
+) -> Result<(Registry<IndexedBook>, Vec<u8>), Fail> {
+    let mut registry = opened(alloc)?;
+    let mut last = Vec::new(alloc);
+    for text in submissions {
+        last = report(alloc, &mut registry, &mut Counted::new(text.as_bytes()))?;
+    }
+    Ok((registry, last))
+}
+
+/// Asserts that the report on the last of these submissions to one registry is this, and to one in the plain book too.
 pub fn expect_report<R: Abort + AllocGlobal>(
     rt: &R,
     submissions: &[&str],
@@ -29,6 +60,8 @@ pub fn expect_report<R: Abort + AllocGlobal>(
 ) -> Result<(), Fail> {
     let (_, last) = submitted(rt.alloc(), submissions)?;
     assert_eq!(rt; str::from_utf8(last.as_slice())?, report);
+    let plain = plain_report(rt.alloc(), submissions)?;
+    assert_eq!(rt; str::from_utf8(plain.as_slice())?, report);
     Ok(())
 }
 

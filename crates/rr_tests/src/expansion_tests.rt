@@ -89,7 +89,8 @@ fn ranges_of<B: SetBook>(
     Ok(text)
 }
 
-/// Asserts what sets stand for under these limits, where the objects of the text are a list and where they are submitted.
+/// Asserts what sets stand for under these limits, where the objects of the text are a list and where they are
+/// submitted.
 fn expect_members<R: Abort + AllocGlobal>(
     rt: &R,
     text: &str,
@@ -97,16 +98,16 @@ fn expect_members<R: Abort + AllocGlobal>(
 ) -> Result<(), Fail> {
     let alloc = rt.alloc();
     let list = format!(in alloc; "{MAINTAINERS}{text}")?;
-    let Ok(registry) = loaded(alloc, list.as_str())? else {
+    let Ok(listed) = loaded(alloc, list.as_str())? else {
         return Err("no registry".into());
     };
     let submission = format!(in alloc; "{SECRETS}{text}")?;
-    let (desk, _) = submitted(alloc, &[HOLDERS, submission.as_str()])?;
+    let (decided, _) = submitted(alloc, &[HOLDERS, submission.as_str()])?;
     for (asked, name, limit, want) in cases {
-        let listed = members(alloc, registry.book(), *asked, name, *limit)?;
-        assert_eq!(rt; listed.as_str(), *want, "{name} {limit}");
-        let decided = members(alloc, desk.registry().book(), *asked, name, *limit)?;
-        assert_eq!(rt; decided.as_str(), *want, "{name} {limit}");
+        let of_list = members(alloc, listed.book(), *asked, name, *limit)?;
+        assert_eq!(rt; of_list.as_str(), *want, "{name} {limit}");
+        let of_items = members(alloc, decided.book(), *asked, name, *limit)?;
+        assert_eq!(rt; of_items.as_str(), *want, "{name} {limit}");
     }
     Ok(())
 }
@@ -365,8 +366,8 @@ fn referring(alloc: Global, texts: &[&str]) -> Result<String, Fail> {
         submission.push_str(text)?;
         submission.push_str("\n")?;
     }
-    let (desk, _) = submitted(alloc, &[submission.as_str()])?;
-    let book = desk.registry().book();
+    let (registry, _) = submitted(alloc, &[submission.as_str()])?;
+    let book = registry.book();
     let numbers = members(alloc, book, Asked::Numbers, "AS-R", 1)?;
     let ranges = members(alloc, book, Asked::Ranges, "RS-R", 2)?;
     Ok(format!(in alloc; "{numbers}| {ranges}")?)

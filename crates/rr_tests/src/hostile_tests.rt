@@ -1,8 +1,8 @@
 //! Thousands of texts of a seeded generator, each submitted whole and in pieces.
+use crate::desks::{opened, report};
 use rand_core::utils::NextWord;
 use rand_pcg::Pcg32;
-use rr_desk::PlainDesk;
-use rr_io::{Counted, Cut, Source};
+use rr_io::{Counted, Cut};
 use std::alloc::Global;
 use std::test::Fail;
 
@@ -77,31 +77,24 @@ fn is_blank(line: &[u8]) -> bool {
         .all(|byte| matches!(*byte, b' ' | b'\t' | b'\r'))
 }
 
-/// The report on what the reader gives.
-fn report<R: Source>(alloc: Global, desk: &mut PlainDesk, reader: &mut R) -> Result<Vec<u8>, Fail> {
-    let mut writer = Counted::new(Vec::new(alloc));
-    desk.submit(alloc, reader, &mut writer)?;
-    Ok(writer.into_inner())
-}
-
 #[test]
 fn any_text_has_its_report_however_it_is_cut(rt: HostRuntime) -> Result<(), Fail> {
     let alloc = rt.alloc();
     let mut words = Pcg32::new(42, 54);
-    let mut desks = [
-        PlainDesk::new(alloc)?,
-        PlainDesk::new(alloc)?,
-        PlainDesk::new(alloc)?,
-    ];
+    let mut registries = [opened(alloc)?, opened(alloc)?, opened(alloc)?];
     for _ in 0..TEXTS {
         let text = any_text(alloc, &mut words)?;
-        let whole = report(alloc, &mut desks[0], &mut Counted::new(text.as_slice()))?;
+        let whole = report(
+            alloc,
+            &mut registries[0],
+            &mut Counted::new(text.as_slice()),
+        )?;
         let mut bytes = Cut::new(Counted::new(text.as_slice()), 1, usize::MAX);
-        let by_bytes = report(alloc, &mut desks[1], &mut bytes)?;
+        let by_bytes = report(alloc, &mut registries[1], &mut bytes)?;
         assert_eq!(rt; by_bytes.as_slice(), whole.as_slice());
         let step = usize::from(words.next_word().to_le_bytes()[0]) + 1;
         let mut pieces = Cut::new(Counted::new(text.as_slice()), step, usize::MAX);
-        let by_pieces = report(alloc, &mut desks[2], &mut pieces)?;
+        let by_pieces = report(alloc, &mut registries[2], &mut pieces)?;
         assert_eq!(rt; by_pieces.as_slice(), whole.as_slice());
         // The first paragraph is of passwords alone, and the last line counts the items.
         let items = paragraphs(&text).saturating_sub(1);

@@ -159,7 +159,7 @@ fn a_span_that_crosses_another_is_refused(rt: HostRuntime) -> Result<(), Fail> {
 #[test]
 fn the_smallest_range_that_covers_is_the_closest(rt: HostRuntime) -> Result<(), Fail> {
     let alloc = rt.alloc();
-    let (desk, _) = submitted(alloc, &[HOLDERS, NESTED, RANGES])?;
+    let (registry, _) = submitted(alloc, &[HOLDERS, NESTED, RANGES])?;
     for (span, closest) in [
         ("10.1.1.0/24", "10.1.0.0 - 10.1.1.255"),
         ("10.1.0.200/32", "10.1.0.128 - 10.1.1.127"),
@@ -170,11 +170,7 @@ fn the_smallest_range_that_covers_is_the_closest(rt: HostRuntime) -> Result<(), 
     ] {
         let wanted = Span::read(closest.as_bytes()).ok_or("no span")?;
         let asked = Span::read(span.as_bytes()).ok_or("no span")?;
-        let object = desk
-            .registry()
-            .book()
-            .closest_inetnum(asked)
-            .ok_or("nothing")?;
+        let object = registry.book().closest_inetnum(asked).ok_or("nothing")?;
         assert_eq!(rt; *object.key(), Key::Inetnum(wanted), "{span}");
     }
     Ok(())

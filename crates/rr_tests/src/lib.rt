@@ -1,7 +1,9 @@
-//! Tests that cross crates: worked submissions, expansions, verdicts, and streams that fail. What is expected comes from
-//! the rules, read by hand.
+//! Tests that cross crates: worked submissions, expansions, verdicts, and streams that fail. What is expected comes
+//! from the rules, read by hand.
 #![tactic(auto)]
 
+#[cfg(test)]
+mod book_tests;
 #[cfg(test)]
 mod change_tests;
 #[cfg(test)]

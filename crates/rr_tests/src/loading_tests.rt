@@ -1,8 +1,7 @@
 //! Lists of objects taken as registries.
-use crate::desks::loaded;
+use crate::desks::{loaded, opened};
 use crate::texts::OPENING;
 use rr_answer::dump;
-use rr_desk::PlainDesk;
 use rr_io::Counted;
 use rr_registry::LoadFault;
 use std::test::Fail;
@@ -42,10 +41,10 @@ fn a_list_that_is_no_registry_has_its_fault(rt: HostRuntime) -> Result<(), Fail>
 }
 
 #[test]
-fn a_dump_of_a_new_desk_has_the_opening_objects(rt: HostRuntime) -> Result<(), Fail> {
-    let desk = PlainDesk::new(rt.alloc())?;
+fn a_dump_of_a_new_registry_has_the_opening_objects(rt: HostRuntime) -> Result<(), Fail> {
+    let registry = opened(rt.alloc())?;
     let mut writer = Counted::new(Vec::new(rt.alloc()));
-    assert_eq!(rt; dump(rt.alloc(), desk.registry(), &mut writer, true)?, 4);
+    assert_eq!(rt; dump(rt.alloc(), &registry, &mut writer, true)?, 4);
     let wanted = format!(in rt.alloc(); "{OPENING}% end 4\n")?;
     assert_eq!(rt; writer.into_inner().as_slice(), wanted.as_bytes());
     Ok(())

@@ -1,5 +1,6 @@
 //! Submissions whose reader or writer fails in mid-stream.
-use rr_desk::{DeskFault, Done, PlainDesk};
+use crate::desks::{opened, submit};
+use rr_desk::{DeskFault, Done};
 use rr_io::{Counted, Cut};
 use std::alloc::Global;
 use std::test::Fail;
@@ -23,10 +24,10 @@ source: TEST
 
 #[test]
 fn a_failed_read_leaves_the_items_before_it(rt: HostRuntime) -> Result<(), Fail> {
-    let mut desk = PlainDesk::new(rt.alloc())?;
+    let mut registry = opened(rt.alloc())?;
     let mut reader = Cut::new(Counted::new(THREE.as_bytes()), 7, THREE.len() - 5);
     let mut writer = Counted::new(Vec::new(rt.alloc()));
-    let done = desk.submit(rt.alloc(), &mut reader, &mut writer);
+    let done = submit(rt.alloc(), &mut registry, &mut reader, &mut writer)?;
     assert_eq!(rt; done, Err(DeskFault::ReadFault { items: 2 }));
     let report = "\
 1 inetnum 10.0.0.0 - 10.255.255.255: added
@@ -34,7 +35,7 @@ fn a_failed_read_leaves_the_items_before_it(rt: HostRuntime) -> Result<(), Fail>
 % read fault after 2 items
 ";
     assert_eq!(rt; writer.into_inner().as_slice(), report.as_bytes());
-    assert_eq!(rt; desk.registry().objects(rt.alloc())?.len(), 6);
+    assert_eq!(rt; registry.objects(rt.alloc())?.len(), 6);
     Ok(())
 }
 
@@ -46,17 +47,17 @@ fn a_failed_write_leaves_the_items_told(rt: HostRuntime) -> Result<(), Fail> {
             43..=85 => 2,
             _ => 3,
         };
-        let mut desk = PlainDesk::new(rt.alloc())?;
+        let mut registry = opened(rt.alloc())?;
         let mut reader = Counted::new(THREE.as_bytes());
         let mut writer = Cut::new(Counted::new(Vec::new(rt.alloc())), 5, room);
-        let done = desk.submit(rt.alloc(), &mut reader, &mut writer);
+        let done = submit(rt.alloc(), &mut registry, &mut reader, &mut writer)?;
         let wanted = if room < 139 {
             Err(DeskFault::WriteFault { items })
         } else {
             Ok(Done { items, refused: 0 })
         };
         assert_eq!(rt; done, wanted, "with room for {room} bytes");
-        let stand = desk.registry().objects(rt.alloc())?.len();
+        let stand = registry.objects(rt.alloc())?.len();
         assert_eq!(rt; stand as u64, 4 + items, "with room for {room} bytes");
     }
     Ok(())
@@ -76,13 +77,13 @@ fn a_failed_read_and_a_failed_write_leave_the_items_told(rt: HostRuntime) -> Res
         (86, DeskFault::ReadFault { items: 2 }, 6),
         (100, DeskFault::ReadFault { items: 2 }, 6),
     ] {
-        let mut desk = PlainDesk::new(rt.alloc())?;
+        let mut registry = opened(rt.alloc())?;
         let mut reader = Cut::new(Counted::new(THREE.as_bytes()), 7, THREE.len() - 5);
         let mut writer = Cut::new(Counted::new(Vec::new(rt.alloc())), 5, room);
-        let done = desk.submit(rt.alloc(), &mut reader, &mut writer);
+        let done = submit(rt.alloc(), &mut registry, &mut reader, &mut writer)?;
         assert_eq!(rt; done, Err(wanted), "with room for {room} bytes");
         assert_eq!(rt;
-            desk.registry().objects(rt.alloc())?.len(),
+            registry.objects(rt.alloc())?.len(),
             stand,
             "with room for {room} bytes"
         );
@@ -111,10 +112,10 @@ fn a_line_of_a_million_bytes_is_one_refused_item(rt: HostRuntime) -> Result<(), 
 ";
     let text = behind_a_long_line(rt.alloc())?;
     for step in [1, 4_096] {
-        let mut desk = PlainDesk::new(rt.alloc())?;
+        let mut registry = opened(rt.alloc())?;
         let mut reader = Cut::new(Counted::new(text.as_slice()), step, usize::MAX);
         let mut writer = Counted::new(Vec::new(rt.alloc()));
-        let done = desk.submit(rt.alloc(), &mut reader, &mut writer)?;
+        let done = submit(rt.alloc(), &mut registry, &mut reader, &mut writer)??;
         assert_eq!(rt; done.items, 2);
         assert_eq!(rt;
             writer.into_inner().as_slice(),

@@ -1,8 +1,6 @@
 -- Lemmas on the lines of a text.
-use Rattle.std.proofs.Common.{◌≡◌, ◌≢◌, ℕ, ◌+◌, ◌<◌, ◌≤◌, Bool, true, false, not, cond, List, [], ◌∷◌, ◌++◌, length, take, drop, Option, Some, None, refl, ap, ◌∙◌, arith, get_or, suc, zero, add-one}
+use Rattle.std.proofs.Common.{◌≡◌, ◌≢◌, ℕ, ◌+◌, ◌<◌, ◌≤◌, Bool, true, false, not, cond, List, [], ◌∷◌, ◌++◌, length, take, drop, Some, None, refl, ap, ◌∙◌, arith, suc, zero, add-one}
 use Rattle.std.proofs.lemmas.Bool.Decides.{nat_tests}
-use Rattle.std.proofs.lemmas.List.Sums.{position_or_len_is}
-use Rattle.memchr.specs.Find.{IsFirstByte}
 use Rattle.std.specs.List.{position, position_or_len, onto_first}
 use Rattle.rr_bytes.specs.Blanks.{is_line_feed}
 use Rattle.rr_text.specs.Lines.{text_lines, are_whole_lines}
@@ -105,19 +103,3 @@ whole_by c (d ∷ ds) back h e = whole_by d ds back h e
 pub are_whole_lines-append : (front back : List ℕ) → are_whole_lines front ≡ true → are_whole_lines back ≡ true → are_whole_lines (front ++ back) ≡ true
 are_whole_lines-append [] back h e = e
 are_whole_lines-append (c ∷ cs) back h e = whole_by c cs back e h
-
-untrue : (t : Bool) → ¬ (t ≡ true) → t ≡ false
-untrue true h = absurd (h refl)
-untrue false h = refl
-
--- a byte's first place, by what `memchr` says
-pub place_found : (test : ℕ → Bool) (bs : List ℕ) (place : Option ℕ) → IsFirstByte test bs place → place ≡ position test bs
-place_found test bs None h =
-    let at : position_or_len test bs ≡ length bs =
-    position_or_len_is test bs (length bs) 0 (omega arith) (λ k lt. untrue (test (get_or bs k 0)) (h k (omega arith) lt)) (λ lt. absurd (omega arith))
-    in grind (arith, nat_tests)
-place_found test bs (Some k) h =
-    let within : k < length bs = h.0.high in
-    let at : position_or_len test bs ≡ k =
-    position_or_len_is test bs k 0 (omega arith) (λ j lt. untrue (test (get_or bs j 0)) (h.0.before j (omega arith) lt)) (λ lt. h.1)
-    in grind (arith, nat_tests)

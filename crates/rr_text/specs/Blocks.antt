@@ -28,7 +28,8 @@ unfoldable pub from_block : List (List ℕ) → List (List ℕ)
 from_block [] = []
 from_block (line ∷ others) = if is_paragraph_line line then line ∷ others else from_block others
 
--- the place behind the first block from a place on: that of the blank line that ends it, and else the end of the text (RFC 2622, 2)
+-- the place behind the first block from a place on: that of the blank line that ends it, and else the end of the text
+-- (RFC 2622, 2)
 unfoldable pub place_behind : ℕ → List ℕ → ℕ
 place_behind from text = length text - length (concat (from_blank (from_block (text_lines (drop from text)))))
 

@@ -12,7 +12,8 @@ use Rattle.rr_bytes.specs.Trims.{trim_end}
 use Rattle.rr_text.specs.Bytes.{is_refused, is_colon}
 use Rattle.rr_text.specs.Lines.{line_kind}
 
--- the name that a line opens with: what stands before its first colon, less the blanks behind it (RFC 2622, 2; the blanks: profile)
+-- the name that a line opens with: what stands before its first colon, less the blanks behind it (RFC 2622, 2; the
+-- blanks: profile)
 abbrev pub written_name : List ℕ → List ℕ
 written_name line = trim_end is_blank_or_line_feed (before_first is_colon line)
 

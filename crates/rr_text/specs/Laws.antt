@@ -32,7 +32,8 @@ CanonicalLeads = (fields : List Field) (rest : List ℕ) → 0 < length fields �
 abbrev pub SkippedLinePassed : Type 0
 SkippedLinePassed = (line rest : List ℕ) → IsWholeLine line → is_skipped_line line ≡ true → entries (line ++ rest) ≡ entries rest
 
--- a text that ends with the last blank line whose LF was read keeps its entries apart from what follows, which may break off
+-- a text that ends with the last blank line whose LF was read keeps its entries apart from what follows, which may
+-- break off
 abbrev pub ClosedTextJoins : Type 0
 ClosedTextJoins = (front back : List ℕ) → whole_part front ≡ front
     → (entries (front ++ back) ≡ entries front ++ entries back) × (whole_entries (front ++ back) ≡ entries front ++ whole_entries back)

@@ -18,8 +18,8 @@ line_with Blank more = if is_blank_line more then Blank else Kept
 line_with Skipped more = Skipped
 line_with Kept more = Kept
 
--- what the end of a line does, by whether the block has begun: a line of blanks alone closes a block that has, a skipped line
--- is a line of such a block, and any other line is one of the block that it may begin
+-- what the end of a line does, by whether the block has begun: a line of blanks alone closes a block that has, a
+-- skipped line is a line of such a block, and any other line is one of the block that it may begin
 abbrev pub line_end : Bool → LineSoFar → LineEnd
 line_end started Nothing = if started then Closed else Passed
 line_end started Blank = if started then Closed else Passed

@@ -43,8 +43,8 @@ KeepsApart Ended now front left = (left ≡ []) × IsSpent now
 KeepsApart Broken now front left = ⊥
 KeepsApart Endless now front left = ⊥
 
--- of the bytes read from the start on, however they were cut, the entries of a front were given, and the others are held; each
--- read that found bytes gave 1 to 4,096
+-- of the bytes read from the start on, however they were cut, the entries of a front were given, and the others are
+-- held; each read that found bytes gave 1 to 4,096
 pub record HasGiven (start now : Told) (p : Paragraphs) (given : List Entry) : Type 0 where
   pub text : List ℕ
   pub front : List ℕ
@@ -57,7 +57,8 @@ pub record HasGiven (start now : Told) (p : Paragraphs) (given : List Entry) : T
   pub bounded : length text ≤ 4096 * reads_of p
   pub few : length given ≤ length front
 
--- the entries that count of a text, by how its reading ended: after a failed read, or without an end, those that a blank line closes
+-- the entries that count of a text, by how its reading ended: after a failed read, or without an end, those that a
+-- blank line closes
 abbrev pub entries_by : ReadEnd → List ℕ → List Entry
 entries_by end.Whole text = entries text
 entries_by end.Broken text = whole_entries text
@@ -107,8 +108,8 @@ Nearer before after (Err fault.Read) = ⊤
 Nearer before after (Err fault.Endless) = ⊤
 
 -- the reader of a reader of paragraphs
-abbrev pub source_of : {R : Type 0} → ParagraphReader R → R
-source_of reader = reader.source
+abbrev pub reader_of : {R : Type 0} → ParagraphReader R → R
+reader_of made = made.reader
 
 -- where it stands
 abbrev pub paragraphs_of : {R : Type 0} → ParagraphReader R → Paragraphs

@@ -58,7 +58,8 @@ GivesBy Ended before after given = Gives before after given × IsSpent after
 GivesBy Broken before after given = BreaksOff before after given
 GivesBy Endless before after given = Gives before after given
 
--- these bytes were read in a call, behind those that were left from the calls before, and its reads are counted with those made before
+-- these bytes were read in a call, behind those that were left from the calls before, and its reads are counted with
+-- those made before
 pub record Reading (state : ReaderState) (before after : Told) (left : List ℕ) (made : ℕ) (new : Paragraphs) (given : List ℕ) : Type 0 where
   pub gives : GivesBy state before after given
   pub count : ℕ

@@ -6,8 +6,8 @@ use crate::text::Text;
 use std::alloc::{AllocError, Global};
 use std::marker::Model;
 
-/// An attribute: a name and the lines of a value. By itself it may hold any bytes; that the name is in lower case and that there
-/// is at least one line, each without blanks round it, is a fact of the attributes inside a `Paragraph`.
+/// An attribute: a name and the lines of a value. By itself it may hold any bytes; that the name is in lower case and
+/// that there is at least one line, each without blanks round it, is a fact of the attributes inside a `Paragraph`.
 #[derive(Debug, Drop)]
 pub struct Attribute {
     name: Text,

@@ -9,8 +9,8 @@ use crate::line_so_far::{LineEnd, LineSoFar, ends_line};
 use crate::paragraph::Paragraph;
 use std::alloc::{AllocError, Global};
 
-/// The paragraph that is being read: the bytes of its lines so far, and of the line that has begun. A paragraph that is too
-/// large is followed to its end, and no more of it is kept.
+/// The paragraph that is being read: the bytes of its lines so far, and of the line that has begun. A paragraph that is
+/// too large is followed to its end, and no more of it is kept.
 #[derive(Drop)]
 pub(crate) struct Draft {
     kept: Vec<u8>,
@@ -70,7 +70,8 @@ impl Draft {
         }
     }
 
-    /// Adds the lines of a piece of the text up to the one that closes the paragraph, and says how many bytes these are.
+    /// Adds the lines of a piece of the text up to the one that closes the paragraph, and says how many bytes these
+    /// are.
     pub(crate) fn add_lines(&mut self, text: &[u8]) -> Option<usize>
         ensures adds { (past : List ℕ) → parts.IsBegun past self.old → parts.AddsLines past text.now result self.new }
         ensures within { IfSome result (λ taken. taken ≤ length text.now) }

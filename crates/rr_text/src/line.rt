@@ -1,15 +1,13 @@
 //! The lines of a text.
 
 ghost use Rattle.std.specs.Prelude.{◌≡◌, ◌<◌, ◌∷◌, ◌++◌, ◌⊎◌, [], length, true};
-ghost use Rattle.std.specs.List.{list_any, position};
-ghost use Rattle.rr_bytes.specs.Blanks.{is_line_feed};
+ghost use Rattle.std.specs.List.{list_any};
 ghost use Rattle.rr_bytes.specs.NameBytes.{begins};
 ghost use Rattle.rr_text.specs.Bytes.{is_refused};
 ghost use Rattle.rr_text.specs.Lines.{is_blank_line, is_skipped_line, is_paragraph_line, is_continuation_sign, line_kind, text_lines, are_whole_lines};
 ghost use Rattle.rr_text.specs.PrivateParts.{opens_attribute};
 
-use memchr::memchr;
-use rr_bytes::ByteSet;
+use rr_bytes::{ByteSet, place_of};
 
 /// What kind of line a line is (RFC 2622, 2).
 #[derive(Clone, Copy, Debug, PartialEq, Eq)]
@@ -110,14 +108,6 @@ pub(crate) fn has_refused_byte(line: &[u8]) -> bool
     found
 }
 
-#[inline]
-#[tactic(auto, using(crate::proofs::LineLemmas::place_found))]
-fn first_line_feed(text: &[u8]) -> Option<usize>
-    ensures { result ≡ position is_line_feed text.now }
-{
-    memchr(b'\n', text)
-}
-
 /// The first line of a text with the LF that ends it, and what follows it.
 pub(crate) fn split_line(text: &[u8]) -> (&[u8], &[u8])
     requires { 0 < length text.now }
@@ -127,7 +117,7 @@ pub(crate) fn split_line(text: &[u8]) -> (&[u8], &[u8])
     ensures ended { (are_whole_lines result.0.now ≡ true) ⊎ (result.1.now ≡ []) }
     ensures shorter { length result.1.now < length text.now }
 {
-    match first_line_feed(text) {
+    match place_of(text, b'\n') {
         Some(place) => text.split_at(place + 1),
         None => text.split_at(text.len()),
     }

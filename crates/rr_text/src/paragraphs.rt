@@ -22,8 +22,8 @@ pub enum ReaderState {
     Endless,
 }
 
-/// The paragraphs of a text that is read in blocks of 4,096 bytes, with at most 16,777,216 reads. It keeps one block and
-/// one paragraph at most, whatever comes, in memory that is taken as it is made.
+/// The paragraphs of a text that is read in blocks of 4,096 bytes, with at most 16,777,216 reads. It keeps one block
+/// and one paragraph at most, whatever comes, in memory that is taken as it is made.
 #[derive(Drop)]
 pub struct Paragraphs {
     draft: Draft,
@@ -61,23 +61,23 @@ impl Paragraphs {
         })
     }
 
-    /// The next paragraph of the text that this reader gives; `None` at its end (RFC 2622, 2). The reader is the same in each
-    /// call. After `Read` and `Endless` the answer is the same for good; after another fault the next paragraph follows.
-    /// `Memory` passes a paragraph.
+    /// The next paragraph of the text that this reader gives; `None` at its end (RFC 2622, 2). The reader is the same
+    /// in each call. After `Read` and `Endless` the answer is the same for good; after another fault the next paragraph
+    /// follows. `Memory` passes a paragraph.
     pub fn next<R: Source>(
         &mut self,
         alloc: Global,
-        source: &mut R,
+        reader: &mut R,
     ) -> Result<Option<Paragraph>, TextFault>
-        ensures given { (start : Told) (given : List Entry) → HasGiven start (R.told source.old) self.old given
-            → GivesNext start (R.told source.new) self.new given result }
-        ensures stays { Stays (state_of self.old) source.old source.new self.old self.new result }
+        ensures given { (start : Told) (given : List Entry) → HasGiven start (R.told reader.old) self.old given
+            → GivesNext start (R.told reader.new) self.new given result }
+        ensures stays { Stays (state_of self.old) reader.old reader.new self.old self.new result }
         ensures nearer { Nearer (left_of self.old) (left_of self.new) result }
         ensures fields { IfOk result (λ next. IfSome next (λ paragraph. (0 < length paragraph) × AreFields paragraph)) }
-        ensures aside { R.aside source.new ≡ R.aside source.old }
+        ensures aside { R.aside reader.new ≡ R.aside reader.old }
     {
         match self.state {
-            ReaderState::Open => self.next_open(alloc, source),
+            ReaderState::Open => self.next_open(alloc, reader),
             ReaderState::Ended => Ok(None),
             ReaderState::Broken => Err(TextFault::Read),
             ReaderState::Endless => Err(TextFault::Endless),
@@ -87,16 +87,16 @@ impl Paragraphs {
     fn next_open<R: Source>(
         &mut self,
         alloc: Global,
-        source: &mut R,
+        reader: &mut R,
     ) -> Result<Option<Paragraph>, TextFault>
         requires { state_of self.old ≡ ReaderState.Open }
-        ensures given { (start : Told) (given : List Entry) → HasGiven start (R.told source.old) self.old given
-            → GivesNext start (R.told source.new) self.new given result }
+        ensures given { (start : Told) (given : List Entry) → HasGiven start (R.told reader.old) self.old given
+            → GivesNext start (R.told reader.new) self.new given result }
         ensures nearer { Nearer (left_of self.old) (left_of self.new) result }
         ensures fields { IfOk result (λ next. IfSome next (λ paragraph. (0 < length paragraph) × AreFields paragraph)) }
-        ensures aside { R.aside source.new ≡ R.aside source.old }
+        ensures aside { R.aside reader.new ≡ R.aside reader.old }
     {
-        let state = self.gather(source);
+        let state = self.gather(reader);
         self.state = state;
         match state {
             ReaderState::Open => self.entry(alloc),
@@ -129,9 +129,9 @@ impl Paragraphs {
     }
 
     /// Reads up to the end of the next paragraph, or of the text.
-    fn gather<R: Source>(&mut self, source: &mut R) -> ReaderState
-        ensures gathers { parts.Gathers result (R.told source.old) (R.told source.new) (held self.old) (reads_of self.old) self.new }
-        ensures aside { R.aside source.new ≡ R.aside source.old }
+    fn gather<R: Source>(&mut self, reader: &mut R) -> ReaderState
+        ensures gathers { parts.Gathers result (R.told reader.old) (R.told reader.new) (held self.old) (reads_of self.old) self.new }
+        ensures aside { R.aside reader.new ≡ R.aside reader.old }
     {
         self.draft.restart();
         'reads: loop {
@@ -141,7 +141,7 @@ impl Paragraphs {
             if self.reads == READ_LIMIT {
                 return ReaderState::Endless;
             }
-            if let Some(state) = self.fill(source) {
+            if let Some(state) = self.fill(reader) {
                 return state;
             }
         }
@@ -167,14 +167,14 @@ impl Paragraphs {
     }
 
     /// Reads a block, where nothing is held, and says how the text stands if it does not go on.
-    fn fill<R: Source>(&mut self, source: &mut R) -> Option<ReaderState>
+    fn fill<R: Source>(&mut self, reader: &mut R) -> Option<ReaderState>
         requires reads { reads_of self.old < 16777216 }
         requires none { self.old.from ≡ self.old.to }
-        ensures fills { parts.Fills result (R.told source.old) (R.told source.new) self.old self.new }
+        ensures fills { parts.Fills result (R.told reader.old) (R.told reader.new) self.old self.new }
         ensures draft { self.new.draft ≡ self.old.draft }
-        ensures aside { R.aside source.new ≡ R.aside source.old }
+        ensures aside { R.aside reader.new ≡ R.aside reader.old }
     {
-        match source.read(&mut self.block) {
+        match reader.read(&mut self.block) {
             Ok(count) => {
                 self.from = 0;
                 self.to = count;

@@ -1,10 +1,21 @@
 //! The making of registries.
 
-use crate::database::{close, create_desk_at};
+ghost use Rattle.std.specs.Prelude.{◌≡◌, false};
+ghost use Rattle.sqlite.specs.Held.{state};
+ghost use Rattle.sqlite.specs.State.{Survives};
+ghost use Rattle.rr_store.specs.Kept.{IsLeft};
+ghost use Rattle.rr_desk.specs.Opened.{HasOpeningRows};
+ghost use Rattle.rr_cli.specs.Created.{Creates};
+
+use crate::database::{close, open_or_make};
 use crate::fault::ProgramFault;
-use crate::output::print;
+use crate::output::{STANDARD_OUTPUT, tell};
 use crate::settings_reading::read_settings_file;
+use crate::trouble::Trouble;
+use rr_desk::{CreateFault, Desk, Settings};
 use rr_io::Sink;
+use sqlite::{Alter, Connection};
+use std::alloc::Global;
 
 /// Makes the database that the settings name, with the opening objects of a registry, and says so.
 pub fn init<'a, W: Sink>(
@@ -13,11 +24,52 @@ pub fn init<'a, W: Sink>(
     output: &mut W,
 ) -> Result<u8, ProgramFault<'a>> {
     let (read, store) = read_settings_file(rt, settings)?;
-    match create_desk_at(rt, read, store.as_str()) {
+    match create_at(rt, read, store.as_str(), output) {
+        Ok(status) => Ok(status),
+        Err(trouble) => Err(located(trouble, store)),
+    }
+}
+
+/// A fault of the making, about standard output or the database.
+fn located<'a>(trouble: Trouble, store: String) -> ProgramFault<'a> {
+    match trouble {
+        Trouble::Unwritten => ProgramFault::of(STANDARD_OUTPUT, trouble),
+        Trouble::Creating(CreateFault::Memory) => ProgramFault::plain(trouble),
+        _ => ProgramFault::named(store, trouble),
+    }
+}
+
+/// Makes a registry in the database at a path.
+fn create_at<W: Sink>(
+    rt: &HostRuntime,
+    settings: Settings,
+    store: &str,
+    output: &mut W,
+) -> Result<u8, Trouble> {
+    let conn = open_or_make(rt, store)?;
+    let (conn, answer) = create_to(rt.alloc(), conn, settings, output);
+    close(conn);
+    answer
+}
+
+/// Makes the registry that opens with these settings in a database, and writes that it did. The connection is given back.
+pub(crate) fn create_to<S: Alter, W: Sink>(
+    alloc: Global,
+    conn: Connection<S>,
+    settings: Settings,
+    writer: &mut W,
+) -> (Connection<S>, Result<u8, Trouble>)
+    requires { conn.in_transaction ≡ false }
+    ensures creates { Creates settings (state S.Store conn) (state S.Store result.0) (W.told writer.old) (W.told writer.new) result.1 }
+    ensures crash { Survives (state S.Store conn) (state S.Store result.0) (IsLeft (state S.Store conn).is_open (HasOpeningRows settings)) }
+    ensures autocommit { result.0.in_transaction ≡ false }
+    ensures aside { W.aside writer.new ≡ W.aside writer.old }
+{
+    match Desk::create(alloc, conn, settings) {
         Ok(desk) => {
-            close(desk.close());
-            print(output, b"created 4 objects\n")
+            let told = tell(writer, b"created 4 objects\n");
+            (desk.close(), told)
         }
-        Err(trouble) => Err(ProgramFault::named(store, trouble)),
+        Err((fault, conn)) => (conn, Err(Trouble::Creating(fault))),
     }
 }

@@ -10,7 +10,7 @@ use crate::commands::files::open_file;
 use crate::database::{close, open_desk};
 use crate::fault::ProgramFault;
 use crate::output::STANDARD_OUTPUT;
-use crate::progress::Progress;
+use crate::progress::{Progress, Things};
 use crate::trouble::Trouble;
 use rr_desk::{Desk, DeskFault, Done, Settings};
 use rr_io::{Counted, Sink, Source};
@@ -82,7 +82,7 @@ fn submit_file<S: Alter, W: Sink>(
     requires { desk.old.stored.stopped ≡ false }
 {
     let mut reader = Counted::new(open_file(rt, file)?);
-    let mut report = Progress::new(rt, output);
+    let mut report = Progress::new(rt, Things::Items, output);
     let answer = submit_to(rt.alloc(), desk, &mut reader, &mut report);
     report.end();
     answer

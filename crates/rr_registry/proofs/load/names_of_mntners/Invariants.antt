@@ -3,7 +3,7 @@ use Rattle.std.specs.BTreeSet.{contains}
 use Rattle.std.specs.Cmp.Lexicographic.{slice_cmp}
 use Rattle.std.specs.List.{list_any}
 use Rattle.std.specs.Ordering.{nat_cmp}
-use Rattle.rr_auth.specs.Registries.{is_mntner_of}
+use Rattle.rr_object.specs.Keys.{is_mntner_of}
 use Rattle.rr_registry.proofs.load.names_of_mntners.Given as goal
 
 -- the names of the first objects that are mntners

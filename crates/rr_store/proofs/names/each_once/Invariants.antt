@@ -1,9 +1,6 @@
-use Rattle.std.proofs.Common.{◌≡◌, ◌++◌, length}
-use Rattle.rr_rows.specs.Entries.{once}
+use Rattle.std.proofs.Common.{map, reverse}
+use Rattle.rr_store.proofs.OnceLemmas.{IsOnce}
 use Rattle.rr_store.proofs.names.each_once.Given as goal
 
-abbrev pub invariant-loop-rest : goal.invariant-loop-rest
-invariant-loop-rest l = l.kept.items ++ once l.rest ≡ once l.names
-
-abbrev pub decreases-loop-rest : goal.decreases-loop-rest
-decreases-loop-rest l = length l.rest
+abbrev pub invariant-loop-name : goal.invariant-loop-name
+invariant-loop-name l = IsOnce (reverse (map (λ name. name.now) l.yielded)) l.kept.items l.seen

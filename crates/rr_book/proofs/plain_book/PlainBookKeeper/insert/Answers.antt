@@ -10,12 +10,11 @@ use Rattle.rr_object.specs.declared.key.Key.{Key}
 use Rattle.rr_object.specs.KeyOrders.{key_cmp}
 use Rattle.rr_object.specs.Objects.{Obj}
 use Rattle.rr_book.specs.Books.{book_of}
-use Rattle.rr_book.specs.SetIndexes.{IsIndexed, stands_under}
+use Rattle.rr_book.specs.SetIndexes.{IsIndexed, is_meant, stands_under}
 use Rattle.rr_book.specs.SetLists.{names_set}
 use Rattle.rr_book.proofs.KeysUnderSets.{fresh, indexed_change, indexed_first, indexed_same, indexed_undone}
 use Rattle.rr_book.proofs.Order.{book_put}
 use Rattle.rr_book.proofs.plain_book.PlainBookKeeper.insert.Goals as goal
-use Rattle.rr_book.specs.Private.{is_meant}
 
 pub add-requires : goal.add-requires
 add-requires c =

@@ -3,8 +3,14 @@ use Rattle.std.specs.Prelude.{None, Some}
 use Rattle.std.specs.FinMap.{get, insert, remove}
 use Rattle.rr_auth.specs.Registries.{Reg, Sound}
 use Rattle.rr_object.specs.Objects.{Obj}
+use Rattle.rr_index.proofs.Changes.{apart_of}
 use Rattle.rr_index.proofs.Referrers.{put_and_taken, put_there}
 use Rattle.rr_index.proofs.indexed_book.IndexedBook.add.Goals as goal
+
+pub enter-requires-clause-apart : goal.enter-requires-clause-apart
+enter-requires-clause-apart c =
+    let o = c.args.object in
+    apart_of c.self.inside.objects o (subst (λ (s : Reg). Sound (insert s o.key o)) (sym c.self.view_is) c.requires.sound)
 
 pub invariant_of-self-in-Err : goal.invariant_of-self-in-Err
 invariant_of-self-in-Err c =

@@ -3,8 +3,8 @@ use Rattle.std.specs.FinMap.{get, insert}
 use Rattle.std.specs.Vec.Iter.{into_iter_items}
 use Rattle.rr_auth.specs.Registries.{Reg}
 use Rattle.rr_book.proofs.Order.{empty_book}
-use Rattle.rr_index.specs.Indexes.{HasIndexes}
-use Rattle.rr_index.proofs.Gathered.{next_book, next_free, next_whole}
+use Rattle.rr_index.specs.Indexes.{HasIndexes, IsApart}
+use Rattle.rr_index.proofs.Gathered.{next_apart, next_book, next_free, next_whole}
 use Rattle.rr_index.proofs.indexed_book.IndexedBookKeeper.of.Goals as goal
 
 pub loop-object-init : goal.loop-object-init
@@ -20,6 +20,8 @@ enter-requires c =
       indexed = inv.1.0;
       free = ap (λ (r : Reg). get r c.in-Some.object.key) inv.0
           ∙ next_free c.args.objects.items c.loop-object.yielded (into_iter_items c.loop-object.object-iterator) (into_iter_items c.next.new.self) c.in-Some.object c.requires.ordered inv.1.1 c.in-Some.ensures.steps.0;
+      apart = subst (λ (r : Reg). IsApart r c.in-Some.object.key) (sym inv.0)
+          (next_apart c.args.objects.items c.loop-object.yielded (into_iter_items c.loop-object.object-iterator) (into_iter_items c.next.new.self) c.in-Some.object c.requires.ordered inv.1.1 c.in-Some.ensures.steps.0 c.requires.sound);
     }
 
 pub loop-object-preserved : goal.loop-object-preserved

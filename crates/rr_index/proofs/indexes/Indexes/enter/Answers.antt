@@ -1,45 +1,38 @@
-use Rattle.std.proofs.Common.{◌≡◌, ℕ, List, false, sym, subst, ap, ◌∙◌}
-use Rattle.std.specs.BTreeMap.{is_at}
-use Rattle.std.specs.BTreeSet.{contains}
-use Rattle.std.specs.Cmp.Lexicographic.{slice_cmp}
-use Rattle.std.specs.FinMap.{insert}
-use Rattle.std.specs.List.{list_any}
-use Rattle.std.specs.Option.{option_map_or}
-use Rattle.std.specs.Ordering.{nat_cmp}
-use Rattle.rr_book.specs.declared.set_index.SetIndex.{SetIndex}
-use Rattle.rr_book.specs.SetIndexes.{HasReferrers, stands_under}
-use Rattle.rr_book.specs.SetLists.{names_set}
-use Rattle.rr_index.proofs.Referrers.{fresh, referrers_first, taken_back}
+use Rattle.std.proofs.Common.{◌≡◌, ℕ, List, sym, subst}
+use Rattle.std.specs.Prelude.{◌+◌}
+use Rattle.rr_book.proofs.KeysUnderSets.{on_err}
+use Rattle.rr_index.specs.Indexes.{HasIndexes}
+use Rattle.rr_index.proofs.Namings.{namings_added, namings_back, namings_same}
+use Rattle.rr_index.specs.NamingIndexes.{count_at, namings_by}
+use Rattle.rr_index.specs.declared.naming_index.NamingIndex.{NamingIndex}
 use Rattle.rr_index.proofs.indexes.Indexes.enter.Goals as goal
 
-pub add-requires : goal.add-requires
-add-requires c =
-    fresh c.args.objects.now c.args.self.now.referrers.keys c.requires.indexed.referrers c.args.object.now (contains (slice_cmp nat_cmp) c.new-none.result)
-    (λ n. ap (list_any (is_at (slice_cmp nat_cmp n))) c.new-none.ensures.empty ∙ sym (ap (λ v. option_map_or (names_set n) v false) c.requires.free))
+pub returns-in_err-add-clause-err : goal.returns-in_err-add-clause-err
+returns-in_err-add-clause-err c =
+    let now = c.args.self.now in
+    let kept : HasIndexes c.args.objects.now (record { spans = now.spans; names = now.names; referrers = now.referrers; namings = c.add.new.self }) = record {
+      keys = c.requires.indexed.keys;
+      namings = namings_same c.args.objects.now now.namings.counts c.requires.indexed.namings c.add.new.self.counts c.in_err-add.ensures.err;
+    } in
+    on_err c.from_residual.result kept
 
 pub returns-in-Ok-clause-ok : goal.returns-in-Ok-clause-ok
 returns-in-Ok-clause-ok c =
-    let r = c.args.objects.now in
     let o = c.args.object.now in
+    let was = c.args.self.now.namings.counts in
     record {
-      spans = c.in-Ok.ensures.ok.0;
-      names = c.in-Ok.ensures.ok.1;
-      referrers = subst (λ (s : SetIndex). HasReferrers (insert r o.key o) s.keys) (sym c.enter_key.ensures.aside)
-          (referrers_first r c.args.self.now.referrers.keys c.requires.indexed.referrers o (contains (slice_cmp nat_cmp) c.new-none.result) c.add.new.self.keys c.requires.free
-          (λ n. ap (list_any (is_at (slice_cmp nat_cmp n))) c.new-none.ensures.empty) c.in_ok-add.ensures.ok);
+      keys = c.in-Ok.ensures.ok;
+      namings = namings_added c.args.objects.now was c.requires.indexed.namings o c.enter_keys.new.self.namings.counts c.requires.free
+          (subst (λ (x : NamingIndex). (n : List ℕ) → count_at x.counts n ≡ count_at was n + namings_by n o) (sym c.enter_keys.ensures.aside) c.in_ok-add.ensures.ok);
     }
 
-pub returns-clause-err : goal.returns-clause-err
-returns-clause-err c =
-    let r = c.args.objects.now in
+pub returns-in-Err-clause-err : goal.returns-in-Err-clause-err
+returns-in-Err-clause-err c =
     let o = c.args.object.now in
-    let empty : (n : List ℕ) → contains (slice_cmp nat_cmp) c.new-none.result n ≡ false = λ n. ap (list_any (is_at (slice_cmp nat_cmp n))) c.new-none.ensures.empty in
+    let was = c.args.self.now.namings.counts in
     record {
-      spans = c.in-Err.ensures.err.0;
-      names = c.in-Err.ensures.err.1;
-      referrers = taken_back r c.args.self.now.referrers.keys c.requires.indexed.referrers o (contains (slice_cmp nat_cmp) c.new-none.result) (λ other. false) c.enter_key.new.self.referrers.keys c.take_all.new.self.keys
-          (λ n. empty n ∙ sym (ap (λ v. option_map_or (names_set n) v false) c.requires.free))
-          (λ n. sym (empty n))
-          (λ n k. ap (λ (s : SetIndex). stands_under s.keys n k) c.enter_key.ensures.aside ∙ c.in_ok-add.ensures.ok n k)
-          c.take_all.ensures;
+      keys = c.in-Err.ensures.err;
+      namings = namings_back c.args.objects.now was c.requires.indexed.namings o c.enter_keys.new.self.namings.counts c.take.new.self.counts
+          (subst (λ (x : NamingIndex). (n : List ℕ) → count_at x.counts n ≡ count_at was n + namings_by n o) (sym c.enter_keys.ensures.aside) c.in_ok-add.ensures.ok)
+          c.take.ensures;
     }

@@ -3,7 +3,7 @@ use Rattle.std.specs.FinMap.{remove}
 use Rattle.rr_object.specs.declared.key.Key.{Key}
 use Rattle.rr_object.specs.declared.key.Key.TheVariants.{AsBlock, Inetnum}
 use Rattle.rr_cover.specs.SpanMaps.{SpanMap}
-use Rattle.rr_number.specs.Prefixes.{PrefixParts, span_of}
+use Rattle.rr_number.specs.Prefixes.{span_of}
 use Rattle.rr_index.proofs.Spans.{removed_block, removed_inetnum, removed_rest, removed_told}
 use Rattle.rr_index.specs.SpanIndexes.{HasSpans}
 use Rattle.rr_index.proofs.span_index.SpanIndex.take.Goals as goal
@@ -22,15 +22,15 @@ pub returns-then-not-is_routed : goal.returns-then-not-is_routed
 returns-then-not-is_routed c = λ r has told.
     let p = c.in-Route.prefix in
     let routes = c.args.self.now.routes in
-    subst (λ (m : SpanMap PrefixParts). HasSpans (remove r c.args.key.now) c.args.self.now.inetnums c.args.self.now.blocks m)
-    (ap (λ t. cond t routes (remove routes (span_of p))) c.if-not-is_routed.true ∙ ap (remove routes) (sym c.span-then-not-is_routed.ensures) ∙ sym c.remove-then-not-is_routed.ensures.rest)
+    subst (λ (m : SpanMap (Unit {0})). HasSpans (remove r c.args.key.now) c.args.self.now.inetnums c.args.self.now.blocks m)
+    (ap (λ t. cond t routes (remove routes (span_of p))) c.if-not-is_routed.true ∙ sym c.remove-then-not-is_routed.ensures.rest)
     (removed_told r _ _ routes has c.args.key.now p c.in-Route.field-1 c.args.is_routed c.in-Route.is c.length.ensures.masked told)
 
 pub returns-else-not-is_routed : goal.returns-else-not-is_routed
 returns-else-not-is_routed c = λ r has told.
     let p = c.in-Route.prefix in
     let routes = c.args.self.now.routes in
-    subst (λ (m : SpanMap PrefixParts). HasSpans (remove r c.args.key.now) c.args.self.now.inetnums c.args.self.now.blocks m)
+    subst (λ (m : SpanMap (Unit {0})). HasSpans (remove r c.args.key.now) c.args.self.now.inetnums c.args.self.now.blocks m)
     (ap (λ t. cond t routes (remove routes (span_of p))) c.if-not-is_routed.false)
     (removed_told r _ _ routes has c.args.key.now p c.in-Route.field-1 c.args.is_routed c.in-Route.is c.length.ensures.masked told)
 

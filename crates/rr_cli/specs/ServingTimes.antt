@@ -1,0 +1,18 @@
+-- How long a peer is waited for (profile).
+use Rattle.std.specs.Prelude.{ℕ, ◌+◌, ◌-◌, ◌*◌, ◌/◌, ◌==◌, min, Option, None, Some, if◌then◌else◌}
+
+-- a second, in nanoseconds
+abbrev pub second : ℕ
+second = 1_000_000_000
+
+-- what a call waits for a peer that has so much time left, in nanoseconds: 10 seconds at most, and not past the end (profile)
+abbrev pub wait_of : ℕ → Option ℕ
+wait_of left = if left == 0 then None else Some (min left (10 * second))
+
+-- what the next call waits, in nanoseconds, where the peer is given so many seconds in all and has taken so many nanoseconds
+abbrev pub next_wait : ℕ → ℕ → Option ℕ
+next_wait seconds taken = wait_of (seconds * second - taken)
+
+-- how many seconds a peer is given to take a reply of which so many bytes went out: 60, and one more for each 16 KiB (profile)
+abbrev pub reply_time : ℕ → ℕ
+reply_time written = 60 + written / 16_384

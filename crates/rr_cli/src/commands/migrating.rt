@@ -1,0 +1,75 @@
+//! The migration of databases of version 1.
+
+ghost use Rattle.std.specs.Prelude.{◌≡◌, false};
+ghost use Rattle.sqlite.specs.Held.{state};
+ghost use Rattle.sqlite.specs.State.{Survives};
+ghost use Rattle.rr_store.specs.Kept.{IsLeft};
+ghost use Rattle.rr_store.specs.Migrating.{IsMigrated};
+ghost use Rattle.rr_cli.specs.Migrated.{Migrates};
+
+use crate::database::{close, open_database};
+use crate::fault::ProgramFault;
+use crate::output::{STANDARD_OUTPUT, tell};
+use crate::settings_reading::read_settings_file;
+use crate::trouble::Trouble;
+use rr_desk::{Desk, MigrateFault, Settings};
+use rr_io::Sink;
+use sqlite::{Alter, Connection};
+use std::alloc::Global;
+
+/// Makes the tables of version 1 that the settings name those of version 2, and says so.
+pub fn migrate<'a, W: Sink>(
+    rt: &HostRuntime,
+    settings: &'a str,
+    output: &mut W,
+) -> Result<u8, ProgramFault<'a>> {
+    let (read, store) = read_settings_file(rt, settings)?;
+    match migrate_at(rt, read, store.as_str(), output) {
+        Ok(status) => Ok(status),
+        Err(trouble) => Err(located(trouble, store)),
+    }
+}
+
+/// A fault of a migration, about standard output or the database.
+fn located<'a>(trouble: Trouble, store: String) -> ProgramFault<'a> {
+    match trouble {
+        Trouble::Unwritten => ProgramFault::of(STANDARD_OUTPUT, trouble),
+        Trouble::Migrating(MigrateFault::Memory) => ProgramFault::plain(trouble),
+        _ => ProgramFault::named(store, trouble),
+    }
+}
+
+/// Migrates the database at a path.
+fn migrate_at<W: Sink>(
+    rt: &HostRuntime,
+    settings: Settings,
+    store: &str,
+    output: &mut W,
+) -> Result<u8, Trouble> {
+    let conn = open_database(rt, store)?;
+    let (conn, answer) = migrate_to(rt.alloc(), conn, settings, output);
+    close(conn);
+    answer
+}
+
+/// Migrates the tables of version 1 of a database, and writes that it did. The connection is given back.
+pub(crate) fn migrate_to<S: Alter, W: Sink>(
+    alloc: Global,
+    conn: Connection<S>,
+    settings: Settings,
+    writer: &mut W,
+) -> (Connection<S>, Result<u8, Trouble>)
+    requires { conn.in_transaction ≡ false }
+    ensures migrates { Migrates settings (state S.Store conn) (state S.Store result.0) (W.told writer.old) (W.told writer.new) result.1 }
+    ensures crash { Survives (state S.Store conn) (state S.Store result.0) (IsLeft (state S.Store conn).is_open (IsMigrated settings.root settings.source (state S.Store conn).now)) }
+    ensures autocommit { result.0.in_transaction ≡ false }
+    ensures aside { W.aside writer.new ≡ W.aside writer.old }
+{
+    match Desk::migrate(alloc, conn, settings) {
+        Ok(desk) => {
+            let told = tell(writer, b"migrated to version 2\n");
+            (desk.close(), told)
+        }
+        Err((fault, conn)) => (conn, Err(Trouble::Migrating(fault))),
+    }
+}

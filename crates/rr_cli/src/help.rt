@@ -1,0 +1,117 @@
+//! What `--help` says of the program and of each command, each with an example.
+
+/// What the program is.
+pub const PROGRAM: &str = "An Internet routing registry for IPv4 (RFC 2622, RFC 2725).
+
+Without a command a registry in memory, of which nothing lasts, reads a submission on standard input and prints the report.";
+
+/// The program by an example, and its statuses.
+pub const PROGRAM_EXAMPLE: &str = "Example, with the settings in irr.toml:
+  irrdesk init irr.toml
+  irrdesk submit irr.toml objects.rpsl
+  irrdesk query irr.toml 10.1.2.3
+
+irr.toml has the name of the registry, its root maintainer with the salt and the digest of its secret, the
+most names that an expansion of a set may reach, and the path of the database:
+  source = \"TEST\"
+  root = \"ROOT-MNT\"
+  auth = \"SHA256-PW salt:digest\"
+  limit = 10000
+  store = \"irr.db\"
+The digest is what this prints for the salt `salt` and the secret `secret`:
+  printf %s saltsecret | sha256sum
+
+Status: 0 done, 1 an item was refused or an answer is an error, 2 wrong words, 3 the settings,
+4 the database, 5 a file, a stream, memory, or a dump that is not loaded.";
+
+/// What `init` does.
+pub const INIT: &str = "Makes the database of a registry, with its opening objects";
+
+/// `init` by an example.
+pub const INIT_EXAMPLE: &str = "Example:
+  irrdesk init irr.toml
+prints `created 4 objects`: the root maintainer, and the blocks of all AS numbers and addresses, which it maintains.
+The database is to be new; `irrdesk load` makes one from a dump.";
+
+/// What `submit` does.
+pub const SUBMIT: &str =
+    "Submits the objects of a file, each judged and committed by itself, and prints the report";
+
+/// `submit` by an example.
+pub const SUBMIT_EXAMPLE: &str = "Example, with the root's secret `bc` and this in objects.rpsl:
+  password: bc
+
+  inetnum:  10.0.0.0/8
+  mnt-by:   ROOT-MNT
+  source:   TEST
+the command
+  irrdesk submit irr.toml objects.rpsl
+prints
+  1 inetnum 10.0.0.0 - 10.255.255.255: added
+  % items 1
+An object with the key of a registered one changes it; with an attribute `delete` it deletes that one.";
+
+/// What `query` does.
+pub const QUERY: &str = "Asks the registry, and prints the answer";
+
+/// `query` by examples.
+pub const QUERY_EXAMPLE: &str = "Examples:
+  irrdesk query irr.toml 10.1.2.3               the closest inetnum and routes
+  irrdesk query irr.toml exact 10.0.0.0/8       those of this prefix; less, more: around it, inside it
+  irrdesk query irr.toml AS1                    the aut-num; so with the name of a maintainer or a set
+  irrdesk query irr.toml object route 10.0.0.0/8 AS1
+  irrdesk query irr.toml inverse mnt A-MNT      what names a maintainer; inverse origin AS1: the routes
+  irrdesk query irr.toml expand AS-X            the members of a set; prefixes AS-X: their prefixes
+An error is one line `% error n` with status 1: 1 is a bad query, 2 one over 1024 bytes, 3 an expansion
+over the limit, 4 memory, 5 the database.";
+
+/// What `dump` does.
+pub const DUMP: &str = "Prints all objects, by class and key, and their number";
+
+/// `dump` by an example.
+pub const DUMP_EXAMPLE: &str = "Example, a backup:
+  irrdesk dump irr.toml --full > backup.rpsl
+A whole dump ends in a line `% end n`. One without --full shows no `auth`, and cannot be loaded.";
+
+/// What `load` does.
+pub const LOAD: &str =
+    "Makes a registry from a full dump, in a database that is new: all of it or nothing";
+
+/// `load` by an example.
+pub const LOAD_EXAMPLE: &str = "Example, with another `store` in the settings new.toml:
+  irrdesk dump irr.toml --full > backup.rpsl
+  irrdesk load new.toml backup.rpsl
+prints `loaded n objects`.";
+
+/// What `migrate` does.
+pub const MIGRATE: &str =
+    "Makes a database of version 1 one of version 2, which has AS numbers of four octets";
+
+/// `migrate` by an example.
+pub const MIGRATE_EXAMPLE: &str = "Example, behind a copy of the file, since there is no way back:
+  cp irr.db irr.db.old
+  irrdesk migrate irr.toml
+prints `migrated to version 2`.";
+
+/// What `serve` does.
+pub const SERVE: &str =
+    "Answers whois and HTTP on a port of 127.0.0.1, one connection after the other";
+
+/// `serve` by an example.
+pub const SERVE_EXAMPLE: &str = "Example, for a thousand connections:
+  irrdesk serve irr.toml --port 4343 --count 1000
+and from elsewhere on the same machine:
+  whois -h 127.0.0.1 -p 4343 10.1.2.3
+  curl http://127.0.0.1:4343/query/AS1
+  curl http://127.0.0.1:4343/dump
+  curl --data-binary @objects.rpsl http://127.0.0.1:4343/submissions
+At the end it prints how many connections were served, and how many failed.";
+
+/// What `probe` does.
+pub const PROBE: &str =
+    "Asks for the root maintainer over a connection of its own, and prints the reply";
+
+/// `probe` by an example.
+pub const PROBE_EXAMPLE: &str = "Example:
+  irrdesk probe irr.toml
+prints the root maintainer of irr.toml, its `auth` left out.";

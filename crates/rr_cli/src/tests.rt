@@ -1,3 +1,0 @@
-//! Settings and words.
-mod settings;
-mod words;

@@ -1,9 +1,0 @@
-use Rattle.std.proofs.Common.{◌≡◌, ◌++◌}
-use Rattle.std.specs.FinMap.{values}
-use Rattle.std.specs.List.{filter}
-use Rattle.rr_book.specs.Listings.{lies_in}
-use Rattle.rr_sets.specs.Lists.{lent}
-use Rattle.rr_index.proofs.object_map.ObjectMap.inside.Given as goal
-
-abbrev pub invariant-loop-object : goal.invariant-loop-object
-invariant-loop-object l = lent l.found.items ++ filter (lies_in l.span) l.object-iterator ≡ filter (lies_in l.span) (values l.self)

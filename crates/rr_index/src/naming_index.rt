@@ -1,0 +1,187 @@
+//! How often the objects of a registry name each maintainer.
+
+ghost use Rattle.std.specs.Prelude.{◌≡◌, ◌+◌, ◌-◌, ℕ, List, [], ◌∷◌, ◌==◌, cond, take, nat_lt, IfErr, IsTrue, OnErr, OnOk};
+ghost use Rattle.std.specs.FinMap.{empty};
+ghost use Rattle.std.specs.Str.{bytes_eq};
+ghost use Rattle.rr_object.specs.Objects.{names_of};
+ghost use Rattle.rr_auth.specs.Registries.{is_mntner_of};
+ghost use Rattle.rr_index.specs.NamingIndexes.{HasNamings, count_at, namings, namings_by};
+
+use rr_number::Name;
+use rr_object::{Key, Object};
+use std::alloc::{AllocError, Global};
+use std::collections::BTreeMap;
+
+/// How often registered objects name each maintainer, its own mntner left out: whether one is named at all is found without
+/// a look at the objects.
+#[derive(Drop)]
+pub(crate) struct NamingIndex {
+    counts: BTreeMap<Name, u64>,
+}
+
+impl NamingIndex {
+    /// No names.
+    pub(crate) fn new(alloc: Global) -> NamingIndex
+        ensures { HasNamings empty result.counts }
+    {
+        NamingIndex {
+            counts: BTreeMap::new(alloc),
+        }
+    }
+
+    /// Whether the maintainer is named.
+    pub(crate) fn is_named(&self, name: &Name) -> bool
+        ensures { result ≡ nat_lt 0 (count_at self.now.counts name.now) }
+    {
+        match self.counts.get(name) {
+            Some(count) => *count > 0,
+            None => false,
+        }
+    }
+
+    /// Counts the maintainers that the object names. The error is want of memory and changes nothing.
+    pub(crate) fn add(&mut self, alloc: Global, object: &Object) -> Result<(), AllocError>
+        ensures ok { OnOk result ((name : List ℕ) → count_at self.new.counts name ≡ count_at self.old.counts name + namings_by name object.now) }
+        ensures err { OnErr result ((name : List ℕ) → count_at self.new.counts name ≡ count_at self.old.counts name) }
+    {
+        match self.add_each(alloc, object) {
+            Ok(()) => Ok(()),
+            Err(counted) => {
+                self.take_first(object, counted);
+                Err(AllocError)
+            }
+        }
+    }
+
+    /// Counts the maintainers that the object names, one after the other. The error is want of memory, and says how many
+    /// of its names were counted.
+    fn add_each(&mut self, alloc: Global, object: &Object) -> Result<(), u64>
+        ensures ok { OnOk result ((name : List ℕ) → count_at self.new.counts name ≡ count_at self.old.counts name + namings_by name object.now) }
+        ensures some { IfErr result (λ counted. (name : List ℕ) → count_at self.new.counts name
+            ≡ count_at self.old.counts name + namings name object.now.key (take counted (names_of object.now))) }
+    {
+        let mut counted: u64 = 0;
+        for name in object.maintainers_named() {
+            let Some(more) = counted.checked_add(1) else {
+                return Err(counted);
+            };
+            match self.raise(alloc, object.key(), name) {
+                Ok(()) => counted = more,
+                Err(_) => return Err(counted),
+            }
+        }
+        Ok(())
+    }
+
+    /// Takes back what was counted of the object.
+    pub(crate) fn take(&mut self, object: &Object)
+        ensures { (name : List ℕ) → count_at self.new.counts name ≡ count_at self.old.counts name - namings_by name object.now }
+    {
+        for name in object.maintainers_named() {
+            self.lower(object.key(), name);
+        }
+    }
+
+    /// Takes back what was counted of the object's first names.
+    fn take_first(&mut self, object: &Object, counted: u64)
+        ensures { (name : List ℕ) → count_at self.new.counts name
+            ≡ count_at self.old.counts name - namings name object.now.key (take counted (names_of object.now)) }
+    {
+        let mut left = counted;
+        for name in object.maintainers_named() {
+            if left == 0 {
+                return;
+            }
+            left -= 1;
+            self.lower(object.key(), name);
+        }
+    }
+
+    /// Counts one naming more by an object of the key. The error is want of memory and changes nothing.
+    fn raise(&mut self, alloc: Global, key: &Key, name: &Name) -> Result<(), AllocError>
+        ensures ok { OnOk result ((other : List ℕ) → count_at self.new.counts other ≡ count_at self.old.counts other + namings other key.now (name.now ∷ [])) }
+        ensures err { OnErr result ((other : List ℕ) → count_at self.new.counts other ≡ count_at self.old.counts other) }
+    {
+        if is_own(key, name) {
+            Ok(())
+        } else {
+            self.count_up(alloc, name)
+        }
+    }
+
+    /// Counts one naming less by an object of the key.
+    fn lower(&mut self, key: &Key, name: &Name)
+        ensures { (other : List ℕ) → count_at self.new.counts other ≡ count_at self.old.counts other - namings other key.now (name.now ∷ []) }
+    {
+        if !is_own(key, name) {
+            self.count_down(name);
+        }
+    }
+
+    /// Adds one to the count of the name. The error is want of memory and changes nothing.
+    fn count_up(&mut self, alloc: Global, name: &Name) -> Result<(), AllocError>
+        ensures ok { OnOk result ((other : List ℕ) → count_at self.new.counts other ≡ count_at self.old.counts other + cond (bytes_eq name.now other) 1 0) }
+        ensures err { OnErr result ((other : List ℕ) → count_at self.new.counts other ≡ count_at self.old.counts other) }
+    {
+        match self.counts.get_mut(name) {
+            Some(count) => add_one(count),
+            None => {
+                self.counts.insert(name.copy(alloc)?, 1)?;
+                Ok(())
+            }
+        }
+    }
+
+    /// Takes one from the count of the name, and the name out where none is left.
+    fn count_down(&mut self, name: &Name)
+        ensures { (other : List ℕ) → count_at self.new.counts other ≡ count_at self.old.counts other - cond (bytes_eq name.now other) 1 0 }
+    {
+        if self.lessen(name) {
+            self.counts.remove(name);
+        }
+    }
+
+    /// Takes one from the count of the name, and says whether none is left.
+    fn lessen(&mut self, name: &Name) -> bool
+        ensures lowered { (other : List ℕ) → count_at self.new.counts other ≡ count_at self.old.counts other - cond (bytes_eq name.now other) 1 0 }
+        ensures none { IsTrue result → count_at self.new.counts name.now ≡ 0 }
+    {
+        match self.counts.get_mut(name) {
+            Some(count) => take_one(count),
+            None => false,
+        }
+    }
+}
+
+/// Adds one to the count; where that is the greatest number, this counts as want of memory and changes nothing.
+fn add_one(count: &mut u64) -> Result<(), AllocError>
+    ensures ok { OnOk result (count.new ≡ count.old + 1) }
+    ensures err { OnErr result (count.new ≡ count.old) }
+{
+    match count.checked_add(1) {
+        Some(more) => {
+            *count = more;
+            Ok(())
+        }
+        None => Err(AllocError),
+    }
+}
+
+/// Takes one from the count, and says whether none is left.
+fn take_one(count: &mut u64) -> bool
+    ensures taken { count.new ≡ count.old - 1 }
+    ensures none { result ≡ (count.new == 0) }
+{
+    *count = count.saturating_sub(1);
+    *count == 0
+}
+
+/// Whether the key is that of the maintainer of the name.
+fn is_own(key: &Key, name: &Name) -> bool
+    ensures { result ≡ is_mntner_of name.now key.now }
+{
+    match key {
+        Key::Mntner(own) => own == name,
+        _ => false,
+    }
+}

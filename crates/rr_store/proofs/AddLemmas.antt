@@ -1,0 +1,33 @@
+-- The rows of an object that are added to those of others.
+use Rattle.std.proofs.Common.{List, [], ◌∷◌, ◌++◌, map, ap, subst, ◌∙◌, IsPermutation}
+use Rattle.std.specs.FinMap.{values}
+use Rattle.std.proofs.lemmas.List.Sorted.{IsPermutation-append_right, IsPermutation-cons, IsPermutation-map, IsPermutation-trans}
+use Rattle.sqlite.specs.Effect.{Database}
+use Rattle.rr_object.specs.KeyOrders.{IsKeyValue}
+use Rattle.rr_object.specs.Objects.{Obj}
+use Rattle.rr_rows.specs.Contents.{contents, settings}
+use Rattle.rr_rows.specs.Entries.{Entry, AreRowsOf, IsAdded, entry_of, named_rows, object_row}
+use Rattle.rr_rows.specs.Maps.{IsObject}
+use Rattle.rr_rows.proofs.AddedLemmas.{append_none}
+use Rattle.rr_rows.proofs.MapEntries.{values_with_new}
+use Rattle.rr_object.proofs.KeyLaws.{keys_total}
+use Rattle.rr_rows.proofs.MapKeys.{keys_exact}
+use Rattle.rr_rows.proofs.MapRows.{put_keyed, rows_permuted}
+use Rattle.rr_store.specs.Adding.{AddsTo}
+
+one_more : (entry : Entry) (entries : List Entry) (old new : Database) → AreRowsOf entries old → IsAdded (entry ∷ []) old new → AreRowsOf (entry ∷ entries) new
+one_more entry entries old new rows added = record {
+  tidy = added.tidy;
+  objects = IsPermutation-trans _ _ _ (IsPermutation-cons (object_row entry) _ _ rows.objects) added.objects;
+  named = IsPermutation-trans _ _ _ (IsPermutation-append_right (named_rows entry) _ _ rows.named)
+      (subst (λ l. IsPermutation (l ++ contents (old.trees 4)) (contents (new.trees 4))) (append_none (named_rows entry)) added.named);
+}
+
+-- the rows with those of an object of a new key are the rows of the map with it
+pub adds : (object : Obj) → IsKeyValue object.key → IsObject object → (old new : Database) → IsAdded (entry_of object ∷ []) old new → AddsTo object.key object old new
+adds object formed read old new added objects has absent = record {
+  keyed = put_keyed objects object formed read has.keyed;
+  rows = rows_permuted _ _ new (IsPermutation-map entry_of _ _ (values_with_new keys_total keys_exact objects object.key object absent))
+      (one_more (entry_of object) (map entry_of (values objects)) old new has.rows added);
+  version = ap settings added.meta ∙ has.version;
+}

@@ -1,0 +1,12 @@
+-- What it does to the objects of tables that the rows of another one are added.
+use Rattle.std.specs.Prelude.{◌≡◌, None}
+use Rattle.std.specs.FinMap.{FinMap, get, insert}
+use Rattle.sqlite.specs.Effect.{Database}
+use Rattle.rr_object.specs.declared.key.Key.{Key}
+use Rattle.rr_object.specs.KeyOrders.{key_cmp}
+use Rattle.rr_object.specs.Objects.{Obj}
+use Rattle.rr_rows.specs.Maps.{HasRows}
+
+-- where the tables hold a finite map of objects with none under this key, they hold it with the object there behind the change
+abbrev pub AddsTo : Key → Obj → Database → Database → Type 0
+AddsTo key object old new = (objects : FinMap key_cmp Obj) → HasRows objects old → get objects key ≡ None → HasRows (insert objects key object) new

@@ -1,10 +1,10 @@
 pub mod Covers
 pub mod Crossing
 pub mod Keeping
-pub mod KeyLaws
 pub mod Members
 pub mod Nesting
 pub mod Refusing
+pub mod Remembered
 pub mod RouteSpace
 pub mod SecretSets
 pub mod Seen

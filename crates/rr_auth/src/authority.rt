@@ -106,15 +106,22 @@ fn is_aut_num(key: &Key) -> bool
 }
 
 /// Whether the names that decide below the object pass.
-pub fn lower_passes<B: Book>(book: &B, secrets: &Secrets, object: &Object) -> bool
-    ensures { result ≡ lower_passes (B.contents book.now) secrets.now object.now }
+pub fn lower_passes<B: Book>(book: &B, secrets: &mut Secrets, object: &Object) -> bool
+    ensures answer { result ≡ lower_passes (B.contents book.now) secrets.old object.now }
+    ensures same_secrets { secrets.new ≡ secrets.old }
 {
     names_pass(book, None, secrets, lower_names(object))
 }
 
 /// Whether the names that decide about routes of the prefix below the object pass.
-pub fn routes_pass<B: Book>(book: &B, secrets: &Secrets, object: &Object, prefix: Prefix) -> bool
-    ensures { result ≡ routes_pass (B.contents book.now) secrets.now prefix object.now }
+pub fn routes_pass<B: Book>(
+    book: &B,
+    secrets: &mut Secrets,
+    object: &Object,
+    prefix: Prefix,
+) -> bool
+    ensures answer { result ≡ routes_pass (B.contents book.now) secrets.old prefix object.now }
+    ensures same_secrets { secrets.new ≡ secrets.old }
 {
     match names_for_routes(object) {
         RouteNames::Granted(entries) => some_grant_passes(book, secrets, entries, prefix),
@@ -126,31 +133,37 @@ pub fn routes_pass<B: Book>(book: &B, secrets: &Secrets, object: &Object, prefix
 #[tactic(auto, using(crate::proofs::Seen::passes_granted))]
 fn some_grant_passes<B: Book>(
     book: &B,
-    secrets: &Secrets,
+    secrets: &mut Secrets,
     entries: &[Grant],
     prefix: Prefix,
 ) -> bool
-    ensures { result ≡ names_pass (B.contents book.now) secrets.now (map (λ g. g.name) (filter (grants prefix) entries.now)) }
+    ensures answer { result ≡ names_pass (B.contents book.now) secrets.old (map (λ g. g.name) (filter (grants prefix) entries.now)) }
+    ensures same_secrets { secrets.new ≡ secrets.old }
 {
     some_entry_passes(book, secrets, entries, prefix)
 }
 
 fn some_entry_passes<B: Book>(
     book: &B,
-    secrets: &Secrets,
+    secrets: &mut Secrets,
     entries: &[Grant],
     prefix: Prefix,
 ) -> bool
-    ensures { result ≡ list_any (λ g. grants prefix g && name_passes (B.contents book.now) secrets.now g.name) entries.now }
+    ensures answer { result ≡ list_any (λ g. grants prefix g && name_passes (B.contents book.now) secrets.old g.name) entries.now }
+    ensures same_secrets { secrets.new ≡ secrets.old }
 {
-    entries
-        .iter()
-        .any(|entry| entry_passes(book, secrets, entry, prefix))
+    'entries: for entry in entries {
+        if entry_passes(book, secrets, entry, prefix) {
+            return true;
+        }
+    }
+    false
 }
 
 /// Whether the entry grants the prefix and its name passes.
-fn entry_passes<B: Book>(book: &B, secrets: &Secrets, entry: &Grant, prefix: Prefix) -> bool
-    ensures { result ≡ (grants prefix entry.now && name_passes (B.contents book.now) secrets.now entry.now.name) }
+fn entry_passes<B: Book>(book: &B, secrets: &mut Secrets, entry: &Grant, prefix: Prefix) -> bool
+    ensures answer { result ≡ (grants prefix entry.now && name_passes (B.contents book.now) secrets.old entry.now.name) }
+    ensures same_secrets { secrets.new ≡ secrets.old }
 {
     grants_prefix(entry, prefix) && name_passes(book, None, secrets, entry.name())
 }

@@ -26,10 +26,11 @@ use std::alloc::{AllocError, Global};
 pub fn judge<B: Book>(
     alloc: Global,
     book: &B,
-    secrets: &Secrets,
+    secrets: &mut Secrets,
     item: &Item,
 ) -> Result<Verdict, AllocError>
-    ensures { IfOk result (λ v. v ≡ verdict (B.contents book.now) secrets.now item.now) }
+    ensures verdict { IfOk result (λ v. v ≡ verdict (B.contents book.now) secrets.old item.now) }
+    ensures same_secrets { secrets.new ≡ secrets.old }
 {
     match item {
         Item::Submit(object) => judge_object(alloc, book, secrets, object),
@@ -41,10 +42,11 @@ pub fn judge<B: Book>(
 fn judge_object<B: Book>(
     alloc: Global,
     book: &B,
-    secrets: &Secrets,
+    secrets: &mut Secrets,
     object: &Object,
 ) -> Result<Verdict, AllocError>
-    ensures { IfOk result (λ v. v ≡ submission (get (B.contents book.now) object.now.key) (B.contents book.now) secrets.now object.now) }
+    ensures verdict { IfOk result (λ v. v ≡ submission (get (B.contents book.now) object.now.key) (B.contents book.now) secrets.old object.now) }
+    ensures same_secrets { secrets.new ≡ secrets.old }
 {
     match book.get(object.key()) {
         None => judge_addition(alloc, book, secrets, object),
@@ -55,10 +57,11 @@ fn judge_object<B: Book>(
 fn judge_addition<B: Book>(
     alloc: Global,
     book: &B,
-    secrets: &Secrets,
+    secrets: &mut Secrets,
     object: &Object,
 ) -> Result<Verdict, AllocError>
-    ensures { IfOk result (λ v. v ≡ addition (B.contents book.now) secrets.now object.now) }
+    ensures verdict { IfOk result (λ v. v ≡ addition (B.contents book.now) secrets.old object.now) }
+    ensures same_secrets { secrets.new ≡ secrets.old }
 {
     if object_names_nobody(book, Some(object), object) {
         Ok(Verdict::Refuse(Code::E10))
@@ -69,8 +72,14 @@ fn judge_addition<B: Book>(
     }
 }
 
-fn judge_change<B: Book>(book: &B, secrets: &Secrets, stored: &Object, object: &Object) -> Verdict
-    ensures { result ≡ change (B.contents book.now) secrets.now stored.now object.now }
+fn judge_change<B: Book>(
+    book: &B,
+    secrets: &mut Secrets,
+    stored: &Object,
+    object: &Object,
+) -> Verdict
+    ensures verdict { result ≡ change (B.contents book.now) secrets.old stored.now object.now }
+    ensures same_secrets { secrets.new ≡ secrets.old }
 {
     if object_names_nobody(book, None, object) {
         Verdict::Refuse(Code::E10)
@@ -83,8 +92,9 @@ fn judge_change<B: Book>(book: &B, secrets: &Secrets, stored: &Object, object: &
     }
 }
 
-fn judge_deletion<B: Book>(book: &B, secrets: &Secrets, key: &Key) -> Verdict
-    ensures { result ≡ deletion (get (B.contents book.now) key.now) (B.contents book.now) secrets.now key.now }
+fn judge_deletion<B: Book>(book: &B, secrets: &mut Secrets, key: &Key) -> Verdict
+    ensures verdict { result ≡ deletion (get (B.contents book.now) key.now) (B.contents book.now) secrets.old key.now }
+    ensures same_secrets { secrets.new ≡ secrets.old }
 {
     match book.get(key) {
         None => Verdict::Refuse(Code::E18),
@@ -113,10 +123,11 @@ fn is_in_use<B: Book>(book: &B, key: &Key) -> bool
 fn judge_place<B: Book>(
     alloc: Global,
     book: &B,
-    secrets: &Secrets,
+    secrets: &mut Secrets,
     key: &Key,
 ) -> Result<Verdict, AllocError>
-    ensures { IfOk result (λ v. v ≡ place (B.contents book.now) secrets.now key.now) }
+    ensures verdict { IfOk result (λ v. v ≡ place (B.contents book.now) secrets.old key.now) }
+    ensures same_secrets { secrets.new ≡ secrets.old }
 {
     if book.crosses(key) {
         return Ok(Verdict::Refuse(Code::E16));
@@ -144,8 +155,9 @@ fn span_of_number(number: AsNumber) -> Span
 }
 
 /// The verdict on an object whose closest cover, or parent, is this one.
-fn judge_below<B: Book>(book: &B, secrets: &Secrets, cover: Option<&Object>) -> Verdict
-    ensures { result ≡ below (lower_passes (B.contents book.now) secrets.now) (option_copied cover.entry) }
+fn judge_below<B: Book>(book: &B, secrets: &mut Secrets, cover: Option<&Object>) -> Verdict
+    ensures verdict { result ≡ below (lower_passes (B.contents book.now) secrets.old) (option_copied cover.entry) }
+    ensures same_secrets { secrets.new ≡ secrets.old }
 {
     match cover {
         None => Verdict::Refuse(Code::E12),
@@ -163,11 +175,12 @@ fn judge_below<B: Book>(book: &B, secrets: &Secrets, cover: Option<&Object>) -> 
 fn judge_set<B: Book>(
     alloc: Global,
     book: &B,
-    secrets: &Secrets,
+    secrets: &mut Secrets,
     kind: SetKind,
     name: &SetName,
 ) -> Result<Verdict, AllocError>
-    ensures { IfOk result (λ v. v ≡ below_parent (B.contents book.now) secrets.now kind name.now) }
+    ensures verdict { IfOk result (λ v. v ≡ below_parent (B.contents book.now) secrets.old kind name.now) }
+    ensures same_secrets { secrets.new ≡ secrets.old }
 {
     match name.parent(alloc)? {
         None => Ok(Verdict::Add),
@@ -187,8 +200,9 @@ fn parent_key(kind: SetKind, parent: Parent) -> Option<Key>
 }
 
 /// The verdict on a set whose parent has this key.
-fn judge_below_parent<B: Book>(book: &B, secrets: &Secrets, parent: Option<Key>) -> Verdict
-    ensures { result ≡ below (lower_passes (B.contents book.now) secrets.now) (option_and_then (get (B.contents book.now)) parent) }
+fn judge_below_parent<B: Book>(book: &B, secrets: &mut Secrets, parent: Option<Key>) -> Verdict
+    ensures verdict { result ≡ below (lower_passes (B.contents book.now) secrets.old) (option_and_then (get (B.contents book.now)) parent) }
+    ensures same_secrets { secrets.new ≡ secrets.old }
 {
     match parent {
         None => Verdict::Refuse(Code::E12),
@@ -200,14 +214,15 @@ fn judge_below_parent<B: Book>(book: &B, secrets: &Secrets, parent: Option<Key>)
 fn judge_route<B: Book>(
     alloc: Global,
     book: &B,
-    secrets: &Secrets,
+    secrets: &mut Secrets,
     prefix: Prefix,
     origin: AsNumber,
 ) -> Result<Verdict, AllocError>
-    ensures { IfOk result (λ v. v ≡ first_of (
+    ensures verdict { IfOk result (λ v. v ≡ first_of (
         record { holds = lacks_origin (B.contents book.now) (Key.Route prefix origin); code = Code.E14 } ∷ (
-        record { holds = origin_refuses (B.contents book.now) secrets.now (Key.Route prefix origin); code = Code.E15 } ∷ []))
-        (below_space (B.contents book.now) secrets.now prefix)) }
+        record { holds = origin_refuses (B.contents book.now) secrets.old (Key.Route prefix origin); code = Code.E15 } ∷ []))
+        (below_space (B.contents book.now) secrets.old prefix)) }
+    ensures same_secrets { secrets.new ≡ secrets.old }
 {
     match book.get(&Key::AutNum(origin)) {
         None => Ok(Verdict::Refuse(Code::E14)),
@@ -225,10 +240,11 @@ fn judge_route<B: Book>(
 fn judge_space<B: Book>(
     alloc: Global,
     book: &B,
-    secrets: &Secrets,
+    secrets: &mut Secrets,
     prefix: Prefix,
 ) -> Result<Verdict, AllocError>
-    ensures { IfOk result (λ v. v ≡ below_space (B.contents book.now) secrets.now prefix) }
+    ensures verdict { IfOk result (λ v. v ≡ below_space (B.contents book.now) secrets.old prefix) }
+    ensures same_secrets { secrets.new ≡ secrets.old }
 {
     match book.closest_routes(prefix) {
         None => Ok(judge_inetnum_space(book, secrets, prefix)),
@@ -244,8 +260,9 @@ fn judge_space<B: Book>(
 }
 
 /// The verdict of the closest inetnum on a route that no route covers.
-fn judge_inetnum_space<B: Book>(book: &B, secrets: &Secrets, prefix: Prefix) -> Verdict
-    ensures { result ≡ below (routes_pass (B.contents book.now) secrets.now prefix) (closest_inetnum (B.contents book.now) (span_of prefix)) }
+fn judge_inetnum_space<B: Book>(book: &B, secrets: &mut Secrets, prefix: Prefix) -> Verdict
+    ensures verdict { result ≡ below (routes_pass (B.contents book.now) secrets.old prefix) (closest_inetnum (B.contents book.now) (span_of prefix)) }
+    ensures same_secrets { secrets.new ≡ secrets.old }
 {
     match book.closest_inetnum(prefix.span()) {
         None => Verdict::Refuse(Code::E12),
@@ -262,24 +279,31 @@ fn judge_inetnum_space<B: Book>(book: &B, secrets: &Secrets, prefix: Prefix) -> 
 /// Whether a route of the closest prefix and one of these origins authorises a route of the prefix.
 fn some_route_passes<B: Book>(
     book: &B,
-    secrets: &Secrets,
+    secrets: &mut Secrets,
     prefix: Prefix,
     closest: Prefix,
     origins: &[AsNumber],
 ) -> bool
-    ensures { result ≡ list_any (route_passes (B.contents book.now) secrets.now prefix closest) origins.now }
+    ensures answer { result ≡ list_any (route_passes (B.contents book.now) secrets.old prefix closest) origins.now }
+    ensures same_secrets { secrets.new ≡ secrets.old }
 {
-    origins.iter().any(|origin| route_passes(book, secrets, prefix, closest, *origin))
+    'origins: for origin in origins {
+        if route_passes(book, secrets, prefix, closest, *origin) {
+            return true;
+        }
+    }
+    false
 }
 
 fn route_passes<B: Book>(
     book: &B,
-    secrets: &Secrets,
+    secrets: &mut Secrets,
     prefix: Prefix,
     closest: Prefix,
     origin: AsNumber,
 ) -> bool
-    ensures { result ≡ route_passes (B.contents book.now) secrets.now prefix closest origin }
+    ensures answer { result ≡ route_passes (B.contents book.now) secrets.old prefix closest origin }
+    ensures same_secrets { secrets.new ≡ secrets.old }
 {
     match book.get(&Key::Route(closest, origin)) {
         Some(route) => routes_pass(book, secrets, route, prefix),

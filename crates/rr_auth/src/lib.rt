@@ -8,7 +8,9 @@ mod item;
 mod judging;
 pub mod laws;
 mod passing;
+mod secret;
 mod secrets;
+mod tried;
 mod verdict;
 
 pub use authority::{lower_names, route_names};
@@ -16,5 +18,6 @@ pub use book::Book;
 pub use item::Item;
 pub use judging::judge;
 pub use passing::passes;
-pub use secrets::{Secret, Secrets};
+pub use secret::Secret;
+pub use secrets::Secrets;
 pub use verdict::Verdict;

@@ -8,38 +8,29 @@ ghost use Rattle.rr_auth.specs.Passing.{fits_line, name_passes, names_pass, pass
 ghost use Rattle.rr_auth.specs.Registries.{maintainer, names_nobody, seen_by};
 
 use crate::book::Book;
-use crate::secrets::{Secret, Secrets};
+use crate::secrets::Secrets;
 use rr_number::Name;
 use rr_object::{Auth, Object};
-use sha2::{Digest, Sha256};
 
 /// Whether the maintainer passes: some secret fits one of its lines, so that SHA-256 of the salt and then the secret is
-/// the line's digest (profile; FIPS 180-4).
-pub fn passes(maintainer: &Object, secrets: &Secrets) -> bool
-    ensures { result ≡ passes secrets.now maintainer.now }
+/// the line's digest (profile; FIPS 180-4). However often it is asked, a secret is hashed with a line once.
+pub fn passes(maintainer: &Object, secrets: &mut Secrets) -> bool
+    ensures answer { result ≡ passes secrets.old maintainer.now }
+    ensures same_secrets { secrets.new ≡ secrets.old }
 {
-    some_line_fits(maintainer.auths(), secrets.as_slice())
+    some_line_fits(maintainer.auths(), secrets)
 }
 
-fn some_line_fits(lines: &[Auth], secrets: &[Secret]) -> bool
-    ensures { result ≡ list_any (λ line. list_any (fits_line line) secrets.now) lines.now }
+fn some_line_fits(lines: &[Auth], secrets: &mut Secrets) -> bool
+    ensures answer { result ≡ list_any (λ line. list_any (fits_line line) secrets.old) lines.now }
+    ensures same_secrets { secrets.new ≡ secrets.old }
 {
-    lines.iter().any(|line| some_secret_fits(line, secrets))
-}
-
-fn some_secret_fits(line: &Auth, secrets: &[Secret]) -> bool
-    ensures { result ≡ list_any (fits_line line.now) secrets.now }
-{
-    secrets.iter().any(|secret| fits_line(line, secret))
-}
-
-fn fits_line(line: &Auth, secret: &Secret) -> bool
-    ensures { result ≡ fits_line line.now secret.now }
-{
-    let mut hasher = Sha256::new();
-    hasher.update(line.salt());
-    hasher.update(secret.as_bytes());
-    hasher.finalize() == *line.digest()
+    'lines: for line in lines {
+        if secrets.some_fits(line) {
+            return true;
+        }
+    }
+    false
 }
 
 /// The mntner of the name; the object itself where it is added and is that one.
@@ -64,8 +55,14 @@ pub fn maintainer_seen<'a, B: Book>(
 }
 
 /// Whether the name is that of a maintainer that passes.
-pub fn name_passes<B: Book>(book: &B, own: Option<&Object>, secrets: &Secrets, name: &Name) -> bool
-    ensures { result ≡ name_passes (seen_by (option_copied own.entry) (B.contents book.now)) secrets.now name.now }
+pub fn name_passes<B: Book>(
+    book: &B,
+    own: Option<&Object>,
+    secrets: &mut Secrets,
+    name: &Name,
+) -> bool
+    ensures answer { result ≡ name_passes (seen_by (option_copied own.entry) (B.contents book.now)) secrets.old name.now }
+    ensures same_secrets { secrets.new ≡ secrets.old }
 {
     match maintainer_seen(book, own, name) {
         Some(maintainer) => passes(maintainer, secrets),
@@ -77,14 +74,18 @@ pub fn name_passes<B: Book>(book: &B, own: Option<&Object>, secrets: &Secrets, n
 pub fn names_pass<B: Book>(
     book: &B,
     own: Option<&Object>,
-    secrets: &Secrets,
+    secrets: &mut Secrets,
     names: &[Name],
 ) -> bool
-    ensures { result ≡ names_pass (seen_by (option_copied own.entry) (B.contents book.now)) secrets.now names.now }
+    ensures answer { result ≡ names_pass (seen_by (option_copied own.entry) (B.contents book.now)) secrets.old names.now }
+    ensures same_secrets { secrets.new ≡ secrets.old }
 {
-    names
-        .iter()
-        .any(|name| name_passes(book, own, secrets, name))
+    'names: for name in names {
+        if name_passes(book, own, secrets, name) {
+            return true;
+        }
+    }
+    false
 }
 
 /// Whether the object names a maintainer that is not registered.

@@ -1,46 +1,21 @@
 //! Secrets, by which a submission shows who sent it.
 
-ghost use Rattle.std.specs.Prelude.{◌≡◌, [], ◌∷◌, ◌++◌, OnOk, OnErr, IfOk};
+ghost use Rattle.std.specs.Prelude.{◌≡◌, [], ◌∷◌, ◌++◌, OnOk, OnErr};
+ghost use Rattle.std.specs.List.{list_any};
+ghost use Rattle.rr_auth.specs.Passing.{fits_line};
 
+use crate::secret::Secret;
+use crate::tried::Tried;
+use rr_object::Auth;
 use std::alloc::{AllocError, Global};
 use std::marker::Model;
-
-/// The bytes of one secret; contracts see them as a list.
-#[derive(Drop)]
-pub struct Secret {
-    bytes: Vec<u8>,
-}
-
-impl Model for Secret {
-    ghost use Rattle.std.specs.Prelude.{List, ℕ};
-
-    ghost Value = { List ℕ };
-
-    ghost view = { λ a. a.bytes.items };
-}
-
-impl Secret {
-    /// The secret of these bytes.
-    fn new(alloc: Global, bytes: &[u8]) -> Result<Secret, AllocError>
-        ensures { IfOk result (λ secret. secret ≡ bytes.now) }
-    {
-        let bytes = Vec::from_slice(alloc, bytes)?;
-        Ok(Secret { bytes })
-    }
-
-    /// The bytes of the secret.
-    pub fn as_bytes(&self) -> &[u8]
-        ensures { result.now ≡ self.now }
-    {
-        self.bytes.as_slice()
-    }
-}
 
 /// The secrets given with an item; contracts see the list of them, in the order in which they were added.
 /// Only which secrets are there matters.
 #[derive(Drop)]
 pub struct Secrets {
     list: Vec<Secret>,
+    tried: Tried,
 }
 
 impl Model for Secrets {
@@ -48,7 +23,11 @@ impl Model for Secrets {
 
     ghost Value = { List (List ℕ) };
 
+    ghost use Rattle.rr_auth.specs.Trials.{AreTrials};
+
     ghost view = { λ a. a.list.items };
+
+    ghost invariant = { λ a. AreTrials a.list.items a.tried.trials };
 }
 
 impl Secrets {
@@ -58,10 +37,12 @@ impl Secrets {
     {
         Secrets {
             list: Vec::new(alloc),
+            tried: Tried::new(alloc),
         }
     }
 
     /// Adds the secret of these bytes; the error is want of memory and leaves the secrets as they were.
+    #[tactic(auto, using(crate::proofs::Remembered::trials_stay))]
     pub fn add(&mut self, alloc: Global, bytes: &[u8]) -> Result<(), AllocError>
         ensures ok { OnOk result (self.new ≡ self.old ++ bytes.now ∷ []) }
         ensures err { OnErr result (self.new ≡ self.old) }
@@ -72,20 +53,22 @@ impl Secrets {
     }
 
     /// Adds the secret of these bytes, which it keeps; the error is want of memory and leaves the secrets as they were.
+    #[tactic(auto, using(crate::proofs::Remembered::trials_stay))]
     pub fn add_owned(&mut self, bytes: Vec<u8>) -> Result<(), AllocError>
         ensures ok { OnOk result (self.new ≡ self.old ++ bytes.items ∷ []) }
         ensures err { OnErr result (self.new ≡ self.old) }
     {
-        self.list.push(Secret { bytes })?;
+        self.list.push(Secret::of(bytes))?;
         Ok(())
     }
 
     /// Adds these secrets too, all or none; the error is want of memory and leaves the secrets as they were.
+    #[tactic(auto, using(crate::proofs::Remembered::trials_stay))]
     pub fn add_all(&mut self, more: Secrets) -> Result<(), AllocError>
         ensures ok { OnOk result (self.new ≡ self.old ++ more) }
         ensures err { OnErr result (self.new ≡ self.old) }
     {
-        let Secrets { mut list } = more;
+        let Secrets { mut list, tried: _ } = more;
         self.list.append(&mut list)
     }
 
@@ -94,5 +77,13 @@ impl Secrets {
         ensures { result.now ≡ self.now }
     {
         self.list.as_slice()
+    }
+
+    /// Whether one of the secrets fits the line. It is remembered, so that each secret is hashed with a line once.
+    pub(crate) fn some_fits(&mut self, line: &Auth) -> bool
+        ensures answer { result ≡ list_any (fits_line line.now) self.old }
+        ensures same_secrets { self.new ≡ self.old }
+    {
+        self.tried.some_fits(self.list.as_slice(), line)
     }
 }

@@ -1,6 +1,9 @@
-//! Tests of the base crates: outside examples of texts and numbers, streams that fail, and walks of small graphs.
+//! Tests of the base crates: outside examples of texts and numbers, streams that fail, walks of small graphs, and trees
+//! of spans.
 #![tactic(auto)]
 
+#[cfg(test)]
+mod cover_tests;
 #[cfg(test)]
 mod graph_tests;
 #[cfg(test)]

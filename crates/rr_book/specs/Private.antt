@@ -11,7 +11,6 @@ use Rattle.rr_object.specs.declared.key.Key.TheVariants as key
 use Rattle.rr_object.specs.KeyOrders.{key_cmp}
 use Rattle.rr_object.specs.Objects.{Obj}
 use Rattle.rr_auth.specs.Closest.{inetnum_span, block_span, route_span}
-pub use Rattle.rr_book.specs.SetIndexes.{is_meant}
 
 -- The first place whose key is not below the key.
 abbrev pub place_of : Key → List Obj → ℕ

@@ -39,10 +39,10 @@ pub record HasSubmittedPlain {S : Type 0} (g : store.Ghosts S) (input_before inp
   pub new : Stock S
   pub opened : IsOpened built_in old.registry
   pub submitted : HasSubmitted g built_in.source (record {
-    source_before = input_before;
-    source_after = input_after;
-    sink_before = output_before;
-    sink_after = output_after;
+    reader_before = input_before;
+    reader_after = input_after;
+    writer_before = output_before;
+    writer_after = output_after;
     before = old.registry;
     after = new.registry;
   }) old new result

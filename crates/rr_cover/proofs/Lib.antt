@@ -6,6 +6,7 @@ pub mod NestHeld
 pub mod NestLists
 pub mod NestModel
 pub mod NestOrder
+pub mod NestPut
 pub mod NestTurns
 pub mod Ordered
 pub mod Places
@@ -16,3 +17,4 @@ pub mod TreeHeld
 pub mod TreeLists
 pub mod TreeModel
 pub mod TreeParting
+pub mod TreeRoom

@@ -6,7 +6,7 @@ use Rattle.rr_number.specs.Spans.{Ends, span_cmp}
 use Rattle.rr_cover.specs.SpanNests.{is_ahead, at_span, standing, Only, Fits}
 use Rattle.rr_cover.specs.NestParts.{IsLastReaching}
 use Rattle.rr_cover.specs.declared.span_nest.Nest.{Nest}
-use Rattle.rr_cover.proofs.Among.{tied_same, same_tied, some_value}
+use Rattle.rr_cover.proofs.Among.{tied_same, same_tied}
 use Rattle.rr_cover.proofs.Nearest.{contradicted}
 use Rattle.rr_cover.proofs.NestOrder.{ahead_itself, ahead_back, ahead_chain}
 

@@ -31,10 +31,10 @@ module _ {T : Type 0} where
   -- a span held does not end before it begins
   held_ordered : (nest : Nest T) → IsNest nest → (u : Ends) → is_some (standing nest u) ≡ true → u.first ≤ u.last
   held_ordered Empty is u held = absurd (contradicted _ refl held)
-  held_ordered (Fork' p span value height least greatest before after) is u held =
+  held_ordered (Fork' p span value height bounds before after) is u held =
       let low = held_ordered before is.1.0 u in
       let high = held_ordered after is.1.1 u in
-      elim (held_where (Fork' p span value height least greatest before after) span value before after (record { all = λ s. refl }) u held) [
+      elim (held_where (Fork' p span value height bounds before after) span value before after (record { all = λ s. refl }) u held) [
         | inl in_low ↦ low in_low
         | inr (inl same) ↦ subst (λ (w : Ends). w.first ≤ w.last) (sym same) is.0.0.ordered.ordered
         | inr (inr in_high) ↦ high in_high

@@ -1,7 +1,7 @@
 -- A search tree of spans as the map that it holds.
-use Rattle.std.proofs.Common.{◌≡◌, ◌+◌, ◌<◌, ◌≤◌, Bool, true, false, cond, ◌⊎◌, inl, inr, List, [], ◌∷◌, ◌++◌, Option, Some, None, is_some, refl, sym, ap, subst, ◌∙◌, arith}
+use Rattle.std.proofs.Common.{◌≡◌, ◌+◌, ◌<◌, ◌≤◌, Bool, true, false, cond, ◌⊎◌, inl, inr, List, [], ◌∷◌, ◌++◌, Option, Some, None, is_some, refl, sym, ap, ◌∙◌, arith}
 use Rattle.std.proofs.lemmas.Bool.Decides.{nat_tests}
-use Rattle.std.specs.FinMap.{get, contains_key, find, insert, remove, from_entries, get-from_entries}
+use Rattle.std.specs.FinMap.{contains_key, find, insert, remove, get-from_entries}
 use Rattle.std.specs.Option.{option_or, IfNone}
 use Rattle.std.specs.Ordering.{eq_by_cmp}
 use Rattle.rr_number.specs.Spans.{Ends, IsSpan, covers, crosses, size, span_cmp}
@@ -53,7 +53,7 @@ module _ {T : Type 0} where
 
   find_standing : (nest : Nest T) (s : Ends) → find span_cmp s (entries_of nest) ≡ standing nest s
   find_standing Empty s = refl
-  find_standing (Fork' p span value height least greatest before after) s =
+  find_standing (Fork' p span value height bounds before after) s =
       find_both s (entries_of before) ((span, value) ∷ entries_of after)
       ∙ ap (λ o. option_or o (find span_cmp s ((span, value) ∷ entries_of after))) (find_standing before s)
       ∙ ap (option_or (standing before s)) (first_of (eq_by_cmp span_cmp s span) value (find span_cmp s (entries_of after)) ∙ ap (option_or (at_span span value s)) (find_standing after s))

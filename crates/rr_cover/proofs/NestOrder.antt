@@ -1,5 +1,5 @@
 -- The order in which a search tree keeps its spans: outer ones ahead of inner ones.
-use Rattle.std.proofs.Common.{◌≡◌, Bool, true, false, nat_lt, nat_eq, ◌||◌, ◌&&◌, arith}
+use Rattle.std.proofs.Common.{◌≡◌, true, false, arith}
 use Rattle.std.proofs.lemmas.Bool.Decides.{nat_tests}
 use Rattle.std.specs.Ordering.{eq_by_cmp}
 use Rattle.rr_number.specs.Spans.{Ends, span_cmp}

@@ -1,10 +1,11 @@
 -- A search tree turned, with a side changed, or with a node taken out: what it holds then, and that it stays in order.
-use Rattle.std.proofs.Common.{◌≡◌, ℕ, nat_le, Bool, true, false, cond, ◌⊎◌, Option, Some, None, is_some, refl, sym, ap, subst, ◌∙◌, inl, inr}
+use Rattle.std.proofs.Common.{◌≡◌, nat_le, Bool, true, false, cond, ◌⊎◌, Option, Some, None, is_some, refl, sym, ap, ◌∙◌, inl, inr}
 use Rattle.std.specs.Option.{option_or}
 use Rattle.std.specs.Ordering.{eq_by_cmp}
 use Rattle.rr_number.specs.Spans.{Ends, span_cmp}
-use Rattle.rr_cover.specs.SpanNests.{is_ahead, at_span, standing, Only, Fits, IsLeast, IsGreatest, IsNest}
+use Rattle.rr_cover.specs.SpanNests.{is_ahead, at_span, standing, Only, Fits, IsBound, IsNest}
 use Rattle.rr_cover.specs.NestParts.{IsOpened}
+use Rattle.rr_cover.specs.declared.span_nest.bounds.Bounds.{Bounds}
 use Rattle.rr_cover.specs.declared.span_nest.Nest.{Nest}
 use Rattle.rr_cover.proofs.Among.{tied_same, same_tied}
 use Rattle.rr_cover.proofs.Nearest.{contradicted}
@@ -118,7 +119,7 @@ module _ {T : Type 0} where
   just (Some x) = refl
 
   module _ (nest : Nest T) (span : Ends) (value : T) (before after : Nest T) (opened : IsOpened nest span value before after) (k : Ends) (o : Option T) where
-    low_case : (new : Nest T) (s : Ends) (b : Bool) → eq_by_cmp span_cmp s k ≡ b → is_ahead k span ≡ true → standing new s ≡ cond b o (standing before s) → option_or (standing new s) (option_or (at_span span value s) (standing after s)) ≡ cond b o (standing nest s)
+    pub low_case : (new : Nest T) (s : Ends) (b : Bool) → eq_by_cmp span_cmp s k ≡ b → is_ahead k span ≡ true → standing new s ≡ cond b o (standing before s) → option_or (standing new s) (option_or (at_span span value s) (standing after s)) ≡ cond b o (standing nest s)
     low_case new s true tied ahead is =
         let first : is_ahead s span ≡ true = ap (λ t. is_ahead t span) (tied_same s k tied) ∙ ahead in
         ap (λ x. option_or x (option_or (at_span span value s) (standing after s))) is
@@ -132,7 +133,7 @@ module _ {T : Type 0} where
     pub changed_low : (new result : Nest T) → is_ahead k span ≡ true → Changed before new k o → Made result span value new after → Changed nest result k o
     changed_low new result ahead changed made = record { all = λ s. made.all s ∙ low_case new s (eq_by_cmp span_cmp s k) refl ahead (changed.all s) }
 
-    high_case : (new : Nest T) (s : Ends) (b : Bool) → eq_by_cmp span_cmp s k ≡ b → is_ahead span k ≡ true → standing new s ≡ cond b o (standing after s) → option_or (standing before s) (option_or (at_span span value s) (standing new s)) ≡ cond b o (standing nest s)
+    pub high_case : (new : Nest T) (s : Ends) (b : Bool) → eq_by_cmp span_cmp s k ≡ b → is_ahead span k ≡ true → standing new s ≡ cond b o (standing after s) → option_or (standing before s) (option_or (at_span span value s) (standing new s)) ≡ cond b o (standing nest s)
     high_case new s true tied ahead is =
         let last : is_ahead span s ≡ true = ap (λ t. is_ahead span t) (tied_same s k tied) ∙ ahead in
         ap (λ x. option_or x (option_or (at_span span value s) (standing new s))) (none_low nest span value before after (made_by nest span value before after opened) opened.fits s (ahead_back span s last))
@@ -229,30 +230,38 @@ module _ {T : Type 0} where
   only_kept p old new kept only = record { each = λ s held. only.each s (sym (kept.all s) ∙ held) }
 
   -- what a node knows of its sides, and that both are in order
-  abbrev pub IsNode : Ends → ℕ → ℕ → Nest T → Nest T → Type 0
-  IsNode span least greatest before after =
-      (Fits span before after × (IsLeast least span before after × IsGreatest greatest span before after)) × (IsNest before × IsNest after)
+  abbrev pub IsNode : Ends → Bounds → Nest T → Nest T → Type 0
+  IsNode span bounds before after =
+      (Fits span before after × IsBound bounds span before after) × (IsNest before × IsNest after)
 
-  pub kept_low : (span : Ends) (least greatest : ℕ) (before after new : Nest T) → IsNode span least greatest before after → Kept before new → IsNest new → IsNode span least greatest new after
-  kept_low span least greatest before after new is kept order = (
+  pub kept_low : (span : Ends) (bounds : Bounds) (before after new : Nest T) → IsNode span bounds before after → Kept before new → IsNest new → IsNode span bounds new after
+  kept_low span bounds before after new is kept order = (
     (
       record { ordered = is.0.0.ordered; ahead = only_kept (λ s. is_ahead s span) before new kept is.0.0.ahead; behind = is.0.0.behind },
-      (
-        record { own = is.0.1.0.own; low = only_kept (λ s. nat_le least s.last) before new kept is.0.1.0.low; high = is.0.1.0.high },
-        record { own = is.0.1.1.own; low = only_kept (λ s. nat_le s.last greatest) before new kept is.0.1.1.low; high = is.0.1.1.high },
-      ),
+      record {
+        least_own = is.0.1.least_own;
+        least_low = only_kept (λ s. nat_le bounds.least s.last) before new kept is.0.1.least_low;
+        least_high = is.0.1.least_high;
+        front_own = is.0.1.front_own;
+        front_low = only_kept (λ s. nat_le s.last bounds.front) before new kept is.0.1.front_low;
+        back_high = is.0.1.back_high;
+      },
     ),
     (order, is.1.1),
   )
 
-  pub kept_high : (span : Ends) (least greatest : ℕ) (before after new : Nest T) → IsNode span least greatest before after → Kept after new → IsNest new → IsNode span least greatest before new
-  kept_high span least greatest before after new is kept order = (
+  pub kept_high : (span : Ends) (bounds : Bounds) (before after new : Nest T) → IsNode span bounds before after → Kept after new → IsNest new → IsNode span bounds before new
+  kept_high span bounds before after new is kept order = (
     (
       record { ordered = is.0.0.ordered; ahead = is.0.0.ahead; behind = only_kept (λ s. is_ahead span s) after new kept is.0.0.behind },
-      (
-        record { own = is.0.1.0.own; low = is.0.1.0.low; high = only_kept (λ s. nat_le least s.last) after new kept is.0.1.0.high },
-        record { own = is.0.1.1.own; low = is.0.1.1.low; high = only_kept (λ s. nat_le s.last greatest) after new kept is.0.1.1.high },
-      ),
+      record {
+        least_own = is.0.1.least_own;
+        least_low = is.0.1.least_low;
+        least_high = only_kept (λ s. nat_le bounds.least s.last) after new kept is.0.1.least_high;
+        front_own = is.0.1.front_own;
+        front_low = is.0.1.front_low;
+        back_high = only_kept (λ s. nat_le s.last bounds.back) after new kept is.0.1.back_high;
+      },
     ),
     (is.1.0, order),
   )

@@ -7,7 +7,7 @@ use Rattle.std.proofs.lemmas.List.Kept.{Contains-dedup, Contains-from_dedup}
 use Rattle.std.proofs.lemmas.List.Sorted.{Contains-permutation, IsPermutation-sym}
 use Rattle.std.proofs.lemmas.Map.Views.{Contains-from_any, list_any-from_Contains}
 use Rattle.std.specs.Cmp.{IsEquivalence, eq_by_cmp_equiv}
-use Rattle.std.specs.FinMap.{get, contains_key, keys, insert, remove, empty, is_sorted, find, get-empty, get-insert, get-remove, contains_key-keys, same_map}
+use Rattle.std.specs.FinMap.{get, contains_key, keys, insert, remove, is_sorted, get-insert, get-remove, contains_key-keys, same_map}
 use Rattle.std.specs.FinMap.Entries.{below_all, same_entries, is_some-find}
 use Rattle.std.specs.List.{Contains, dedup, filter, list_any, AllByRecursion}
 use Rattle.std.specs.List.Sorted.{IsPermutation, IsStrictlySortedBy}
@@ -16,7 +16,7 @@ use Rattle.std.proofs.Math.Dec as B
 use Rattle.rr_number.specs.Spans.{Ends, crosses, span_cmp}
 use Rattle.rr_number.proofs.SpanOrder.{span_cmp_total, span_cmp-IsAntisymmetric}
 use Rattle.rr_number.specs.contracts.span.SpanPartialEq.TheImpl as derived
-use Rattle.rr_cover.specs.SpanMaps.{SpanMap, NoneCross, crosses_some}
+use Rattle.rr_cover.specs.SpanMaps.{SpanMap, crosses_some}
 use Rattle.rr_cover.proofs.Among.{tied_same, same_tied}
 use Rattle.rr_cover.proofs.Held.{any_filter, keys_rise}
 use Rattle.rr_cover.proofs.Listed.{any_passes}

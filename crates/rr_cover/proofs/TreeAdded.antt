@@ -4,7 +4,7 @@ use Rattle.std.specs.Option.{option_or}
 use Rattle.std.specs.Ordering.{eq_by_cmp}
 use Rattle.rr_number.specs.Prefixes.{PrefixParts, IsMasked, span_of}
 use Rattle.rr_number.specs.Spans.{Ends, covers, span_cmp}
-use Rattle.rr_cover.specs.PrefixTrees.{own, standing, lies_on, IsRootedOn, IsFork, IsTree}
+use Rattle.rr_cover.specs.PrefixTrees.{own, standing, lies_on, IsRootedOn, IsTree}
 use Rattle.rr_cover.specs.TreeParts.{is_above, root_of, IsParting}
 use Rattle.rr_cover.specs.declared.prefix_tree.Tree.{Tree}
 use Rattle.rr_cover.specs.declared.prefix_tree.Tree.TheVariants.{Empty, Fork'}
@@ -13,7 +13,7 @@ use Rattle.rr_cover.proofs.Nearest.{contradicted}
 use Rattle.rr_cover.proofs.TreeHalves.{ends_ordered, halves_apart, covers_itself}
 use Rattle.rr_cover.proofs.TreeHeld.{none_of, or_none, root_covers}
 use Rattle.rr_cover.proofs.TreeChanged.{same_either}
-use Rattle.rr_cover.proofs.TreeParting.{lies_covered, splits, strictly, parting_lies}
+use Rattle.rr_cover.proofs.TreeParting.{lies_covered, splits, strictly}
 
 some_prefix : {p q : PrefixParts} → Some p ≡ Some q → p ≡ q
 some_prefix e = cc

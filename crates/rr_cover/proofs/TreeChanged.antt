@@ -1,16 +1,15 @@
 -- A tree of prefixes with another value at its root, or with another side.
-use Rattle.std.proofs.Common.{◌≡◌, ◌≤◌, Bool, true, false, cond, ◌&&◌, ◌||◌, not, Option, Some, None, is_some, refl, sym, ap, subst, ◌∙◌}
+use Rattle.std.proofs.Common.{◌≡◌, ◌≤◌, Bool, true, false, cond, Option, Some, None, refl, sym, ap, subst, ◌∙◌}
 use Rattle.std.specs.Option.{option_or}
 use Rattle.std.specs.Ordering.{eq_by_cmp}
-use Rattle.rr_number.specs.Prefixes.{PrefixParts, IsMasked, span_of}
+use Rattle.rr_number.specs.Prefixes.{PrefixParts, span_of}
 use Rattle.rr_number.specs.Spans.{Ends, span_cmp}
 use Rattle.rr_cover.specs.PrefixTrees.{own, standing, in_upper, lies_on, IsRootedOn, IsFork, IsTree}
-use Rattle.rr_cover.specs.TreeParts.{is_empty, is_idle, only_side}
+use Rattle.rr_cover.specs.TreeParts.{is_idle, only_side}
 use Rattle.rr_cover.specs.declared.prefix_tree.Tree.{Tree}
 use Rattle.rr_cover.specs.declared.prefix_tree.Tree.TheVariants.{Empty, Fork'}
-use Rattle.rr_cover.proofs.Among.{tied_same, same_tied}
+use Rattle.rr_cover.proofs.Among.{tied_same}
 use Rattle.rr_cover.proofs.Nearest.{contradicted}
-use Rattle.rr_cover.proofs.TreeHalves.{lies_further, not_in_itself, halves_apart}
 use Rattle.rr_cover.proofs.TreeHeld.{MadeOf, own_other, none_of, or_none, in_low, in_high, not_root, none_lower, none_upper}
 
 module _ {T : Type 0} where

@@ -1,10 +1,10 @@
 -- How spans lie in the halves of prefixes.
-use Rattle.std.proofs.Common.{◌≡◌, ◌≤◌, ◌<◌, Bool, true, false, ◌&&◌, arith}
+use Rattle.std.proofs.Common.{◌≡◌, ◌≤◌, Bool, true, false, arith}
 use Rattle.std.proofs.lemmas.Bool.Decides.{nat_tests}
-use Rattle.rr_number.specs.Prefixes.{PrefixParts, span_of, count_of}
+use Rattle.rr_number.specs.Prefixes.{PrefixParts, span_of}
 use Rattle.rr_number.specs.Spans.{Ends, covers, size}
 use Rattle.rr_number.proofs.PrefixSpans.{count_of-positive}
-use Rattle.rr_cover.specs.PrefixTrees.{in_lower, in_upper, lies_on, half}
+use Rattle.rr_cover.specs.PrefixTrees.{in_upper, lies_on}
 
 pub ends_ordered : (p : PrefixParts) → (span_of p).first ≤ (span_of p).last
 ends_ordered p = omega arith

@@ -1,5 +1,5 @@
 -- What a walk of a tree of prefixes lists, and the list put in order.
-use Rattle.std.proofs.Common.{◌≡◌, ℕ, ◌+◌, ◌≤◌, ◌<◌, Bool, true, false, cond, ◌&&◌, ◌||◌, List, [], ◌∷◌, map, length, get_or, Option, Some, None, is_some, refl, sym, ap, subst, ◌∙◌, arith}
+use Rattle.std.proofs.Common.{◌≡◌, ◌+◌, ◌≤◌, ◌<◌, Bool, true, false, cond, ◌&&◌, ◌||◌, List, [], ◌∷◌, map, length, get_or, Option, Some, None, is_some, refl, sym, ap, ◌∙◌, arith}
 use Rattle.std.proofs.lemmas.Bool.Decides.{nat_tests}
 use Rattle.std.proofs.lemmas.List.{get_or-map, length-map}
 use Rattle.std.specs.List.{list_any, dedup, dedup_from}
@@ -9,10 +9,9 @@ use Rattle.std.specs.Ordering.{eq_by_cmp, is_lt}
 use Rattle.rr_number.specs.Prefixes.{PrefixParts, span_of}
 use Rattle.rr_number.specs.Spans.{Ends, covers, meets, span_cmp}
 use Rattle.rr_cover.specs.PrefixTrees.{own, standing, IsFork, IsTree}
-use Rattle.rr_cover.specs.TreeParts.{is_listed, NoCover}
+use Rattle.rr_cover.specs.TreeParts.{is_listed}
 use Rattle.rr_cover.specs.declared.prefix_tree.Tree.{Tree}
 use Rattle.rr_cover.proofs.Among.{tied_same}
-use Rattle.rr_cover.proofs.Nearest.{contradicted}
 use Rattle.rr_cover.proofs.Ordered.{span_eq}
 use Rattle.rr_cover.proofs.TreeHeld.{MadeOf, held_placed, placed_ordered, root_covers, no_cover_root}
 

@@ -1,6 +1,6 @@
 -- A tree of prefixes as the map that it holds.
-use Rattle.std.proofs.Common.{◌≡◌, Bool, true, false, cond, List, [], ◌∷◌, ◌++◌, Option, Some, None, is_some, refl, sym, ap, ◌∙◌}
-use Rattle.std.specs.FinMap.{get, contains_key, find, insert, remove, from_entries, get-from_entries}
+use Rattle.std.proofs.Common.{◌≡◌, Bool, true, false, cond, ◌++◌, Option, Some, None, is_some, refl, sym, ap, ◌∙◌}
+use Rattle.std.specs.FinMap.{contains_key, find, insert, remove, get-from_entries}
 use Rattle.std.specs.Option.{option_or}
 use Rattle.std.specs.Ordering.{eq_by_cmp}
 use Rattle.rr_number.specs.Prefixes.{PrefixParts, span_of}

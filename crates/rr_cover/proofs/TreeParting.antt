@@ -4,12 +4,11 @@ use Rattle.std.proofs.Math.Nat.{mul-mod_right}
 use Rattle.std.proofs.lemmas.Nat.{pow-add}
 use Rattle.std.proofs.lemmas.Bool.{cases_lt}
 use Rattle.std.proofs.lemmas.Bool.Decides.{nat_tests}
-use Rattle.std.specs.Ordering.{eq_by_cmp}
 use Rattle.rr_number.specs.Prefixes.{PrefixParts, IsMasked, masked, count_of, span_of}
-use Rattle.rr_number.specs.Spans.{Ends, covers, meets, crosses, span_cmp}
+use Rattle.rr_number.specs.Spans.{Ends, covers, meets, crosses}
 use Rattle.rr_number.proofs.Multiples.{multiple_of}
 use Rattle.rr_number.proofs.PrefixSpans.{count_of-positive, IsMasked-masked, last_fits, never_cross, covers_longer}
-use Rattle.rr_cover.specs.PrefixTrees.{half, lies_on}
+use Rattle.rr_cover.specs.PrefixTrees.{lies_on}
 use Rattle.rr_cover.specs.TreeParts.{IsParting}
 use Rattle.rr_cover.proofs.Nearest.{contradicted}
 use Rattle.rr_cover.proofs.TreeHalves.{ends_ordered, covers_half, halves_apart, covers_further}

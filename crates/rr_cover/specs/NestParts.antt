@@ -1,15 +1,24 @@
 -- What the parts of a search tree of spans answer and leave. No public contract cites these.
-use Rattle.std.specs.Prelude.{◌≡◌, ℕ, ◌+◌, ◌<◌, ◌≤◌, Bool, true, false, ◌&&◌, nat_lt, nat_le, Some, is_some}
+use Rattle.std.specs.Prelude.{◌≡◌, ℕ, ◌+◌, ◌<◌, ◌≤◌, min, max, Bool, true, false, ◌&&◌, nat_lt, nat_le, Some, is_some}
 use Rattle.std.specs.Option.{option_or}
 use Rattle.rr_number.specs.Spans.{Ends, crosses}
 use Rattle.rr_cover.specs.SpanNests.{is_ahead, at_span, standing, Fits, IsNest}
+use Rattle.rr_cover.specs.declared.span_nest.bounds.Bounds.{Bounds}
 use Rattle.rr_cover.specs.declared.span_nest.Nest.{Nest}
 use Rattle.rr_cover.specs.declared.span_nest.Nest.TheVariants.{Empty, Fork'}
 
 -- How many nodes a tree has.
 abbrev pub count : {T : Type 0} → Nest T → ℕ
 count Empty = 0
-count (Fork' p span value height least greatest before after) = count before + count after + 1
+count (Fork' p span value height bounds before after) = count before + count after + 1
+
+-- A node's bounds that let in a last number of the front side.
+abbrev pub with_front : Bounds → ℕ → Bounds
+with_front bounds last = record bounds { least = min bounds.least last; front = max bounds.front last }
+
+-- A node's bounds that let in a last number of the back side.
+abbrev pub with_back : Bounds → ℕ → Bounds
+with_back bounds last = record bounds { least = min bounds.least last; back = max bounds.back last }
 
 -- The last span in order of those that begin below a number and reach another one, with its value.
 pub record IsLastReaching {T : Type 0} (nest : Nest T) (below to : ℕ) (t : Ends) (value : T) : Type 0 where

@@ -1,10 +1,11 @@
 -- A search tree of spans with their values, as the map that it holds.
-use Rattle.std.specs.Prelude.{◌≡◌, ℕ, ◌≤◌, Bool, true, false, ◌&&◌, ◌||◌, nat_lt, nat_le, nat_eq, if◌then◌else◌, List, [], ◌∷◌, ◌++◌, Option, Some, None, is_some}
+use Rattle.std.specs.Prelude.{◌≡◌, ◌≤◌, Bool, true, false, ◌&&◌, ◌||◌, nat_lt, nat_le, nat_eq, if◌then◌else◌, List, [], ◌∷◌, ◌++◌, Option, Some, None, is_some}
 use Rattle.std.specs.FinMap.{from_entries}
 use Rattle.std.specs.Option.{option_or}
 use Rattle.std.specs.Ordering.{eq_by_cmp}
 use Rattle.rr_number.specs.Spans.{Ends, IsSpan, crosses, span_cmp}
 use Rattle.rr_cover.specs.SpanMaps.{SpanMap}
+use Rattle.rr_cover.specs.declared.span_nest.bounds.Bounds.{Bounds}
 use Rattle.rr_cover.specs.declared.span_nest.Nest.{Nest}
 use Rattle.rr_cover.specs.declared.span_nest.Nest.TheVariants.{Empty, Fork'}
 
@@ -16,7 +17,7 @@ is_ahead s t = nat_lt s.first t.first || (nat_eq s.first t.first && nat_lt t.las
 -- The spans of a tree with their values: those of the front side, its own, those of the back side.
 abbrev pub entries_of : {T : Type 0} → Nest T → List (Ends × T)
 entries_of Empty = []
-entries_of (Fork' p span value height least greatest before after) = entries_of before ++ ((span, value) ∷ entries_of after)
+entries_of (Fork' p span value height bounds before after) = entries_of before ++ ((span, value) ∷ entries_of after)
 
 -- The map that a tree holds.
 abbrev pub nested : {T : Type 0} → Nest T → SpanMap T
@@ -29,7 +30,7 @@ at_span span value s = if eq_by_cmp span_cmp s span then Some value else None
 -- The value that stands at a span.
 abbrev pub standing : {T : Type 0} → Nest T → Ends → Option T
 standing Empty s = None
-standing (Fork' p span value height least greatest before after) s =
+standing (Fork' p span value height bounds before after) s =
     option_or (standing before s) (option_or (at_span span value s) (standing after s))
 
 -- Each span held passes a test.
@@ -42,24 +43,21 @@ pub record Fits {T : Type 0} (span : Ends) (before after : Nest T) : Type 0 wher
   pub ahead : Only (λ s. is_ahead s span) before
   pub behind : Only (λ s. is_ahead span s) after
 
--- No last number is below the least one.
-pub record IsLeast {T : Type 0} (least : ℕ) (span : Ends) (before after : Nest T) : Type 0 where
-  pub own : least ≤ span.last
-  pub low : Only (λ s. nat_le least s.last) before
-  pub high : Only (λ s. nat_le least s.last) after
-
--- No last number is above the greatest one.
-pub record IsGreatest {T : Type 0} (greatest : ℕ) (span : Ends) (before after : Nest T) : Type 0 where
-  pub own : span.last ≤ greatest
-  pub low : Only (λ s. nat_le s.last greatest) before
-  pub high : Only (λ s. nat_le s.last greatest) after
+-- What a node knows of last numbers: none from it on is below the least one, none of its own and of the front side is
+-- above one greatest number, and none of the back side above another.
+pub record IsBound {T : Type 0} (bounds : Bounds) (span : Ends) (before after : Nest T) : Type 0 where
+  pub least_own : bounds.least ≤ span.last
+  pub least_low : Only (λ s. nat_le bounds.least s.last) before
+  pub least_high : Only (λ s. nat_le bounds.least s.last) after
+  pub front_own : span.last ≤ bounds.front
+  pub front_low : Only (λ s. nat_le s.last bounds.front) before
+  pub back_high : Only (λ s. nat_le s.last bounds.back) after
 
 -- The spans of a tree stand in order, and each node knows bounds of the last numbers from it on.
 abbrev pub IsNest : {T : Type 0} → Nest T → Type 0
 IsNest Empty = Unit {0}
-IsNest (Fork' p span value height least greatest before after) =
-    (Fits span before after × (IsLeast least span before after × IsGreatest greatest span before after))
-    × (IsNest before × IsNest after)
+IsNest (Fork' p span value height bounds before after) =
+    (Fits span before after × IsBound bounds span before after) × (IsNest before × IsNest after)
 
 -- No two spans of a tree cross.
 pub record IsApart {T : Type 0} (nest : Nest T) : Type 0 where

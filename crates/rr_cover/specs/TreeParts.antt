@@ -1,5 +1,5 @@
 -- What the parts of a tree of prefixes answer and leave. No public contract cites these.
-use Rattle.std.specs.Prelude.{◌≡◌, ℕ, ◌≤◌, Bool, true, false, not, ◌&&◌, ◌||◌, if◌then◌else◌, List, Option, None, Some, is_some}
+use Rattle.std.specs.Prelude.{◌≡◌, ℕ, ◌-◌, ◌≤◌, Bool, true, false, not, ◌&&◌, ◌||◌, if◌then◌else◌, List, Option, None, Some, is_some}
 use Rattle.std.specs.List.{list_any}
 use Rattle.std.specs.Ordering.{eq_by_cmp}
 use Rattle.rr_number.specs.Prefixes.{PrefixParts, IsMasked, span_of}
@@ -56,3 +56,8 @@ root_of (Fork' p prefix value lower upper) = Some prefix
 -- A span is that of a prefix of a list.
 abbrev pub is_listed : List PrefixParts → Ends → Bool
 is_listed prefixes u = list_any (λ p. eq_by_cmp span_cmp u (span_of p)) prefixes
+
+-- For how many levels there is room from the root of a tree on: one for each length from the root's up to 32.
+abbrev pub room : {T : Type 0} → Tree T → ℕ
+room Empty = 0
+room (Fork' p prefix value lower upper) = 33 - prefix.length

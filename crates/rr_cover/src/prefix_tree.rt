@@ -1,6 +1,6 @@
 //! Prefixes in a binary tree.
 
-ghost use Rattle.std.specs.Prelude.{◌≡◌, map, IfOk, IfErr, IfSome, IfNone, OnOk, OnErr};
+ghost use Rattle.std.specs.Prelude.{◌≡◌, ◌≤◌, map, IfOk, IfErr, IfSome, IfNone, OnOk, OnErr};
 ghost use Rattle.std.specs.Option.{option_copied};
 ghost use Rattle.std.specs.FinMap as span_map;
 ghost use Rattle.rr_number.specs.Prefixes.{span_of};
@@ -17,7 +17,7 @@ use crate::insert_fault::InsertFault;
 use adding::set;
 use changes::take;
 use lists::{push_covering, push_inside, put_in_order};
-use reading::{find, smallest_cover};
+use reading::{find, levels, smallest_cover};
 use rr_number::{Prefix, Span};
 use std::alloc::{AllocError, Global};
 use std::marker::Model;
@@ -117,6 +117,13 @@ impl<T> PrefixTree<T> {
         put_in_order(&mut prefixes);
         Ok(prefixes)
     }
+
+    /// How many levels the tree has: no call goes down more.
+    pub fn levels(&self) -> u32
+        ensures { result ≤ 33 }
+    {
+        levels(&self.root)
+    }
 }
 
 impl<T: Drop> PrefixTree<T> {
@@ -144,6 +151,3 @@ impl<T: Drop> PrefixTree<T> {
         take(&mut self.root, prefix)
     }
 }
-
-#[cfg(test)]
-mod tests;

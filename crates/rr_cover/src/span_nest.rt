@@ -7,22 +7,24 @@ ghost use Rattle.rr_cover.specs.InsertFaults.{value_of};
 ghost use Rattle.rr_cover.specs.SpanMaps.{crosses_some, covering, inside, NoneCross, IsClosest, NoneCovers};
 ghost use Rattle.rr_cover.specs.declared.insert_fault.InsertFault.TheVariants.{Overlap};
 
+mod bounds;
 mod changes;
 mod lists;
 mod reading;
 
 use crate::in_order::put_in_order;
 use crate::insert_fault::InsertFault;
+use bounds::Bounds;
 use changes::{set, take};
 use lists::{push_covering, push_inside};
-use reading::{crosses_any, find, smallest_cover};
+use reading::{crosses_any, find, levels, smallest_cover};
 use rr_number::Span;
 use std::alloc::{AllocError, Global};
 use std::marker::Model;
 
 /// Values kept by span, no two spans crossing: a height-balanced search tree of all spans, in order of first number
-/// ascending, then last number descending. Each call goes down some of its levels, at most some 30 for a million
-/// spans, however they nest.
+/// ascending, then last number descending. Each call goes down some of its levels, at most 28 for a million spans,
+/// however they nest.
 #[derive(Drop)]
 pub struct SpanNest<T> {
     root: Nest<T>,
@@ -45,10 +47,7 @@ struct Node<T> {
     value: T,
     /// How many levels the tree has from here on.
     height: u8,
-    /// The least last number from here on.
-    least: u32,
-    /// The greatest last number from here on.
-    greatest: u32,
+    bounds: Bounds,
     before: Nest<T>,
     after: Nest<T>,
 }
@@ -129,6 +128,12 @@ impl<T> SpanNest<T> {
         put_in_order(&mut spans);
         Ok(spans)
     }
+
+    /// How many levels the tree has: no call goes down more. The sides of each node differ by one level at most, so a
+    /// million spans have at most 28.
+    pub fn levels(&self) -> u32 {
+        levels(&self.root)
+    }
 }
 
 impl<T: Drop> SpanNest<T> {
@@ -159,6 +164,3 @@ impl<T: Drop> SpanNest<T> {
         take(&mut self.root, span)
     }
 }
-
-#[cfg(test)]
-mod tests;

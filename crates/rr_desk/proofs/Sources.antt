@@ -89,7 +89,7 @@ module _ {S : Type 0} (g : store.Ghosts S) (source : List ℕ) (old new : Stock 
 
   -- a submission leaves the registry one of its source
   pub kept_of_source : (start now before after : Told) (result : Result Done DeskFault)
-      → Submits (stock_ledger g) source (record { source_before = start; source_after = now; sink_before = before; sink_after = after; before = old.registry; after = new.registry }) old new result
+      → Submits (stock_ledger g) source (record { reader_before = start; reader_after = now; writer_before = before; writer_after = after; before = old.registry; after = new.registry }) old new result
       → IsRegistryOf source old.registry → IsRegistryOf source new.registry
   kept_of_source start now before after (Ok done) h of = items_keep_the_source source (entries h.text) h.items old.registry new.registry h.outcomes of h.are_items h.runs
   kept_of_source start now before after (Err (ReadFault count)) h of = items_keep_the_source source (whole_entries h.text) h.items old.registry new.registry h.outcomes of h.are_items h.runs

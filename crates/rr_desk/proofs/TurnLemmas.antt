@@ -77,17 +77,17 @@ no_turn g serves desk counted told = record {
     none_more (Some turns) = ap Some (sym (append-nil turns))
 
 -- a connection was accepted, served and closed, which is a turn
-pub served_turn : {S : Type 0} (g : Ghosts S) (serves : Serving) (before after : Desk S) (counted_before counted_between counted_after : ℕ) (told_before told_between told_after : Option (List Turn)) (asked : Option (List ℕ)) (source_before source_after sink_before sink_after : Told) (answer : Answer) (well : Bool) → well ≡ is_ok answer →
-    IsAccepted counted_before counted_between told_before told_between asked source_before sink_before →
-    serves S g before after source_before source_after sink_before sink_after answer →
-    CountsTurn (closed asked sink_after.bytes) counted_between counted_after told_between told_after →
+pub served_turn : {S : Type 0} (g : Ghosts S) (serves : Serving) (before after : Desk S) (counted_before counted_between counted_after : ℕ) (told_before told_between told_after : Option (List Turn)) (asked : Option (List ℕ)) (reader_before reader_after writer_before writer_after : Told) (answer : Answer) (well : Bool) → well ≡ is_ok answer →
+    IsAccepted counted_before counted_between told_before told_between asked reader_before writer_before →
+    serves S g before after reader_before reader_after writer_before writer_after answer →
+    CountsTurn (closed asked writer_after.bytes) counted_between counted_after told_between told_after →
     TakesTurn g serves before after counted_before counted_after told_before told_after well
-served_turn g serves before after counted_before counted_between counted_after told_before told_between told_after asked source_before source_after sink_before sink_after answer well is accepted served closes = record {
-  visit = Some (record { source_before = source_before; source_after = source_after; sink_before = sink_before; sink_after = sink_after; answer = answer });
+served_turn g serves before after counted_before counted_between counted_after told_before told_between told_after asked reader_before reader_after writer_before writer_after answer well is accepted served closes = record {
+  visit = Some (record { reader_before = reader_before; reader_after = reader_after; writer_before = writer_before; writer_after = writer_after; answer = answer });
   does = (accepted.fresh, served);
   taken = record {
     counted = closes.counted ∙ ap (λ n. n + 1) accepted.counted;
-    told = closes.told ∙ (ap (λ told. with_turn told (closed asked sink_after.bytes)) accepted.told ∙ ap (λ bytes. with_turn told_before (closed bytes sink_after.bytes)) accepted.is_asked);
+    told = closes.told ∙ (ap (λ told. with_turn told (closed asked writer_after.bytes)) accepted.told ∙ ap (λ bytes. with_turn told_before (closed bytes writer_after.bytes)) accepted.is_asked);
   };
   answer = is;
 }

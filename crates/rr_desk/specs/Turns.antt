@@ -45,16 +45,16 @@ Serving = (S : Type 0) → Ghosts S → Desk S → Desk S → Told → Told → 
 
 -- a connection while it was served: what its reader and its writer told when it was accepted and when it was closed, and the answer
 pub record Visit : Type 0 where
-  pub source_before : Told
-  pub source_after : Told
-  pub sink_before : Told
-  pub sink_after : Told
+  pub reader_before : Told
+  pub reader_after : Told
+  pub writer_before : Told
+  pub writer_after : Told
   pub answer : Answer
 
 -- the turn that a visit is; without one no connection could be accepted
 abbrev pub turn_of : Option Visit → Turn
 turn_of None = unaccepted
-turn_of (Some visit) = closed visit.source_before.bytes visit.sink_after.bytes
+turn_of (Some visit) = closed visit.reader_before.bytes visit.writer_after.bytes
 
 -- a turn in which a connection was accepted and served well
 abbrev pub is_served : Option Visit → Bool
@@ -65,8 +65,8 @@ is_served (Some visit) = is_ok visit.answer
 abbrev pub Does : (S : Type 0) → Ghosts S → Serving → Option Visit → Desk S → Desk S → Type 0
 Does S g serves None before after = after ≡ before
 Does S g serves (Some visit) before after =
-    IsFresh visit.source_before visit.sink_before
-    × serves S g before after visit.source_before visit.source_after visit.sink_before visit.sink_after visit.answer
+    IsFresh visit.reader_before visit.writer_before
+    × serves S g before after visit.reader_before visit.reader_after visit.writer_before visit.writer_after visit.answer
 
 -- the turns were taken one after the other, in this order
 abbrev pub DoesAll : (S : Type 0) → Ghosts S → Serving → List (Option Visit) → Desk S → Desk S → Type 0

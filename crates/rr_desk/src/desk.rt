@@ -134,10 +134,10 @@ impl<S: Alter> Desk<S> {
     ) -> Result<Done, DeskFault>
         ensures stopped { self.old.stored.stopped ≡ true → (result ≡ Err Stopped) × (self.new ≡ self.old) × (reader.new ≡ reader.old) × (writer.new ≡ writer.old) }
         ensures submits { self.old.stored.stopped ≡ false → Submits (stock_ledger S.Store) self.old.settings.source (record {
-          source_before = R.told reader.old;
-          source_after = R.told reader.new;
-          sink_before = W.told writer.old;
-          sink_after = W.told writer.new;
+          reader_before = R.told reader.old;
+          reader_after = R.told reader.new;
+          writer_before = W.told writer.old;
+          writer_after = W.told writer.new;
           before = self.old.stored.registry;
           after = self.new.stored.registry;
         }) self.old.stored self.new.stored result }

@@ -131,7 +131,12 @@ impl<S: Alter> Ledger for Stored<S> {
         self.registry.sound();
     }
 
-    fn decide(&mut self, alloc: Global, secrets: &Secrets, item: Item) -> Result<Outcome, Halted> {
+    fn decide(
+        &mut self,
+        alloc: Global,
+        secrets: &mut Secrets,
+        item: Item,
+    ) -> Result<Outcome, Halted> {
         let Ok(key) = copied_key(alloc, &item) else {
             return Ok(Outcome::Refused(Code::E90));
         };

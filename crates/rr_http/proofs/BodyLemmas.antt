@@ -107,7 +107,7 @@ module _ (body rest : List ℕ) (missing faults reads : ℕ) where
 
   module _ {D : Type 0} (g : Ghosts D) (source : List ℕ) (before after : D) (old new : Told) where
     abbrev sides : Told → Told → Sides
-    sides from to = record { source_before = from; source_after = to; sink_before = old; sink_after = new; before = g.registry before; after = g.registry after }
+    sides from to = record { reader_before = from; reader_after = to; writer_before = old; writer_after = new; before = g.registry before; after = g.registry after }
 
     made : (result : Result Done DeskFault) → Submits g source (sides plain_start plain_end) before after result → OnOk result (missing ≡ 0) →
         OnReadFault result ((missing ≢ 0) × (rest ≡ [])) → SubmitsBody g source body missing before after old new result
@@ -180,7 +180,7 @@ same_told xs ys m n f h r s a b c d =
 -- what is submitted by this reader is a body
 pub body_submitted : {D : Type 0} (g : Ghosts D) (source bytes : List ℕ) (missing : ℕ) (before after : D) (old new : Told) (result : Result Done DeskFault) (fresh used : Body) →
     length bytes ≤ 1048576 → body_rest fresh ≡ bytes → body_missing fresh ≡ missing → body_failed fresh ≡ 0 → body_reads fresh ≡ 0 → body_aside used ≡ body_aside fresh →
-    Submits g source (record { source_before = body_told fresh; source_after = body_told used; sink_before = old; sink_after = new; before = g.registry before; after = g.registry after }) before after result →
+    Submits g source (record { reader_before = body_told fresh; reader_after = body_told used; writer_before = old; writer_after = new; before = g.registry before; after = g.registry after }) before after result →
     SubmitsBody g source bytes missing before after old new result
 body_submitted g source bytes missing before after old new result fresh used small rest lacks failed reads aside p =
     let still : body_missing used ≡ missing = ap (λ (told : Told). told.faults) aside ∙ lacks in
@@ -188,5 +188,5 @@ body_submitted g source bytes missing before after old new result fresh used sma
     let last : body_told used ≡ told_with (body_rest used) missing (body_failed used) (body_reads used) = same_told _ _ _ _ _ _ _ _ refl still refl refl in
     submits_body bytes (body_rest used) missing (body_failed used) (body_reads used) g source before after old new result small
     (λ some. let at_end = used.fails_at_end some in ((let lacking : 0 < body_missing used = at_end.0 in omega arith), at_end.1))
-    (subst (λ told. Submits g source (record { source_before = told; source_after = told_with (body_rest used) missing (body_failed used) (body_reads used); sink_before = old; sink_after = new; before = g.registry before; after = g.registry after }) before after result) first
-    (subst (λ told. Submits g source (record { source_before = body_told fresh; source_after = told; sink_before = old; sink_after = new; before = g.registry before; after = g.registry after }) before after result) last p))
+    (subst (λ told. Submits g source (record { reader_before = told; reader_after = told_with (body_rest used) missing (body_failed used) (body_reads used); writer_before = old; writer_after = new; before = g.registry before; after = g.registry after }) before after result) first
+    (subst (λ told. Submits g source (record { reader_before = body_told fresh; reader_after = told; writer_before = old; writer_after = new; before = g.registry before; after = g.registry after }) before after result) last p))

@@ -88,10 +88,10 @@ pub record SubmitsBody {D : Type 0} (g : Ghosts D) (source body : List ℕ) (mis
   pub faults : ℕ
   pub reads : ℕ
   pub submits : Submits g source (record {
-    source_before = in_memory body 0 0;
-    source_after = in_memory rest faults reads;
-    sink_before = old;
-    sink_after = new;
+    reader_before = in_memory body 0 0;
+    reader_after = in_memory rest faults reads;
+    writer_before = old;
+    writer_after = new;
     before = g.registry before;
     after = g.registry after;
   }) before after result

@@ -56,10 +56,10 @@ pub trait Registrar {
         writer: &mut W,
     ) -> Result<Done, DeskFault>
         ensures submits { stops self.old ≡ false → Submits ledger (settings self.old).source (record {
-          source_before = R.told reader.old;
-          source_after = R.told reader.new;
-          sink_before = W.told writer.old;
-          sink_after = W.told writer.new;
+          reader_before = R.told reader.old;
+          reader_after = R.told reader.new;
+          writer_before = W.told writer.old;
+          writer_after = W.told writer.new;
           before = ledger.registry self.old;
           after = ledger.registry self.new;
         }) self.old self.new result }

@@ -2,9 +2,9 @@
 #![tactic(auto)]
 
 #[cfg(test)]
-mod list_tests;
+mod collection_tests;
 #[cfg(test)]
-mod nest_tests;
+mod collections;
 #[cfg(test)]
 mod object_tests;
 #[cfg(test)]
@@ -13,5 +13,3 @@ mod passing_tests;
 mod sequence_tests;
 #[cfg(test)]
 mod table_tests;
-#[cfg(test)]
-mod tree_tests;

@@ -1,10 +1,11 @@
 //! Sequences of a seeded generator on each collection, their answers compared.
+use crate::collections::Collection;
 use rand_core::utils::NextWord;
 use rand_pcg::Pcg32;
 use rr_cover::{PrefixTree, SpanList, SpanNest};
 use rr_number::{Address, Prefix, Span};
-use std::alloc::Global;
-use std::test::Fail;
+use std::alloc::AllocError;
+use std::process::Abort;
 
 const STEPS: u32 = 3_000;
 
@@ -19,119 +20,90 @@ fn any_span(words: &mut Pcg32) -> Span {
     }
 }
 
-/// A prefix of addresses below 64: so few that many are equal or nest.
-fn any_prefix(words: &mut Pcg32) -> Prefix {
+/// The span of a prefix of addresses below 64: so few that many are equal or nest.
+fn any_prefix(words: &mut Pcg32) -> Span {
     let [address, length, _, _] = words.next_word().to_le_bytes();
-    Prefix::new(Address::from_bits(u32::from(address % 64)), 26 + length % 7)
+    Prefix::new(Address::from_bits(u32::from(address % 64)), 26 + length % 7).span()
 }
 
-/// The closest span of the list, with its value.
-fn closest_listed(list: &SpanList<u32>, span: Span) -> Option<(Span, u32)> {
-    match list.closest(span) {
-        Some((found, value)) => Some((found, *value)),
-        None => None,
+/// A span that the collection may hold.
+fn any_key(words: &mut Pcg32, of_prefixes: bool) -> Span {
+    if of_prefixes {
+        any_prefix(words)
+    } else {
+        any_span(words)
     }
 }
 
-/// The closest span of the nest, with its value.
-fn closest_nested(nest: &SpanNest<u32>, span: Span) -> Option<(Span, u32)> {
-    match nest.closest(span) {
-        Some((found, value)) => Some((found, *value)),
-        None => None,
+/// Takes a value out of both collections, or puts one into both, and asserts that they answer alike.
+fn change_both<R: Abort, C: Collection, D: Collection>(
+    rt: &R,
+    collection: &mut C,
+    other: &mut D,
+    takes: bool,
+    span: Span,
+    value: u32,
+) {
+    if takes {
+        assert_eq!(rt; collection.take(span), other.take(span));
+    } else {
+        assert_eq!(rt; collection.put(span, value), other.put(span, value));
     }
 }
 
-/// The span of the closest prefix of the tree, with its value.
-fn closest_in_tree(tree: &PrefixTree<u32>, prefix: Prefix) -> Option<(Span, u32)> {
-    match tree.closest(prefix) {
-        Some((found, value)) => Some((found.span(), *value)),
-        None => None,
-    }
+/// Asserts that both collections answer alike about a span that they may hold.
+fn expect_alike_at<R: Abort, C: Collection, D: Collection>(
+    rt: &R,
+    collection: &C,
+    other: &D,
+    span: Span,
+) {
+    assert_eq!(rt; collection.value_at(span), other.value_at(span));
+    assert_eq!(rt; collection.closest_to(span), other.closest_to(span));
+    assert!(rt; collection.is_crossed_by(span) == other.is_crossed_by(span));
 }
 
-/// The spans of prefixes.
-fn spans(alloc: Global, prefixes: &[Prefix]) -> Result<Vec<Span>, Fail> {
-    let mut spans = Vec::new(alloc);
-    for prefix in prefixes {
-        spans.push(prefix.span())?;
-    }
-    Ok(spans)
+/// Asserts that both collections list alike what covers a span, and what lies inside it.
+fn expect_alike_round<R: Abort + AllocGlobal, C: Collection, D: Collection>(
+    rt: &R,
+    collection: &C,
+    other: &D,
+    span: Span,
+) -> Result<(), AllocError> {
+    let covering = collection.spans_covering(rt.alloc(), span)?;
+    let others = other.spans_covering(rt.alloc(), span)?;
+    assert!(rt; covering.as_slice() == others.as_slice(), "covering {span}");
+    let inside = collection.spans_inside(rt.alloc(), span)?;
+    let others = other.spans_inside(rt.alloc(), span)?;
+    assert!(rt; inside.as_slice() == others.as_slice(), "inside {span}");
+    Ok(())
 }
 
-#[test]
-fn list_and_nest_answer_alike(rt: HostRuntime) -> Result<(), Fail> {
-    let alloc = rt.alloc();
+/// Asserts that the collection, empty so far, answers as a list of spans does at each step of a sequence.
+fn expect_as_list<R: Abort + AllocGlobal, C: Collection + Drop>(
+    rt: &R,
+    mut collection: C,
+    of_prefixes: bool,
+) -> Result<(), AllocError> {
     let mut words = Pcg32::new(42, 54);
-    let mut list = SpanList::new(alloc);
-    let mut nest = SpanNest::new(alloc);
-    for step in 0..STEPS {
-        let span = any_span(&mut words);
-        if words.next_word() % 3 == 0 {
-            assert_eq!(rt; nest.remove(span), list.remove(span));
-        } else {
-            assert_eq!(rt; nest.insert(span, step), list.insert(span, step));
-        }
-        let asked = any_span(&mut words);
-        assert_eq!(rt; nest.get(asked).copied(), list.get(asked).copied());
-        assert_eq!(rt; nest.crosses(asked), list.crosses(asked));
-        assert_eq!(rt; closest_nested(&nest, asked), closest_listed(&list, asked));
-        let covering = list.covering(alloc, asked)?;
-        assert_eq!(rt;
-            nest.covering(alloc, asked)?.as_slice(),
-            covering.as_slice()
-        );
-        let inside = list.inside(alloc, asked)?;
-        assert_eq!(rt; nest.inside(alloc, asked)?.as_slice(), inside.as_slice());
+    let mut list = SpanList::new(rt.alloc());
+    for value in 0..STEPS {
+        let span = any_key(&mut words, of_prefixes);
+        let takes = words.next_word() % 3 == 0;
+        change_both(rt, &mut collection, &mut list, takes, span, value);
+        let asked = any_key(&mut words, of_prefixes);
+        expect_alike_at(rt, &collection, &list, asked);
+        expect_alike_round(rt, &collection, &list, any_span(&mut words))?;
     }
     Ok(())
 }
 
 #[test]
-fn list_and_tree_answer_alike(rt: HostRuntime) -> Result<(), Fail> {
-    let alloc = rt.alloc();
-    let mut words = Pcg32::new(42, 54);
-    let mut list = SpanList::new(alloc);
-    let mut tree = PrefixTree::new(alloc);
-    for step in 0..STEPS {
-        let prefix = any_prefix(&mut words);
-        if words.next_word() % 3 == 0 {
-            assert_eq!(rt; tree.remove(prefix), list.remove(prefix.span()));
-        } else {
-            assert_eq!(rt; tree.insert(prefix, step), list.insert(prefix.span(), step));
-        }
-        let asked = any_prefix(&mut words);
-        assert_eq!(rt; tree.get(asked).copied(), list.get(asked.span()).copied());
-        assert_eq!(rt;
-            closest_in_tree(&tree, asked),
-            closest_listed(&list, asked.span())
-        );
-    }
-    Ok(())
+fn list_and_nest_answer_alike(rt: HostRuntime) -> Result<(), AllocError> {
+    expect_as_list(&rt, SpanNest::new(rt.alloc()), false)
 }
 
 #[test]
-fn list_and_tree_list_alike(rt: HostRuntime) -> Result<(), Fail> {
-    let alloc = rt.alloc();
-    let mut words = Pcg32::new(42, 54);
-    let mut list = SpanList::new(alloc);
-    let mut tree = PrefixTree::new(alloc);
-    for step in 0..STEPS {
-        let prefix = any_prefix(&mut words);
-        if words.next_word() % 3 == 0 {
-            tree.remove(prefix);
-            list.remove(prefix.span());
-        } else {
-            tree.insert(prefix, step)?;
-            list.insert(prefix.span(), step)?;
-        }
-        let asked = any_span(&mut words);
-        let covering = spans(alloc, &tree.covering(alloc, asked)?)?;
-        assert_eq!(rt;
-            covering.as_slice(),
-            list.covering(alloc, asked)?.as_slice()
-        );
-        let inside = spans(alloc, &tree.inside(alloc, asked)?)?;
-        assert_eq!(rt; inside.as_slice(), list.inside(alloc, asked)?.as_slice());
-    }
-    Ok(())
+fn list_and_tree_answer_alike(rt: HostRuntime) -> Result<(), AllocError> {
+    expect_as_list(&rt, PrefixTree::new(rt.alloc()), true)
 }

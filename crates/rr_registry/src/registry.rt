@@ -96,9 +96,10 @@ impl<B: Keeper> Registry<B> {
     /// Does with the item what its verdict says, over this registry and these secrets (RFC 2725, 9; profile). Where
     /// memory is wanting the item is refused with E90 and nothing changes. What the holders of a prefix hold stays as
     /// it was where none of the secrets is theirs.
-    pub fn apply(&mut self, alloc: Global, secrets: &Secrets, item: Item) -> Outcome
-        ensures step { IsStep self.old secrets.now item result self.new }
-        ensures leaves { LeavesOthers self.old secrets.now self.new }
+    pub fn apply(&mut self, alloc: Global, secrets: &mut Secrets, item: Item) -> Outcome
+        ensures step { IsStep self.old secrets.old item result self.new }
+        ensures leaves { LeavesOthers self.old secrets.old self.new }
+        ensures same_secrets { secrets.new ≡ secrets.old }
     {
         self.sound();
         is_well_formed(&item);
@@ -107,8 +108,9 @@ impl<B: Keeper> Registry<B> {
 
     /// Does with the item what its verdict says.
     #[tactic(auto, using(rr_auth::proofs::Keeping::sound_added, rr_auth::proofs::Keeping::sound_changed, rr_auth::proofs::Keeping::sound_removed, rr_auth::proofs::Steps::verdicts_are_met))]
-    fn carry_out(&mut self, alloc: Global, secrets: &Secrets, item: Item) -> Outcome
-        ensures { IsStep self.old secrets.now item result self.new }
+    fn carry_out(&mut self, alloc: Global, secrets: &mut Secrets, item: Item) -> Outcome
+        ensures step { IsStep self.old secrets.old item result self.new }
+        ensures same_secrets { secrets.new ≡ secrets.old }
     {
         self.sound();
         match judge(alloc, &self.book, secrets, &item) {

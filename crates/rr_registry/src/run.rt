@@ -58,11 +58,14 @@ impl<B: Keeper> Registry<B> {
         ensures decides { Decides self.old submitted.secrets submitted.action result self.new }
         ensures formed { IfOk submitted.action IsItem }
     {
-        let Submitted { secrets, action } = submitted;
+        let Submitted {
+            mut secrets,
+            action,
+        } = submitted;
         match action {
             Ok(item) => {
                 is_well_formed(&item);
-                self.apply(alloc, &secrets, item)
+                self.apply(alloc, &mut secrets, item)
             }
             Err(code) => Outcome::Refused(code),
         }

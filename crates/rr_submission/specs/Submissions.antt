@@ -25,10 +25,10 @@ use Rattle.rr_submission.specs.Served.{ServesStopped, ServesUnwritten}
 
 -- a reader and a writer, and a registry, before and after
 pub record Sides : Type 0 where
-  pub source_before : Told
-  pub source_after : Told
-  pub sink_before : Told
-  pub sink_after : Told
+  pub reader_before : Told
+  pub reader_after : Told
+  pub writer_before : Told
+  pub writer_after : Told
   pub before : Reg
   pub after : Reg
 
@@ -37,10 +37,10 @@ pub record IsDone (source : List ℕ) (sides : Sides) (done : Done) : Type 0 whe
   pub text : List ℕ
   pub items : List Asked
   pub outcomes : List Outcome
-  pub reads : Reads sides.source_before sides.source_after text Whole
+  pub reads : Reads sides.reader_before sides.reader_after text Whole
   pub are_items : AreItems source [] (entries text) items
   pub runs : Run sides.before (map submitted items) outcomes sides.after
-  pub writes : Takes sides.sink_before sides.sink_after (report Complete items outcomes)
+  pub writes : Takes sides.writer_before sides.writer_after (report Complete items outcomes)
   pub counted : done.items ≡ length items
   pub refused : done.refused ≡ refusals outcomes
 
@@ -52,18 +52,18 @@ pub record IsReadFault (source : List ℕ) (sides : Sides) (count : ℕ) : Type 
   pub items : List Asked
   pub outcomes : List Outcome
   pub between : Told
-  pub reads : Reads sides.source_before sides.source_after text end
+  pub reads : Reads sides.reader_before sides.reader_after text end
   pub unended : end ≢ Whole
   pub are_items : AreItems source [] (whole_entries text) items
   pub runs : Run sides.before (map submitted items) outcomes sides.after
-  pub writes : Takes sides.sink_before between (lines_from 1 items outcomes)
-  pub ends : TakesSome between sides.sink_after (last_line ReadFault (length items))
+  pub writes : Takes sides.writer_before between (lines_from 1 items outcomes)
+  pub ends : TakesSome between sides.writer_after (last_line ReadFault (length items))
   pub counted : count ≡ length items
 
 -- a write failed in the line of an item: the items up to that one were read and decided and no others
 abbrev pub IsLineFault : List ℕ → Sides → ℕ → Type 0
 IsLineFault source sides count =
-    ServesUnwritten source sides.source_before sides.source_after sides.before sides.after sides.sink_before sides.sink_after count
+    ServesUnwritten source sides.reader_before sides.reader_after sides.before sides.after sides.writer_before sides.writer_after count
 
 -- the text was read to its end, and a write failed in the last line: all items were decided and their lines written
 -- whole
@@ -72,11 +72,11 @@ pub record IsLastLineFault (source : List ℕ) (sides : Sides) (count : ℕ) : T
   pub items : List Asked
   pub outcomes : List Outcome
   pub between : Told
-  pub reads : Reads sides.source_before sides.source_after text Whole
+  pub reads : Reads sides.reader_before sides.reader_after text Whole
   pub are_items : AreItems source [] (entries text) items
   pub runs : Run sides.before (map submitted items) outcomes sides.after
-  pub writes : Takes sides.sink_before between (lines_from 1 items outcomes)
-  pub cut : TakesFront between sides.sink_after (last_line Complete (length items))
+  pub writes : Takes sides.writer_before between (lines_from 1 items outcomes)
+  pub cut : TakesFront between sides.writer_after (last_line Complete (length items))
   pub counted : count ≡ length items
 
 -- a write failed, in the line of an item or in the last line
@@ -85,13 +85,13 @@ IsWriteFault source sides count = IsLineFault source sides count ⊎ IsLastLineF
 
 -- the ledger came to a halt at an item: the items before it were decided, and none behind it was read
 abbrev pub IsStoreFault : {L : Type 0} → Ghosts L → List ℕ → Sides → L → L → ℕ → Type 0
-IsStoreFault g source sides old new count = ServesStopped g source sides.source_before sides.source_after old new sides.sink_before sides.sink_after count
+IsStoreFault g source sides old new count = ServesStopped g source sides.reader_before sides.reader_after old new sides.writer_before sides.writer_after count
 
 -- memory was refused before the first item: nothing was read or decided
 pub record IsUnread (sides : Sides) : Type 0 where
-  pub unread : sides.source_after ≡ sides.source_before
+  pub unread : sides.reader_after ≡ sides.reader_before
   pub same : sides.after ≡ sides.before
-  pub writes : TakesSome sides.sink_before sides.sink_after (last_line Memory 0)
+  pub writes : TakesSome sides.writer_before sides.writer_after (last_line Memory 0)
 
 -- what a submission that failed did, by its fault; a ledger that is ready does not say that it is stopped
 abbrev pub FailsBy : {L : Type 0} → Ghosts L → List ℕ → Sides → L → L → DeskFault → Type 0

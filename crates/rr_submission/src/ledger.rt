@@ -29,11 +29,17 @@ pub trait Ledger {
         ensures { Sound (registry self.now) };
 
     /// Decides an item that was given with these secrets.
-    fn decide(&mut self, alloc: Global, secrets: &Secrets, item: Item) -> Result<Outcome, Halted>
+    fn decide(
+        &mut self,
+        alloc: Global,
+        secrets: &mut Secrets,
+        item: Item,
+    ) -> Result<Outcome, Halted>
         requires { Ready self.old }
-        ensures decides { IfOk result (λ outcome. IsStep (registry self.old) secrets.now item outcome (registry self.new)) }
+        ensures decides { IfOk result (λ outcome. IsStep (registry self.old) secrets.old item outcome (registry self.new)) }
         ensures ready { OnOk result (Ready self.new) }
-        ensures halts { OnErr result (Halts self.old secrets.now item self.new) };
+        ensures halts { OnErr result (Halts self.old secrets.old item self.new) }
+        ensures same_secrets { secrets.new ≡ secrets.old };
 }
 
 /// A registry in memory decides each item by itself, and never comes to a halt.
@@ -48,7 +54,12 @@ impl<B: Keeper> Ledger for Registry<B> {
         self.book().sound();
     }
 
-    fn decide(&mut self, alloc: Global, secrets: &Secrets, item: Item) -> Result<Outcome, Halted> {
+    fn decide(
+        &mut self,
+        alloc: Global,
+        secrets: &mut Secrets,
+        item: Item,
+    ) -> Result<Outcome, Halted> {
         Ok(self.apply(alloc, secrets, item))
     }
 }

@@ -27,10 +27,11 @@ use std::alloc::Global;
 use std::io;
 
 /// Submits what the reader gives to a ledger with a registry of this source, and writes the report. The items are read,
-/// decided and reported one by one, in order, in memory that does not grow with the text. Where the line of an item
-/// cannot be written, that item and those before it stand, and those behind it are not read. Where the ledger comes to
-/// a halt at an item, those before it stand, the item has a line with the code E91, and a last line follows. What the
-/// holders of a prefix hold is changed by nobody else.
+/// decided and reported one by one, in order, in memory that grows with the secrets of the text, and with what is
+/// remembered of them, but else not with the text. Where the line of an item cannot be written, that item and those
+/// before it stand, and those behind it are not read. Where the ledger comes to a halt at an item, those before it
+/// stand, the item has a line with the code E91, and a last line follows. What the holders of a prefix hold is changed
+/// by nobody else.
 pub fn submit<L: Ledger, R: Source, W: Sink>(
     alloc: Global,
     ledger: &mut L,
@@ -40,10 +41,10 @@ pub fn submit<L: Ledger, R: Source, W: Sink>(
 ) -> Result<Done, DeskFault>
     requires { L.Ready ledger.old }
     ensures submits { Submits L.Ledger source.now (record {
-      source_before = R.told reader.old;
-      source_after = R.told reader.new;
-      sink_before = W.told writer.old;
-      sink_after = W.told writer.new;
+      reader_before = R.told reader.old;
+      reader_after = R.told reader.new;
+      writer_before = W.told writer.old;
+      writer_after = W.told writer.new;
       before = L.registry ledger.old;
       after = L.registry ledger.new;
     }) ledger.old ledger.new result }
@@ -74,10 +75,10 @@ fn report<L: Ledger, R: Source, W: Sink>(
     requires ready { L.Ready ledger.old }
     requires unread { HasGiven (R.told reader.old) (R.told reader.old) paragraphs.old [] }
     ensures submits { Submits L.Ledger source.now (record {
-      source_before = R.told reader.old;
-      source_after = R.told reader.new;
-      sink_before = W.told writer.old;
-      sink_after = W.told writer.new;
+      reader_before = R.told reader.old;
+      reader_after = R.told reader.new;
+      writer_before = W.told writer.old;
+      writer_after = W.told writer.new;
       before = L.registry ledger.old;
       after = L.registry ledger.new;
     }) ledger.old ledger.new result }
@@ -124,7 +125,7 @@ fn serve_all<L: Ledger, R: Source, W: Sink>(
     };
     'items: loop {
         match next_item(alloc, paragraphs, reader, source, &mut secrets) {
-            Ok(request) => done = serve_one(alloc, ledger, &secrets, request, done, writer)?,
+            Ok(request) => done = serve_one(alloc, ledger, &mut secrets, request, done, writer)?,
             Err(end) => return Ok((done, end)),
         }
     }
@@ -134,7 +135,7 @@ fn serve_all<L: Ledger, R: Source, W: Sink>(
 fn serve_one<L: Ledger, W: Sink>(
     alloc: Global,
     ledger: &mut L,
-    secrets: &Secrets,
+    secrets: &mut Secrets,
     request: Request,
     done: Done,
     writer: &mut W,
@@ -142,8 +143,9 @@ fn serve_one<L: Ledger, W: Sink>(
     requires items { done.items + 1 < 2 ^ 64 }
     requires refused { done.refused + 1 < 2 ^ 64 }
     requires ready { L.Ready ledger.old }
-    ensures serves { ServesOne L.Ledger secrets.now request done ledger.old ledger.new (W.told writer.old) (W.told writer.new) result }
+    ensures serves { ServesOne L.Ledger secrets.old request done ledger.old ledger.new (W.told writer.old) (W.told writer.new) result }
     ensures ready { UnlessHalted result (L.Ready ledger.new) }
+    ensures same_secrets { secrets.new ≡ secrets.old }
     ensures aside { W.aside writer.new ≡ W.aside writer.old }
 {
     let Request { key, action } = request;
@@ -166,13 +168,14 @@ fn serve_one<L: Ledger, W: Sink>(
 fn decide<L: Ledger>(
     alloc: Global,
     ledger: &mut L,
-    secrets: &Secrets,
+    secrets: &mut Secrets,
     action: Result<Item, Code>,
 ) -> Result<Outcome, Halted>
     requires { L.Ready ledger.old }
-    ensures decides { IfOk result (λ outcome. Decides (L.registry ledger.old) secrets.now action outcome (L.registry ledger.new)) }
+    ensures decides { IfOk result (λ outcome. Decides (L.registry ledger.old) secrets.old action outcome (L.registry ledger.new)) }
     ensures ready { OnOk result (L.Ready ledger.new) }
-    ensures halts { OnErr result (HaltsAt L.Ledger ledger.old secrets.now action ledger.new) }
+    ensures halts { OnErr result (HaltsAt L.Ledger ledger.old secrets.old action ledger.new) }
+    ensures same_secrets { secrets.new ≡ secrets.old }
 {
     match action {
         Ok(item) => ledger.decide(alloc, secrets, item),

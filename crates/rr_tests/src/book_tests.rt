@@ -173,9 +173,9 @@ fn both_books_answer_alike(rt: HostRuntime) -> Result<(), Fail> {
     for _ in 0..ITEMS {
         let text = any_text(alloc, &mut words)?;
         let deletes = words.next_word() % 4 == 0;
-        let secrets = any_secrets(alloc, &mut words)?;
-        let outcome = plain.apply(alloc, &secrets, item(alloc, deletes, &text)?);
-        let other = indexed.apply(alloc, &secrets, item(alloc, deletes, &text)?);
+        let mut secrets = any_secrets(alloc, &mut words)?;
+        let outcome = plain.apply(alloc, &mut secrets, item(alloc, deletes, &text)?);
+        let other = indexed.apply(alloc, &mut secrets, item(alloc, deletes, &text)?);
         assert_eq!(rt; other, outcome, "{text}");
         outcomes.push(outcome)?;
         let span = any_span(&mut words);

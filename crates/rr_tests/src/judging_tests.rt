@@ -106,9 +106,9 @@ fn verdict(
     deletes: bool,
     text: &str,
 ) -> Result<Verdict, Fail> {
-    let secrets = secrets(alloc, &[secret])?;
+    let mut secrets = secrets(alloc, &[secret])?;
     let item = item(alloc, deletes, text)?;
-    Ok(judge(alloc, registry.book(), &secrets, &item)?)
+    Ok(judge(alloc, registry.book(), &mut secrets, &item)?)
 }
 
 #[test]

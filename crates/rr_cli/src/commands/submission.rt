@@ -127,10 +127,10 @@ pub(crate) fn submit_to<S: Alter, R: Source, W: Sink>(
 ) -> Result<u8, Trouble>
     requires { desk.old.stored.stopped ≡ false }
     ensures { HasSubmitted S.Store desk.old.settings.source (record {
-      source_before = R.told reader.old;
-      source_after = R.told reader.new;
-      sink_before = W.told writer.old;
-      sink_after = W.told writer.new;
+      reader_before = R.told reader.old;
+      reader_after = R.told reader.new;
+      writer_before = W.told writer.old;
+      writer_after = W.told writer.new;
       before = desk.old.stored.registry;
       after = desk.new.stored.registry;
     }) desk.old.stored desk.new.stored result }

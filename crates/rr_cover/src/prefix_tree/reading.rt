@@ -1,12 +1,12 @@
 //! Looking prefixes up in a tree.
 
-ghost use Rattle.std.specs.Prelude.{◌≡◌, IfSome, IfNone};
+ghost use Rattle.std.specs.Prelude.{◌≡◌, ◌≤◌, IfSome, IfNone};
 ghost use Rattle.std.specs.Option.{option_copied};
 ghost use Rattle.std.specs.Ordering.{eq_by_cmp};
 ghost use Rattle.rr_number.specs.Prefixes.{span_of, IsMasked};
 ghost use Rattle.rr_number.specs.Spans.{span_cmp};
 ghost use Rattle.rr_cover.specs.PrefixTrees.{in_upper, own, standing, IsTree};
-ghost use Rattle.rr_cover.specs.TreeParts.{side_of, IsSmallestCover, NoCover};
+ghost use Rattle.rr_cover.specs.TreeParts.{room, side_of, IsSmallestCover, NoCover};
 
 use super::{Node, Tree};
 use rr_number::{Prefix, Span};
@@ -75,5 +75,16 @@ pub(super) fn smallest_cover<T>(tree: &Tree<T>, prefix: Prefix) -> Option<(Prefi
                 },
             }
         }
+    }
+}
+
+/// How many levels the tree has.
+pub(super) fn levels<T>(tree: &Tree<T>) -> u32
+    requires { IsTree tree.now }
+    ensures { result ≤ room tree.now }
+{
+    match tree {
+        Tree::Empty => 0,
+        Tree::Fork(node) => levels(&node.lower).max(levels(&node.upper)) + 1,
     }
 }

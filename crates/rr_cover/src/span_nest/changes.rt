@@ -4,9 +4,10 @@ ghost use Rattle.std.specs.Prelude.{◌≡◌, nat_le, None, Some, is_some, IfOk
 ghost use Rattle.std.specs.Option.{option_or};
 ghost use Rattle.std.specs.Ordering.{eq_by_cmp};
 ghost use Rattle.rr_number.specs.Spans.{Ends, IsSpan, span_cmp};
-ghost use Rattle.rr_cover.specs.SpanNests.{at_span, is_ahead, standing, Only, Fits, IsLeast, IsGreatest, IsNest};
-ghost use Rattle.rr_cover.specs.NestParts.{IsOpened, Precedes};
+ghost use Rattle.rr_cover.specs.SpanNests.{at_span, is_ahead, standing, Only, Fits, IsBound, IsNest};
+ghost use Rattle.rr_cover.specs.NestParts.{with_front, with_back, IsOpened, Precedes};
 
+use super::bounds::Bounds;
 use super::reading::{is_ahead, is_same};
 use super::{Nest, Node};
 use rr_number::Span;
@@ -28,7 +29,7 @@ fn least<T>(nest: &Nest<T>) -> u32
 {
     match nest {
         Nest::Empty => u32::MAX,
-        Nest::Fork(node) => node.least,
+        Nest::Fork(node) => node.bounds.least,
     }
 }
 
@@ -39,7 +40,7 @@ fn greatest<T>(nest: &Nest<T>) -> u32
 {
     match nest {
         Nest::Empty => 0,
-        Nest::Fork(node) => node.greatest,
+        Nest::Fork(node) => node.bounds.front.max(node.bounds.back),
     }
 }
 
@@ -59,25 +60,36 @@ fn open<T: Drop>(nest: Nest<T>) -> Option<(Box<Node<T>>, Nest<T>, Nest<T>)>
     }
 }
 
+/// What a node with the span knows of the last numbers from it on.
+fn bounds_over<T>(span: Span, before: &Nest<T>, after: &Nest<T>) -> Bounds
+    requires { IsNest before.now × IsNest after.now }
+    ensures { IsBound result span before.now after.now }
+{
+    let last = span.last();
+    Bounds {
+        least: least(before).min(last).min(least(after)),
+        front: greatest(before).max(last),
+        back: greatest(after),
+    }
+}
+
 /// The node over two sides, with what it knows of them.
 fn hang<T: Drop>(
     mut node: Box<Node<T>>,
     height: u8,
-    ends: (u32, u32),
+    bounds: Bounds,
     before: Nest<T>,
     after: Nest<T>,
 ) -> Nest<T>
     requires fits { Fits node.value.span before after }
-    requires least { IsLeast ends.0 node.value.span before after }
-    requires greatest { IsGreatest ends.1 node.value.span before after }
+    requires bound { IsBound bounds node.value.span before after }
     requires nests { IsNest before × IsNest after }
     ensures all { (s : Ends) → standing result s
         ≡ option_or (standing before s) (option_or (at_span node.value.span node.value.value s) (standing after s)) }
     ensures nest { IsNest result }
 {
     node.height = height;
-    node.least = ends.0;
-    node.greatest = ends.1;
+    node.bounds = bounds;
     node.before = before;
     node.after = after;
     Nest::Fork(node)
@@ -92,10 +104,8 @@ fn fork<T: Drop>(node: Box<Node<T>>, before: Nest<T>, after: Nest<T>) -> Nest<T>
     ensures nest { IsNest result }
 {
     let height = height(&before).max(height(&after)).saturating_add(1);
-    let last = node.span.last();
-    let least = least(&before).min(last).min(least(&after));
-    let greatest = greatest(&before).max(last).max(greatest(&after));
-    hang(node, height, (least, greatest), before, after)
+    let bounds = bounds_over(node.span, &before, &after);
+    hang(node, height, bounds, before, after)
 }
 
 /// The node over two sides, turned where one side is two levels higher than the other.
@@ -164,24 +174,106 @@ fn lift_after<T: Drop>(node: Box<Node<T>>, before: Nest<T>, after: Nest<T>) -> N
     fork(top, front, back)
 }
 
-/// The tree with a node whose span it does not hold.
-fn put<T: Drop>(nest: Nest<T>, node: Box<Node<T>>) -> Nest<T>
-    requires order { IsNest nest }
-    requires ends { IsSpan node.value.span }
-    requires missing { standing nest node.value.span ≡ None }
-    ensures all { (s : Ends) → standing result s
-        ≡ (if eq_by_cmp span_cmp s node.value.span then Some node.value.value else standing nest s) }
+/// The tree, turned at its root where one side is two levels higher than the other.
+fn balanced<T: Drop>(nest: Nest<T>) -> Nest<T>
+    requires { IsNest nest }
+    ensures all { (s : Ends) → standing result s ≡ standing nest s }
     ensures nest { IsNest result }
 {
     let Some((root, before, after)) = open(nest) else {
-        return fork(node, Nest::Empty, Nest::Empty);
+        return Nest::Empty;
     };
-    if is_ahead(node.span, root.span) {
-        let before = put(before, node);
-        balance(root, before, after)
-    } else {
-        let after = put(after, node);
-        balance(root, before, after)
+    balance(root, before, after)
+}
+
+/// Sets the root's height, and tells whether its sides differ by a level at most; else nothing is done.
+fn raise<T>(nest: &mut Nest<T>) -> bool
+    requires { IsNest nest.old }
+    ensures all { (s : Ends) → standing nest.new s ≡ standing nest.old s }
+    ensures nest { IsNest nest.new }
+{
+    match nest {
+        Nest::Empty => true,
+        Nest::Fork(node) => {
+            let (front, back) = (height(&node.before), height(&node.after));
+            if front.abs_diff(back) > 1 {
+                return false;
+            }
+            node.height = front.max(back).saturating_add(1);
+            true
+        }
+    }
+}
+
+/// Balances the tree at its root.
+fn settle<T: Drop>(nest: &mut Nest<T>)
+    requires { IsNest nest.old }
+    ensures all { (s : Ends) → standing nest.new s ≡ standing nest.old s }
+    ensures nest { IsNest nest.new }
+{
+    if !raise(nest) {
+        let whole = mem::replace(nest, Nest::Empty);
+        *nest = balanced(whole);
+    }
+}
+
+/// Lets a last number in on the front side, and tells whether that side rose to the node's height.
+fn grow_front<T>(node: &mut Node<T>, last: u32) -> bool
+    ensures { node.new ≡ record node.old { bounds = with_front node.old.bounds last } }
+{
+    node.bounds = node.bounds.with_front(last);
+    node.height <= height(&node.before)
+}
+
+/// Lets a last number in on the back side, and tells whether that side rose to the node's height.
+fn grow_back<T>(node: &mut Node<T>, last: u32) -> bool
+    ensures { node.new ≡ record node.old { bounds = with_back node.old.bounds last } }
+{
+    node.bounds = node.bounds.with_back(last);
+    node.height <= height(&node.after)
+}
+
+/// Hangs a node in whose span is not held.
+#[cycle(putting)]
+fn put<T: Drop>(nest: &mut Nest<T>, leaf: Box<Node<T>>)
+    requires order { IsNest nest.old }
+    requires ends { IsSpan leaf.value.span }
+    requires missing { standing nest.old leaf.value.span ≡ None }
+    ensures all { (s : Ends) → standing nest.new s
+        ≡ (if eq_by_cmp span_cmp s leaf.value.span then Some leaf.value.value else standing nest.old s) }
+    ensures nest { IsNest nest.new }
+{
+    if put_below(nest, leaf) {
+        settle(nest);
+    }
+}
+
+/// Hangs a node in whose span is not held, and tells whether a side rose to the root's height: then that is not set
+/// anew yet, and the sides may differ by two levels.
+#[cycle(putting)]
+fn put_below<T: Drop>(nest: &mut Nest<T>, leaf: Box<Node<T>>) -> bool
+    requires order { IsNest nest.old }
+    requires ends { IsSpan leaf.value.span }
+    requires missing { standing nest.old leaf.value.span ≡ None }
+    ensures all { (s : Ends) → standing nest.new s
+        ≡ (if eq_by_cmp span_cmp s leaf.value.span then Some leaf.value.value else standing nest.old s) }
+    ensures nest { IsNest nest.new }
+{
+    match nest {
+        Nest::Empty => {
+            *nest = fork(leaf, Nest::Empty, Nest::Empty);
+            false
+        }
+        Nest::Fork(node) => {
+            let last = leaf.span.last();
+            if is_ahead(leaf.span, node.span) {
+                put(&mut node.before, leaf);
+                grow_front(node, last)
+            } else {
+                put(&mut node.after, leaf);
+                grow_back(node, last)
+            }
+        }
     }
 }
 
@@ -294,31 +386,21 @@ fn add<T: Drop>(nest: &mut Nest<T>, alloc: Global, span: Span, value: T) -> Resu
         span,
         value,
         height: 1,
-        least: span.last(),
-        greatest: span.last(),
+        bounds: Bounds {
+            least: span.last(),
+            front: span.last(),
+            back: 0,
+        },
         before: Nest::Empty,
         after: Nest::Empty,
     };
     match Box::new(alloc, node) {
         Ok(node) => {
-            place(nest, node);
+            put(nest, node);
             Ok(())
         }
         Err(refused) => Err(into_value(refused.value)),
     }
-}
-
-/// Hangs a node in whose span is not held.
-fn place<T: Drop>(nest: &mut Nest<T>, node: Box<Node<T>>)
-    requires order { IsNest nest.old }
-    requires ends { IsSpan node.value.span }
-    requires missing { standing nest.old node.value.span ≡ None }
-    ensures all { (s : Ends) → standing nest.new s
-        ≡ (if eq_by_cmp span_cmp s node.value.span then Some node.value.value else standing nest.old s) }
-    ensures nest { IsNest nest.new }
-{
-    let whole = mem::replace(nest, Nest::Empty);
-    *nest = put(whole, node);
 }
 
 /// Puts the value at the span, and gives back the one that stood there. Where memory is refused, nothing changes and

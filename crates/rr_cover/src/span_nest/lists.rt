@@ -24,7 +24,7 @@ pub(super) fn push_covering<T>(
     match nest {
         Nest::Empty => Ok(()),
         Nest::Fork(node) => {
-            if node.greatest < span.last() {
+            if node.bounds.front.max(node.bounds.back) < span.last() {
                 return Ok(());
             }
             push_covering(&node.before, span, out)?;
@@ -50,7 +50,7 @@ pub(super) fn push_inside<T>(
     match nest {
         Nest::Empty => Ok(()),
         Nest::Fork(node) => {
-            if span.last() < node.least {
+            if span.last() < node.bounds.least {
                 return Ok(());
             }
             if node.span.first() < span.first() {

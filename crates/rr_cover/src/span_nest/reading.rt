@@ -1,13 +1,13 @@
 //! Looking spans up in a search tree.
 
-ghost use Rattle.std.specs.Prelude.{◌≡◌, ◌+◌, true, false, is_some, IfSome, IfNone};
+ghost use Rattle.std.specs.Prelude.{◌≡◌, ◌+◌, true, false, nat_le, is_some, IfSome, IfNone};
 ghost use Rattle.std.specs.Option.{option_copied};
 ghost use Rattle.std.specs.Ordering.{eq_by_cmp};
 ghost use Rattle.rr_number.specs.Spans.{Ends, span_cmp};
-ghost use Rattle.rr_cover.specs.SpanNests.{is_ahead, standing, IsNest, IsApart};
+ghost use Rattle.rr_cover.specs.SpanNests.{is_ahead, standing, Only, IsNest, IsApart};
 ghost use Rattle.rr_cover.specs.NestParts.{ends_in, begins_in, IsLastReaching, NoneReaches, SomeCrosses, NoneCrosses};
 
-use super::Nest;
+use super::{Nest, Node};
 use rr_number::Span;
 
 /// Whether a span stands ahead of another: outer spans stand ahead of those inside them.
@@ -43,29 +43,46 @@ pub(super) fn find<T>(nest: &Nest<T>, span: Span) -> Option<&T>
     }
 }
 
-/// The last span in order of those that begin below a number and reach another one. Where all spans of a part begin
-/// below it, the greatest last number tells which side to take, so one way down is gone.
-pub(super) fn last_reaching<T>(nest: &Nest<T>, below: u64, to: u64) -> Option<(Span, &T)>
+/// The node of the last span in order of those that begin below a number and reach another one. Where all spans of a
+/// part begin below it, the greatest last numbers tell which side to take, so one way down is gone.
+#[cycle(reaching)]
+pub(super) fn last_reaching<T>(nest: &Nest<T>, below: u64, to: u64) -> Option<&Node<T>>
     requires { IsNest nest.now }
-    ensures found { IfSome result (λ p. IsLastReaching nest.now below to p.0 p.1.now) }
+    ensures found { IfSome result (λ node. IsLastReaching nest.now below to node.now.span node.now.value) }
     ensures none { IfNone result (NoneReaches nest.now below to) }
 {
     match nest {
         Nest::Empty => None,
         Nest::Fork(node) => {
-            if u64::from(node.greatest) < to {
-                return None;
-            }
             if below <= u64::from(node.span.first()) {
-                return last_reaching(&node.before, below, to);
+                return last_reaching_in(&node.before, node.bounds.front, below, to);
             }
-            match last_reaching(&node.after, below, to) {
+            match last_reaching_in(&node.after, node.bounds.back, below, to) {
                 Some(found) => Some(found),
-                None if to <= u64::from(node.span.last()) => Some((node.span, &node.value)),
-                None => last_reaching(&node.before, below, to),
+                None if to <= u64::from(node.span.last()) => Some(node),
+                None => last_reaching_in(&node.before, node.bounds.front, below, to),
             }
         }
     }
+}
+
+/// The same of a side that has no last number above a greatest one: it is looked at only where that reaches.
+#[cycle(reaching)]
+pub(super) fn last_reaching_in<T>(
+    side: &Nest<T>,
+    greatest: u32,
+    below: u64,
+    to: u64,
+) -> Option<&Node<T>>
+    requires order { IsNest side.now }
+    requires bound { Only (λ s. nat_le s.last greatest) side.now }
+    ensures found { IfSome result (λ node. IsLastReaching side.now below to node.now.span node.now.value) }
+    ensures none { IfNone result (NoneReaches side.now below to) }
+{
+    if u64::from(greatest) < to {
+        return None;
+    }
+    last_reaching(side, below, to)
 }
 
 /// Whether a span held begins before the span and ends within it.
@@ -78,7 +95,7 @@ fn ends_within<T>(nest: &Nest<T>, span: Span) -> bool
 {
     let first = u64::from(span.first());
     match last_reaching(nest, first, first) {
-        Some((held, _)) => held.last() < span.last(),
+        Some(held) => held.span.last() < span.last(),
         None => false,
     }
 }
@@ -93,7 +110,7 @@ fn begins_within<T>(nest: &Nest<T>, span: Span) -> bool
 {
     let behind = u64::from(span.last()) + 1;
     match last_reaching(nest, behind, behind) {
-        Some((held, _)) => span.first() < held.first(),
+        Some(held) => span.first() < held.span.first(),
         None => false,
     }
 }
@@ -114,5 +131,19 @@ pub(super) fn smallest_cover<T>(nest: &Nest<T>, span: Span) -> Option<(Span, &T)
     ensures found { IfSome result (λ p. IsLastReaching nest.now (span.first + 1) span.last p.0 p.1.now) }
     ensures none { IfNone result (NoneReaches nest.now (span.first + 1) span.last) }
 {
-    last_reaching(nest, u64::from(span.first()) + 1, u64::from(span.last()))
+    match last_reaching(nest, u64::from(span.first()) + 1, u64::from(span.last())) {
+        Some(node) => Some((node.span, &node.value)),
+        None => None,
+    }
+}
+
+/// How many levels the tree has.
+pub(super) fn levels<T>(nest: &Nest<T>) -> u32 {
+    match nest {
+        Nest::Empty => 0,
+        Nest::Fork(node) => {
+            let below = levels(&node.before).max(levels(&node.after));
+            below.saturating_add(1)
+        }
+    }
 }

@@ -29,7 +29,7 @@ items-preserved g c =
     let so = c.items.invariant.0 in
     let found = c.in-Ok.ensures.finds _ so.0 so.1 in
     let one = c.in_ok-done-in-Ok.ensures.serves in (
-      (so.0 ++ found.added, found.has, ComesTo-more _ _ _ _ _ _ _ _ one.outcome so.2 found one.decides one.items one.refused one.writes),
+      (so.0 ++ found.added, found.has, rw c.in_ok-done-in-Ok.ensures.same_secrets (ComesTo-more _ _ _ _ _ _ _ _ one.outcome so.2 found one.decides one.items one.refused one.writes)),
       c.in_ok-done-in-Ok.ensures.ready,
       c.in-Ok.ensures.aside ∙ c.items.invariant.2,
       c.in_ok-done-in-Ok.ensures.aside ∙ c.items.invariant.3,

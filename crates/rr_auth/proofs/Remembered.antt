@@ -1,0 +1,105 @@
+-- What is remembered of secrets, as more of them are tried and as others are added.
+use Rattle.std.proofs.Common.{◌≡◌, ◌-◌, ℕ, ◌≤◌, Bool, true, false, cond, ◌||◌, List, [], ◌++◌, length, take, drop, arith, length-append, length-drop, refl, sym, ap, subst, ◌∙◌}
+use Rattle.std.specs.Prelude.{Err, IfSome, Ok, OnErr, OnOk, Option, Result, Some}
+use Rattle.std.specs.BTreeMap.{BTreeMap, IsUnchanged, Updates, get, is_at}
+use Rattle.std.specs.Cmp.Lexicographic.{slice_cmp}
+use Rattle.std.specs.List.{list_any}
+use Rattle.std.specs.Map.{lookup}
+use Rattle.std.specs.Ordering.{nat_cmp}
+use Rattle.std.proofs.lemmas.List.{take-append-drop, take-append-le, take_all}
+use Rattle.std.proofs.lemmas.List.Folds.{list_any-append}
+use Rattle.std.proofs.lemmas.Map.Lookups.{exact_bytes, exact_pairs}
+use Rattle.std.proofs.lemmas.Map.Views.{tells_apart}
+use Rattle.std.proofs.lemmas.Option.{IfSome_then}
+use Rattle.rr_object.specs.Parts.{AuthParts}
+use Rattle.rr_auth.specs.declared.tried.Line.{Line}
+use Rattle.rr_auth.specs.declared.tried.Trial.{Trial}
+use Rattle.rr_auth.specs.Passing.{fits_line}
+use Rattle.rr_auth.specs.Trials.{AreTrials, IsTrial, line_cmp, parts_of}
+
+abbrev Trials : Type 0
+Trials = BTreeMap Line Trial
+
+-- what passes a test in a list stands in its front or behind it
+any_parted : (p : List ℕ → Bool) (n : ℕ) (xs : List (List ℕ)) → list_any p xs ≡ (list_any p (take n xs) || list_any p (drop n xs))
+any_parted p n xs = ap (list_any p) (sym (take-append-drop n xs)) ∙ list_any-append p (take n xs) (drop n xs)
+
+module _ (secrets : List (List ℕ)) (line : AuthParts) (trial : Trial) (is : IsTrial secrets line trial) where
+  abbrev fits : List ℕ → Bool
+  fits = fits_line line
+
+  parted : list_any fits secrets ≡ (trial.fits || list_any fits (drop trial.tried secrets))
+  parted = any_parted fits trial.tried secrets ∙ ap (λ b. b || list_any fits (drop trial.tried secrets)) (sym is.told)
+
+  -- a line that some secret was seen to fit
+  pub seen_to_fit : trial.fits ≡ true → trial.fits ≡ list_any fits secrets
+  seen_to_fit e = e ∙ sym (parted ∙ ap (λ b. b || list_any fits (drop trial.tried secrets)) e)
+
+  -- a line with which each secret was tried
+  pub all_tried : trial.tried ≡ length secrets → trial.fits ≡ list_any fits secrets
+  all_tried e = is.told ∙ ap (list_any fits) (ap (λ n. take n secrets) e ∙ take_all (length secrets) secrets (omega arith))
+
+  -- where none of those that were tried fits, the rest decides
+  pub rest_decides : trial.fits ≡ false → list_any fits (take (length secrets - trial.tried) (drop trial.tried secrets)) ≡ list_any fits secrets
+  rest_decides e =
+      ap (list_any fits) (take_all (length secrets - trial.tried) (drop trial.tried secrets) (omega (arith, length-drop trial.tried secrets)))
+      ∙ sym (parted ∙ ap (λ b. b || list_any fits (drop trial.tried secrets)) e)
+
+-- a line with which all secrets were tried
+pub whole_trial : (secrets : List (List ℕ)) (line : AuthParts) (trial : Trial) → trial.tried ≡ length secrets → trial.fits ≡ list_any (fits_line line) secrets → IsTrial secrets line trial
+whole_trial secrets line trial all told = record {
+  within = subst (λ n. n ≤ length secrets) (sym all) (omega arith);
+  told = told ∙ ap (list_any (fits_line line)) (sym (ap (λ n. take n secrets) all ∙ take_all (length secrets) secrets (omega arith)));
+}
+
+trial_stays : (secrets more : List (List ℕ)) (line : AuthParts) (trial : Trial) → IsTrial secrets line trial → IsTrial (secrets ++ more) line trial
+trial_stays secrets more line trial is = record {
+  within = omega (arith, is.within, length-append secrets more);
+  told = is.told ∙ ap (list_any (fits_line line)) (sym (take-append-le trial.tried secrets more is.within));
+}
+
+-- what is remembered of secrets holds where others are added behind them
+pub trials_stay : (secrets more : List (List ℕ)) (trials : Trials) → AreTrials secrets trials → AreTrials (secrets ++ more) trials
+trials_stay secrets more trials are = λ line.
+    IfSome_then (get line_cmp trials line) (are line) (trial_stays secrets more (parts_of line))
+
+-- of nothing that is remembered all is true
+pub none_tried : (secrets : List (List ℕ)) (trials : Trials) → trials.entries ≡ [] → AreTrials secrets trials
+none_tried secrets trials none = λ line.
+    subst (λ (es : List (Line × Trial)). IfSome (lookup (is_at (line_cmp line)) es) (IsTrial secrets (parts_of line))) (sym none) tt
+
+-- lines that tie are the same line
+same_line : (a b : Line) → is_at (line_cmp a) b ≡ true → parts_of a ≡ parts_of b
+same_line a b e =
+    let p : List ℕ × List ℕ = (a.digest, a.salt.items) in
+    let q : List ℕ × List ℕ = (b.digest, b.salt.items) in
+    ap (λ (r : List ℕ × List ℕ). let parts : AuthParts = record { salt = r.1; digest = r.0 } in parts)
+    (tells_apart (exact_pairs (slice_cmp nat_cmp) (slice_cmp nat_cmp) exact_bytes exact_bytes) p q e)
+
+put_at : (secrets : List (List ℕ)) (line other : Line) (trial : Trial) (b : Bool) (before : Option Trial) → (b ≡ true → parts_of line ≡ parts_of other)
+    → IsTrial secrets (parts_of line) trial → IfSome before (IsTrial secrets (parts_of other)) → IfSome (cond b (Some trial) before) (IsTrial secrets (parts_of other))
+put_at secrets line other trial true before same is were = subst (λ (l : AuthParts). IsTrial secrets l trial) (same refl) is
+put_at secrets line other trial false before same is were = were
+
+-- one more trial is remembered
+pub trial_put : (secrets : List (List ℕ)) (line : Line) (trial : Trial) (old new : Trials) → ((other : Line) → get line_cmp new other ≡ cond (is_at (line_cmp line) other) (Some trial) (get line_cmp old other))
+    → AreTrials secrets old → IsTrial secrets (parts_of line) trial → AreTrials secrets new
+trial_put secrets line trial old new put were is = λ other.
+    subst (λ (o : Option Trial). IfSome o (IsTrial secrets (parts_of other))) (sym (put other))
+    (put_at secrets line other trial (is_at (line_cmp line) other) (get line_cmp old other) (same_line line other) is (were other))
+
+-- where memory is wanting, what was remembered stays
+pub trials_kept : (secrets : List (List ℕ)) (old new : Trials) → new.entries ≡ old.entries → AreTrials secrets old → AreTrials secrets new
+trials_kept secrets old new same were = λ line.
+    subst (λ (es : List (Line × Trial)). IfSome (lookup (is_at (line_cmp line)) es) (IsTrial secrets (parts_of line))) (sym same) (were line)
+
+-- what is remembered after a trial was to be put in, as far as there was memory
+pub remembered : {E : Type 0} (r : Result (Option Trial) E) (secrets : List (List ℕ)) (line : Line) (trial : Trial) (old new : Trials) → OnOk r (Updates line_cmp old new line (Some trial)) → OnErr r (IsUnchanged old new)
+    → AreTrials secrets old → IsTrial secrets (parts_of line) trial → AreTrials secrets new
+remembered (Ok before) secrets line trial old new put same were is = trial_put secrets line trial old new put.0 were is
+remembered (Err failed) secrets line trial old new put same were is = trials_kept secrets old new same were
+
+-- what is remembered after secrets were to be added, as far as there was memory
+pub appended : (b : Bool) (old more new : List (List ℕ)) (trials : Trials) → new ≡ cond b (old ++ more) old → AreTrials old trials → AreTrials new trials
+appended true old more new trials is are = subst (λ (secrets : List (List ℕ)). AreTrials secrets trials) (sym is) (trials_stay old more trials are)
+appended false old more new trials is are = subst (λ (secrets : List (List ℕ)). AreTrials secrets trials) (sym is) are

@@ -1,0 +1,88 @@
+-- A search tree with a span put in on one side of its root.
+use Rattle.std.proofs.Common.{◌≡◌, ℕ, ◌+◌, min, max, nat_le, true, cond, Some, refl, arith}
+use Rattle.std.proofs.lemmas.Bool.Decides.{nat_tests}
+use Rattle.std.specs.Option.{option_or}
+use Rattle.std.specs.Ordering.{eq_by_cmp}
+use Rattle.rr_number.specs.Spans.{Ends, span_cmp}
+use Rattle.rr_cover.specs.SpanNests.{is_ahead, at_span, standing, Only, IsNest}
+use Rattle.rr_cover.specs.NestParts.{count, with_front, with_back, IsOpened}
+use Rattle.rr_cover.specs.declared.span_nest.bounds.Bounds.{Bounds}
+use Rattle.rr_cover.specs.declared.span_nest.Nest.{Nest}
+use Rattle.rr_cover.proofs.NestHeld.{Made}
+use Rattle.rr_cover.proofs.NestTurns.{Changed, IsNode, only_changed, low_case, high_case}
+
+-- bounds that let a number in
+least_lets : (l n : ℕ) → nat_le (min l n) n ≡ true
+least_lets l n = grind (arith, nat_tests)
+
+least_kept : (l n x : ℕ) → nat_le l x ≡ true → nat_le (min l n) x ≡ true
+least_kept l n x above = grind (arith, nat_tests)
+
+greatest_lets : (g n : ℕ) → nat_le n (max g n) ≡ true
+greatest_lets g n = grind (arith, nat_tests)
+
+greatest_kept : (g n x : ℕ) → nat_le x g ≡ true → nat_le x (max g n) ≡ true
+greatest_kept g n x below = grind (arith, nat_tests)
+
+module _ {T : Type 0} where
+  least_of : (nest : Nest T) (l n : ℕ) → Only (λ s. nat_le l s.last) nest → Only (λ s. nat_le (min l n) s.last) nest
+  least_of nest l n only = record { each = λ s held. least_kept l n s.last (only.each s held) }
+
+  greatest_of : (nest : Nest T) (g n : ℕ) → Only (λ s. nat_le s.last g) nest → Only (λ s. nat_le s.last (max g n)) nest
+  greatest_of nest g n only = record { each = λ s held. greatest_kept g n s.last (only.each s held) }
+
+  -- a node whose bounds let a span in, with that span put in on a side
+  pub node_low : (span : Ends) (bounds : Bounds) (before after new : Nest T) (k : Ends) (v : T) → IsNode span bounds before after → is_ahead k span ≡ true → Changed before new k (Some v) → IsNest new → IsNode span (with_front bounds k.last) new after
+  node_low span bounds before after new k v is ahead changed order =
+      let least_own = is.0.1.least_own in
+      let front_own = is.0.1.front_own in (
+        (
+          record { ordered = is.0.0.ordered; ahead = only_changed (λ s. is_ahead s span) before new k (Some v) changed ahead is.0.0.ahead; behind = is.0.0.behind },
+          record {
+            least_own = omega arith;
+            least_low = only_changed (λ s. nat_le (min bounds.least k.last) s.last) before new k (Some v) changed (least_lets bounds.least k.last) (least_of before bounds.least k.last is.0.1.least_low);
+            least_high = least_of after bounds.least k.last is.0.1.least_high;
+            front_own = omega arith;
+            front_low = only_changed (λ s. nat_le s.last (max bounds.front k.last)) before new k (Some v) changed (greatest_lets bounds.front k.last) (greatest_of before bounds.front k.last is.0.1.front_low);
+            back_high = is.0.1.back_high;
+          },
+        ),
+        (order, is.1.1),
+      )
+
+  pub node_high : (span : Ends) (bounds : Bounds) (before after new : Nest T) (k : Ends) (v : T) → IsNode span bounds before after → is_ahead span k ≡ true → Changed after new k (Some v) → IsNest new → IsNode span (with_back bounds k.last) before new
+  node_high span bounds before after new k v is behind changed order =
+      let least_own = is.0.1.least_own in (
+        (
+          record { ordered = is.0.0.ordered; ahead = is.0.0.ahead; behind = only_changed (λ s. is_ahead span s) after new k (Some v) changed behind is.0.0.behind },
+          record {
+            least_own = omega arith;
+            least_low = least_of before bounds.least k.last is.0.1.least_low;
+            least_high = only_changed (λ s. nat_le (min bounds.least k.last) s.last) after new k (Some v) changed (least_lets bounds.least k.last) (least_of after bounds.least k.last is.0.1.least_high);
+            front_own = is.0.1.front_own;
+            front_low = is.0.1.front_low;
+            back_high = only_changed (λ s. nat_le s.last (max bounds.back k.last)) after new k (Some v) changed (greatest_lets bounds.back k.last) (greatest_of after bounds.back k.last is.0.1.back_high);
+          },
+        ),
+        (is.1.0, order),
+      )
+
+  -- a tree seen at its root
+  pub opened_of : (nest : Nest T) (span : Ends) (value : T) (bounds : Bounds) (before after : Nest T) → Made nest span value before after → IsNode span bounds before after → count nest ≡ count before + count after + 1 → IsOpened nest span value before after
+  opened_of nest span value bounds before after made is counted = record {
+    fits = is.0.0;
+    low = is.1.0;
+    high = is.1.1;
+    all = made.all;
+    fewer_before = omega (arith, counted);
+    fewer_after = omega (arith, counted);
+  }
+
+  -- what the tree holds then
+  pub all_low : (nest : Nest T) (span : Ends) (value : T) (before after : Nest T) → IsOpened nest span value before after → (k : Ends) (v : T) (new : Nest T) → is_ahead k span ≡ true → Changed before new k (Some v) → (s : Ends) → option_or (standing new s) (option_or (at_span span value s) (standing after s)) ≡ cond (eq_by_cmp span_cmp s k) (Some v) (standing nest s)
+  all_low nest span value before after opened k v new ahead changed s =
+      low_case nest span value before after opened k (Some v) new s (eq_by_cmp span_cmp s k) refl ahead (changed.all s)
+
+  pub all_high : (nest : Nest T) (span : Ends) (value : T) (before after : Nest T) → IsOpened nest span value before after → (k : Ends) (v : T) (new : Nest T) → is_ahead span k ≡ true → Changed after new k (Some v) → (s : Ends) → option_or (standing before s) (option_or (at_span span value s) (standing new s)) ≡ cond (eq_by_cmp span_cmp s k) (Some v) (standing nest s)
+  all_high nest span value before after opened k v new behind changed s =
+      high_case nest span value before after opened k (Some v) new s (eq_by_cmp span_cmp s k) refl behind (changed.all s)

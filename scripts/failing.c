@@ -1,0 +1,139 @@
+/* Loaded before the C library by scripts/sweeps: it counts the calls of one kind that the program makes, and fails one of them, or
+   all from one on, or ends the process in place of one. FAILING is KIND:HOW:NUMBER, and FAILING_COUNT a file for the count. */
+#define _GNU_SOURCE
+#include <errno.h>
+#include <fcntl.h>
+#include <stdarg.h>
+#include <stdio.h>
+#include <stdlib.h>
+#include <string.h>
+#include <sys/socket.h>
+#include <sys/syscall.h>
+#include <sys/types.h>
+#include <unistd.h>
+
+extern void *__libc_malloc(size_t);
+extern void *__libc_calloc(size_t, size_t);
+extern void *__libc_realloc(void *, size_t);
+
+static char kind[16], how[16];
+static long wanted, met;
+
+__attribute__((constructor)) static void read_words(void)
+{
+    const char *words = getenv("FAILING");
+    if (!words || sscanf(words, "%15[a-z]:%15[a-z]:%ld", kind, how, &wanted) != 3)
+        kind[0] = 0;
+    met = 0;
+}
+
+__attribute__((destructor)) static void tell_count(void)
+{
+    const char *path = getenv("FAILING_COUNT");
+    char digits[32];
+    int file, length = snprintf(digits, sizeof digits, "%ld\n", met);
+    kind[0] = 0;
+    if (!path)
+        return;
+    file = syscall(SYS_openat, AT_FDCWD, path, O_WRONLY | O_CREAT | O_TRUNC, 0644);
+    syscall(SYS_write, file, digits, length);
+    syscall(SYS_close, file);
+}
+
+/* Whether this call of the kind is to fail. */
+static int fails(const char *called)
+{
+    if (!kind[0] || strcmp(kind, called) != 0)
+        return 0;
+    met++;
+    if (met != wanted && !(met > wanted && strcmp(how, "on") == 0))
+        return 0;
+    if (strcmp(how, "stop") == 0)
+        syscall(SYS_exit_group, 137);
+    return 1;
+}
+
+static long failed(int error)
+{
+    errno = error;
+    return -1;
+}
+
+static void *refused(void)
+{
+    errno = ENOMEM;
+    return NULL;
+}
+
+void *malloc(size_t size) { return fails("memory") ? refused() : __libc_malloc(size); }
+
+void *calloc(size_t count, size_t size) { return fails("memory") ? refused() : __libc_calloc(count, size); }
+
+void *realloc(void *block, size_t size) { return fails("memory") ? refused() : __libc_realloc(block, size); }
+
+ssize_t read(int file, void *bytes, size_t size)
+{
+    return fails("input") ? failed(EIO) : syscall(SYS_read, file, bytes, size);
+}
+
+ssize_t write(int file, const void *bytes, size_t size)
+{
+    const char *called = file == 1 ? "output" : file == 2 ? "none" : "disk";
+    return fails(called) ? failed(file == 1 ? ENOSPC : EIO) : syscall(SYS_write, file, bytes, size);
+}
+
+ssize_t __write(int file, const void *bytes, size_t size) { return write(file, bytes, size); }
+
+ssize_t recv(int file, void *bytes, size_t size, int flags)
+{
+    return fails("peer") ? failed(ECONNRESET) : syscall(SYS_recvfrom, file, bytes, size, flags, NULL, NULL);
+}
+
+ssize_t send(int file, const void *bytes, size_t size, int flags)
+{
+    return fails("peer") ? failed(ECONNRESET) : syscall(SYS_sendto, file, bytes, size, flags, NULL, 0);
+}
+
+ssize_t pread(int file, void *bytes, size_t size, off_t place)
+{
+    return fails("disk") ? failed(EIO) : syscall(SYS_pread64, file, bytes, size, place);
+}
+
+ssize_t pread64(int file, void *bytes, size_t size, off_t place) { return pread(file, bytes, size, place); }
+
+ssize_t pwrite(int file, const void *bytes, size_t size, off_t place)
+{
+    return fails("disk") ? failed(EIO) : syscall(SYS_pwrite64, file, bytes, size, place);
+}
+
+ssize_t pwrite64(int file, const void *bytes, size_t size, off_t place) { return pwrite(file, bytes, size, place); }
+
+int fsync(int file) { return fails("disk") ? failed(EIO) : syscall(SYS_fsync, file); }
+
+int fdatasync(int file) { return fails("disk") ? failed(EIO) : syscall(SYS_fdatasync, file); }
+
+int ftruncate(int file, off_t size) { return fails("disk") ? failed(EIO) : syscall(SYS_ftruncate, file, size); }
+
+int ftruncate64(int file, off_t size) { return ftruncate(file, size); }
+
+int unlink(const char *path) { return fails("disk") ? failed(EIO) : syscall(SYS_unlink, path); }
+
+int open(const char *path, int flags, ...)
+{
+    va_list words;
+    mode_t mode;
+    va_start(words, flags);
+    mode = flags & O_CREAT ? va_arg(words, mode_t) : 0;
+    va_end(words);
+    return fails("disk") ? failed(EMFILE) : syscall(SYS_openat, AT_FDCWD, path, flags, mode);
+}
+
+int open64(const char *path, int flags, ...)
+{
+    va_list words;
+    mode_t mode;
+    va_start(words, flags);
+    mode = flags & O_CREAT ? va_arg(words, mode_t) : 0;
+    va_end(words);
+    return open(path, flags, mode);
+}

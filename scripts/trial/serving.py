@@ -1,0 +1,87 @@
+"""The program while it serves, and what peers send to it and get from it."""
+import contextlib
+import socket
+import subprocess
+import time
+
+from trial.running import Failure, expect, peak_memory
+
+GIVEN = b"HTTP/1.1 200 OK\r\nContent-Type: text/plain\r\nConnection: close\r\n\r\n"
+LONGEST = 75
+
+
+def free_port():
+    with socket.socket() as probe:
+        probe.bind(("127.0.0.1", 0))
+        return probe.getsockname()[1]
+
+
+class Listening:
+    """A port that is taken."""
+
+    def __enter__(self):
+        self.taken = socket.create_server(("127.0.0.1", 0))
+        return self.taken.getsockname()[1]
+
+    def __exit__(self, *_):
+        self.taken.close()
+
+
+class Server:
+    """The program while it serves so many connections; ended by force where a case ends before it."""
+
+    def __init__(self, program, folder, count):
+        self.port = free_port()
+        self.memory, self.slowest, self.count = 0, 0.0, count
+        self.process = subprocess.Popen([program, "serve", "s.toml", "--port", str(self.port), "--count", str(count)], cwd=folder,
+                                        stdin=subprocess.DEVNULL, stdout=subprocess.PIPE, stderr=subprocess.PIPE)
+        first = self.process.stdout.readline()
+        if first != b"listening on 127.0.0.1:%d\n" % self.port:
+            self.__exit__()
+            raise Failure(f"the first line of serve: {first!r}")
+
+    def __enter__(self):
+        return self
+
+    def __exit__(self, *_):
+        if self.process.poll() is None:
+            self.process.kill()
+        self.process.communicate()
+
+    def ask(self, text, cuts=()):
+        """What a peer is answered that sends this, cut at these places, and then no more."""
+        start = time.monotonic()
+        with contextlib.closing(socket.create_connection(("127.0.0.1", self.port), LONGEST)) as peer:
+            peer.setsockopt(socket.IPPROTO_TCP, socket.TCP_NODELAY, 1)
+            places = [0, *sorted(cuts), len(text)]
+            for begin, end in zip(places, places[1:]):
+                peer.sendall(text[begin:end])
+                if end < len(text):
+                    time.sleep(0.0005)
+            peer.shutdown(socket.SHUT_WR)
+            reply = read_all(peer)
+        self.slowest = max(self.slowest, time.monotonic() - start)
+        return reply
+
+    def page(self, path, cuts=()):
+        """The body of a page, whose status has to be 200."""
+        reply = self.ask(b"GET %s HTTP/1.1\r\nHost: localhost\r\n\r\n" % path, cuts)
+        expect(reply[:len(GIVEN)], GIVEN, f"the head of {path!r}")
+        return reply[len(GIVEN):]
+
+    def expect_end(self, failed=0):
+        """That it ends by itself, once it has served all."""
+        printed, said = self.process.communicate(timeout=LONGEST)
+        wanted = b"served %d, failed %d\n" % (self.count - failed, failed)
+        expect((self.process.returncode, printed, said), (0, wanted, b""), "how serve ended")
+
+    def look(self):
+        """Notes the most memory that it held so far."""
+        self.memory = max(self.memory, peak_memory(self.process.pid) or 0)
+
+
+def read_all(peer):
+    parts = []
+    while part := peer.recv(65_536):
+        parts.append(part)
+    return b"".join(parts)

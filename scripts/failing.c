@@ -1,5 +1,6 @@
 /* Loaded before the C library by scripts/sweeps: it counts the calls of one kind that the program makes, and fails one of them, or
-   all from one on, or ends the process in place of one. FAILING is KIND:HOW:NUMBER, and FAILING_COUNT a file for the count. */
+   all from one on, or ends the process in place of one, or lets each read give one byte. FAILING is KIND:HOW:NUMBER, and
+   FAILING_COUNT a file for the count. Calls of the kind `room` fail as on a disk that is full. */
 #define _GNU_SOURCE
 #include <errno.h>
 #include <fcntl.h>
@@ -73,16 +74,27 @@ void *realloc(void *block, size_t size) { return fails("memory") ? refused() : _
 
 ssize_t read(int file, void *bytes, size_t size)
 {
-    return fails("input") ? failed(EIO) : syscall(SYS_read, file, bytes, size);
+    if (strcmp(how, "drip") == 0 && size > 1)
+        size = 1;
+    else if (fails("input"))
+        return failed(EIO);
+    return syscall(SYS_read, file, bytes, size);
 }
 
 ssize_t write(int file, const void *bytes, size_t size)
 {
     const char *called = file == 1 ? "output" : file == 2 ? "none" : "disk";
+    if (file > 2 && fails("room"))
+        return failed(ENOSPC);
     return fails(called) ? failed(file == 1 ? ENOSPC : EIO) : syscall(SYS_write, file, bytes, size);
 }
 
 ssize_t __write(int file, const void *bytes, size_t size) { return write(file, bytes, size); }
+
+int socket(int domain, int type, int protocol)
+{
+    return fails("socket") ? failed(EMFILE) : syscall(SYS_socket, domain, type, protocol);
+}
 
 ssize_t recv(int file, void *bytes, size_t size, int flags)
 {
@@ -103,6 +115,8 @@ ssize_t pread64(int file, void *bytes, size_t size, off_t place) { return pread(
 
 ssize_t pwrite(int file, const void *bytes, size_t size, off_t place)
 {
+    if (fails("room"))
+        return failed(ENOSPC);
     return fails("disk") ? failed(EIO) : syscall(SYS_pwrite64, file, bytes, size, place);
 }
 

@@ -41,8 +41,10 @@ class Script:
         words.add_argument("program", nargs="?", default=os.path.join(TOP, "irrdesk"))
         words.add_argument("--long", action="store_true", help="the long form, whose figures stand in docs/ATTACK.md")
         words.add_argument("--seed", type=int, default=1)
+        words.add_argument("--only", default="", help="those cases alone whose names begin so")
+        words.add_argument("--count", type=int, help="how many inputs of chance a case of scripts/fuzz takes")
         read = words.parse_args()
-        self.long, self.seed, self.failed = read.long, read.seed, 0
+        self.long, self.seed, self.only, self.count, self.failed = read.long, read.seed, read.only, read.count, 0
         self.program = built(os.path.abspath(read.program))
         self.folder = tempfile.TemporaryDirectory(prefix="irrdesk-")
         self.work = self.folder.name
@@ -63,6 +65,8 @@ class Script:
 
     def case(self, name, function, *given):
         """Runs a case, which gives words for its line, and prints that line."""
+        if not name.startswith(self.only):
+            return
         start = time.monotonic()
         try:
             told = function(*given)

@@ -1,5 +1,6 @@
 pub mod Alike
 pub mod Dumped
+pub mod Exact
 pub mod Expanded
 pub mod Lists
 pub mod Routes

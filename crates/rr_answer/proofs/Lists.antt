@@ -1,17 +1,12 @@
 -- Lists of objects that are lent.
 use Rattle.std.proofs.Common.{◌≡◌, ℕ, Bool, true, false, cond, Bor, List, [], ◌∷◌, ◌++◌, refl, sym, ap, ◌∙◌}
-use Rattle.std.specs.Prelude.{Option, None, Some, ◌&&◌, filter, map}
+use Rattle.std.specs.Prelude.{Option, None, Some, filter, map}
 use Rattle.std.specs.List.{cons_option, flat_map, join_with_byte}
-use Rattle.std.specs.FinMap.{values}
 use Rattle.std.proofs.lemmas.List.{append-nil, map-append}
 use Rattle.std.proofs.lemmas.List.Folds.{flat_map-map}
-use Rattle.rr_number.specs.Spans.{Ends}
 use Rattle.rr_object.specs.Objects.{Obj}
-use Rattle.rr_auth.specs.Registries.{Reg}
-use Rattle.rr_book.specs.Listings.{covering, covers_span, lies_in}
 use Rattle.rr_sets.specs.Lists.{lent}
 use Rattle.rr_answer.specs.Dumps.{dumped}
-use Rattle.rr_answer.specs.Selections.{is_at}
 use Rattle.rr_answer.specs.Texts.{public_text}
 
 -- what is kept of a list is lent of it
@@ -23,18 +18,6 @@ filtered test (object ∷ objects) =
       | true ↦ ap (λ os. object.now ∷ os) (filtered test objects)
       | false ↦ filtered test objects
     ]
-
-twice : (p q : Obj → Bool) (os : List Obj) → filter q (filter p os) ≡ filter (λ o. p o && q o) os
-twice p q [] = refl
-twice p q (o ∷ os) =
-    elim (p o) as (λ b. filter q (cond b (o ∷ filter p os) (filter p os)) ≡ cond (b && q o) (o ∷ filter (λ x. p x && q x) os) (filter (λ x. p x && q x) os)) [
-      | true ↦ ap (λ xs. cond (q o) (o ∷ xs) xs) (twice p q os)
-      | false ↦ twice p q os
-    ]
-
--- what covers a span and lies in it is at it
-pub covering_inside : (r : Reg) (s : Ends) → filter (lies_in s) (covering r s) ≡ filter (is_at s) (values r)
-covering_inside r s = twice (covers_span s) (lies_in s) (values r)
 
 -- one object, or none, before others
 pub lent_behind : (o : Option Obj) (found routes : List (Bor Obj)) → lent found ≡ cons_option o [] → lent (found ++ routes) ≡ cons_option o (lent routes)

@@ -16,7 +16,7 @@ use Rattle.rr_graph.proofs.Lists.{filter_map_more-None, filter_map_more-Some}
 use Rattle.rr_sets.specs.Lists.{lent}
 use Rattle.rr_answer.specs.Selections.{is_route_of}
 
-same_parts : (p q : PrefixParts) → same_prefix p q ≡ true → p ≡ q
+pub same_parts : (p q : PrefixParts) → same_prefix p q ≡ true → p ≡ q
 same_parts p q e =
     let parts = and_parts (p.address == q.address) (p.length == q.length) e in
     λ i. record { address = eqb-true p.address q.address parts.0 i; length = eqb-true p.length q.length parts.1 i }
@@ -25,7 +25,7 @@ route_key : (p q : PrefixParts) (m n : ℕ) (b : Bool) → same_prefix q p ≡ b
 route_key p q m n true same e = let number : m ≡ n = cc in λ i. Route (same_parts q p same i) (number i)
 route_key p q m n false same e = cc
 
-origin_key : (p : PrefixParts) (k : Key) (n : ℕ) → origin_at p k ≡ Some n → k ≡ Route p n
+pub origin_key : (p : PrefixParts) (k : Key) (n : ℕ) → origin_at p k ≡ Some n → k ≡ Route p n
 origin_key p (Route q m) n e = route_key p q m n (same_prefix q p) refl e
 origin_key p (Mntner x) n e = cc
 origin_key p (AsBlock x) n e = cc

@@ -15,7 +15,8 @@ use Rattle.rr_book.specs.Listings.{covers_span, lies_in}
 use Rattle.rr_answer.specs.declared.query.Query.{Query}
 use Rattle.rr_answer.specs.declared.query.Query.TheVariants.{Object, Exact, Closest, Less, More, Naming, Originated, Expand, Prefixes}
 use Rattle.rr_answer.specs.Dumps.{dump, dumped, end_line}
-use Rattle.rr_answer.specs.Selections.{asked, is_at, is_originated, is_route_of, names, routes_closest}
+use Rattle.rr_sets.specs.Lists.{is_originated}
+use Rattle.rr_answer.specs.Selections.{asked, is_at, is_route_of, names, routes_closest}
 use Rattle.rr_answer.specs.Texts.{no_entries, objects_text, or_else, public_text}
 use Rattle.rr_answer.proofs.Alike.{Alike, same_values}
 use Rattle.rr_answer.proofs.Seen.{seen}

@@ -1,17 +1,16 @@
 -- Which objects of a registry a query asks for.
-use Rattle.std.specs.Prelude.{ℕ, Bool, false, ◌==◌, ◌&&◌, List, [], filter, Option, None, Some, is_some}
+use Rattle.std.specs.Prelude.{Bool, ◌&&◌, ℕ, List, [], filter, is_some}
 use Rattle.std.specs.List.{cons_option, list_any}
 use Rattle.std.specs.Option.{option_map_or}
 use Rattle.std.specs.FinMap.{get, values}
 use Rattle.std.specs.Str.{bytes_eq}
 use Rattle.rr_number.specs.Prefixes.{PrefixParts, span_of}
 use Rattle.rr_number.specs.Spans.{Ends}
-use Rattle.rr_object.specs.declared.key.Key.{Key}
-use Rattle.rr_object.specs.declared.key.Key.TheVariants as key
 use Rattle.rr_object.specs.Objects.{Obj, names_of}
 use Rattle.rr_auth.specs.Closest.{closest_inetnum, closest_routes, origin_at}
 use Rattle.rr_auth.specs.Registries.{Reg}
 use Rattle.rr_book.specs.Listings.{covering, covers_span, inside, lies_in}
+use Rattle.rr_sets.specs.Lists.{is_originated}
 use Rattle.rr_answer.specs.declared.query.Query.{Query}
 use Rattle.rr_answer.specs.declared.query.Query.TheVariants.{Object, Exact, Closest, Less, More, Naming, Originated, Expand, Prefixes}
 
@@ -26,15 +25,6 @@ is_route_of p o = is_some (origin_at p o.key)
 -- The object names the maintainer in an interpreted attribute (profile).
 abbrev pub names : List ℕ → Obj → Bool
 names name o = list_any (λ n. bytes_eq n name) (names_of o)
-
--- The origin of a route's key (RFC 2622, 4).
-abbrev pub origin_of : Key → Option ℕ
-origin_of (key.Route p n) = Some n
-origin_of _ = None
-
--- The object is a route of this origin (RFC 2622, 4).
-abbrev pub is_originated : ℕ → Obj → Bool
-is_originated n o = option_map_or (λ origin. origin == n) (origin_of o.key) false
 
 -- The routes of the closest prefix to this one (RFC 2725, 9).
 abbrev pub routes_closest : Reg → PrefixParts → List Obj

@@ -4,7 +4,7 @@ ghost use Rattle.std.specs.Prelude.{◌≡◌, [], IfOk, filter};
 ghost use Rattle.std.specs.FinMap.{get, values};
 ghost use Rattle.std.specs.List.{cons_option, filter_map};
 ghost use Rattle.std.specs.Option.{option_copied};
-ghost use Rattle.rr_book.specs.Listings.{lies_in};
+ghost use Rattle.rr_number.specs.Prefixes.{span_of};
 ghost use Rattle.rr_object.specs.declared.key.Key.TheVariants as key;
 ghost use Rattle.rr_sets.specs.Lists.{lent};
 ghost use Rattle.rr_answer.specs.declared.query.Query.TheVariants as query;
@@ -13,7 +13,7 @@ ghost use Rattle.rr_answer.specs.Selections as select;
 use crate::query::Query;
 use rr_auth::Book;
 use rr_book::Keeper;
-use rr_number::{AsNumber, Name, Prefix, Span};
+use rr_number::{AsNumber, Name, Prefix};
 use rr_object::{Key, Object};
 use rr_registry::Registry;
 use std::alloc::{AllocError, Global};
@@ -28,12 +28,12 @@ pub(crate) fn asked<'a, B: Keeper>(
 {
     match query {
         Query::Object(key) => listed(alloc, registry.book().get(key)),
-        Query::Exact(prefix) => exact(alloc, registry, prefix.span()),
+        Query::Exact(prefix) => exact(alloc, registry.book(), *prefix),
         Query::Closest(prefix) => closest(alloc, registry.book(), *prefix),
         Query::Less(prefix) => registry.covering(alloc, prefix.span()),
         Query::More(prefix) => registry.inside(alloc, prefix.span()),
         Query::Naming(name) => naming(alloc, registry, name),
-        Query::Originated(number) => originated(alloc, registry, *number),
+        Query::Originated(number) => registry.book().routes_of(alloc, *number),
         Query::Expand(_) | Query::Prefixes(_) => Ok(Vec::new(alloc)),
     }
 }
@@ -49,41 +49,37 @@ fn listed(alloc: Global, object: Option<&Object>) -> Result<Vec<&Object>, AllocE
     Ok(found)
 }
 
-/// The inetnums and routes of exactly the span: of those that cover it, the ones inside it.
-fn exact<B: Keeper>(
-    alloc: Global,
-    registry: &Registry<B>,
-    span: Span,
-) -> Result<Vec<&Object>, AllocError>
-    ensures { IfOk result (λ found. lent found.items ≡ filter (select.is_at span) (values registry.now)) }
+/// The inetnum and the routes of exactly the prefix, each looked up by its key.
+#[tactic(auto, using(crate::proofs::Exact::inetnum_before_routes))]
+fn exact<B: Book>(alloc: Global, book: &B, prefix: Prefix) -> Result<Vec<&Object>, AllocError>
+    ensures { IfOk result (λ found. lent found.items ≡ select.asked (query.Exact prefix) (B.contents book.now)) }
 {
-    let objects = registry.covering(alloc, span)?;
-    those_inside(alloc, &objects, span)
+    book.sound();
+    prefix.length();
+    let routes = routes_of(alloc, book, prefix)?;
+    before(alloc, inetnum_of(book, prefix), &routes)
 }
 
-/// Those of the objects that lie inside the span.
-fn those_inside<'a>(
+/// The inetnum of the prefix's span.
+fn inetnum_of<B: Book>(book: &B, prefix: Prefix) -> Option<&Object>
+    ensures { option_copied result ≡ get (B.contents book.now) (key.Inetnum (span_of prefix)) }
+{
+    let key = Key::Inetnum(prefix.span());
+    book.get(&key)
+}
+
+/// The inetnum, if there is one, before the routes.
+#[tactic(auto, using(crate::proofs::Lists::lent_behind))]
+fn before<'a>(
     alloc: Global,
-    objects: &[&'a Object],
-    span: Span,
+    inetnum: Option<&'a Object>,
+    routes: &[&'a Object],
 ) -> Result<Vec<&'a Object>, AllocError>
-    ensures { IfOk result (λ found. found.items ≡ filter (λ object. lies_in span object.now) objects.now) }
+    ensures { IfOk result (λ found. lent found.items ≡ cons_option (option_copied inetnum.entry) (lent routes.now)) }
 {
-    objects
-        .iter()
-        .copied()
-        .filter(|object| lies_in(object, span))
-        .collect(alloc)
-}
-
-fn lies_in(object: &Object, span: Span) -> bool
-    ensures { result ≡ lies_in span object.now }
-{
-    match object.key() {
-        Key::Inetnum(own) => span.covers(*own),
-        Key::Route(prefix, _) => span.covers(prefix.span()),
-        _ => false,
-    }
+    let mut found = listed(alloc, inetnum)?;
+    found.extend_from_slice(routes)?;
+    Ok(found)
 }
 
 /// The objects that name the maintainer.
@@ -119,51 +115,12 @@ fn names(object: &Object, name: &Name) -> bool
     object.maintainers_named().any(|own| own == name)
 }
 
-/// The routes of the origin.
-fn originated<B: Keeper>(
-    alloc: Global,
-    registry: &Registry<B>,
-    number: AsNumber,
-) -> Result<Vec<&Object>, AllocError>
-    ensures { IfOk result (λ found. lent found.items ≡ filter (select.is_originated number) (values registry.now)) }
-{
-    let objects = registry.objects(alloc)?;
-    those_originated(alloc, &objects, number)
-}
-
-/// Those of the objects that are routes of the origin.
-fn those_originated<'a>(
-    alloc: Global,
-    objects: &[&'a Object],
-    number: AsNumber,
-) -> Result<Vec<&'a Object>, AllocError>
-    ensures { IfOk result (λ found. found.items ≡ filter (λ object. select.is_originated number object.now) objects.now) }
-{
-    objects
-        .iter()
-        .copied()
-        .filter(|object| is_originated(object, number))
-        .collect(alloc)
-}
-
-fn is_originated(object: &Object, number: AsNumber) -> bool
-    ensures { result ≡ select.is_originated number object.now }
-{
-    match object.key() {
-        Key::Route(_, origin) => *origin == number,
-        _ => false,
-    }
-}
-
 /// The closest inetnum to the prefix, and the closest routes.
-#[tactic(auto, using(crate::proofs::Lists::lent_behind))]
 fn closest<B: Book>(alloc: Global, book: &B, prefix: Prefix) -> Result<Vec<&Object>, AllocError>
     ensures { IfOk result (λ found. lent found.items ≡ select.asked (query.Closest prefix) (B.contents book.now)) }
 {
-    let mut found = listed(alloc, book.closest_inetnum(prefix.span()))?;
     let routes = routes_closest(alloc, book, prefix)?;
-    found.extend_from_slice(&routes)?;
-    Ok(found)
+    before(alloc, book.closest_inetnum(prefix.span()), &routes)
 }
 
 /// The closest routes to the prefix.

@@ -45,27 +45,27 @@ fn writes_whole_texts(rt: HostRuntime) {
 
 #[test]
 fn a_read_fails_behind_the_bytes_that_pass(rt: HostRuntime) {
-    let mut source = Cut::new(Counted::new(&b"abcdef"[..]), 3, 4);
+    let mut reader = Cut::new(Counted::new(&b"abcdef"[..]), 3, 4);
     let mut block = [0u8; 8];
-    assert_eq!(rt; source.read(&mut block).unwrap_or(0), 3);
-    assert_eq!(rt; source.read(&mut block[3..]).unwrap_or(0), 1);
-    assert!(rt; source.read(&mut block).is_err());
+    assert_eq!(rt; reader.read(&mut block).unwrap_or(0), 3);
+    assert_eq!(rt; reader.read(&mut block[3..]).unwrap_or(0), 1);
+    assert!(rt; reader.read(&mut block).is_err());
     assert_eq!(rt; &block[..4], &b"abcd"[..]);
-    assert_eq!(rt; source.failed_reads(), 1);
-    let counted = source.into_inner();
+    assert_eq!(rt; reader.failed_reads(), 1);
+    let counted = reader.into_inner();
     assert_eq!(rt; counted.failed_reads(), 0);
     assert_eq!(rt; counted.reads(), 2);
 }
 
 #[test]
 fn an_interrupted_read_is_a_fault(rt: HostRuntime) {
-    let mut source = Counted::new(Interrupted { calls: 0 });
+    let mut reader = Counted::new(Interrupted { calls: 0 });
     let mut block = [0u8; 8];
-    assert_eq!(rt; source.read(&mut block).unwrap_or(0), 2);
+    assert_eq!(rt; reader.read(&mut block).unwrap_or(0), 2);
     assert_eq!(rt; &block[..2], &b"ab"[..]);
-    assert!(rt; source.read(&mut block).is_err());
-    assert_eq!(rt; source.failed_reads(), 1);
-    assert_eq!(rt; source.reads(), 1);
+    assert!(rt; reader.read(&mut block).is_err());
+    assert_eq!(rt; reader.failed_reads(), 1);
+    assert_eq!(rt; reader.reads(), 1);
 }
 
 #[test]

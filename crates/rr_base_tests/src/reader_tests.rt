@@ -76,8 +76,8 @@ fn size_is_the_same_at_each_place_of_a_block(rt: HostRuntime) -> Result<(), Fail
             let text = framed(alloc, before, more)?;
             assert_eq!(rt; text.len(), before + 65_536 + more + 6);
             for step in [1, READ_SIZE] {
-                let source = Cut::new(Counted::new(text.as_slice()), step, usize::MAX);
-                let mut reader = ParagraphReader::new(alloc, source)?;
+                let pieces = Cut::new(Counted::new(text.as_slice()), step, usize::MAX);
+                let mut reader = ParagraphReader::new(alloc, pieces)?;
                 assert_eq!(rt; reader.next(alloc).err(), fault, "behind {before} bytes");
                 let paragraph = reader.next(alloc)?.ok_or("no paragraph")?;
                 let printed = print(alloc, &paragraph)?;
@@ -94,16 +94,16 @@ fn a_failed_read_ends_the_paragraphs_for_good(rt: HostRuntime) -> Result<(), Fai
     let alloc = rt.alloc();
     let text = b"a: 1\n\nb: 2\n \nc: 3\n";
     for (left, count) in [(5, 0), (6, 1), (11, 1), (12, 1), (13, 2), (18, 2)] {
-        let mut source = Cut::new(Counted::new(text.as_slice()), READ_SIZE, left);
+        let mut reader = Cut::new(Counted::new(text.as_slice()), READ_SIZE, left);
         let mut paragraphs = Paragraphs::new(alloc)?;
         for _ in 0..count {
-            assert!(rt; paragraphs.next(alloc, &mut source)?.is_some());
+            assert!(rt; paragraphs.next(alloc, &mut reader)?.is_some());
         }
         for _ in 0..2 {
-            let fault = paragraphs.next(alloc, &mut source).err();
+            let fault = paragraphs.next(alloc, &mut reader).err();
             assert_eq!(rt; fault, Some(TextFault::Read), "after {left} bytes");
         }
-        assert_eq!(rt; source.failed_reads(), 1);
+        assert_eq!(rt; reader.failed_reads(), 1);
     }
     Ok(())
 }
@@ -111,12 +111,12 @@ fn a_failed_read_ends_the_paragraphs_for_good(rt: HostRuntime) -> Result<(), Fai
 #[test]
 fn a_text_without_an_end_is_given_up(rt: HostRuntime) -> Result<(), Fail> {
     let alloc = rt.alloc();
-    let mut source = Counted::new(Unending);
+    let mut reader = Counted::new(Unending);
     let mut paragraphs = Paragraphs::new(alloc)?;
     for _ in 0..2 {
-        let fault = paragraphs.next(alloc, &mut source).err();
+        let fault = paragraphs.next(alloc, &mut reader).err();
         assert_eq!(rt; fault, Some(TextFault::Endless));
-        assert_eq!(rt; source.reads(), 16_777_216);
+        assert_eq!(rt; reader.reads(), 16_777_216);
     }
     Ok(())
 }

@@ -38,7 +38,7 @@ lent_push [] o os = refl
 lent_push (x ∷ found) o os = ap (λ ys. x.now ∷ ys) (lent_push found o os)
 
 -- a key has led to an object, which was put behind those found
-pub found_more : (f : Key → Option Obj) (all : List Key) (found more : List (Bor Obj)) (o : Bor Obj) (k : Key) (left rest : List Key)
+pub found_more : {K : Type 0} (f : K → Option Obj) (all : List K) (found more : List (Bor Obj)) (o : Bor Obj) (k : K) (left rest : List K)
     → lent found ++ filter_map f left ≡ filter_map f all → left ≡ k ∷ rest → f k ≡ Some o.now → more ≡ found ++ o ∷ []
     → lent more ++ filter_map f rest ≡ filter_map f all
 found_more f all found more o k left rest before step led put =
@@ -49,7 +49,7 @@ found_more f all found more o k left rest before step led put =
     ∙ before
 
 -- a key has led to none
-pub found_no_more : (f : Key → Option Obj) (all : List Key) (found : List (Bor Obj)) (k : Key) (left rest : List Key)
+pub found_no_more : {K : Type 0} (f : K → Option Obj) (all : List K) (found : List (Bor Obj)) (k : K) (left rest : List K)
     → lent found ++ filter_map f left ≡ filter_map f all → left ≡ k ∷ rest → f k ≡ None
     → lent found ++ filter_map f rest ≡ filter_map f all
 found_no_more f all found k left rest before step led =

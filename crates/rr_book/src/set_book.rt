@@ -1,14 +1,14 @@
-//! The lists that expansions of sets ask for: of a class by one pass over the objects, of referrers by the keys under
-//! the set.
+//! The lists that expansions of sets ask for: of a class or an origin by one pass over the objects, of referrers by the
+//! keys under the set.
 
 ghost use Rattle.std.specs.Prelude.{◌≡◌, IfOk, filter};
 ghost use Rattle.rr_book.specs.SetLists.{is_of_class};
-ghost use Rattle.rr_sets.specs.Lists.{lent};
+ghost use Rattle.rr_sets.specs.Lists.{is_originated, lent};
 
 use crate::plain_book::PlainBook;
 use rr_auth::Book;
-use rr_number::SetName;
-use rr_object::{Class, Object};
+use rr_number::{AsNumber, SetName};
+use rr_object::{Class, Key, Object};
 use rr_sets::SetBook;
 use std::alloc::{AllocError, Global};
 
@@ -21,6 +21,10 @@ impl SetBook for PlainBook {
     fn routes(&self, alloc: Global) -> Result<Vec<&Object>, AllocError> {
         self.sound();
         objects_of_class(alloc, self.as_slice(), Class::Route)
+    }
+
+    fn routes_of(&self, alloc: Global, origin: AsNumber) -> Result<Vec<&Object>, AllocError> {
+        objects_originated(alloc, self.as_slice(), origin)
     }
 
     fn referrers(&self, alloc: Global, name: &SetName) -> Result<Vec<&Object>, AllocError> {
@@ -48,4 +52,28 @@ pub fn is_of_class(object: &Object, class: Class) -> bool
     ensures { result ≡ is_of_class class object.now }
 {
     object.key().class() == class
+}
+
+/// The routes of the origin.
+fn objects_originated(
+    alloc: Global,
+    objects: &[Object],
+    origin: AsNumber,
+) -> Result<Vec<&Object>, AllocError>
+    ensures { IfOk result (λ found. lent found.items ≡ filter (is_originated origin) objects.now) }
+{
+    objects
+        .iter()
+        .filter(|object| is_originated(object, origin))
+        .collect(alloc)
+}
+
+/// Whether the object is a route of the origin.
+fn is_originated(object: &Object, origin: AsNumber) -> bool
+    ensures { result ≡ is_originated origin object.now }
+{
+    match object.key() {
+        Key::Route(_, own) => *own == origin,
+        _ => false,
+    }
 }

@@ -13,15 +13,19 @@ use Rattle.rr_desk.specs.Loaded.{FailsToLoad, IsLoaded}
 use Rattle.rr_desk.specs.Rows.{Holds}
 use Rattle.rr_cli.specs.Printed.{Tells}
 use Rattle.rr_cli.specs.declared.trouble.Trouble.{Trouble}
-use Rattle.rr_cli.specs.declared.trouble.Trouble.TheVariants.{Loading, Memory}
+use Rattle.rr_cli.specs.declared.trouble.Trouble.TheVariants.{Loading}
 
 -- the line that says how many objects were loaded (profile)
 abbrev pub loaded_line : ℕ → List ℕ
 loaded_line count = codes "loaded " ++ (decimal count ++ codes " objects\n")
 
--- the line was written; or nothing was, since memory was wanting to count the objects (profile)
+-- the line without their number, for want of memory to count them (profile)
+abbrev pub uncounted_line : List ℕ
+uncounted_line = codes "loaded the dump\n"
+
+-- either line was written (profile)
 abbrev pub TellsLoaded : ℕ → Told → Told → Result ℕ Trouble → Type 0
-TellsLoaded count old new result = Tells (loaded_line count) old new result ⊎ ((result ≡ Err Memory) × (new ≡ old))
+TellsLoaded count old new result = Tells (loaded_line count) old new result ⊎ Tells uncounted_line old new result
 
 -- no registry was made of what was read, and nothing was printed: why not, and that the rows are as they were (profile)
 pub record IsUnloaded (source : List ℕ) (start now : Told) (before after : State) (unprinted printed : Told) (result : Result ℕ Trouble) : Type 0 where

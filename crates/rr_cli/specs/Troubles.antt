@@ -11,6 +11,7 @@ use Rattle.rr_desk.specs.declared.dumping.DumpFault.TheVariants as dumping
 use Rattle.rr_desk.specs.declared.loading.DeskLoadFault.{DeskLoadFault}
 use Rattle.rr_desk.specs.declared.loading.DeskLoadFault.TheVariants as loading
 use Rattle.rr_cli.specs.Causes.{cause_text, database_text}
+use Rattle.rr_cli.specs.declared.cause.DatabaseCause.TheVariants as database
 use Rattle.rr_cli.specs.declared.settings_file.SettingKey.TheVariants as key
 use Rattle.rr_cli.specs.declared.trouble.Trouble.{Trouble}
 use Rattle.rr_cli.specs.declared.trouble.Trouble.TheVariants.{BadWords, BadPort, BadCount, WordsNotText, SettingsUnread, SettingsNotText, SettingsTooLong, SettingsNotToml, SettingBad, Database, Creating, Opening, FileUnopened, Submission, Dumping, Loading, Migrating, ListenerUnopened, ProbeFailed, Unwritten, Memory}
@@ -27,7 +28,13 @@ trouble_status SettingsNotText = 3
 trouble_status SettingsTooLong = 3
 trouble_status (SettingsNotToml line) = 3
 trouble_status (SettingBad key) = 3
-trouble_status (Database cause) = 4
+trouble_status (Database database.Missing) = 4
+trouble_status (Database database.Unopened) = 4
+trouble_status (Database database.Busy) = 4
+trouble_status (Database database.Damaged) = 4
+trouble_status (Database database.Full) = 4
+trouble_status (Database database.Memory) = 5
+trouble_status (Database database.Other) = 4
 trouble_status (Creating creating.NotEmpty) = 4
 trouble_status (Creating creating.Store) = 4
 trouble_status (Creating creating.Memory) = 5

@@ -82,6 +82,7 @@ impl Trouble {
             | Trouble::SettingsTooLong
             | Trouble::SettingsNotToml(_)
             | Trouble::SettingBad(_) => WRONG_SETTINGS,
+            Trouble::Database(DatabaseCause::Memory) => FAILED,
             Trouble::Database(_) => STORE_FAILED,
             Trouble::Creating(fault) => creating_status(fault),
             Trouble::Opening(fault) => opening_status(fault),

@@ -72,7 +72,7 @@ put_behind r (o ∷ os) b = put_behind (insert r o.key o) os b
 
 -- a mntner of the list stands in its registry
 mntner_key : (root : List ℕ) (k : Key) → is_mntner_of root k ≡ true → k ≡ Mntner root
-mntner_key root (Mntner n) is = ap Mntner (sym ((bytes_eq-Decides root n).0 is))
+mntner_key root (Mntner n) is = ap Mntner ((bytes_eq-Decides n root).0 is)
 mntner_key root (AsBlock s) is = absurd (true≢false (sym is))
 mntner_key root (AutNum n) is = absurd (true≢false (sym is))
 mntner_key root (Inetnum s) is = absurd (true≢false (sym is))

@@ -37,11 +37,11 @@ some_first [] is = cc
 some_first (b ∷ bs) is = omega arith
 
 -- a name is a plain text that is not empty
-pub record IsPlain (text : List ℕ) : Type 0 where
+pub record IsPlainLine (text : List ℕ) : Type 0 where
   pub all : list_all is_plain text ≡ true
   pub some : 0 < length text
 
-pub plain_name : (name : List ℕ) → is_name name ≡ true → IsPlain name
+pub plain_name : (name : List ℕ) → is_name name ≡ true → IsPlainLine name
 unfolding is_name
 plain_name name is =
     let long = both_true (nat_le (length name) 80) (list_all is_name_byte name && (begins_with_letter name && ends_with_alphanumeric name)) is in
@@ -57,7 +57,7 @@ filled : (text : List ℕ) → 0 < length text → is_filled text ≡ true
 filled [] some = absurd (omega arith)
 filled (b ∷ bs) some = grind (arith, nat_tests)
 
-pub one_item : (text : List ℕ) → IsPlain text → items ((text ++ 44 ∷ []) ++ []) ≡ text ∷ []
+pub one_item : (text : List ℕ) → IsPlainLine text → items ((text ++ 44 ∷ []) ++ []) ≡ text ∷ []
 unfolding items
 one_item text plain =
     rw (append-nil (text ++ 44 ∷ []), split_behind is_plain is_blank_or_comma plain_item text 44 [] plain.all refl, filled text plain.some) refl
@@ -103,7 +103,7 @@ some_colon : (salt digits : List ℕ) → 0 < length (salt ++ (58 ∷ digits))
 some_colon [] digits = omega arith
 some_colon (b ∷ bs) digits = omega arith
 
-plain_digits : (auth : AuthParts) → IsDigest auth → IsPlain (salted_digits auth)
+plain_digits : (auth : AuthParts) → IsDigest auth → IsPlainLine (salted_digits auth)
 plain_digits auth is = record {
   all = rw (list_all-append is_plain auth.salt (58 ∷ encode_lower auth.digest), salt_plain auth.salt is.salted, digits_plain auth.digest is.bytes) refl;
   some = some_colon auth.salt (encode_lower auth.digest);

@@ -36,7 +36,7 @@ use Rattle.rr_object.specs.declared.class.Class.TheVariants as class
 use Rattle.rr_object.specs.declared.key.Key.{Key}
 use Rattle.rr_object.specs.declared.key.Key.TheVariants.{Mntner, AsBlock, Inetnum}
 use Rattle.rr_object.specs.declared.kind.Kind.TheVariants.{MntBy, Source, Auth, MntLower, MntRoutes, Members, MbrsByRef, MemberOf}
-use Rattle.rr_desk.specs.Opening.{AreOpening, IsObjectOf, IsReadable, addresses_fields, auth_line, field, four_octets_fields, numbers_fields, owned, root_fields}
+use Rattle.rr_desk.specs.Opening.{AreOpening, IsParagraphOf, HasObject, addresses_fields, auth_line, field, four_octets_fields, numbers_fields, owned, root_fields}
 use Rattle.rr_desk.specs.Settings.{IsSettings, SettingsParts}
 use Rattle.rr_desk.proofs.PlainTexts.{IsShown, shown_line, shown_meaning}
 use Rattle.rr_desk.proofs.OpeningLines.{auth_read, equal_texts, maintainer_read, one_item, plain_name, shown_auth, shown_name}
@@ -258,23 +258,23 @@ addresses_named s is =
 
 -- what a function answers of a paragraph, it answers of its fields
 pub read_back : {E : Type 0} (source other : List ℕ) (fields given : List Field) (answer : Result Obj E) → fields ≡ given → source ≡ other
-    → IfOk answer (IsObjectOf source fields) → IfOk answer (IsObjectOf other given)
+    → IfOk answer (IsParagraphOf source fields) → IfOk answer (IsParagraphOf other given)
 read_back source other fields given (Ok object) same_fields same_source is = record { read = rw (← same_fields, ← same_source) is.read }
 read_back source other fields given (Err fault) same_fields same_source is = tt
 
-readable_at : (source other : List ℕ) (fields given : List Field) (object : Obj) → fields ≡ given → source ≡ other → object_of given other ≡ Ok object → IsReadable source fields
+readable_at : (source other : List ℕ) (fields given : List Field) (object : Obj) → fields ≡ given → source ≡ other → object_of given other ≡ Ok object → HasObject source fields
 readable_at source other fields given object same_fields same_source is = record { object = object; read = rw (same_fields, same_source) is }
 
-pub root_readable : (s : SettingsParts) (source : List ℕ) (fields : List Field) → IsSettings s → fields ≡ root_fields s → source ≡ s.source → IsReadable source fields
+pub root_readable : (s : SettingsParts) (source : List ℕ) (fields : List Field) → IsSettings s → fields ≡ root_fields s → source ≡ s.source → HasObject source fields
 root_readable s source fields is same own = readable_at source s.source fields (root_fields s) (root_object s) same own (root_read s is)
 
-pub numbers_readable : (s : SettingsParts) (source : List ℕ) (fields : List Field) → IsSettings s → fields ≡ numbers_fields s → source ≡ s.source → IsReadable source fields
+pub numbers_readable : (s : SettingsParts) (source : List ℕ) (fields : List Field) → IsSettings s → fields ≡ numbers_fields s → source ≡ s.source → HasObject source fields
 numbers_readable s source fields is same own = readable_at source s.source fields (numbers_fields s) _ same own (numbers_read s is)
 
-pub four_octets_readable : (s : SettingsParts) (source : List ℕ) (fields : List Field) → IsSettings s → fields ≡ four_octets_fields s → source ≡ s.source → IsReadable source fields
+pub four_octets_readable : (s : SettingsParts) (source : List ℕ) (fields : List Field) → IsSettings s → fields ≡ four_octets_fields s → source ≡ s.source → HasObject source fields
 four_octets_readable s source fields is same own = readable_at source s.source fields (four_octets_fields s) _ same own (four_octets_read s is)
 
-pub addresses_readable : (s : SettingsParts) (source : List ℕ) (fields : List Field) → IsSettings s → fields ≡ addresses_fields s → source ≡ s.source → IsReadable source fields
+pub addresses_readable : (s : SettingsParts) (source : List ℕ) (fields : List Field) → IsSettings s → fields ≡ addresses_fields s → source ≡ s.source → HasObject source fields
 addresses_readable s source fields is same own = readable_at source s.source fields (addresses_fields s) _ same own (addresses_read s is)
 
 -- an attribute of one line is one where its name is good
@@ -319,8 +319,8 @@ root_good s is = (
 
 -- four objects read so are the opening objects
 pub four_open : (s : SettingsParts) (a b c d : Obj) (objects : List Obj) → objects ≡ a ∷ (b ∷ (c ∷ (d ∷ [])))
-    → IsObjectOf s.source (root_fields s) a → IsObjectOf s.source (numbers_fields s) b
-    → IsObjectOf s.source (four_octets_fields s) c → IsObjectOf s.source (addresses_fields s) d → AreOpening s objects
+    → IsParagraphOf s.source (root_fields s) a → IsParagraphOf s.source (numbers_fields s) b
+    → IsParagraphOf s.source (four_octets_fields s) c → IsParagraphOf s.source (addresses_fields s) d → AreOpening s objects
 four_open s a b c d objects same first second third last =
     record { read = rw (same, first.read, second.read, third.read, last.read) refl }
 

@@ -23,7 +23,7 @@ pub record IsLoaded (source : List ℕ) (start now : Told) (registry : Reg) : Ty
   pub dump : IsDumpOf source text registry
 
 -- a text was read to its end, and is a dump of a registry of the source (profile)
-pub record HasLoaded (source : List ℕ) (start now : Told) : Type 0 where
+pub record HasReadDump (source : List ℕ) (start now : Told) : Type 0 where
   pub registry : Reg
   pub is_loaded : IsLoaded source start now registry
 
@@ -45,7 +45,7 @@ pub record IsUntaken (source : List ℕ) (start now : Told) (fault : LoadFault) 
 -- then what is the matter with the list of objects; only of a dump of a registry is it told that the tables have a row, or that the
 -- store failed (profile)
 abbrev pub FailsToLoad : List ℕ → Told → Told → DeskLoadFault → Type 0
-FailsToLoad source start now NotEmpty = HasLoaded source start now
+FailsToLoad source start now NotEmpty = HasReadDump source start now
 FailsToLoad source start now Read = FailsToRead source start now dump.Read
 FailsToLoad source start now Endless = FailsToRead source start now dump.Endless
 FailsToLoad source start now (Text n) = FailsToRead source start now (dump.Text n)
@@ -53,5 +53,5 @@ FailsToLoad source start now (Object n code) = FailsToRead source start now (dum
 FailsToLoad source start now (Duplicate n) = IsUntaken source start now (list.Duplicate n)
 FailsToLoad source start now (Overlap n) = IsUntaken source start now (list.Overlap n)
 FailsToLoad source start now (Unnamed n) = IsUntaken source start now (list.Unnamed n)
-FailsToLoad source start now Store = HasLoaded source start now
+FailsToLoad source start now Store = HasReadDump source start now
 FailsToLoad source start now Memory = FailsToRead source start now dump.Memory

@@ -7,6 +7,7 @@ use Rattle.rr_object.specs.Parts.{AuthParts}
 use Rattle.rr_object.specs.Readings.{object_of}
 use Rattle.rr_auth.specs.Registries.{Reg}
 use Rattle.rr_registry.specs.Loading.{IsTaken}
+use Rattle.rr_store.specs.Migrating.{upper_block}
 use Rattle.rr_desk.specs.Settings.{SettingsParts}
 
 -- an attribute with a value of one line (RFC 2622, 2)
@@ -30,9 +31,9 @@ root_fields settings =
 abbrev pub numbers_fields : SettingsParts → List Field
 numbers_fields settings = field (codes "as-block") (codes "AS0 - AS65535") ∷ owned settings
 
--- the block of the other AS numbers of four octets (RFC 6793; profile)
+-- the block of the other AS numbers of four octets, which is also the one that migration adds (RFC 6793; profile)
 abbrev pub four_octets_fields : SettingsParts → List Field
-four_octets_fields settings = field (codes "as-block") (codes "AS65536 - AS4294967295") ∷ owned settings
+four_octets_fields settings = upper_block settings.root settings.source
 
 -- the span of all addresses (profile)
 abbrev pub addresses_fields : SettingsParts → List Field
@@ -45,11 +46,11 @@ opening_paragraphs settings =
     root_fields settings ∷ (numbers_fields settings ∷ (four_octets_fields settings ∷ (addresses_fields settings ∷ [])))
 
 -- a paragraph is this object in the registry of a source (profile)
-pub record IsObjectOf (source : List ℕ) (fields : List Field) (object : Obj) : Type 0 where
+pub record IsParagraphOf (source : List ℕ) (fields : List Field) (object : Obj) : Type 0 where
   pub read : object_of fields source ≡ Ok object
 
 -- a paragraph is an object in the registry of a source (profile)
-pub record IsReadable (source : List ℕ) (fields : List Field) : Type 0 where
+pub record HasObject (source : List ℕ) (fields : List Field) : Type 0 where
   pub object : Obj
   pub read : object_of fields source ≡ Ok object
 

@@ -13,19 +13,19 @@ pub data Turn : Type 0 where
   closed : Option (List ℕ) → Option (List ℕ) → Turn
 
 -- a connection that was accepted: no call of it has failed, and nothing was written to it
-pub record IsFresh (source sink : Told) : Type 0 where
-  pub no_failed_read : source.faults ≡ 0
-  pub no_failed_write : sink.faults ≡ 0
-  pub unwritten : (xs : List ℕ) → sink.bytes ≡ Some xs → xs ≡ []
+pub record IsFresh (reader writer : Told) : Type 0 where
+  pub no_failed_read : reader.faults ≡ 0
+  pub no_failed_write : writer.faults ≡ 0
+  pub unwritten : (xs : List ℕ) → writer.bytes ≡ Some xs → xs ≡ []
 
 -- the turns that are told, with one more where any are told
 abbrev pub with_turn : Option (List Turn) → Turn → Option (List Turn)
 with_turn told turn = option_map (λ turns. turns ++ turn ∷ []) told
 
 -- a connection was accepted: it is fresh, and it is a turn once it is closed
-pub record IsAccepted (counted_before counted_after : ℕ) (told_before told_after : Option (List Turn)) (asked : Option (List ℕ)) (source sink : Told) : Type 0 where
-  pub fresh : IsFresh source sink
-  pub is_asked : asked ≡ source.bytes
+pub record IsAccepted (counted_before counted_after : ℕ) (told_before told_after : Option (List Turn)) (asked : Option (List ℕ)) (reader writer : Told) : Type 0 where
+  pub fresh : IsFresh reader writer
+  pub is_asked : asked ≡ reader.bytes
   pub counted : counted_after ≡ counted_before
   pub told : told_after ≡ told_before
 

@@ -2,7 +2,7 @@
 
 ghost use Rattle.std.specs.Prelude.{◌≡◌, [], ◌∷◌, ◌++◌, IfOk};
 ghost use Rattle.rr_text.specs.Fields.{AreFields, IsField};
-ghost use Rattle.rr_desk.specs.Opening.{AreOpening, IsObjectOf, IsOpened, IsReadable, addresses_fields, auth_line, field, four_octets_fields, numbers_fields, owned, root_fields};
+ghost use Rattle.rr_desk.specs.Opening.{AreOpening, IsParagraphOf, IsOpened, HasObject, addresses_fields, auth_line, field, four_octets_fields, numbers_fields, owned, root_fields};
 
 use crate::settings::Settings;
 use rr_index::IndexedBook;
@@ -57,7 +57,7 @@ pub fn opening_registry(
 /// The root maintainer.
 #[tactic(auto, using(crate::proofs::OpeningReads::root_readable, crate::proofs::OpeningReads::read_back))]
 fn root_object(alloc: Global, settings: &Settings) -> Result<Object, AllocError>
-    ensures { IfOk result (IsObjectOf settings.now.source (root_fields settings.now)) }
+    ensures { IfOk result (IsParagraphOf settings.now.source (root_fields settings.now)) }
 {
     settings.are_good();
     let paragraph = root_paragraph(alloc, settings)?;
@@ -67,7 +67,7 @@ fn root_object(alloc: Global, settings: &Settings) -> Result<Object, AllocError>
 /// The block of all AS numbers of two octets.
 #[tactic(auto, using(crate::proofs::OpeningReads::numbers_readable, crate::proofs::OpeningReads::read_back))]
 fn numbers_object(alloc: Global, settings: &Settings) -> Result<Object, AllocError>
-    ensures { IfOk result (IsObjectOf settings.now.source (numbers_fields settings.now)) }
+    ensures { IfOk result (IsParagraphOf settings.now.source (numbers_fields settings.now)) }
 {
     settings.are_good();
     let paragraph = numbers_paragraph(alloc, settings)?;
@@ -77,7 +77,7 @@ fn numbers_object(alloc: Global, settings: &Settings) -> Result<Object, AllocErr
 /// The block of the other AS numbers of four octets (RFC 6793).
 #[tactic(auto, using(crate::proofs::OpeningReads::four_octets_readable, crate::proofs::OpeningReads::read_back))]
 pub(crate) fn four_octets_object(alloc: Global, settings: &Settings) -> Result<Object, AllocError>
-    ensures { IfOk result (IsObjectOf settings.now.source (four_octets_fields settings.now)) }
+    ensures { IfOk result (IsParagraphOf settings.now.source (four_octets_fields settings.now)) }
 {
     settings.are_good();
     let paragraph = four_octets_paragraph(alloc, settings)?;
@@ -87,7 +87,7 @@ pub(crate) fn four_octets_object(alloc: Global, settings: &Settings) -> Result<O
 /// The span of all addresses.
 #[tactic(auto, using(crate::proofs::OpeningReads::addresses_readable, crate::proofs::OpeningReads::read_back))]
 fn addresses_object(alloc: Global, settings: &Settings) -> Result<Object, AllocError>
-    ensures { IfOk result (IsObjectOf settings.now.source (addresses_fields settings.now)) }
+    ensures { IfOk result (IsParagraphOf settings.now.source (addresses_fields settings.now)) }
 {
     settings.are_good();
     let paragraph = addresses_paragraph(alloc, settings)?;
@@ -143,8 +143,8 @@ fn span_paragraph(
 
 /// The object that a paragraph is; the error is want of memory.
 fn read_object(alloc: Global, paragraph: Paragraph, source: &Name) -> Result<Object, AllocError>
-    requires { IsReadable source.now paragraph }
-    ensures { IfOk result (IsObjectOf source.now paragraph) }
+    requires { HasObject source.now paragraph }
+    ensures { IfOk result (IsParagraphOf source.now paragraph) }
 {
     match Object::read(alloc, paragraph, source) {
         Ok(object) => Ok(object),

@@ -1,9 +1,9 @@
 -- Lemmas on the reading of a front, line and head.
-use Rattle.std.proofs.Common.{◌≡◌, ℕ, ◌≤◌, ◌⊎◌, inl, inr, Bool, true, false, List, [], ◌++◌, length, take, drop, map, Option, Some, Result, Ok, Err, arith, ap, sym, ◌∙◌, subst, length-append, length-take, if◌then◌else◌}
-use Rattle.std.specs.Prelude.{IfOk, IsTrue, OnErr}
+use Rattle.std.proofs.Common.{◌≡◌, ℕ, ◌<◌, ◌≤◌, ◌⊎◌, inl, inr, Bool, true, false, List, [], ◌++◌, length, take, drop, map, Option, Some, Result, Ok, Err, arith, refl, ap, sym, ◌∙◌, subst, length-append, length-take, if◌then◌else◌}
+use Rattle.std.specs.Prelude.{IfOk, IsTrue, OnErr, is_some}
 use Rattle.std.proofs.lemmas.List.{length-map}
 use Rattle.rr_io.specs.Told.{Told}
-use Rattle.rr_io.specs.Receiving.{BreaksOff, Gives}
+use Rattle.rr_io.specs.Receiving.{Gives}
 use Rattle.rr_io.proofs.Transfers.{Gives-then}
 use Rattle.httparse.specs.Grammar.{RequestHead}
 use Rattle.httparse.specs.Spans.{IsRequestAt, header_bytes, name_and_value, span_bytes}
@@ -11,11 +11,11 @@ use Rattle.httparse.specs.declared.spans.HeaderSpan.{HeaderSpan}
 use Rattle.httparse.specs.declared.spans.RequestSpans.{RequestSpans}
 use Rattle.rr_http.specs.declared.fronts.Goal.TheVariants.{Line, Head}
 use Rattle.rr_http.specs.Asked.{parts_of}
-use Rattle.rr_http.specs.Fronts.{ReadsOn, is_reached}
+use Rattle.rr_http.specs.Fronts.{BreaksOn, IsUnfinished, ReadsOn, head_length, is_reached}
 use Rattle.rr_http.specs.FrontLines.{speaks_http}
 use Rattle.rr_http.specs.Requests.{Asks, asks_of}
-use Rattle.rr_http.specs.Wants.{IsParsed, IsSettled, ReadsFront, head_asks}
-use Rattle.rr_http.proofs.WantLemmas.{speaks_http-append}
+use Rattle.rr_http.specs.Wants.{BreaksFront, IsParsed, IsSettled, IsUndecided, ReadsFront, head_asks}
+use Rattle.rr_http.proofs.WantLemmas.{head_has_feed, speaks_http-append}
 
 pub ok_mapped : {T E : Type 0} (r : Result T E) (P Q : T → Type 0) → ((t : T) → P t → Q t) → IfOk r P → IfOk r Q
 ok_mapped (Ok t) P Q f p = f t p
@@ -64,11 +64,44 @@ heads_read start middle end first new room wide over r e f o line speaks within 
     (omega (arith, length-take t.0 new)))
     within reads
 
+no_head : (text : List ℕ) (t : Bool) → is_some (head_length text) ≡ t → is_reached Line text ≡ false → is_reached Head text ≡ false
+no_head text true e unreached = let feed = head_has_feed text e in cc
+no_head text false e unreached = e
+
+line_undecided : (text : List ℕ) (speaks : Bool) → is_reached Line text ≡ false → is_reached (if speaks then Head else Line) text ≡ false
+line_undecided text true unreached = no_head text (is_some (head_length text)) refl unreached
+line_undecided text false unreached = unreached
+
+-- a read of the line failed
+pub line_broken : (start end : Told) (room : ℕ) → room ≡ 8192 → BreaksOn Line room start end [] → BreaksFront start end
+line_broken start end room e broken = (
+  broken.0,
+  broken.1,
+  record {
+    unreached = line_undecided broken.0 (speaks_http broken.0) broken.2.unreached;
+    room_left = subst (λ n. length broken.0 < n) e broken.2.room_left;
+  },
+)
+
+head_undecided : (first more : List ℕ) → IsTrue (is_reached Line first) ⊎ ((length first ≡ 8192) ⊎ IsTrue false) → speaks_http first ≡ true →
+    IsUnfinished Head 8192 (first ++ more) → IsUndecided (first ++ more)
+head_undecided first more (inl line) speaks unfinished = record {
+  unreached = subst (λ b. is_reached (if b then Head else Line) (first ++ more) ≡ false) (sym (speaks_http-append first more line ∙ speaks)) unfinished.unreached;
+  room_left = unfinished.room_left;
+}
+head_undecided first more (inr (inl full)) speaks unfinished = let room = unfinished.room_left in absurd (omega (arith, length-append first more))
+head_undecided first more (inr (inr over)) speaks unfinished = cc
+
 -- the line was read, and a read of the head failed
-pub head_broken : (start middle end : Told) (first : List ℕ) → Gives start middle first → ((bytes : List ℕ) × BreaksOff middle end bytes) →
-    (bytes : List ℕ) × BreaksOff start end bytes
-head_broken start middle end first line broken =
-    (first ++ broken.0, record { between = broken.1.between; gives = Gives-then _ _ line broken.1.gives; fails = broken.1.fails })
+pub head_broken : (start middle end : Told) (first : List ℕ) (room wide : ℕ) (over : Bool) → room ≡ 8192 → wide ≡ 8192 → over ≡ false →
+    ReadsOn Line room start middle [] first over → speaks_http first ≡ true → BreaksOn Head wide middle end first → BreaksFront start end
+head_broken start middle end first room wide over e f o line speaks broken =
+    let read : ReadsOn Line 8192 start middle [] first false = subst (λ n. ReadsOn Line n start middle [] first false) e (subst (λ b. ReadsOn Line room start middle [] first b) o line) in
+    let given : Gives start middle first = subst (λ xs. Gives start middle xs) (sym read.joined) read.gives in (
+      first ++ broken.0,
+      record { between = broken.1.between; gives = Gives-then _ _ given broken.1.gives; fails = broken.1.fails },
+      head_undecided first broken.0 read.enough speaks (subst (λ n. IsUnfinished Head n (first ++ broken.0)) f broken.2),
+    )
 
 -- what was parsed is what is asked
 pub parsed_asks : (head : List ℕ) (headers : List HeaderSpan) (spans : RequestSpans) (h : RequestHead) (method target : List ℕ) (asks : Asks) →

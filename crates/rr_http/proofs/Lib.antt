@@ -3,6 +3,7 @@ pub mod LineLemmas
 pub mod RequestLemmas
 pub mod ReplyLemmas
 pub mod WantLemmas
+pub mod SeenLemmas
 pub mod FrontReading
 pub mod AnswerLemmas
 pub mod BodyLemmas

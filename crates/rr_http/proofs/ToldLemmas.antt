@@ -1,14 +1,9 @@
 -- Lemmas on connections that tell their bytes.
-use Rattle.std.proofs.Common.{◌≡◌, ℕ, ◌+◌, ◌-◌, ◌<◌, ◌≤◌, Bool, List, [], ◌∷◌, ◌++◌, length, take, drop, Some, arith, refl, ap, sym, ◌∙◌, subst, length-append, append_assoc}
-use Rattle.std.specs.Prelude.{IsTrue}
+use Rattle.std.proofs.Common.{◌≡◌, ℕ, ◌<◌, ◌≤◌, List, ◌++◌, length, take, drop, arith, ap, sym, ◌∙◌, subst, append_assoc}
 use Rattle.std.proofs.lemmas.List.{append-nil, drop-append-le, length-take, take-append-le}
-use Rattle.rr_io.specs.Told.{Told}
-use Rattle.rr_io.specs.Receiving.{BreaksOff, Gives, IsSpent}
-use Rattle.rr_http.specs.declared.body_reading.BodyEnd.{BodyEnd}
 use Rattle.rr_http.specs.declared.body_reading.BodyEnd.TheVariants.{Whole, Short, Broken}
-use Rattle.rr_http.specs.Bodies.{ReadsBody}
-use Rattle.rr_http.specs.ToldBytes.{BodyIsBehindItsHead, IsBodyOf, WantsByItsBytes}
-use Rattle.rr_http.specs.Wants.{IsWanted, Wants}
+use Rattle.rr_http.specs.ToldBytes.{BodyIsBehindItsHead, WantsByItsBytes}
+use Rattle.rr_http.specs.Wants.{IsWanted}
 
 pub wants_by_all : WantsByItsBytes
 wants_by_all old between bytes front ended wants told reads wanted =

@@ -75,15 +75,15 @@ long_enough [] more h = cc
 long_enough (b ∷ []) more h = let none : (is_line_feed b && nat_lt 0 0) ≡ false = and_right (is_line_feed b) false refl in let g = rw none at h in cc
 long_enough (b ∷ c ∷ cs) more h = refl
 
-none_at_all : is_some (head_length []) ≡ false
+pub none_at_all : is_some (head_length []) ≡ false
 unfolding head_length
 none_at_all = refl
 
-head_at : (b : ℕ) (bs : List ℕ) → (is_line_feed b && nat_lt 0 (line_end bs)) ≡ true → head_length (b ∷ bs) ≡ Some (1 + line_end bs)
+pub head_at : (b : ℕ) (bs : List ℕ) → (is_line_feed b && nat_lt 0 (line_end bs)) ≡ true → head_length (b ∷ bs) ≡ Some (1 + line_end bs)
 unfolding head_length
 head_at b bs e = rw e refl
 
-head_behind : (b : ℕ) (bs : List ℕ) → (is_line_feed b && nat_lt 0 (line_end bs)) ≡ false → head_length (b ∷ bs) ≡ option_map (λ n. 1 + n) (head_length bs)
+pub head_behind : (b : ℕ) (bs : List ℕ) → (is_line_feed b && nat_lt 0 (line_end bs)) ≡ false → head_length (b ∷ bs) ≡ option_map (λ n. 1 + n) (head_length bs)
 unfolding head_length
 head_behind b bs e = rw e refl
 
@@ -114,7 +114,7 @@ feed_step : (b : ℕ) (bs : List ℕ) (t : Bool) → (is_line_feed b && nat_lt 0
 feed_step b bs true e rec h = or_left (is_line_feed b) (has_line_feed bs) (and_parts (is_line_feed b) (nat_lt 0 (line_end bs)) e).0
 feed_step b bs false e rec h = or_right (is_line_feed b) (has_line_feed bs) (rec (mapped_some (head_length bs) (rw (head_behind b bs e) at h)))
 
-head_has_feed : (text : List ℕ) → is_some (head_length text) ≡ true → has_line_feed text ≡ true
+pub head_has_feed : (text : List ℕ) → is_some (head_length text) ≡ true → has_line_feed text ≡ true
 head_has_feed [] h = let g = none_at_all in cc
 head_has_feed (b ∷ bs) h = feed_step b bs (is_line_feed b && nat_lt 0 (line_end bs)) refl (head_has_feed bs) h
 

@@ -1,11 +1,11 @@
 -- What is read at the front of a connection: its first line, and the head of a request.
-use Rattle.std.specs.Prelude.{◌≡◌, ℕ, ◌+◌, Bool, ◌==◌, ◌&&◌, nat_lt, IsTrue, ◌⊎◌, List, [], ◌∷◌, ◌++◌, length, Option, None, Some, is_some, if◌then◌else◌}
+use Rattle.std.specs.Prelude.{◌≡◌, ℕ, ◌+◌, ◌<◌, Bool, false, ◌==◌, ◌&&◌, nat_lt, IsTrue, ◌⊎◌, List, [], ◌∷◌, ◌++◌, length, Option, None, Some, is_some, if◌then◌else◌}
 use Rattle.std.specs.List.{list_any}
 use Rattle.std.specs.Option.{option_map}
 use Rattle.rr_bytes.specs.Blanks.{is_line_feed}
 use Rattle.rr_bytes.specs.NameBytes.{begins}
 use Rattle.rr_io.specs.Told.{Told}
-use Rattle.rr_io.specs.Receiving.{Gives, IsSpent}
+use Rattle.rr_io.specs.Receiving.{BreaksOff, Gives, IsSpent}
 use Rattle.rr_http.specs.declared.fronts.Goal.{Goal}
 use Rattle.rr_http.specs.declared.fronts.Goal.TheVariants.{Line, Head}
 
@@ -28,6 +28,15 @@ has_line_feed text = list_any is_line_feed text
 abbrev pub is_reached : Goal → List ℕ → Bool
 is_reached Line front = has_line_feed front
 is_reached Head front = is_some (head_length front)
+
+-- a front does not have what it is read for, and has room for more
+pub record IsUnfinished (goal : Goal) (room : ℕ) (front : List ℕ) : Type 0 where
+  pub unreached : is_reached goal front ≡ false
+  pub room_left : length front < room
+
+-- a read failed while a front was read on, which was not finished then (profile)
+abbrev pub BreaksOn : Goal → ℕ → Told → Told → List ℕ → Type 0
+BreaksOn goal room old new before = (more : List ℕ) × BreaksOff old new more × IsUnfinished goal room (before ++ more)
 
 -- a front was read on until it has what it is read for, fills its room, or ended with the input (profile)
 pub record ReadsOn (goal : Goal) (room : ℕ) (old new : Told) (before after : List ℕ) (ended : Bool) : Type 0 where

@@ -16,7 +16,7 @@ use Rattle.rr_http.specs.Answering.{AnswersDump, AnswersQuery, IsAnswered, Submi
 use Rattle.rr_http.specs.Bodies.{ReadsBody}
 use Rattle.rr_http.specs.Replies.{given_head, refusal_reply}
 use Rattle.rr_http.specs.Requests.{Asks, refused, submission, query, dump}
-use Rattle.rr_http.specs.Wants.{IsWanted, ReadsFront, Wants, whois, http}
+use Rattle.rr_http.specs.Wants.{IsUndecided, IsWanted, ReadsFront, Wants, whois, http}
 
 -- a connection failed where a read of it failed, or a write; an end of input before the body's is no failed read (profile)
 abbrev pub answer_by : BodyEnd → Bool → Answer
@@ -86,6 +86,7 @@ pub record IsServed {D : Type 0} (desk : Ghosts D) (before after : D) (from_old 
 pub record IsBroken {D : Type 0} (before after : D) (from_old from_new old new : Told) (result : Answer) : Type 0 where
   pub bytes : List ℕ
   pub breaks : BreaksOff from_old from_new bytes
+  pub undecided : IsUndecided bytes
   pub unwritten : new ≡ old
   pub same : after ≡ before
   pub failed : result ≡ Err conn_fault.Read

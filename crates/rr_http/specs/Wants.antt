@@ -3,10 +3,10 @@ use Rattle.std.specs.Prelude.{◌≡◌, ℕ, ◌<◌, ◌≤◌, Bool, true, fa
 use Rattle.httparse.specs.Grammar.{ReadsRequest, RequestHead}
 use Rattle.httparse.specs.Spans.{name_and_value}
 use Rattle.rr_io.specs.Told.{Told}
-use Rattle.rr_io.specs.Receiving.{Gives, IsSpent}
+use Rattle.rr_io.specs.Receiving.{BreaksOff, Gives, IsSpent}
 use Rattle.rr_http.specs.declared.asking.Refusal.TheVariants.{BadRequest, HeadTooLarge}
 use Rattle.rr_http.specs.declared.fronts.Goal.TheVariants.{Line, Head}
-use Rattle.rr_http.specs.Fronts.{head_length, is_reached}
+use Rattle.rr_http.specs.Fronts.{IsUnfinished, head_length, is_reached}
 use Rattle.rr_http.specs.FrontLines.{speaks_http, whois_query}
 use Rattle.rr_http.specs.Requests.{Asks, HasSmallSize, asks_of, refused}
 
@@ -54,6 +54,14 @@ pub record ReadsFront (old new : Told) (front : List ℕ) (ended : Bool) : Type 
   pub short : length front ≤ 8192
   pub settled : IsSettled front ended
   pub spent : IsTrue ended → IsSpent new
+
+-- a front does not say yet what the connection wants
+abbrev pub IsUndecided : List ℕ → Type 0
+IsUndecided front = IsUnfinished (if speaks_http front then Head else Line) 8192 front
+
+-- a read failed before it was known what the connection wants (profile)
+abbrev pub BreaksFront : Told → Told → Type 0
+BreaksFront old new = (bytes : List ℕ) × BreaksOff old new bytes × IsUndecided bytes
 
 -- what is wanted by a front is wanted by all that the connection gives, whatever may follow the front
 abbrev pub WantsByItsFront : Type 0

@@ -23,37 +23,37 @@ pub enum BodyEnd {
 /// or those that came of it, and how the reading ended. No byte behind the body is asked for. The error is want of memory.
 pub fn read_body<R: Source>(
     alloc: Global,
-    source: &mut R,
+    reader: &mut R,
     begun: &[u8],
     size: usize,
 ) -> Result<(Vec<u8>, BodyEnd), AllocError>
     requires { size ≤ BODY_SIZE }
-    ensures reads { IfOk result (λ read. ReadsBody (R.told source.old) (R.told source.new) begun.now size read.0.items read.1) }
-    ensures no_memory { OnErr result ((bytes : List ℕ) × Gives (R.told source.old) (R.told source.new) bytes) }
-    ensures aside { R.aside source.new ≡ R.aside source.old }
+    ensures reads { IfOk result (λ read. ReadsBody (R.told reader.old) (R.told reader.new) begun.now size read.0.items read.1) }
+    ensures no_memory { OnErr result ((bytes : List ℕ) × Gives (R.told reader.old) (R.told reader.new) bytes) }
+    ensures aside { R.aside reader.new ≡ R.aside reader.old }
 {
     let mut body = Vec::with_capacity(alloc, size)?;
     body.extend_from_slice(&begun[..begun.len().min(size)])?;
-    let end = read_rest(source, &mut body, size)?;
+    let end = read_rest(reader, &mut body, size)?;
     Ok((body, end))
 }
 
 /// Reads on until the body has `size` bytes.
 fn read_rest<R: Source>(
-    source: &mut R,
+    reader: &mut R,
     body: &mut Vec<u8>,
     size: usize,
 ) -> Result<BodyEnd, AllocError>
     requires small { size ≤ BODY_SIZE }
     requires within { length body.old.items ≤ size }
-    ensures reads { IfOk result (λ end. ReadsRest (R.told source.old) (R.told source.new) body.old.items size body.new.items end) }
-    ensures no_memory { OnErr result ((bytes : List ℕ) × Gives (R.told source.old) (R.told source.new) bytes) }
-    ensures aside { R.aside source.new ≡ R.aside source.old }
+    ensures reads { IfOk result (λ end. ReadsRest (R.told reader.old) (R.told reader.new) body.old.items size body.new.items end) }
+    ensures no_memory { OnErr result ((bytes : List ℕ) × Gives (R.told reader.old) (R.told reader.new) bytes) }
+    ensures aside { R.aside reader.new ≡ R.aside reader.old }
 {
     let mut block = [0u8; READ_SIZE];
     'reads: while body.len() < size {
         let room = (size - body.len()).min(READ_SIZE);
-        match source.read(&mut block[..room]) {
+        match reader.read(&mut block[..room]) {
             Ok(count) => {
                 if count == 0 {
                     return Ok(BodyEnd::Short);

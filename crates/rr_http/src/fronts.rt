@@ -1,8 +1,7 @@
 //! The front of a connection: the bytes by which it says what it asks.
 
-ghost use Rattle.std.specs.Prelude.{◌≡◌, ◌≤◌, List, ℕ, length, take, IfOk, IfSome, OnErr};
-ghost use Rattle.rr_io.specs.Receiving.{BreaksOff};
-ghost use Rattle.rr_http.specs.Fronts.{ReadsOn, head_length, is_reached, line_end};
+ghost use Rattle.std.specs.Prelude.{◌≡◌, ◌≤◌, false, length, take, IfOk, IfSome, OnErr};
+ghost use Rattle.rr_http.specs.Fronts.{BreaksOn, ReadsOn, head_length, is_reached, line_end};
 
 use rr_io::Source;
 use std::io;
@@ -28,25 +27,37 @@ impl Goal {
             Goal::Head => head_length(front).is_some(),
         }
     }
+
+    /// The same of a front whose first `seen` bytes do not have it: the last two of these alone are looked at again.
+    fn is_reached_behind(self, front: &[u8], seen: usize) -> bool
+        requires within { seen ≤ length front.now }
+        requires unreached { is_reached self (take seen front.now) ≡ false }
+        ensures { result ≡ is_reached self front.now }
+    {
+        self.is_reached(&front[seen.saturating_sub(2)..])
+    }
 }
 
 /// Reads on behind the first `filled` bytes of `front`, until they have what they are read for, fill it, or the input ends:
 /// gives how many there are then, and whether the input ended. A failed read is the error.
+#[tactic(auto, using(crate::proofs::SeenLemmas::seen_before))]
 pub fn read_on<R: Source>(
-    source: &mut R,
+    reader: &mut R,
     goal: Goal,
     front: &mut [u8],
     filled: usize,
 ) -> io::Result<(usize, bool)>
     requires { filled ≤ length front.old }
     ensures within { IfOk result (λ read. read.0 ≤ length front.new) }
-    ensures reads { IfOk result (λ read. ReadsOn goal (length front.new) (R.told source.old) (R.told source.new) (take filled front.old) (take read.0 front.new) read.1) }
-    ensures breaks { OnErr result ((bytes : List ℕ) × BreaksOff (R.told source.old) (R.told source.new) bytes) }
-    ensures aside { R.aside source.new ≡ R.aside source.old }
+    ensures reads { IfOk result (λ read. ReadsOn goal (length front.new) (R.told reader.old) (R.told reader.new) (take filled front.old) (take read.0 front.new) read.1) }
+    ensures breaks { OnErr result (BreaksOn goal (length front.new) (R.told reader.old) (R.told reader.new) (take filled front.old)) }
+    ensures aside { R.aside reader.new ≡ R.aside reader.old }
 {
     let mut count = filled;
-    'reads: while count < front.len() && !goal.is_reached(&front[..count]) {
-        let more = source.read(&mut front[count..])?;
+    let mut seen = 0;
+    'reads: while count < front.len() && !goal.is_reached_behind(&front[..count], seen) {
+        seen = count;
+        let more = reader.read(&mut front[count..])?;
         if more == 0 {
             return Ok((count, true));
         }

@@ -1,14 +1,13 @@
 //! What a connection wants, by the bytes at its front.
 
-ghost use Rattle.std.specs.Prelude.{◌≡◌, ◌≤◌, List, ℕ, Option, length, nat_le, take, if◌then◌else◌, IfOk, OnErr};
+ghost use Rattle.std.specs.Prelude.{◌≡◌, ◌≤◌, Option, length, nat_le, take, if◌then◌else◌, IfOk, OnErr};
 ghost use Rattle.httparse.specs.Grammar.{RequestHead};
-ghost use Rattle.rr_io.specs.Receiving.{BreaksOff};
 ghost use Rattle.rr_http.specs.Asked.{seen};
 ghost use Rattle.rr_http.specs.Fronts.{head_length};
 ghost use Rattle.rr_http.specs.FrontLines.{speaks_http};
 ghost use Rattle.rr_http.specs.Requests.{HasSmallSize};
 ghost use Rattle.rr_http.specs.Wanted.{seen_wanted};
-ghost use Rattle.rr_http.specs.Wants.{FrontWants, HeadWants, IsInFront, IsParsed, ReadsFront, head_asks};
+ghost use Rattle.rr_http.specs.Wants.{BreaksFront, FrontWants, HeadWants, IsInFront, IsParsed, ReadsFront, head_asks};
 
 use crate::asking::{Asked, Refusal, read_request};
 use crate::fronts::{FRONT_SIZE, Goal, head_length, read_on};
@@ -32,18 +31,18 @@ pub enum Wanted<'a> {
 
 /// Reads the front of a connection into `front`, so far that it is known what the connection wants: gives how many bytes
 /// it has, and whether the input ended. A failed read is the error.
-pub fn read_front<R: Source>(source: &mut R, front: &mut [u8]) -> io::Result<(usize, bool)>
+pub fn read_front<R: Source>(reader: &mut R, front: &mut [u8]) -> io::Result<(usize, bool)>
     requires { length front.old ≡ FRONT_SIZE }
     ensures within { IfOk result (λ read. read.0 ≤ FRONT_SIZE) }
-    ensures reads { IfOk result (λ read. ReadsFront (R.told source.old) (R.told source.new) (take read.0 front.new) read.1) }
-    ensures breaks { OnErr result ((bytes : List ℕ) × BreaksOff (R.told source.old) (R.told source.new) bytes) }
-    ensures aside { R.aside source.new ≡ R.aside source.old }
+    ensures reads { IfOk result (λ read. ReadsFront (R.told reader.old) (R.told reader.new) (take read.0 front.new) read.1) }
+    ensures breaks { OnErr result (BreaksFront (R.told reader.old) (R.told reader.new)) }
+    ensures aside { R.aside reader.new ≡ R.aside reader.old }
 {
-    let (filled, ended) = read_on(source, Goal::Line, front, 0)?;
+    let (filled, ended) = read_on(reader, Goal::Line, front, 0)?;
     if ended || !speaks_http(&front[..filled]) {
         return Ok((filled, ended));
     }
-    read_on(source, Goal::Head, front, filled)
+    read_on(reader, Goal::Head, front, filled)
 }
 
 /// What a connection wants whose front is this.

@@ -40,7 +40,7 @@ use Rattle.rr_object.specs.declared.key.Key.TheVariants.{AsBlock, AsSet, AutNum,
 use Rattle.rr_object.specs.KeyOrders.{IsKeyValue, key_cmp}
 use Rattle.rr_object.specs.Objects.{Obj}
 
-eq_swap : (a b : Key) → eq_by_cmp key_cmp a b ≡ eq_by_cmp key_cmp b a
+pub eq_swap : (a b : Key) → eq_by_cmp key_cmp a b ≡ eq_by_cmp key_cmp b a
 eq_swap a b = (eq_by_cmp_equiv keys_total).symm a b
 
 or_last : (a b : Bool) → cond a true b ≡ (b || a)
@@ -53,7 +53,7 @@ or_none : (b : Bool) → (b || false) ≡ b
 or_none true = refl
 or_none false = refl
 
-any_mapped : {A B : Type 0} (p : B → Bool) (f : A → B) (xs : List A) → list_any p (map f xs) ≡ list_any (λ x. p (f x)) xs
+pub any_mapped : {A B : Type 0} (p : B → Bool) (f : A → B) (xs : List A) → list_any p (map f xs) ≡ list_any (λ x. p (f x)) xs
 any_mapped p f [] = refl
 any_mapped p f (x ∷ xs) = ap (λ b. p (f x) || b) (any_mapped p f xs)
 

@@ -6,6 +6,7 @@ pub mod Kept
 pub mod Listed
 pub mod MntnerNames
 pub mod Namings
+pub mod Originated
 pub mod Questions
 pub mod Ranges
 pub mod Referrers

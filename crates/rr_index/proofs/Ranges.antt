@@ -27,7 +27,7 @@ use Rattle.rr_index.proofs.Listed.{whole}
 use Rattle.rr_index.specs.KeyRanges.{lies_between}
 
 -- a part of a key that is not above another's lets the later parts decide
-least : (a : ℕ) (r : Ordering) → is_le r ≡ true → is_le (ordering_then (nat_cmp 0 a) r) ≡ true
+pub least : (a : ℕ) (r : Ordering) → is_le r ≡ true → is_le (ordering_then (nat_cmp 0 a) r) ≡ true
 least a r e =
     elim (nat_cmp 0 a) as (λ c. nat_cmp 0 a ≡ c → is_le (ordering_then c r) ≡ true) [
       | Less ↦ λ f. refl
@@ -35,7 +35,7 @@ least a r e =
       | Greater ↦ λ f. absurd (grind (arith, nat_tests))
     ] refl
 
-greatest : (a b : ℕ) (r : Ordering) → a ≤ b → is_lt r ≡ false → is_lt (ordering_then (nat_cmp b a) r) ≡ false
+pub greatest : (a b : ℕ) (r : Ordering) → a ≤ b → is_lt r ≡ false → is_lt (ordering_then (nat_cmp b a) r) ≡ false
 greatest a b r below e =
     elim (nat_cmp b a) as (λ c. nat_cmp b a ≡ c → is_lt (ordering_then c r) ≡ false) [
       | Less ↦ λ f. absurd (grind (arith, nat_tests))
@@ -43,14 +43,14 @@ greatest a b r below e =
       | Greater ↦ λ f. refl
     ] refl
 
-both_so : (a b : Bool) → a ≡ true → b ≡ false → (a && not b) ≡ true
+pub both_so : (a b : Bool) → a ≡ true → b ≡ false → (a && not b) ≡ true
 both_so a b e f = λ i. (ap (λ x. x && not b) e ∙ ap not f) i
 
-tied : (a b : ℕ) → is_eq (nat_cmp a b) ≡ (b == a)
+pub tied : (a b : ℕ) → is_eq (nat_cmp a b) ≡ (b == a)
 tied a b = grind (arith, nat_tests)
 
 -- where both ends have a part, the keys between them have it too, and the later parts decide
-within : (c x y : Ordering) → (is_le (ordering_then c x) && not (is_lt (ordering_then c y))) ≡ (is_eq c && (is_le x && not (is_lt y)))
+pub within : (c x y : Ordering) → (is_le (ordering_then c x) && not (is_lt (ordering_then c y))) ≡ (is_eq c && (is_le x && not (is_lt y)))
 within Less x y = refl
 within Equal x y = refl
 within Greater x y = refl

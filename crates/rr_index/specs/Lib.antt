@@ -4,4 +4,5 @@ pub mod KeyRanges
 pub mod NameIndexes
 pub mod NamingIndexes
 pub mod ObjectMaps
+pub mod OriginIndexes
 pub mod SpanIndexes

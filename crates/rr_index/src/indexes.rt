@@ -5,22 +5,25 @@ ghost use Rattle.std.specs.FinMap.{empty, get, insert, remove};
 ghost use Rattle.rr_auth.specs.Registries.{Reg, Sound};
 ghost use Rattle.rr_index.specs.Indexes.{HasIndexes, HasKeys, IsApart};
 ghost use Rattle.rr_index.specs.NameIndexes.{HasNames};
+ghost use Rattle.rr_index.specs.OriginIndexes.{HasOrigins};
 ghost use Rattle.rr_index.specs.SpanIndexes.{HasSpans, is_crossed};
 
 use crate::name_index::NameIndex;
 use crate::naming_index::NamingIndex;
 use crate::object_map::ObjectMap;
+use crate::origin_index::OriginIndex;
 use crate::span_index::SpanIndex;
 use rr_book::set_index::SetIndex;
 use rr_object::Object;
 use std::alloc::{AllocError, Global};
 use std::collections::BTreeSet;
 
-/// The spans of the objects, the names of the mntners, the keys under the sets that the objects name in `member-of`, and how
-/// often they name each maintainer.
+/// The spans of the objects, the routes by origin, the names of the mntners, the keys under the sets that the objects name in
+/// `member-of`, and how often they name each maintainer.
 #[derive(Drop)]
 pub(crate) struct Indexes {
     pub(crate) spans: SpanIndex,
+    pub(crate) origins: OriginIndex,
     pub(crate) names: NameIndex,
     pub(crate) referrers: SetIndex,
     pub(crate) namings: NamingIndex,
@@ -33,6 +36,7 @@ impl Indexes {
     {
         Indexes {
             spans: SpanIndex::new(alloc),
+            origins: OriginIndex::new(alloc),
             names: NameIndex::new(alloc),
             referrers: SetIndex::new(alloc),
             namings: NamingIndex::new(alloc),
@@ -70,11 +74,11 @@ impl Indexes {
         objects: &ObjectMap,
         object: &Object,
     ) -> Result<(), AllocError>
-        requires indexed { HasKeys objects.now self.old.spans self.old.names self.old.referrers }
+        requires indexed { HasKeys objects.now self.old.spans self.old.origins self.old.names self.old.referrers }
         requires free { get objects.now object.now.key ≡ None }
         requires apart { IsApart objects.now object.now.key }
-        ensures ok { OnOk result (HasKeys (insert objects.now object.now.key object.now) self.new.spans self.new.names self.new.referrers) }
-        ensures err { OnErr result (HasKeys objects.now self.new.spans self.new.names self.new.referrers) }
+        ensures ok { OnOk result (HasKeys (insert objects.now object.now.key object.now) self.new.spans self.new.origins self.new.names self.new.referrers) }
+        ensures err { OnErr result (HasKeys objects.now self.new.spans self.new.origins self.new.names self.new.referrers) }
         ensures aside { self.new.namings ≡ self.old.namings }
     {
         let none = BTreeSet::new(alloc);
@@ -88,7 +92,7 @@ impl Indexes {
         }
     }
 
-    /// Enters the name and the span of the object.
+    /// Enters the name, the origin and the span of the object.
     fn enter_key(
         &mut self,
         alloc: Global,
@@ -96,22 +100,50 @@ impl Indexes {
         object: &Object,
     ) -> Result<(), AllocError>
         requires spans { HasSpans objects.now self.old.spans.inetnums self.old.spans.blocks self.old.spans.routes }
+        requires origins { HasOrigins objects.now self.old.origins.routes }
         requires names { HasNames objects.now self.old.names.keys }
         requires free { get objects.now object.now.key ≡ None }
         requires apart { is_crossed self.old.spans.inetnums self.old.spans.blocks object.now.key ≡ false }
         ensures ok { OnOk result (HasSpans (insert objects.now object.now.key object.now) self.new.spans.inetnums self.new.spans.blocks self.new.spans.routes
+            × HasOrigins (insert objects.now object.now.key object.now) self.new.origins.routes
             × HasNames (insert objects.now object.now.key object.now) self.new.names.keys) }
         ensures err { OnErr result (HasSpans objects.now self.new.spans.inetnums self.new.spans.blocks self.new.spans.routes
+            × HasOrigins objects.now self.new.origins.routes
             × HasNames objects.now self.new.names.keys) }
         ensures aside { self.new.referrers ≡ self.old.referrers }
         ensures uncounted { self.new.namings ≡ self.old.namings }
     {
         let key = object.key();
         self.names.add(alloc, key)?;
-        match self.spans.add(key) {
+        match self.enter_place(objects, object) {
             Ok(()) => Ok(()),
             Err(refused) => {
                 self.names.take(key);
+                Err(refused)
+            }
+        }
+    }
+
+    /// Enters the origin and the span of the object.
+    fn enter_place(&mut self, objects: &ObjectMap, object: &Object) -> Result<(), AllocError>
+        requires spans { HasSpans objects.now self.old.spans.inetnums self.old.spans.blocks self.old.spans.routes }
+        requires origins { HasOrigins objects.now self.old.origins.routes }
+        requires free { get objects.now object.now.key ≡ None }
+        requires apart { is_crossed self.old.spans.inetnums self.old.spans.blocks object.now.key ≡ false }
+        ensures ok { OnOk result (HasSpans (insert objects.now object.now.key object.now) self.new.spans.inetnums self.new.spans.blocks self.new.spans.routes
+            × HasOrigins (insert objects.now object.now.key object.now) self.new.origins.routes) }
+        ensures err { OnErr result (HasSpans objects.now self.new.spans.inetnums self.new.spans.blocks self.new.spans.routes
+            × HasOrigins objects.now self.new.origins.routes) }
+        ensures named { self.new.names ≡ self.old.names }
+        ensures aside { self.new.referrers ≡ self.old.referrers }
+        ensures uncounted { self.new.namings ≡ self.old.namings }
+    {
+        let key = object.key();
+        self.origins.add(key)?;
+        match self.spans.add(key) {
+            Ok(()) => Ok(()),
+            Err(refused) => {
+                self.origins.take(key);
                 Err(refused)
             }
         }
@@ -126,6 +158,7 @@ impl Indexes {
         let key = gone.key();
         let is_routed = objects.is_routed(key);
         self.spans.take(key, is_routed);
+        self.origins.take(key);
         self.names.take(key);
         self.referrers.take_all(gone);
         self.namings.take(gone);

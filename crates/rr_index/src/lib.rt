@@ -1,5 +1,5 @@
 //! The book of a large registry: objects by key in a balanced tree, and beside it what answers questions about spans,
-//! sets and maintainers without a look at all objects.
+//! origins, sets and maintainers without a look at all objects.
 #![tactic(auto)]
 
 mod indexed_book;
@@ -7,6 +7,7 @@ mod indexes;
 mod name_index;
 mod naming_index;
 mod object_map;
+mod origin_index;
 mod span_index;
 
 pub use indexed_book::IndexedBook;

@@ -20,8 +20,10 @@ ghost use Rattle.rr_book.specs.SetLists.{is_of_class};
 ghost use Rattle.rr_sets.specs.Lists.{lent};
 ghost use Rattle.rr_index.specs.ChosenKeys.{is_chosen};
 ghost use Rattle.rr_index.specs.KeyRanges.{lies_between};
+ghost use Rattle.rr_index.specs.OriginIndexes.{is_from, origin_cmp};
 ghost use Rattle.rr_index.specs.SpanIndexes.{IsTold};
 
+use crate::origin_index::OriginIndex;
 use rr_book::lists::origin_at;
 use rr_number::{Address, AsNumber, Prefix, Span};
 use rr_object::{Key, Object};
@@ -135,6 +137,25 @@ impl ObjectMap {
         let mut found = Vec::new(alloc);
         for key in keys {
             if let Some(object) = self.get(key) {
+                found.push(object)?;
+            }
+        }
+        Ok(found)
+    }
+
+    /// The objects of the routes that the index has under the origin, in their order; the error is want of memory.
+    pub(crate) fn routes_of(
+        &self,
+        alloc: Global,
+        origins: &OriginIndex,
+        origin: AsNumber,
+    ) -> Result<Vec<&Object>, AllocError>
+        ensures found { IfOk result (λ found. lent found.items ≡ filter_map (λ route. get self.now (Route route.1 route.0)) (filter (is_from origin) origins.now.routes.keys)) }
+        ensures ordered { IsStrictlySortedBy origin_cmp origins.now.routes.keys }
+    {
+        let mut found = Vec::new(alloc);
+        for route in origins.routes_of(origin) {
+            if let Some(object) = self.get(&Key::Route(route.1, route.0)) {
                 found.push(object)?;
             }
         }

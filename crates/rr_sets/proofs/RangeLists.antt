@@ -1,9 +1,14 @@
 -- The ranges in a set itself, from the lists of a registry.
-use Rattle.std.proofs.Common.{◌≡◌, ℕ, ◌⊎◌, ◌↔◌, List, [], ◌++◌, map, Contains, IsTrue, None, Some, Bor, refl, sym, ap, ◌∙◌, subst, inl, inr}
-use Rattle.std.specs.FinMap.{get}
-use Rattle.std.specs.List.{filter_map}
+use Rattle.std.proofs.Common.{◌≡◌, ℕ, true, false, ◌⊎◌, ◌↔◌, List, [], ◌∷◌, ◌++◌, Contains, IsTrue, None, Some, Bor, refl, sym, ap, ◌∙◌, subst, inl, inr}
+use Rattle.std.specs.Prelude.{◌==◌}
+use Rattle.std.specs.FinMap.{get, values}
+use Rattle.std.specs.List.{filter, filter_map}
+use Rattle.std.specs.Option.{option_map_or}
+use Rattle.std.proofs.lemmas.Bool.{eq-eqb, eqb-true}
+use Rattle.rr_auth.proofs.Members.{IsIn, found_in, stands_at}
 use Rattle.rr_auth.specs.Registries.{Reg, Sound}
-use Rattle.rr_graph.proofs.Lists.{Contains-filter_map, Contains-map, Contains-nil}
+use Rattle.rr_graph.proofs.Listings.{Contains-cons_cases}
+use Rattle.rr_graph.proofs.Lists.{Contains-filter_map, Contains-head, Contains-later, Contains-map, Contains-nil}
 use Rattle.rr_number.specs.Prefixes.{PrefixParts}
 use Rattle.rr_number.specs.Ranges.{RangeParts, bare}
 use Rattle.rr_object.specs.Objects.{Obj}
@@ -12,15 +17,13 @@ use Rattle.rr_object.specs.declared.key.Key.{Key}
 use Rattle.rr_object.specs.declared.key.Key.TheVariants as key
 use Rattle.rr_object.specs.declared.member.Member.{Member}
 use Rattle.rr_object.specs.declared.member.Member.TheVariants as member
-use Rattle.rr_object.specs.declared.member.MemberSet.{MemberSet}
-use Rattle.rr_object.specs.declared.member.MemberSet.TheVariants.{AutNum, Set}
-use Rattle.rr_sets.specs.Lists.{IsReferrer, IsRoute, ListsOnce, lent}
-use Rattle.rr_sets.specs.OriginParts.{HasRangeBy}
-use Rattle.rr_sets.specs.KeyParts.{range_of_key}
+use Rattle.rr_object.specs.declared.member.MemberSet.TheVariants.{Set}
+use Rattle.rr_sets.specs.Lists.{IsReferrer, IsRoute, ListsOnce, is_originated, lent}
+use Rattle.rr_sets.specs.KeyParts.{origin_of, range_of_key}
 use Rattle.rr_sets.specs.MemberParts.{range_listed}
 use Rattle.rr_sets.specs.RouteSets.{HasRange, IsAnyRange, IsByReference, IsOriginated, IsTaken, ListsRange, registered_set}
 use Rattle.rr_sets.specs.SetObjects.{takes}
-use Rattle.rr_sets.proofs.Numbers.{Contains-both}
+use Rattle.rr_sets.proofs.Numbers.{Contains-both, Contains-filter}
 
 -- a key with a range is a route's, whose prefix alone it is
 key_of_range : (k : Key) (range : RangeParts) → range_of_key k ≡ Some range → (p : PrefixParts) × (n : ℕ) × (k ≡ key.Route p n) × (range ≡ bare p)
@@ -31,6 +34,26 @@ key_of_range (key.Inetnum span) range is = cc
 key_of_range (key.Route prefix origin) range is = (prefix, origin, refl, cc)
 key_of_range (key.AsSet name) range is = cc
 key_of_range (key.RouteSet name) range is = cc
+
+-- a key with an origin is that of a route from it
+key_of_origin : (n : ℕ) (k : Key) → IsTrue (option_map_or (λ m. m == n) (origin_of k) false) → (p : PrefixParts) × (k ≡ key.Route p n)
+key_of_origin n (key.Mntner name) is = cc
+key_of_origin n (key.AsBlock span) is = cc
+key_of_origin n (key.AutNum m) is = cc
+key_of_origin n (key.Inetnum span) is = cc
+key_of_origin n (key.Route prefix m) is = (prefix, ap (key.Route prefix) (eqb-true m n is))
+key_of_origin n (key.AsSet name) is = cc
+key_of_origin n (key.RouteSet name) is = cc
+
+-- what is among a list's elements is in it, and the other way round
+has : {X : Type 0} (x : X) (xs : List X) → IsIn x xs → Contains xs x
+has x [] is = absurd is
+has x (y ∷ ys) (inl same) = subst (Contains (y ∷ ys)) (sym same) (Contains-head y ys)
+has x (y ∷ ys) (inr later) = Contains-later y ys x (has x ys later)
+
+among : {X : Type 0} (x : X) (xs : List X) → Contains xs x → IsIn x xs
+among x [] is = Contains-nil x is
+among x (y ∷ ys) is = elim (Contains-cons_cases y ys x is) [ inl same ↦ inl (sym same) | inr later ↦ inr (among x ys later) ]
 
 -- a member with a range is it
 member_of_range : (m : Member) (range : RangeParts) → range_listed m ≡ Some range → m ≡ member.Range range
@@ -67,6 +90,27 @@ module _ (r : Reg) (sound : Sound r) where
         let b = (Contains-map (λ (x : Bor Obj). x.now) objects o).0 ((lists.same o).1 (p, n, is)) in
         (Contains-filter_map (λ (x : Bor Obj). range_of_key x.now.key) objects range).1 (b.0, b.1, ap (λ (x : Obj). range_of_key x.key) b.2 ∙ range_of_route o p n is ∙ ap Some (sym same)),
   )
+
+  -- the ranges of the routes of an origin
+  pub ranges_originated : (n : ℕ) (objects : List (Bor Obj)) → lent objects ≡ filter (is_originated n) (values r) → (range : RangeParts) → Contains (filter_map (λ o. range_of_key o.now.key) objects) range ↔ IsOriginated r n range
+  ranges_originated n objects is range = (on, from) where
+    on : Contains (filter_map (λ o. range_of_key o.now.key) objects) range → IsOriginated r n range
+    on some =
+        let f = (Contains-filter_map (λ (o : Bor Obj). range_of_key o.now.key) objects range).0 some in
+        let listed : Contains (lent objects) f.0.now = (Contains-map (λ (o : Bor Obj). o.now) objects f.0.now).1 (f.0, f.1, refl) in
+        let both = (Contains-filter (is_originated n) (values r) f.0.now).0 (subst (λ (os : List Obj). Contains os f.0.now) is listed) in
+        let at = stands_at r f.0.now sound (among f.0.now (values r) both.0) in
+        let route = key_of_origin n f.0.now.key both.1 in
+        let told : Some (bare route.0) ≡ Some range = ap range_of_key (sym route.1) ∙ f.2 in
+        let same : range ≡ bare route.0 = cc in
+        (route.0, f.0.now, subst (λ (k : Key). get r k ≡ Some f.0.now) route.1 at, same)
+
+    from : IsOriginated r n range → Contains (filter_map (λ o. range_of_key o.now.key) objects) range
+    from (p, o, at, same) =
+        let own : is_originated n o ≡ true = ap (λ k. option_map_or (λ m. m == n) (origin_of k) false) (sound.keyed (key.Route p n) o at) ∙ eq-eqb n n refl in
+        let listed = (Contains-filter (is_originated n) (values r) o).1 (has o (values r) (found_in r (key.Route p n) o at), own) in
+        let b = (Contains-map (λ (x : Bor Obj). x.now) objects o).0 (subst (λ (os : List Obj). Contains os o) (sym is) listed) in
+        (Contains-filter_map (λ (x : Bor Obj). range_of_key x.now.key) objects range).1 (b.0, b.1, ap (λ (x : Obj). range_of_key x.key) b.2 ∙ range_of_route o p n at ∙ ap Some (sym same))
 
   -- the ranges of the routes whose word is taken
   pub ranges_that_are_taken : (by_ref : ByRefParts) (name : List ℕ) (objects : List (Bor Obj)) → ((o : Obj) → Contains (lent objects) o ↔ (IsReferrer r name o × IsTrue (takes by_ref o))) → (range : RangeParts) → Contains (filter_map (λ o. range_of_key o.now.key) objects) range ↔ IsTaken r by_ref name range
@@ -119,13 +163,3 @@ HasRange-from r name ranges registered any is first second range = (
     | inr other ↦ elim other [ inl belongs ↦ inl (inr belongs) | inr late ↦ inr late ]
   ]),
 )
-
--- the ranges of prefixes alone
-pub ranges_by_number : (prefixes : ℕ → List PrefixParts) (r : Reg) (set : MemberSet) (n : ℕ) (listed : List PrefixParts) (ranges : List RangeParts) → set ≡ AutNum n → listed ≡ prefixes n → ranges ≡ map bare listed → (range : RangeParts) → Contains ranges range ↔ HasRangeBy prefixes r set range
-ranges_by_number prefixes r set n listed ranges is_set is_listed is range =
-    subst (λ (x : MemberSet). Contains ranges range ↔ HasRangeBy prefixes r x range) (sym is_set) (
-      λ has.
-          let f = (Contains-map bare listed range).0 (subst (λ (l : List RangeParts). Contains l range) is has) in
-          (f.0, subst (λ (l : List PrefixParts). Contains l f.0) is_listed f.1, sym f.2),
-      λ (p, has, same). rw is ((Contains-map bare listed range).1 (p, rw is_listed has, sym same)),
-    )

@@ -5,5 +5,4 @@ pub mod AsSets
 pub mod RouteSets
 pub mod KeyParts
 pub mod MemberParts
-pub mod OriginParts
 pub mod Orders

@@ -1,7 +1,8 @@
 -- What the lists of a registry's objects have.
-use Rattle.std.specs.Prelude.{◌≡◌, ◌↔◌, ℕ, List, Contains, Some}
+use Rattle.std.specs.Prelude.{◌≡◌, ◌↔◌, ◌==◌, ℕ, Bool, false, List, Contains, Some}
 use Rattle.std.proofs.Common.{Bor}
 use Rattle.std.specs.FinMap.{get}
+use Rattle.std.specs.Option.{option_map_or}
 use Rattle.rr_auth.specs.Registries.{Reg}
 use Rattle.rr_graph.specs.Chain.{HasNoRepeats}
 use Rattle.rr_number.specs.Prefixes.{PrefixParts}
@@ -9,6 +10,7 @@ use Rattle.rr_object.specs.Objects.{Obj}
 pub use Rattle.rr_object.specs.Objects.{lent}
 use Rattle.rr_object.specs.declared.key.Key.{Key}
 use Rattle.rr_object.specs.declared.key.Key.TheVariants.{AutNum, Route}
+use Rattle.rr_sets.specs.KeyParts.{origin_of}
 
 -- The list lends exactly the objects that have the property, each once.
 pub record ListsOnce (P : Obj → Type 0) (objects : List (Bor Obj)) : Type 0 where
@@ -22,6 +24,10 @@ IsAutNum r o = (n : ℕ) × (get r (AutNum n) ≡ Some o)
 -- The object is a registered route.
 abbrev pub IsRoute : Reg → Obj → Type 0
 IsRoute r o = (prefix : PrefixParts) × (origin : ℕ) × (get r (Route prefix origin) ≡ Some o)
+
+-- The object is a route of this origin (RFC 2622, 4).
+abbrev pub is_originated : ℕ → Obj → Bool
+is_originated n o = option_map_or (λ origin. origin == n) (origin_of o.key) false
 
 -- The object is registered, and its `member-of` names the set (RFC 2622, 5).
 abbrev pub IsReferrer : Reg → List ℕ → Obj → Type 0

@@ -1,15 +1,16 @@
 //! Registries, as the expansion of sets asks about them.
 
-ghost use Rattle.std.specs.Prelude.{IfOk};
+ghost use Rattle.std.specs.Prelude.{◌≡◌, IfOk, filter};
+ghost use Rattle.std.specs.FinMap.{values};
 
 use rr_auth::Book;
-use rr_number::SetName;
+use rr_number::{AsNumber, SetName};
 use rr_object::Object;
 use std::alloc::{AllocError, Global};
 
 /// A registry that can be asked for the objects that speak of sets. The errors are want of memory.
 pub trait SetBook: Book {
-    ghost use Rattle.rr_sets.specs.Lists.{IsAutNum, IsReferrer, IsRoute, ListsOnce};
+    ghost use Rattle.rr_sets.specs.Lists.{IsAutNum, IsReferrer, IsRoute, ListsOnce, is_originated, lent};
 
     /// Lists the aut-nums, each once, in any order.
     fn aut_nums(&self, alloc: Global) -> Result<Vec<&Object>, AllocError>
@@ -18,6 +19,11 @@ pub trait SetBook: Book {
     /// Lists the routes, each once, in any order.
     fn routes(&self, alloc: Global) -> Result<Vec<&Object>, AllocError>
         ensures { IfOk result (λ objects. ListsOnce (IsRoute (Self.contents self.now)) objects.items) };
+
+    /// Lists the routes of the origin, in the order of class and key. An expansion asks for those of each AS number that
+    /// it reaches, so a book should not look at all its objects for them.
+    fn routes_of(&self, alloc: Global, origin: AsNumber) -> Result<Vec<&Object>, AllocError>
+        ensures { IfOk result (λ objects. lent objects.items ≡ filter (is_originated origin) (values (Self.contents self.now))) };
 
     /// Lists the objects whose `member-of` names the set, each once, in any order. An expansion asks for those of each
     /// set that it reaches and that has `mbrs-by-ref`, so a book should not look at all its objects for them.

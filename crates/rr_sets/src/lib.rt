@@ -6,7 +6,6 @@ mod book;
 mod by_reference;
 mod direct;
 mod members;
-mod origins;
 mod ranges;
 mod references;
 mod route_sets;

@@ -1,18 +1,17 @@
 //! The ranges that are in a set itself.
 
-ghost use Rattle.std.specs.Prelude.{◌≡◌, ◌↔◌, ◌⊎◌, Contains, IfOk, map};
+ghost use Rattle.std.specs.Prelude.{◌≡◌, ◌↔◌, ◌⊎◌, Contains, IfOk};
 ghost use Rattle.std.specs.List.{filter_map};
 ghost use Rattle.std.specs.Option.{option_copied};
-ghost use Rattle.rr_number.specs.Ranges.{RangeParts, bare};
+ghost use Rattle.rr_number.specs.Ranges.{RangeParts};
 ghost use Rattle.rr_sets.specs.KeyParts.{range_of_key};
 ghost use Rattle.rr_sets.specs.MemberParts.{range_listed};
-ghost use Rattle.rr_sets.specs.RouteSets.{HasRange, IsAnyRange, IsByReference, IsTaken, ListsRange, has_set, registered_set};
+ghost use Rattle.rr_sets.specs.RouteSets.{HasRange, IsAnyRange, IsByReference, IsOriginated, IsTaken, ListsRange, has_set, registered_set};
 ghost use Rattle.rr_object.specs.declared.member.MemberSet.{MemberSet};
 
 use crate::book::SetBook;
 use crate::by_reference::belonging;
-use crate::origins::route_of;
-use rr_number::{Prefix, Range, SetName};
+use rr_number::{AsNumber, Range, SetName};
 use rr_object::{ByRef, Key, Member, Object};
 use std::alloc::{AllocError, Global};
 
@@ -27,6 +26,18 @@ pub fn ranges_in<B: SetBook>(
     let mut ranges = registered_ranges(alloc, book, name)?;
     ranges.extend_from_slice(&any_ranges(alloc, book, name)?)?;
     Ok(ranges)
+}
+
+/// The ranges of the routes of an AS.
+pub fn ranges_of_origin<B: SetBook>(
+    alloc: Global,
+    book: &B,
+    origin: AsNumber,
+) -> Result<Vec<Range>, AllocError>
+    ensures { IfOk result (λ ranges. (range : RangeParts) → Contains ranges.items range ↔ IsOriginated (B.contents book.now) origin range) }
+{
+    book.sound();
+    ranges_of(alloc, &book.routes_of(alloc, origin)?)
 }
 
 /// The ranges that a registered set lists, and those of routes that belong to it by their own word.
@@ -127,15 +138,8 @@ fn ranges_of(alloc: Global, objects: &[&Object]) -> Result<Vec<Range>, AllocErro
 fn route_range(object: &Object) -> Option<Range>
     ensures { result ≡ range_of_key object.now.key }
 {
-    route_of(object).map(|route| Range::of(route.1))
-}
-
-/// The ranges of these prefixes alone.
-pub fn bare_ranges(alloc: Global, prefixes: &[Prefix]) -> Result<Vec<Range>, AllocError>
-    ensures { IfOk result (λ ranges. ranges.items ≡ map bare prefixes.now) }
-{
-    prefixes
-        .iter()
-        .map(|prefix| Range::of(*prefix))
-        .collect(alloc)
+    match object.key() {
+        Key::Route(prefix, _) => Some(Range::of(*prefix)),
+        _ => None,
+    }
 }

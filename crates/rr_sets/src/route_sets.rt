@@ -14,8 +14,7 @@ ghost use Rattle.rr_sets.specs.RouteSets.{HasTooMany, InRouteSet, IsMissingName,
 use crate::as_sets::sorted;
 use crate::book::SetBook;
 use crate::members::{ExpandFault, Members};
-use crate::origins::{Origins, origins_of};
-use crate::ranges::{bare_ranges, has_set, ranges_in};
+use crate::ranges::{has_set, ranges_in, ranges_of_origin};
 use crate::references::{Reference, copy_of, references_of};
 use rr_graph::{Gathered, Labelled, ReachFault, gather};
 use rr_number::{Operator, Range, SetName};
@@ -31,11 +30,11 @@ use std::alloc::{AllocError, Global};
 /// are reached, ASes among them, or more than `limit` pairs of one of these and a range that it stands for; want of
 /// memory aside.
 ///
-/// The steps outside the book are O((P + E) log P). P counts the routes of the registry, the sets reached, the members
-/// of each, listed or by reference, the names in its `mbrs-by-ref` and in `mnt-by` of its referrers, and those pairs; E
-/// counts for each pair the references to its set: m route-sets that each list all the others and the same V ranges
-/// have mV pairs and about m²V references to them. The book is asked at most three times for the `referrers` of each
-/// set reached that has `mbrs-by-ref`.
+/// The steps outside the book are O((P + E) log P). P counts the sets reached, the members of each, listed or by
+/// reference, the routes of each AS reached, the names in its `mbrs-by-ref` and in `mnt-by` of its referrers, and those
+/// pairs; E counts for each pair the references to its set: m route-sets that each list all the others and the same V
+/// ranges have mV pairs and about m²V references to them. The book is asked at most three times for the `referrers` of
+/// each set reached that has `mbrs-by-ref`, and once for the routes of each AS reached.
 pub fn expand_route_set<B: SetBook>(
     alloc: Global,
     book: &B,
@@ -85,13 +84,11 @@ fn expand_known<B: SetBook>(
 #[derive(Drop)]
 struct RouteSets<'a, B: SetBook> {
     book: &'a B,
-    origins: &'a Origins,
 }
 
 impl<B: SetBook> Labelled for RouteSets<'_, B> {
     ghost use Rattle.rr_number.specs.Applied.{applied};
-    ghost use Rattle.rr_sets.specs.OriginParts.{HasRangeBy, prefixes_at};
-    ghost use Rattle.rr_sets.specs.RouteSets.{Refers};
+    ghost use Rattle.rr_sets.specs.RouteSets.{HasRange, Refers};
     ghost use Rattle.rr_sets.specs.Orders.{exact_member_sets, exact_ranges};
 
     type Node = MemberSet;
@@ -102,7 +99,7 @@ impl<B: SetBook> Labelled for RouteSets<'_, B> {
 
     ghost edge = { λ s. Refers (B.contents s.book.now) };
 
-    ghost own = { λ s. HasRangeBy (prefixes_at s.origins.now.map) (B.contents s.book.now) };
+    ghost own = { λ s. HasRange (B.contents s.book.now) };
 
     ghost passed = { applied };
 
@@ -116,7 +113,7 @@ impl<B: SetBook> Labelled for RouteSets<'_, B> {
 
     fn values(&self, alloc: Global, set: &MemberSet) -> Result<Vec<Range>, AllocError> {
         match set {
-            MemberSet::AutNum(number) => bare_ranges(alloc, self.origins.prefixes(*number)),
+            MemberSet::AutNum(number) => ranges_of_origin(alloc, self.book, *number),
             MemberSet::Set(name) => ranges_in(alloc, self.book, name),
         }
     }
@@ -143,13 +140,8 @@ fn gathered<B: SetBook>(
     ensures few { OnOk result (¬ HasTooMany (B.contents book.now) limit name.now) }
     ensures many { result ≡ Err ReachFault.TooMany → HasTooMany (B.contents book.now) limit name.now }
 {
-    let origins = origins_of(alloc, book)?;
     let start = MemberSet::Set(name.copy(alloc)?);
-    let sets = RouteSets {
-        book,
-        origins: &origins,
-    };
-    gather(alloc, &sets, &start, limit)
+    gather(alloc, &RouteSets { book }, &start, limit)
 }
 
 /// The names of those of the sets that there are not.

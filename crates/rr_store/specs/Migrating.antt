@@ -1,11 +1,9 @@
 -- What migration makes of tables of version 1.
 use Rattle.std.specs.Prelude.{◌≡◌, ℕ, Bool, true, false, List, [], ◌∷◌, ◌++◌, codes, map}
 use Rattle.std.specs.List.{list_any}
-use Rattle.std.specs.Str.{bytes_eq}
 use Rattle.sqlite.specs.Effect.{Database}
 use Rattle.rr_text.specs.Fields.{Field}
-use Rattle.rr_object.specs.declared.key.Key.{Key}
-use Rattle.rr_object.specs.declared.key.Key.TheVariants.{Mntner, AsBlock, AutNum, Inetnum, Route, AsSet, RouteSet}
+pub use Rattle.rr_object.specs.Keys.{is_mntner_of}
 use Rattle.rr_object.specs.Objects.{Obj}
 use Rattle.rr_rows.specs.Entries.{entry_of}
 use Rattle.rr_rows.specs.Maps.{AreOldStored, AreStored, IsFilled, IsObjectOf}
@@ -19,16 +17,6 @@ one_line name line = record { name = name; lines = line ∷ [] }
 abbrev pub upper_block : List ℕ → List ℕ → List Field
 upper_block root source =
     one_line (codes "as-block") (codes "AS65536 - AS4294967295") ∷ (one_line (codes "mnt-by") root ∷ (one_line (codes "source") source ∷ []))
-
--- a key is that of the mntner of a name (RFC 2622, 3)
-abbrev pub is_mntner_of : List ℕ → Key → Bool
-is_mntner_of name (Mntner other) = bytes_eq name other
-is_mntner_of name (AsBlock block) = false
-is_mntner_of name (AutNum number) = false
-is_mntner_of name (Inetnum span) = false
-is_mntner_of name (Route prefix origin) = false
-is_mntner_of name (AsSet set) = false
-is_mntner_of name (RouteSet set) = false
 
 -- one of the objects is the mntner of a name
 abbrev pub has_mntner : List ℕ → List Obj → Bool

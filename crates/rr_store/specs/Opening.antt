@@ -6,6 +6,8 @@ use Rattle.rr_rows.specs.Contents.{settings}
 use Rattle.rr_rows.specs.Maps.{AreStored, AreStoredIn}
 use Rattle.rr_store.specs.Checks.{SaysVersion}
 use Rattle.rr_store.specs.Versions.{form_of, version_number, version_text}
+use Rattle.rr_store.specs.declared.fault.OpenFault.{OpenFault}
+use Rattle.rr_store.specs.declared.fault.OpenFault.TheVariants.{WrongVersion, BadRow, Store, Memory}
 use Rattle.rr_store.specs.declared.version.Version.{Version}
 use Rattle.rr_store.specs.declared.version.Version.TheVariants.{Old, This}
 
@@ -45,3 +47,10 @@ IsUnreadable = HoldNone This
 pub record IsReadable (source : List ℕ) (db : Database) : Type 0 where
   pub objects : List Obj
   pub stored : AreStored source objects db
+
+-- the fault is of the rows, and not of the database or of memory
+abbrev pub IsOfRows : OpenFault → Type 0
+IsOfRows (WrongVersion number) = Unit {0}
+IsOfRows BadRow = Unit {0}
+IsOfRows Store = ⊥
+IsOfRows Memory = ⊥

@@ -26,3 +26,4 @@ mod writes;
 
 pub use fault::{CreateFault, MigrateFault, OpenFault, StoreFault};
 pub use store::Store;
+pub use upper::upper_object;

@@ -10,7 +10,7 @@ ghost use Rattle.rr_object.specs.Objects.{Obj};
 ghost use Rattle.rr_rows.specs.Maps.{AreOldStored, IsFilled};
 ghost use Rattle.rr_store.specs.Kept.{IsLeft};
 ghost use Rattle.rr_store.specs.Lent.{lent};
-ghost use Rattle.rr_store.specs.Migrating.{HasNoRoot, IsMigrated, IsRewritten, has_mntner, is_mntner_of};
+ghost use Rattle.rr_store.specs.Migrating.{HasNoRoot, IsMigrated, IsRewritten, has_mntner};
 ghost use Rattle.rr_store.specs.Opening.{IsNotOld, IsOfNoneButOld};
 ghost use Rattle.rr_store.specs.declared.fault.MigrateFault.TheVariants.{BadRow, NoRoot, WrongVersion};
 
@@ -21,7 +21,7 @@ use crate::statements::{clear_names, clear_objects, clear_settings};
 use crate::upper::upper_object;
 use crate::version::Version;
 use rr_number::Name;
-use rr_object::{Key, Object};
+use rr_object::Object;
 use sqlite::{Alter, Connection, Error, Transaction};
 use std::alloc::{AllocError, Global};
 
@@ -113,22 +113,11 @@ fn rewrite<S: Alter>(
     replace(conn, alloc, &lent)
 }
 
-fn is_mntner_of(key: &Key, name: &Name) -> bool
-    ensures { result ≡ is_mntner_of name.now key.now }
-{
-    match key {
-        Key::Mntner(other) => name.as_bytes() == other.as_bytes(),
-        _ => false,
-    }
-}
-
 /// Whether one of the objects is the mntner of the name.
 fn has_mntner(objects: &[Object], name: &Name) -> bool
     ensures { result ≡ has_mntner name.now objects.now }
 {
-    objects
-        .iter()
-        .any(|object| is_mntner_of(object.key(), name))
+    objects.iter().any(|object| object.key().is_mntner_of(name))
 }
 
 /// Writes tables of version 1 that hold objects of the source anew as those of version 2, with the block of the other AS

@@ -6,7 +6,8 @@ ghost use Rattle.sqlite.specs.Held.{state};
 ghost use Rattle.sqlite.specs.State.{HasCleanDisk, IsUnchanged, Survives};
 ghost use Rattle.rr_rows.specs.Contents.{IsTidy};
 ghost use Rattle.rr_rows.specs.Maps.{AreInOrder, AreStoredIn, HasVersion, IsObjectOf};
-ghost use Rattle.rr_store.specs.Opening.{HoldNone, SaysNoOther, SaysOther};
+ghost use Rattle.rr_rows.specs.Tables.{HasTables};
+ghost use Rattle.rr_store.specs.Opening.{HoldNone, IsOfRows, SaysNoOther, SaysOther};
 ghost use Rattle.rr_store.specs.Versions.{form_of, version_text};
 ghost use Rattle.rr_store.specs.declared.fault.OpenFault.TheVariants.{BadRow, WrongVersion};
 
@@ -84,6 +85,7 @@ pub(crate) fn stored_objects<S: Alter>(
     ensures wrong_version { HasCleanDisk (state S.Store conn.new) → IfErr result (λ fault. (number : ℕ) → fault ≡ WrongVersion number → SaysOther version number (state S.Store conn.old).now) }
     ensures bad_row { HasCleanDisk (state S.Store conn.new) → IfErr result (λ fault. fault ≡ BadRow → HoldNone version source.now (state S.Store conn.old).now) }
     ensures no_other_said { HasCleanDisk (state S.Store conn.new) → IfErr result (λ fault. fault ≡ BadRow → SaysNoOther version (state S.Store conn.old).now) }
+    ensures tables { HasCleanDisk (state S.Store conn.new) → IfErr result (λ fault. IsOfRows fault → HasTables (state S.Store conn.old).now.schema) }
     ensures crash { Survives (state S.Store conn.old) (state S.Store conn.new) (λ _. (state S.Store conn.old).is_open ≡ false) }
 {
     match is_tidy(conn) {

@@ -19,7 +19,7 @@ ghost use Rattle.rr_store.specs.Adding.{AddsTo};
 ghost use Rattle.rr_store.specs.Kept.{IsLeft};
 ghost use Rattle.rr_store.specs.Lent.{lent};
 ghost use Rattle.rr_store.specs.Migrating.{HasNoRoot, IsMigrated};
-ghost use Rattle.rr_store.specs.Opening.{IsNotOld, IsOfNoOther, IsOfNoneButOld, IsOtherVersion, IsReadable, IsUnreadable};
+ghost use Rattle.rr_store.specs.Opening.{IsNotOld, IsOfNoOther, IsOfNoneButOld, IsOfRows, IsOtherVersion, IsReadable, IsUnreadable};
 ghost use Rattle.rr_store.specs.Reading.{names_it};
 ghost use Rattle.rr_store.specs.declared.fault.CreateFault.TheVariants.{NotEmpty};
 ghost use Rattle.rr_store.specs.declared.fault.MigrateFault.TheVariants.{BadRow as UnreadRow, NoRoot, WrongVersion as NotOld};
@@ -102,6 +102,7 @@ impl<S: Alter> Store<S> {
         ensures wrong_version { IfErr result (λ fault. (number : ℕ) → fault.0 ≡ WrongVersion number → HasCleanDisk (state S.Store fault.1) → IsOtherVersion number (state S.Store conn).now) }
         ensures bad_row { IfErr result (λ fault. fault.0 ≡ BadRow → HasCleanDisk (state S.Store fault.1) → IsUnreadable source.now (state S.Store conn).now) }
         ensures no_other_said { IfErr result (λ fault. fault.0 ≡ BadRow → HasCleanDisk (state S.Store fault.1) → IsOfNoOther (state S.Store conn).now) }
+        ensures tables { IfErr result (λ fault. IsOfRows fault.0 → HasCleanDisk (state S.Store fault.1) → HasTables (state S.Store conn).now.schema) }
         ensures err { IfErr result (λ fault. HasCleanDisk (state S.Store fault.1) → IsTrue (state S.Store fault.1).is_open → (state S.Store fault.1).now ≡ (state S.Store conn).now) }
         ensures err_crash { IfErr result (λ fault. Survives (state S.Store conn) (state S.Store fault.1) (λ _. (state S.Store conn).is_open ≡ false)) }
         ensures err_autocommit { IfErr result (λ fault. fault.1.in_transaction ≡ false) }
@@ -126,6 +127,7 @@ impl<S: Alter> Store<S> {
         ensures wrong_version { IfErr result (λ fault. (number : ℕ) → fault.0 ≡ WrongVersion number → HasCleanDisk (state S.Store fault.1) → IsOtherVersion number (state S.Store conn).now) }
         ensures bad_row { IfErr result (λ fault. fault.0 ≡ BadRow → HasCleanDisk (state S.Store fault.1) → IsUnreadable source.now (state S.Store conn).now) }
         ensures no_other_said { IfErr result (λ fault. fault.0 ≡ BadRow → HasCleanDisk (state S.Store fault.1) → IsOfNoOther (state S.Store conn).now) }
+        ensures tables { IfErr result (λ fault. IsOfRows fault.0 → HasCleanDisk (state S.Store fault.1) → HasTables (state S.Store conn).now.schema) }
         ensures err { IfErr result (λ fault. HasCleanDisk (state S.Store fault.1) → IsTrue (state S.Store fault.1).is_open → (state S.Store fault.1).now ≡ (state S.Store conn).now) }
         ensures err_crash { IfErr result (λ fault. Survives (state S.Store conn) (state S.Store fault.1) (λ _. (state S.Store conn).is_open ≡ false)) }
         ensures err_autocommit { IfErr result (λ fault. fault.1.in_transaction ≡ false) }
@@ -153,6 +155,7 @@ impl<S: Alter> Store<S> {
         ensures wrong_version { HasCleanDisk (state S.Store conn.new) → IfErr result (λ fault. (number : ℕ) → fault ≡ WrongVersion number → IsNotOld number (state S.Store conn.old).now) }
         ensures bad_row { HasCleanDisk (state S.Store conn.new) → IfErr result (λ fault. fault ≡ BadRow → (objects : List Obj) → AreOldStored source.now objects (state S.Store conn.old).now → ⊥) }
         ensures no_other_said { HasCleanDisk (state S.Store conn.new) → IfErr result (λ fault. fault ≡ BadRow → IsOfNoneButOld (state S.Store conn.old).now) }
+        ensures tables { HasCleanDisk (state S.Store conn.new) → IfErr result (λ fault. IsOfRows fault → HasTables (state S.Store conn.old).now.schema) }
         ensures crash { Survives (state S.Store conn.old) (state S.Store conn.new) (λ _. (state S.Store conn.old).is_open ≡ false) }
     {
         stored_objects(conn, alloc, source, Version::Old)

@@ -1,9 +1,11 @@
 //! The block of AS numbers that tables of version 1 did not know.
 
-ghost use Rattle.std.specs.Prelude.{◌≡◌, IfOk};
+ghost use Rattle.std.specs.Prelude.{◌≡◌, IfErr, IfOk};
 ghost use Rattle.rr_rows.specs.Maps.{IsObjectOf};
+ghost use Rattle.rr_object.specs.Objects.{Obj};
 ghost use Rattle.rr_object.specs.Readings.{ReadsAs};
 ghost use Rattle.rr_store.specs.Migrating.{one_line, upper_block};
+ghost use Rattle.rr_store.specs.declared.fault.StoreFault.TheVariants.{Store};
 
 use crate::fault::StoreFault;
 use rr_number::Name;
@@ -46,9 +48,10 @@ fn upper_paragraph(alloc: Global, root: &Name, source: &Name) -> Result<Paragrap
 
 /// The block of the AS numbers of more than two octets, which the root maintains. The fault is want of memory, or that of a
 /// root that can be no maintainer.
-pub(crate) fn upper_object(alloc: Global, root: &Name, source: &Name) -> Result<Object, StoreFault>
+pub fn upper_object(alloc: Global, root: &Name, source: &Name) -> Result<Object, StoreFault>
     ensures of_source { IfOk result (IsObjectOf source.now) }
     ensures read { IfOk result (ReadsAs source.now (upper_block root.now source.now)) }
+    ensures refused { IfErr result (λ fault. fault ≡ Store → (object : Obj) → ReadsAs source.now (upper_block root.now source.now) object → ⊥) }
 {
     let paragraph = upper_paragraph(alloc, root, source)?;
     match Object::read(alloc, paragraph, source) {

@@ -13,7 +13,7 @@ use crate::commands::files::open_file;
 use crate::commands::places::about_paragraph;
 use crate::database::{close, open_or_make};
 use crate::fault::ProgramFault;
-use crate::output::STANDARD_OUTPUT;
+use crate::output::{STANDARD_OUTPUT, tell};
 use crate::progress::{Progress, Reading, Things};
 use crate::settings_reading::read_settings_file;
 use crate::trouble::{Trouble, paragraph_of};
@@ -112,7 +112,7 @@ pub(crate) fn load_to<S: Alter, R: Source, W: Sink>(
     }
 }
 
-/// Writes how many objects were loaded; want of memory is a fault, and then nothing is written.
+/// Writes how many objects were loaded; where memory is wanting to count them, that they were.
 fn tell_loaded<W: Sink>(
     alloc: Global,
     registry: &Registry<IndexedBook>,
@@ -123,7 +123,7 @@ fn tell_loaded<W: Sink>(
 {
     match object_count(alloc, registry) {
         Ok(count) => tell_count(writer, count),
-        Err(_) => Err(Trouble::Memory),
+        Err(_) => tell(writer, b"loaded the dump\n"),
     }
 }
 

@@ -1,16 +1,22 @@
 //! What a peer is sent.
 
 ghost use Rattle.std.specs.Prelude.{◌≡◌};
+ghost use Rattle.std.specs.Io.{WritesAtMost};
 ghost use Rattle.rr_cli.specs.ServingTimes.{reply_time};
 
 use super::deadline::Deadline;
 use std::io;
-use std::io::Write;
+use std::io::{ErrorKind, Write};
 use std::net::{Shutdown, TcpStream};
 use std::time::Instant;
 
-/// The bytes that a peer is sent. It has to take them within 60 seconds and one more for each 16 KiB that went out, and a write
-/// waits for 10 at most.
+/// How many calls a write makes at most, so that it waits for 90 seconds at most (profile).
+const MOST_CALLS: u32 = 9;
+
+/// The bytes that a peer is sent. It has to take them within 60 seconds and one more for each 16 KiB that went out. A call waits
+/// for 10 seconds at most, and is made again where its time is over before that of the reply, up to 90 seconds in which no byte
+/// passes: the system lets a writer go on only once a good part of its buffer is free, which takes a slow and steady reader
+/// longer than 10.
 #[derive(Drop)]
 pub struct Reply<'a> {
     rt: &'a HostRuntime,
@@ -34,24 +40,46 @@ impl<'a> Reply<'a> {
     pub fn finish(self) -> io::Result<()> {
         self.socket.shutdown(Shutdown::Write)
     }
-}
 
-impl Write for Reply<'_> {
-    fn write(&mut self, buf: &[u8]) -> io::Result<usize> {
+    /// Sends some of the bytes by one call. The error is the system's, or that the time of the reply is over.
+    fn send(&mut self, buf: &[u8]) -> io::Result<usize>
+        ensures { WritesAtMost result buf.now }
+    {
         let seconds = reply_time(self.written);
         if let Some(timeout) = self.deadline.next_timeout(seconds)? {
             self.socket.set_write_timeout(Some(timeout))?;
         }
         let begun = Instant::now(self.rt)?;
-        let count = self.socket.write(buf)?;
+        let answer = self.socket.write(buf);
         let waited = begun.elapsed(self.rt)?;
         self.deadline.take(waited);
+        let count = answer?;
         self.written = self.written.saturating_add(count as u64);
         Ok(count)
+    }
+}
+
+impl Write for Reply<'_> {
+    fn write(&mut self, buf: &[u8]) -> io::Result<usize> {
+        for _ in 1..MOST_CALLS {
+            let answer = self.send(buf);
+            if !is_out_of_time(&answer) {
+                return answer;
+            }
+        }
+        self.send(buf)
     }
 
     fn flush(&mut self) -> io::Result<()> {
         Ok(())
+    }
+}
+
+/// Whether a call waited for the peer until its time was over.
+fn is_out_of_time(answer: &io::Result<usize>) -> bool {
+    match answer {
+        Ok(_) => false,
+        Err(error) => error.kind() == ErrorKind::WouldBlock,
     }
 }
 

@@ -5,10 +5,10 @@ use Rattle.rr_http.proofs.body_reading.read_rest.Given as goal
 -- what was read so far stands behind the bytes of before
 abbrev pub invariant-reads : goal.invariant-reads
 invariant-reads g l =
-    (more : List ℕ) × Gives (g.R.Source.told l.initial.source) (g.R.Source.told l.source) more
+    (more : List ℕ) × Gives (g.R.Source.told l.initial.reader) (g.R.Source.told l.reader) more
     × (l.body.items ≡ l.initial.body.items ++ more)
     × (length l.body.items ≤ l.size)
-    × (g.R.Source.aside l.source ≡ g.R.Source.aside l.initial.source)
+    × (g.R.Source.aside l.reader ≡ g.R.Source.aside l.initial.reader)
 
 abbrev pub decreases-reads : goal.decreases-reads
 decreases-reads g l = l.size - length l.body.items

@@ -11,6 +11,7 @@ use Rattle.rr_book.specs.SetLists.{names_set}
 use Rattle.rr_index.specs.Indexes.{IsKept}
 use Rattle.rr_index.proofs.Changes.{keys_stay, names_stay, spans_stay}
 use Rattle.rr_index.proofs.Namings.{namings_changed, namings_same}
+use Rattle.rr_index.proofs.Originated.{origins_stay}
 use Rattle.rr_index.proofs.Referrers.{fresh, referrers_changed, taken_back}
 use Rattle.rr_index.proofs.indexed_book.IndexedBook.change.Goals as goal
 
@@ -26,6 +27,7 @@ invariant_of-self c = record {
   indexes = record {
     keys = record {
       spans = c.self.invariant.indexes.keys.spans;
+      origins = c.self.invariant.indexes.keys.origins;
       names = c.self.invariant.indexes.keys.names;
       referrers = λ n k. c.in_err-add.ensures.err n k ∙ c.self.invariant.indexes.keys.referrers n k;
     };
@@ -42,6 +44,7 @@ invariant_of-self-in-Err c =
       indexes = record {
         keys = record {
           spans = c.self.invariant.indexes.keys.spans;
+          origins = c.self.invariant.indexes.keys.origins;
           names = c.self.invariant.indexes.keys.names;
           referrers = taken_back r c.self.inside.indexes.referrers.keys c.self.invariant.indexes.keys.referrers c.args.object (contains (slice_cmp nat_cmp) c.in_ok-before.before) (contains (slice_cmp nat_cmp) c.in_ok-before.before)
               c.add.new.self.keys c.take.new.self.keys
@@ -59,11 +62,12 @@ invariant_of-self-in-Ok c =
     let x = c.in-Ok.old in
     let stood : get r o.key ≡ Some x = c.in-Ok.ensures.old in
     let found = rw c.key.ensures at c.get.ensures in
-    subst (λ (s : Reg). IsKept s (record { spans = c.self.inside.indexes.spans; names = c.self.inside.indexes.names; referrers = c.take-in-Ok.new.self; namings = c.take-in-Ok-2.new.self })) (sym c.in-Ok.ensures.ok) (record {
+    subst (λ (s : Reg). IsKept s (record { spans = c.self.inside.indexes.spans; origins = c.self.inside.indexes.origins; names = c.self.inside.indexes.names; referrers = c.take-in-Ok.new.self; namings = c.take-in-Ok-2.new.self })) (sym c.in-Ok.ensures.ok) (record {
       sound = subst (λ (s : Reg). Sound (insert s o.key o)) (sym c.self.view_is) c.requires.sound;
       indexes = record {
         keys = record {
           spans = spans_stay r (insert r o.key o) (keys_stay r o x stood) _ _ _ c.self.invariant.indexes.keys.spans;
+          origins = origins_stay r (insert r o.key o) (keys_stay r o x stood) c.self.inside.indexes.origins.routes c.self.invariant.indexes.keys.origins;
           names = names_stay r (insert r o.key o) (keys_stay r o x stood) c.self.inside.indexes.names.keys c.self.invariant.indexes.keys.names;
           referrers = referrers_changed r c.self.inside.indexes.referrers.keys c.self.invariant.indexes.keys.referrers o x (contains (slice_cmp nat_cmp) c.in_ok-before.before) (contains (slice_cmp nat_cmp) c.in_ok-after.after)
               c.add.new.self.keys c.take-in-Ok.new.self.keys stood (c.self.invariant.sound.keyed o.key x stood)

@@ -10,7 +10,7 @@ use Rattle.rr_index.proofs.indexes.Indexes.enter.Goals as goal
 pub returns-in_err-add-clause-err : goal.returns-in_err-add-clause-err
 returns-in_err-add-clause-err c =
     let now = c.args.self.now in
-    let kept : HasIndexes c.args.objects.now (record { spans = now.spans; names = now.names; referrers = now.referrers; namings = c.add.new.self }) = record {
+    let kept : HasIndexes c.args.objects.now (record { spans = now.spans; origins = now.origins; names = now.names; referrers = now.referrers; namings = c.add.new.self }) = record {
       keys = c.requires.indexed.keys;
       namings = namings_same c.args.objects.now now.namings.counts c.requires.indexed.namings c.add.new.self.counts c.in_err-add.ensures.err;
     } in

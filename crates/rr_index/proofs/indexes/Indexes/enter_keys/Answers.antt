@@ -28,7 +28,8 @@ returns-in-Ok-clause-ok c =
     let o = c.args.object.now in
     record {
       spans = c.in-Ok.ensures.ok.0;
-      names = c.in-Ok.ensures.ok.1;
+      origins = c.in-Ok.ensures.ok.1;
+      names = c.in-Ok.ensures.ok.2;
       referrers = subst (λ (s : SetIndex). HasReferrers (insert r o.key o) s.keys) (sym c.enter_key.ensures.aside)
           (referrers_first r c.args.self.now.referrers.keys c.requires.indexed.referrers o (contains (slice_cmp nat_cmp) c.new-none.result) c.add.new.self.keys c.requires.free
           (λ n. ap (list_any (is_at (slice_cmp nat_cmp n))) c.new-none.ensures.empty) c.in_ok-add.ensures.ok);
@@ -41,7 +42,8 @@ returns-clause-err c =
     let empty : (n : List ℕ) → contains (slice_cmp nat_cmp) c.new-none.result n ≡ false = λ n. ap (list_any (is_at (slice_cmp nat_cmp n))) c.new-none.ensures.empty in
     record {
       spans = c.in-Err.ensures.err.0;
-      names = c.in-Err.ensures.err.1;
+      origins = c.in-Err.ensures.err.1;
+      names = c.in-Err.ensures.err.2;
       referrers = taken_back r c.args.self.now.referrers.keys c.requires.indexed.referrers o (contains (slice_cmp nat_cmp) c.new-none.result) (λ other. false) c.enter_key.new.self.referrers.keys c.take_all.new.self.keys
           (λ n. empty n ∙ sym (ap (λ v. option_map_or (names_set n) v false) c.requires.free))
           (λ n. sym (empty n))

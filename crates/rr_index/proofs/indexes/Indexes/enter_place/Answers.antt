@@ -1,0 +1,16 @@
+use Rattle.std.proofs.Common.{ap, subst, ◌∙◌}
+use Rattle.std.specs.FinMap.{get, insert}
+use Rattle.rr_auth.specs.Registries.{Reg}
+use Rattle.rr_index.specs.OriginIndexes.{HasOrigins}
+use Rattle.rr_index.proofs.Referrers.{put_and_taken}
+use Rattle.rr_index.proofs.indexes.Indexes.enter_place.Goals as goal
+
+pub returns-in-Err-clause-err : goal.returns-in-Err-clause-err
+returns-in-Err-clause-err c =
+    let r = c.args.objects.now in
+    let k = c.key-key.result.now in
+    let o = c.args.object.now in (
+      c.in-Err.ensures.err r c.requires.spans,
+      subst (λ (m : Reg). HasOrigins m c.take.new.self.routes) (put_and_taken r k o (ap (get r) c.key-key.ensures ∙ c.requires.free))
+          (c.take.ensures (insert r k o) (c.in_ok-add.ensures.ok r o c.requires.origins)),
+    )

@@ -1,0 +1,61 @@
+//! The routes of a registry, by origin.
+
+ghost use Rattle.std.specs.Prelude.{◌≡◌, OnErr, OnOk, filter};
+ghost use Rattle.std.specs.FinMap.{empty, insert, remove};
+ghost use Rattle.std.specs.List.Sorted.{IsStrictlySortedBy};
+ghost use Rattle.rr_object.specs.Objects.{Obj};
+ghost use Rattle.rr_auth.specs.Registries.{Reg};
+ghost use Rattle.rr_index.specs.OriginIndexes.{HasOrigins, is_from, origin_cmp};
+
+use rr_number::{Address, AsNumber, Prefix};
+use rr_object::Key;
+use std::alloc::{AllocError, Global};
+use std::collections::BTreeSet;
+use std::collections::btree_set::Range;
+
+/// The origins of the registered routes, each with its prefix: the routes of an origin stand next to each other.
+#[derive(Drop)]
+pub(crate) struct OriginIndex {
+    routes: BTreeSet<(AsNumber, Prefix)>,
+}
+
+impl OriginIndex {
+    /// No routes.
+    pub(crate) fn new(alloc: Global) -> OriginIndex
+        ensures { HasOrigins empty result.routes }
+    {
+        OriginIndex {
+            routes: BTreeSet::new(alloc),
+        }
+    }
+
+    /// Enters an object that is registered under the key. The error is want of memory and changes nothing.
+    pub(crate) fn add(&mut self, key: &Key) -> Result<(), AllocError>
+        ensures ok { OnOk result ((r : Reg) (o : Obj) → HasOrigins r self.old.routes → HasOrigins (insert r key.now o) self.new.routes) }
+        ensures err { OnErr result ((r : Reg) → HasOrigins r self.old.routes → HasOrigins r self.new.routes) }
+    {
+        if let Key::Route(prefix, origin) = key {
+            self.routes.insert((*origin, *prefix))?;
+        }
+        Ok(())
+    }
+
+    /// Takes out the object that was registered under the key.
+    pub(crate) fn take(&mut self, key: &Key)
+        ensures { (r : Reg) → HasOrigins r self.old.routes → HasOrigins (remove r key.now) self.new.routes }
+    {
+        if let Key::Route(prefix, origin) = key {
+            self.routes.remove(&(*origin, *prefix));
+        }
+    }
+
+    /// The routes of the origin, in the order of their prefixes.
+    pub(crate) fn routes_of(&self, origin: AsNumber) -> Range<'_, (AsNumber, Prefix)>
+        ensures routes { result ≡ filter (is_from origin) self.now.routes.keys }
+        ensures ordered { IsStrictlySortedBy origin_cmp self.now.routes.keys }
+    {
+        let least = Prefix::new(Address::from_bits(0), 0);
+        let greatest = Prefix::new(Address::from_bits(u32::MAX), 32);
+        self.routes.range((origin, least)..=(origin, greatest))
+    }
+}

@@ -9,9 +9,10 @@ import building
 STORE = os.path.join(building.TOP, "bench", "store")
 DIGEST = "ba7816bf8f01cfea414140de5dae2223b00361a396177a9cb410ff61f20015ad"
 REST = "mnt-by:         ROOT-MNT\nsource:         TEST\n\n"
-PORT_LIBRARIES = ["anyhow", "sqlite"]
+PORT_LIBRARIES = ["anyhow", "sqlite", "sqlite_std_file", "sqlite_store"]
 DESK = os.path.join(building.TOP, "bench", "desk")
-DESK_LIBRARIES = ["anyhow", "rr_desk", "rr_index", "rr_io", "rr_number", "rr_object", "rr_registry", "rr_text", "sqlite"]
+DESK_LIBRARIES = ["anyhow", "rr_desk", "rr_io", "rr_number", "rr_object", "rr_registry", "rr_text", "sqlite", "sqlite_std_file",
+                  "sqlite_store", "sqlite_trees"]
 
 
 def opening():

@@ -1,6 +1,7 @@
 /* Loaded before the C library by scripts/sweeps: it counts the calls of one kind that the program makes, and fails one of them, or
-   all from one on, or ends the process in place of one, or lets each read give one byte. FAILING is KIND:HOW:NUMBER, and
-   FAILING_COUNT a file for the count. Calls of the kind `room` fail as on a disk that is full. */
+   all from one on, or ends the process in place of one, or lets each read give one byte, or lets NUMBER bytes pass in all and then
+   fails. FAILING is KIND:HOW:NUMBER, and FAILING_COUNT a file for the count. Calls of the kind `room` fail as on a disk that is
+   full. */
 #define _GNU_SOURCE
 #include <errno.h>
 #include <fcntl.h>
@@ -41,11 +42,16 @@ __attribute__((destructor)) static void tell_count(void)
     syscall(SYS_close, file);
 }
 
+/* Whether bytes are counted in place of calls of this kind. */
+static int takes(const char *called) { return strcmp(kind, called) == 0 && strcmp(how, "take") == 0; }
+
 /* Whether this call of the kind is to fail. */
 static int fails(const char *called)
 {
     if (!kind[0] || strcmp(kind, called) != 0)
         return 0;
+    if (takes(called))
+        return met >= wanted;
     met++;
     if (met != wanted && !(met > wanted && strcmp(how, "on") == 0))
         return 0;
@@ -58,6 +64,20 @@ static long failed(int error)
 {
     errno = error;
     return -1;
+}
+
+/* How many bytes of a call may pass. */
+static size_t passing(const char *called, size_t size)
+{
+    return takes(called) && size > (size_t)(wanted - met) ? (size_t)(wanted - met) : size;
+}
+
+/* What the system answered, with its bytes counted. */
+static ssize_t passed(const char *called, ssize_t size)
+{
+    if (takes(called) && size > 0)
+        met += size;
+    return size;
 }
 
 static void *refused(void)
@@ -78,7 +98,7 @@ ssize_t read(int file, void *bytes, size_t size)
         size = 1;
     else if (fails("input"))
         return failed(EIO);
-    return syscall(SYS_read, file, bytes, size);
+    return passed("input", syscall(SYS_read, file, bytes, passing("input", size)));
 }
 
 ssize_t write(int file, const void *bytes, size_t size)
@@ -86,7 +106,9 @@ ssize_t write(int file, const void *bytes, size_t size)
     const char *called = file == 1 ? "output" : file == 2 ? "none" : "disk";
     if (file > 2 && fails("room"))
         return failed(ENOSPC);
-    return fails(called) ? failed(file == 1 ? ENOSPC : EIO) : syscall(SYS_write, file, bytes, size);
+    if (fails(called))
+        return failed(file == 1 ? ENOSPC : EIO);
+    return passed(called, syscall(SYS_write, file, bytes, passing(called, size)));
 }
 
 ssize_t __write(int file, const void *bytes, size_t size) { return write(file, bytes, size); }
@@ -98,12 +120,16 @@ int socket(int domain, int type, int protocol)
 
 ssize_t recv(int file, void *bytes, size_t size, int flags)
 {
-    return fails("peer") ? failed(ECONNRESET) : syscall(SYS_recvfrom, file, bytes, size, flags, NULL, NULL);
+    if (fails("peer"))
+        return failed(ECONNRESET);
+    return passed("peer", syscall(SYS_recvfrom, file, bytes, passing("peer", size), flags, NULL, NULL));
 }
 
 ssize_t send(int file, const void *bytes, size_t size, int flags)
 {
-    return fails("peer") ? failed(ECONNRESET) : syscall(SYS_sendto, file, bytes, size, flags, NULL, 0);
+    if (fails("peer"))
+        return failed(ECONNRESET);
+    return passed("peer", syscall(SYS_sendto, file, bytes, passing("peer", size), flags, NULL, 0));
 }
 
 ssize_t pread(int file, void *bytes, size_t size, off_t place)

@@ -173,8 +173,9 @@ def mutated(chance, text):
 
 
 def foundation(chance):
-    """Items with all secrets, after which some of the others are accepted."""
-    texts = [b"".join(b"password: %s\n" % secret for secret in SECRETS.values() if chance.random() < 0.8) + b"\n"]
+    """Items with many of the secrets, after which some of the others are accepted."""
+    share = chance.choice([0.9, 0.6])
+    texts = [b"".join(b"password: %s\n" % secret for secret in SECRETS.values() if chance.random() < share) + b"\n"]
     for name in NAMES[1:4]:
         texts.append(b"mntner: %s\nauth: %s\nmnt-by: %s\nsource: TEST\n" % (name, auth_of(name), name))
     for name, key, owner in [(b"inetnum", b"10.0.0.0/8", b"A-MNT"), (b"aut-num", b"AS1", b"A-MNT"),
@@ -182,6 +183,8 @@ def foundation(chance):
                              (b"as-set", b"AS-A", b"A-MNT"), (b"route-set", b"RS-A", b"B-MNT")]:
         if chance.random() < 0.8:
             texts.append(b"%s: %s\nmnt-by: %s\nsource: TEST\n" % (name, key, owner))
+    if chance.random() < 0.8:
+        texts.append(b"aut-num: AS3\nmnt-routes: %s\nmnt-by: ROOT-MNT\nsource: TEST\n" % any_grants(chance))
     return texts
 
 

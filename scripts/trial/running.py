@@ -13,6 +13,8 @@ import time
 TOP = os.path.dirname(os.path.dirname(os.path.dirname(os.path.abspath(__file__))))
 DIGEST = "ba7816bf8f01cfea414140de5dae2223b00361a396177a9cb410ff61f20015ad"
 AUTH = f"SHA256-PW a:{DIGEST}"
+# The most seconds that a run may take that takes a hundredth of one where the machine is idle.
+PATIENCE = 60
 SETTINGS = f"""source = "TEST"
 root = "ROOT-MNT"
 auth = "{AUTH}"
@@ -112,14 +114,14 @@ def limited(most_bytes=None, stack=None, user=None, closed=()):
     return set_limits
 
 
-def run(command, folder, stdin=None, timeout=10, limits=None, output=None):
+def run(command, folder, stdin=None, timeout=PATIENCE, limits=None, output=None, environment=None):
     """Runs the program to its end. The input is bytes, or a file."""
     with tempfile.TemporaryFile() as printed, tempfile.TemporaryFile() as said, tempfile.TemporaryFile() as given:
         if isinstance(stdin, bytes):
             given.write(stdin)
             given.seek(0)
         source = given if stdin is None or isinstance(stdin, bytes) else stdin
-        process = subprocess.Popen(command, cwd=folder, stdin=source, stdout=output or printed, stderr=said,
+        process = subprocess.Popen(command, cwd=folder, stdin=source, stdout=output or printed, stderr=said, env=environment,
                                    preexec_fn=limited(**limits) if limits else None)
         memory, status, seconds = watched(process, timeout)
         printed.seek(0)
@@ -127,7 +129,7 @@ def run(command, folder, stdin=None, timeout=10, limits=None, output=None):
         return Ran(status, printed.read(), said.read(), seconds, memory)
 
 
-def run_in_pieces(command, folder, text, sizes, timeout=10):
+def run_in_pieces(command, folder, text, sizes, timeout=PATIENCE):
     """Runs the program with an input that it reads in pieces of just these sizes, over and over."""
     reader, writer = os.pipe2(os.O_DIRECT | os.O_CLOEXEC)
     with tempfile.TemporaryFile() as printed, tempfile.TemporaryFile() as said:

@@ -1,10 +1,11 @@
 """The program while it serves, and what peers send to it and get from it."""
 import contextlib
+import os
 import socket
 import subprocess
 import time
 
-from trial.running import Failure, expect, peak_memory
+from trial.running import Failure, expect, limited, peak_memory
 
 GIVEN = b"HTTP/1.1 200 OK\r\nContent-Type: text/plain\r\nConnection: close\r\n\r\n"
 LONGEST = 75
@@ -17,24 +18,31 @@ def free_port():
 
 
 class Listening:
-    """A port that is taken."""
+    """A port that nobody else can listen on: this one, or any."""
+
+    def __init__(self, port=0):
+        self.port, self.taken = port, None
 
     def __enter__(self):
-        self.taken = socket.create_server(("127.0.0.1", 0))
-        return self.taken.getsockname()[1]
+        # A port that another process has, or that may not be had, is as good.
+        with contextlib.suppress(OSError):
+            self.taken = socket.create_server(("127.0.0.1", self.port))
+        return self.port or self.taken.getsockname()[1]
 
     def __exit__(self, *_):
-        self.taken.close()
+        if self.taken:
+            self.taken.close()
 
 
 class Server:
     """The program while it serves so many connections; ended by force where a case ends before it."""
 
-    def __init__(self, program, folder, count):
-        self.port = free_port()
+    def __init__(self, program, folder, count, stack=None, patience=LONGEST):
+        self.port, self.patience = free_port(), patience
         self.memory, self.slowest, self.count = 0, 0.0, count
         self.process = subprocess.Popen([program, "serve", "s.toml", "--port", str(self.port), "--count", str(count)], cwd=folder,
-                                        stdin=subprocess.DEVNULL, stdout=subprocess.PIPE, stderr=subprocess.PIPE)
+                                        stdin=subprocess.DEVNULL, stdout=subprocess.PIPE, stderr=subprocess.PIPE,
+                                        preexec_fn=limited(stack=stack) if stack else None)
         first = self.process.stdout.readline()
         if first != b"listening on 127.0.0.1:%d\n" % self.port:
             self.__exit__()
@@ -51,7 +59,7 @@ class Server:
     def ask(self, text, cuts=()):
         """What a peer is answered that sends this, cut at these places, and then no more."""
         start = time.monotonic()
-        with contextlib.closing(socket.create_connection(("127.0.0.1", self.port), LONGEST)) as peer:
+        with contextlib.closing(socket.create_connection(("127.0.0.1", self.port), self.patience)) as peer:
             peer.setsockopt(socket.IPPROTO_TCP, socket.TCP_NODELAY, 1)
             places = [0, *sorted(cuts), len(text)]
             for begin, end in zip(places, places[1:]):
@@ -74,6 +82,13 @@ class Server:
         printed, said = self.process.communicate(timeout=LONGEST)
         wanted = b"served %d, failed %d\n" % (self.count - failed, failed)
         expect((self.process.returncode, printed, said), (0, wanted, b""), "how serve ended")
+
+    def ended(self):
+        """The seconds of the processor that it took, once it has ended by itself with status 0."""
+        _, status, usage = os.wait4(self.process.pid, 0)
+        self.process.returncode = os.waitstatus_to_exitcode(status)
+        expect(self.process.returncode, 0, "the status of serve")
+        return usage.ru_utime + usage.ru_stime
 
     def look(self):
         """Notes the most memory that it held so far."""

@@ -186,12 +186,27 @@ def settings(script):
     for size, status in [(1_048_575, 0), (1_048_576, 0), (1_048_577, 3), (2_000_000, 3)]:
         write(folder, "f.toml", text + b"#" * (size - len(text)))
         expect(script.run(folder, "query", "f.toml", "AS1").status, status, f"settings of {size} bytes")
-    with Listening() as port:
-        for words, status in [((port, 1), 5), ((port, 1_000_000), 5), ((port, 0), 2), ((port, 1_000_001), 2), ((0, 1), 2),
-                              ((65_536, 1), 2)]:
+    with Listening() as port, Listening(1) as first, Listening(65_535) as last:
+        asked = [((port, 1), 5), ((port, 1_000_000), 5), ((port, 0), 2), ((port, 1_000_001), 2), ((first, 1), 5), ((last, 1), 5),
+                 ((0, 1), 2), ((65_536, 1), 2)]
+        for words, status in asked:
             ran = script.run(folder, "serve", "s.toml", "--port", str(words[0]), "--count", str(words[1]))
             expect(ran.status, status, f"a port and a count {words}")
-    return "4 sizes of settings, 6 pairs of a port and a count"
+    return f"4 sizes of settings, {len(asked)} pairs of a port and a count"
+
+
+@case("dumps")
+def dumps(script):
+    """A dump whose last paragraph is one below, at and above the most bytes."""
+    folder, registry = script.place("size-dumps"), opened()
+    write_settings(folder)
+    for size in (65_535, 65_536, 65_537):
+        write(folder, "d.rpsl", registry.dump() + b"\n" + filled(size))
+        ran = script.run(folder, "load", "s.toml", "d.rpsl")
+        expect((ran.status, ran.printed), (0, b"loaded 5 objects\n") if size <= 65_536 else (5, b""), f"a paragraph of {size} bytes")
+        if size <= 65_536:
+            os.remove(os.path.join(folder, "irr.db"))
+    return "3 sizes"
 
 
 @case("reads")

@@ -3,7 +3,8 @@
 /// What the program is.
 pub const PROGRAM: &str = "An Internet routing registry for IPv4 (RFC 2622, RFC 2725).
 
-Without a command a registry in memory, of which nothing lasts, reads a submission on standard input and prints the report.";
+Without a command a registry in memory, of which nothing lasts, reads a submission on standard input and prints the report.
+Its root maintainer is ROOT-MNT, whose secret `bc` is published.";
 
 /// The program by an example, and its statuses.
 pub const PROGRAM_EXAMPLE: &str = "Example, with the settings in irr.toml:
@@ -18,11 +19,11 @@ most names that an expansion of a set may reach, and the path of the database:
   auth = \"SHA256-PW salt:digest\"
   limit = 10000
   store = \"irr.db\"
-The digest is what this prints for the salt `salt` and the secret `secret`:
-  printf %s saltsecret | sha256sum
+This prints the value of `auth` for the salt `salt` and the secret `secret`:
+  printf 'SHA256-PW salt:%.64s\\n' \"$(printf %s saltsecret | sha256sum)\"
 
 Status: 0 done, 1 an item was refused or an answer is an error, 2 wrong words, 3 the settings,
-4 the database, 5 a file, a stream, memory, or a dump that is not loaded.";
+4 the database, 5 a file, a stream, a socket, memory, or a dump that is not loaded.";
 
 /// What `init` does.
 pub const INIT: &str = "Makes the database of a registry, with its opening objects";
@@ -62,8 +63,9 @@ pub const QUERY_EXAMPLE: &str = "Examples:
   irrdesk query irr.toml object route 10.0.0.0/8 AS1
   irrdesk query irr.toml inverse mnt A-MNT      what names a maintainer; inverse origin AS1: the routes
   irrdesk query irr.toml expand AS-X            the members of a set; prefixes AS-X: their prefixes
-An error is one line `% error n` with status 1: 1 is a bad query, 2 one over 1024 bytes, 3 an expansion
-over the limit, 4 memory, 5 the database.";
+No error are `% no entries`, where nothing was found, `% empty`, where a set has no members, and
+`% missing NAME`, where that set is not registered. An error is one line `% error n` with status 1: 1 is a bad
+query, 2 one over 1024 bytes, 3 an expansion over the limit, 4 memory, 5 the database, 6 one that failed before.";
 
 /// What `dump` does.
 pub const DUMP: &str = "Prints all objects, by class and key, and their number";
@@ -79,17 +81,20 @@ pub const LOAD: &str =
 
 /// `load` by an example.
 pub const LOAD_EXAMPLE: &str = "Example, with another `store` in the settings new.toml:
-  irrdesk dump irr.toml --full > backup.rpsl
+  tail -n 1 backup.rpsl
   irrdesk load new.toml backup.rpsl
-prints `loaded n objects`.";
+prints `% end n`, and `loaded n objects`. Any RPSL text is loaded, also a dump that was cut between two
+objects: where its last line is not `% end n`, it is not whole.";
 
 /// What `migrate` does.
 pub const MIGRATE: &str =
     "Makes a database of version 1 one of version 2, which has AS numbers of four octets";
 
 /// `migrate` by an example.
-pub const MIGRATE_EXAMPLE: &str = "Example, behind a copy of the file, since there is no way back:
-  cp irr.db irr.db.old
+pub const MIGRATE_EXAMPLE: &str =
+    "Example, behind a copy of the file and of the log that may lie beside it, since there is no way back:
+  mkdir kept
+  cp irr.db* kept/
   irrdesk migrate irr.toml
 prints `migrated to version 2`.";
 
@@ -105,7 +110,8 @@ and from elsewhere on the same machine:
   curl http://127.0.0.1:4343/query/AS1
   curl http://127.0.0.1:4343/dump
   curl --data-binary @objects.rpsl http://127.0.0.1:4343/submissions
-At the end it prints how many connections were served, and how many failed.";
+At the end it prints how many connections were served, and how many failed. It listens on 127.0.0.1 alone, nothing
+on it is encrypted, and no other program can use the database meanwhile.";
 
 /// What `probe` does.
 pub const PROBE: &str =

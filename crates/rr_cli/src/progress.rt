@@ -40,13 +40,15 @@ pub struct Meter<'a> {
     begun: Option<Instant>,
     drawn: Option<Instant>,
     is_shown: bool,
+    /// Whether what is printed may stand on the same terminal.
+    is_shared: bool,
     is_line_empty: bool,
     count: u64,
 }
 
 impl<'a> Meter<'a> {
-    /// A count of these things, which begins now.
-    pub fn new(rt: &'a HostRuntime, things: Things) -> Meter<'a> {
+    /// A count of these things, which begins now; whether they are printed where the count may stand.
+    fn new(rt: &'a HostRuntime, things: Things, is_shared: bool) -> Meter<'a> {
         let begun = if rt.stderr().is_terminal() {
             Instant::now(rt).ok()
         } else {
@@ -58,6 +60,7 @@ impl<'a> Meter<'a> {
             begun,
             drawn: None,
             is_shown: false,
+            is_shared,
             is_line_empty: true,
             count: 0,
         }
@@ -71,6 +74,7 @@ impl<'a> Meter<'a> {
             begun: None,
             drawn: None,
             is_shown: rt.stderr().is_terminal(),
+            is_shared: rt.stdout().is_terminal(),
             is_line_empty: true,
             count: 0,
         }
@@ -84,8 +88,18 @@ impl<'a> Meter<'a> {
         }
     }
 
-    /// Counts what is in the bytes that pass.
-    pub fn pass(&mut self, bytes: &[u8]) {
+    /// Takes the line away where what is printed next would stand behind it; answers whether it did.
+    fn make_way(&mut self) -> bool {
+        let is_in_the_way = self.is_shown && self.is_shared;
+        if is_in_the_way {
+            self.clear();
+        }
+        is_in_the_way
+    }
+
+    /// Counts what is in the bytes that pass, and draws the line where it is time to, or where it had made way for them;
+    /// never over a printed line that has not ended.
+    fn pass(&mut self, bytes: &[u8], made_way: bool) {
         if let Some(begun) = self.begun {
             let more = match self.things {
                 Things::Items => line_ends(bytes),
@@ -93,7 +107,9 @@ impl<'a> Meter<'a> {
                 Things::Bytes => bytes.len() as u64,
             };
             self.count = self.count.saturating_add(more);
-            self.show(begun);
+            if !self.is_shared || bytes.ends_with(b"\n") {
+                self.show(begun, made_way);
+            }
         }
     }
 
@@ -110,12 +126,13 @@ impl<'a> Meter<'a> {
         count
     }
 
-    /// Draws the line, where it is time to.
-    fn show(&mut self, begun: Instant) {
+    /// Draws the line, where it had made way or it is time to.
+    fn show(&mut self, begun: Instant, made_way: bool) {
         let Ok(now) = Instant::now(self.rt) else {
             return;
         };
-        if now.duration_since(begun) >= Duration::from_millis(QUIET) && self.is_due(now) {
+        let is_late = now.duration_since(begun) >= Duration::from_millis(QUIET);
+        if is_late && (made_way || self.is_due(now)) {
             self.draw(now);
         }
     }
@@ -149,7 +166,7 @@ impl<'a, 'b, W: Sink> Progress<'a, 'b, W> {
     pub fn new(rt: &'a HostRuntime, things: Things, report: &'b mut W) -> Progress<'a, 'b, W> {
         Progress {
             report,
-            meter: Meter::new(rt, things),
+            meter: Meter::new(rt, things, rt.stdout().is_terminal()),
         }
     }
 
@@ -174,9 +191,9 @@ impl<W: Sink> Sink for Progress<'_, '_, W> {
     ghost aside = { λ p. W.aside p.report.now };
 
     fn write(&mut self, bytes: &[u8]) -> io::Result<usize> {
-        self.meter.clear();
+        let made_way = self.meter.make_way();
         let count = self.report.write(bytes)?;
-        self.meter.pass(&bytes[..count]);
+        self.meter.pass(&bytes[..count], made_way);
         Ok(count)
     }
 
@@ -197,7 +214,7 @@ impl<'a, 'b, R: Source> Reading<'a, 'b, R> {
     pub fn new(rt: &'a HostRuntime, reader: &'b mut R) -> Reading<'a, 'b, R> {
         Reading {
             reader,
-            meter: Meter::new(rt, Things::Bytes),
+            meter: Meter::new(rt, Things::Bytes, false),
         }
     }
 
@@ -215,7 +232,7 @@ impl<R: Source> Source for Reading<'_, '_, R> {
 
     fn read(&mut self, buf: &mut [u8]) -> io::Result<usize> {
         let count = self.reader.read(buf)?;
-        self.meter.pass(&buf[..count]);
+        self.meter.pass(&buf[..count], false);
         Ok(count)
     }
 

@@ -12,6 +12,7 @@ use Rattle.rr_object.specs.declared.code.Code.TheVariants.{E10, E11}
 use Rattle.rr_object.specs.declared.key.Key.{Key}
 use Rattle.rr_object.specs.Objects.{Obj}
 use Rattle.rr_auth.specs.Conditions.{names_unknown, unauthorised}
+use Rattle.rr_auth.specs.Laws.{key_about}
 use Rattle.rr_auth.specs.declared.item.Item.{Item}
 use Rattle.rr_auth.specs.declared.item.Item.TheVariants.{Submit, Delete as DeleteItem}
 use Rattle.rr_auth.specs.declared.verdict.Verdict.{Verdict}
@@ -28,7 +29,7 @@ use Rattle.rr_rows.specs.Maps.{HasRows, Puts, Takes}
 use Rattle.rr_store.specs.Adding.{AddsTo}
 use Rattle.rr_desk.specs.Halts.{IsHalted, changes}
 use Rattle.rr_desk.specs.Rows.{Holds}
-use Rattle.rr_desk.specs.Private.{Follows, FollowsGain, FollowsNew, Gains, GainsNew, Leads, key_of}
+use Rattle.rr_desk.specs.Private.{Follows, FollowsGain, FollowsNew, Gains, GainsNew, Leads}
 
 -- a change is never an addition
 behind : (b : Bool) (c : Code) (v : Verdict) → (if b then Refuse c else v) ≡ Add → v ≡ Add
@@ -54,7 +55,7 @@ absent_if_added r secrets o added =
 
 -- a verdict that an item can meet leads where its outcome says
 effect_leads : (before : Reg) (item : Item) (judged : Verdict) → is_met_by item judged ≡ true → ((o : Obj) → item ≡ Submit o → judged ≡ Add → get before o.key ≡ None)
-    → Leads before (key_of item) (outcome_of judged) (after judged before item)
+    → Leads before (key_about item) (outcome_of judged) (after judged before item)
 effect_leads before (Submit o) Add met absent = record { gain = record { object = o; of_key = refl; is = refl }; absent = absent o refl refl }
 effect_leads before (Submit o) Change met absent = record { object = o; of_key = refl; is = refl }
 effect_leads before (Submit o) Same met absent = refl
@@ -67,7 +68,7 @@ effect_leads before (DeleteItem k) Delete met absent = refl
 effect_leads before (DeleteItem k) (Refuse code) met absent = refl
 
 -- so does an item, which is refused for want of memory or meets its verdict
-pub leads : (before : Reg) (secrets : List (List ℕ)) (item : Item) (outcome : Outcome) (later : Reg) → IsStep before secrets item outcome later → Leads before (key_of item) outcome later
+pub leads : (before : Reg) (secrets : List (List ℕ)) (item : Item) (outcome : Outcome) (later : Reg) → IsStep before secrets item outcome later → Leads before (key_about item) outcome later
 leads before secrets item outcome later (inl e) =
     rw (e.outcome_is, e.effect) (effect_leads before item (verdict before secrets item) (verdicts_are_met before secrets item)
     (λ o is added. absent_if_added before secrets o (subst (λ i. verdict before secrets i ≡ Add) is added)))
@@ -115,7 +116,7 @@ still_held old new before after key outcome P held leading survives follows on s
     record { is_open = on clean was.is_open; rows = follows clean before leading was.rows; leaves = settled (on clean was.is_open) }
 
 -- where they could not follow, those of the registry before the item stand
-pub halts_there : (old new : State) (before after : Reg) (secrets : List (List ℕ)) (item : Item) (key : Key) (outcome : Outcome) → key ≡ key_of item → IsStep before secrets item outcome after → changes outcome ≡ true
+pub halts_there : (old new : State) (before after : Reg) (secrets : List (List ℕ)) (item : Item) (key : Key) (outcome : Outcome) → key ≡ key_about item → IsStep before secrets item outcome after → changes outcome ≡ true
     → (HasCleanDisk old → Holds before old) → (HasCleanDisk new → IsTrue new.is_open → new.now ≡ old.now) → Survives old new (TreesOf (Follows key outcome after old.now))
     → IsHalted before secrets item after true new
 halts_there old new before after secrets item key outcome is_key step changing held same survives =

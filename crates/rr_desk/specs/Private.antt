@@ -4,17 +4,10 @@ use Rattle.std.specs.FinMap.{get, insert, remove}
 use Rattle.sqlite.specs.Effect.{Database}
 use Rattle.rr_object.specs.declared.key.Key.{Key}
 use Rattle.rr_object.specs.Objects.{Obj}
-use Rattle.rr_auth.specs.declared.item.Item.{Item}
-use Rattle.rr_auth.specs.declared.item.Item.TheVariants.{Submit, Delete}
 use Rattle.rr_auth.specs.Registries.{Reg}
 use Rattle.rr_registry.specs.declared.outcome.Outcome.{Outcome}
 use Rattle.rr_registry.specs.declared.outcome.Outcome.TheVariants.{Added, Changed, Same as Unchanged, Deleted, Refused}
 use Rattle.rr_rows.specs.Maps.{HasRows}
-
--- the key that an item is about
-abbrev pub key_of : Item → Key
-key_of (Submit object) = object.key
-key_of (Delete key) = key
 
 -- one registry is another with an object under this key
 pub record Gains (before : Reg) (key : Key) (after : Reg) : Type 0 where

@@ -5,11 +5,12 @@ ghost use Rattle.sqlite.specs.Held.{state};
 ghost use Rattle.sqlite.specs.State.{HasCleanDisk, Survives};
 ghost use Rattle.rr_answer.specs.declared.query.Query.TheVariants.{Naming};
 ghost use Rattle.rr_answer.specs.Selections.{asked};
+ghost use Rattle.rr_auth.specs.Laws.{key_about};
 ghost use Rattle.rr_rows.specs.Entries.{TreesOf};
 ghost use Rattle.rr_rows.specs.Maps.{HasRows};
 ghost use Rattle.rr_desk.specs.Halts.{IsHalted, changes};
 ghost use Rattle.rr_desk.specs.Lookups.{is_refused};
-ghost use Rattle.rr_desk.specs.Private.{Follows, FollowsGain, FollowsNew, key_of};
+ghost use Rattle.rr_desk.specs.Private.{Follows, FollowsGain, FollowsNew};
 ghost use Rattle.rr_desk.specs.Rows.{Holds, KeepsRows};
 
 use rr_auth::{Book, Item, Secrets};
@@ -163,7 +164,7 @@ fn is_refused(found: &Result<Vec<Object>, StoreFault>) -> bool
 
 /// The key that an item is about; the error is want of memory.
 fn copied_key(alloc: Global, item: &Item) -> Result<Key, AllocError>
-    ensures { IfOk result (λ key. key ≡ key_of item.now) }
+    ensures { IfOk result (λ key. key ≡ key_about item.now) }
 {
     match item {
         Item::Submit(object) => object.key().copy(alloc),

@@ -183,25 +183,48 @@ struct Sourced {
 }
 
 /// The object that a paragraph of this key is in a registry of any source, and the source that it names.
-#[tactic(auto, using(crate::proofs::Parsed::obj_read, crate::proofs::Parsed::miscounted, crate::proofs::Parsed::bad_text, crate::proofs::Parsed::bad_authority, crate::proofs::Parsed::bad_membership))]
 fn read_of_any_source(alloc: Global, key: Key, paragraph: Paragraph) -> Result<Sourced, ObjectFault>
     requires { key_of paragraph ≡ Ok key }
     ensures ok { IfOk result (λ read. obj_of paragraph ≡ Ok read.object) }
     ensures source { IfOk result (λ read. source_of paragraph ≡ Some read.source) }
     ensures fault { IfErr result (λ fault. fault ≢ Memory → obj_of paragraph ≡ Err fault) }
 {
+    let said = read_said(alloc, &key, &paragraph)?;
+    let object = joined(key, paragraph, said.authority, said.membership);
+    let source = said.source;
+    Ok(Sourced { object, source })
+}
+
+/// What a paragraph says beside its key.
+#[derive(Drop)]
+struct Said {
+    source: Name,
+    authority: Authority,
+    membership: Membership,
+}
+
+#[tactic(auto, using(crate::proofs::Parsed::obj_read, crate::proofs::Parsed::miscounted, crate::proofs::Parsed::bad_text, crate::proofs::Parsed::bad_authority, crate::proofs::Parsed::bad_membership))]
+fn read_said(alloc: Global, key: &Key, paragraph: &Paragraph) -> Result<Said, ObjectFault>
+    requires { key_of paragraph.now ≡ Ok key.now }
+    ensures ok { IfOk result (λ said. obj_of paragraph.now ≡ Ok (record { key = key.now; paragraph = paragraph.now; maintainers = said.authority.maintainers.items; lower = said.authority.lower.items; routes = said.authority.routes.items; auths = said.authority.auths.items; members = said.membership.members.items; by_ref = said.membership.by_ref; member_of = said.membership.member_of.items })) }
+    ensures source { IfOk result (λ said. source_of paragraph.now ≡ Some said.source) }
+    ensures fault { IfErr result (λ fault. fault ≢ Memory → obj_of paragraph.now ≡ Err fault) }
+{
     let class = key.class();
-    let sources = values_of(alloc, &paragraph, Kind::Source.name().as_bytes())?;
-    let maintained = text_read(alloc, class, Kind::MntBy, &paragraph)?;
+    let sources = values_of(alloc, paragraph, Kind::Source.name().as_bytes())?;
+    let maintained = text_read(alloc, class, Kind::MntBy, paragraph)?;
     let maintainers = items(alloc, &maintained)?;
-    if is_miscounted(alloc, class, &paragraph, &sources, &maintainers)? {
+    if is_miscounted(alloc, class, paragraph, &sources, &maintainers)? {
         return Err(ObjectFault::BadCount);
     }
-    let source = read_source(alloc, &paragraph, &sources)?;
-    let authority = read_authority(alloc, class, &paragraph, &maintainers)?;
-    let membership = read_membership(alloc, class, &paragraph)?;
-    let object = joined(key, paragraph, authority, membership);
-    Ok(Sourced { object, source })
+    let source = read_source(alloc, paragraph, &sources)?;
+    let authority = read_authority(alloc, class, paragraph, &maintainers)?;
+    let membership = read_membership(alloc, class, paragraph)?;
+    Ok(Said {
+        source,
+        authority,
+        membership,
+    })
 }
 
 /// The object of what was read.

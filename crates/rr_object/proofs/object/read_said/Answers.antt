@@ -1,10 +1,10 @@
 use Rattle.std.proofs.Common.{sym, ◌∙◌}
 use Rattle.rr_object.proofs.Parsed.{obj_read}
-use Rattle.rr_object.proofs.object.read_of_any_source.Goals as goal
+use Rattle.rr_object.proofs.object.read_said.Goals as goal
 
-pub joined-object-requires : goal.joined-object-requires
-joined-object-requires c =
-    obj_read c.args.paragraph c.args.key _ _ _ _ _ _ _ c.requires
+pub returns-clause-ok : goal.returns-clause-ok
+returns-clause-ok c =
+    obj_read c.args.paragraph.now c.args.key.now _ _ _ _ _ _ _ c.requires
     (rw (← c.class-class.ensures) (sym c.in_ok-is_miscounted.ensures ∙ c.if-branch.false))
     c.in_ok-source.ensures.good
     (rw (← c.class-class.ensures) c.in_ok-authority.ensures.good)

@@ -16,4 +16,5 @@ INSERT INTO object VALUES (4, '00000000-ffffffff', CAST('inetnum:        0.0.0.0
 mnt-by:         ROOT-MNT
 source:         TEST
 ' AS BLOB));
-INSERT INTO named VALUES ('ROOT-MNT', 1, 'ROOT-MNT'), ('ROOT-MNT', 2, '0000-ffff'), ('ROOT-MNT', 4, '00000000-ffffffff');
+INSERT INTO named VALUES ('ROOT-MNT', 1, 'ROOT-MNT'), ('ROOT-MNT', 2, '0000-ffff'),
+    ('ROOT-MNT', 4, '00000000-ffffffff');

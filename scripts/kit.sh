@@ -1,6 +1,6 @@
-# Sourced by the scripts: stops in one line where the toolchain is missing, and says so where it is not the one that the
-# README names. Whichever it is proves the crates anew.
-KIT='rattle-kit-13f logic dac8208d650f15bf'
+# Sourced by the scripts: stops in one line where the toolchain is missing, and says so where its logic is not that of the
+# one that the README names. Whichever it is proves the crates anew.
+KIT='rattle-kit-13b logic dac8208d650f15bf'
 
 require_kit() {
     if ! command -v rt >/dev/null 2>&1; then
@@ -8,7 +8,7 @@ require_kit() {
         exit 2
     fi
     found=$(rt version)
-    if [ "$found" != "$KIT" ]; then
+    if [ "${found#* logic }" != "${KIT#* logic }" ]; then
         echo "irrdesk: this repository was proved with the toolchain '$KIT', and this one is '$found'" >&2
     fi
 }

@@ -27,6 +27,10 @@ class Failure(Exception):
     """What a case found."""
 
 
+class Skipped(Exception):
+    """Why a case can't be tried on this machine."""
+
+
 class Ran:
     """How a run of the program ended: its status, negative for a signal, what it printed and said, the seconds of the processor
     that it took, and the most memory in KiB that it was seen to hold."""
@@ -73,6 +77,8 @@ class Script:
         try:
             told = function(*given)
             print(f"ok: {name}: {told} ({time.monotonic() - start:.1f} s)", flush=True)
+        except Skipped as reason:
+            print(f"skipped: {name}: {reason}", flush=True)
         except Failure as failure:
             self.failed += 1
             print(f"not ok: {name}: seed {self.seed}: {failure}", flush=True)

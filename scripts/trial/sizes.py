@@ -12,10 +12,10 @@ OWNED = b"mnt-by: ROOT-MNT\nsource: TEST\n"
 CASES = []
 
 
-def case(name):
-    """Registers a case, which gets the script and gives words for its line."""
+def case(name, is_long=False):
+    """Registers a case, which gets the script and gives words for its line; one that takes minutes is of the long form alone."""
     def register(function):
-        CASES.append((f"sizes of {name}", function))
+        CASES.append((f"sizes of {name}", function, is_long))
         return function
     return register
 
@@ -209,11 +209,9 @@ def dumps(script):
     return "3 sizes"
 
 
-@case("reads")
+@case("reads", is_long=True)
 def reads(script):
     """A submission and a dump in pieces of one byte each: they may be read so often, and no more."""
-    if not script.long:
-        return "in the long form alone"
     for size, whole in [(MOST_READS - 1, True), (MOST_READS, False)]:
         text = b"\n" * size
         ran = run_in_pieces([script.program], script.work, text, [1], timeout=600)

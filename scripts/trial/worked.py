@@ -7,8 +7,8 @@ from trial.texts import item
 
 PASSWORD = b"password: bc\n"
 AUTH_OF = {b"A-MNT": b"SHA256-PW ab:" + DIGEST.encode(), b"B-MNT": b"SHA256-PW :" + DIGEST.encode()}
-REPORT_CUT = "standard output: the report could not be written; items decided before that: {}"
-READING_CUT = "{}: the submission could not be read to its end; items decided before that: {}"
+REPORT_CUT = "standard output: the report could not be written: submit the whole text again; items decided before that: {}"
+READING_CUT = "{}: the submission could not be read to its end: submit all of it again; items decided before that: {}"
 
 
 def opened():
@@ -82,13 +82,16 @@ class Submission:
         return items
 
     def check_refused(self, ran, rows, _):
-        """With no memory from one call on: the items before, and then refusals for want of it."""
+        """With no memory from one call on: the items before, and then refusals for want of it; or a fault."""
         lines = lines_of(ran)
         told = [line for line in lines if not line.startswith("% ") and not line.endswith((": refused E90", ": refused E91"))]
         expect(told, numbered(self.words)[:len(told)], "the items before")
         expect(lines[:len(told)], told, "nothing but refusals behind")
-        expect(ran.status == 1 or is_fault(ran) or ran.said == b"", True, f"status {ran.status}, {short(ran.said)}")
-        check_rows(rows, *self.dumps[len(told):len(told) + 2])
+        if not is_fault(ran):
+            self.expect_status(ran, lines)
+            expect(lines[-1:], [f"% items {len(lines) - 1}"], "the last line")
+        stopped = any(line.endswith(": refused E91") for line in lines)
+        check_rows(rows, *self.dumps[len(told):len(told) + (2 if stopped else 1)])
 
     def check_front(self, ran, rows, _):
         """That the report is a front of the worked one, and the rows those of its items, or with the next one whole."""

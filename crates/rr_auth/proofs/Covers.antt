@@ -1,16 +1,16 @@
 -- The closest objects of a class: what `closest_of` gives, and what it gives where a closest object is known.
 use Rattle.std.proofs.Common.{◌≡◌, ℕ, ◌≤◌, Bool, true, false, not, ◌&&◌, ◌||◌, inl, inr, List, [], ◌∷◌, refl, sym, ap, subst, ◌∙◌, arith}
-use Rattle.std.specs.Prelude.{Option, None, Some, nat_le}
+use Rattle.std.specs.Prelude.{Option, None, Some, is_none, nat_le}
 use Rattle.std.specs.List.{list_any, list_all}
 use Rattle.std.specs.Option.{option_map_or}
 use Rattle.std.specs.FinMap.{get, values}
-use Rattle.std.proofs.lemmas.Bool.{and_from, and_parts, cases_lt, le-leb, leb-true, true≢false}
+use Rattle.std.proofs.lemmas.Bool.{and_from, and_parts, cases_lt, false_from_ne_true, le-leb, leb-true, true≢false}
 use Rattle.rr_number.specs.Spans.{Ends, covers, crosses, size}
 use Rattle.rr_object.specs.declared.key.Key.{Key}
 use Rattle.rr_object.specs.Objects.{Obj}
 use Rattle.rr_auth.specs.Registries.{Reg, Sound}
 use Rattle.rr_auth.specs.Closest.{closest_of, is_closest, is_cover, is_no_closer}
-use Rattle.rr_auth.proofs.Members.{IsIn, all_pass, each_passes, found_in, found_passes, mapped_value, none_found, none_passes, stands_at}
+use Rattle.rr_auth.proofs.Members.{IsIn, all_pass, each_passes, found_in, found_passes, mapped_value, none_found, none_passes, some_passes, stands_at}
 use Rattle.rr_auth.proofs.Nesting.{one_span}
 
 -- an object is closest to s: it is registered, it covers s, and no registered object of the class that does is smaller
@@ -181,12 +181,36 @@ module _ (class : Key → Option Ends) where
         },
       )
 
+  least_passes : (all : List Obj) (s : Ends) (o : Obj) → IsLeast all s o → is_closest class all s o ≡ true
+  least_passes all s o c =
+      ap (λ v. option_map_or (λ t. covers t s && list_all (is_no_closer class s t) all) v false) c.class_is
+      ∙ and_from _ _ c.covering (all_pass _ all (λ x i. no_closer s c.span x (class x.key) refl (λ u of_class. c.least x u i of_class)))
+
   -- nothing covers where nothing is closest
-  pub none_covers : (r : Reg) (s : Ends) → Sound r → closest_of class (values r) s ≡ None → list_any (is_cover class s) (values r) ≡ false
-  none_covers r s sound e =
-      elim (list_any (is_cover class s) (values r)) as (λ b. list_any (is_cover class s) (values r) ≡ b → b ≡ false) [
-        | true ↦ λ some. let one = closest_exists r s sound some in absurd (closest_missed r s one.0 sound e one.1)
-        | false ↦ λ none. refl
+  pub none_covers : (all : List Obj) (s : Ends) → closest_of class all s ≡ None → list_any (is_cover class s) all ≡ false
+  none_covers all s e =
+      false_from_ne_true _ (λ some.
+      let one = least_among all s some in
+      true≢false (sym (least_passes all s one.0 one.1) ∙ none_passes (is_closest class all s) one.0 all (none_found _ all e) one.1.member))
+
+  -- what is closest is of the class
+  pub closest_span_is : (all : List Obj) (s : Ends) (o : Obj) → closest_of class all s ≡ Some o → (t : Ends) × (class o.key ≡ Some t)
+  closest_span_is all s o e =
+      let read = closest_reads all s o (found_passes (is_closest class all s) o all e).0 in
+      (read.span, read.class_is)
+
+  some_covers : (all : List Obj) (s : Ends) (o : Obj) → closest_of class all s ≡ Some o → list_any (is_cover class s) all ≡ true
+  some_covers all s o e =
+      let found = found_passes (is_closest class all s) o all e in
+      let read = closest_reads all s o found.0 in
+      some_passes (is_cover class s) o all found.1 (cover_said s read.span o read.class_is ∙ read.covering)
+
+  -- nothing is closest exactly where nothing covers
+  pub none_where_uncovered : (all : List Obj) (s : Ends) → is_none (closest_of class all s) ≡ not (list_any (is_cover class s) all)
+  none_where_uncovered all s =
+      elim (closest_of class all s) as (λ v. closest_of class all s ≡ v → is_none v ≡ not (list_any (is_cover class s) all)) [
+        | None ↦ λ e. ap not (sym (none_covers all s e))
+        | Some o ↦ λ e. ap not (sym (some_covers all s o e))
       ] refl
 
   -- nothing is closest where no registered object of the class covers s
@@ -204,7 +228,7 @@ module _ (class : Key → Option Ends) where
   pub closest_none_back : (r : Reg) (s : Ends) → Sound r → closest_of class (values r) s ≡ None
       → (k : Key) (x : Obj) (u : Ends) → get r k ≡ Some x → class k ≡ Some u → covers u s ≡ false
   closest_none_back r s sound e k x u f of_class =
-      sym (cover_said s u x (ap class (sound.keyed k x f) ∙ of_class)) ∙ none_passes (is_cover class s) x (values r) (none_covers r s sound e) (found_in r k x f)
+      sym (cover_said s u x (ap class (sound.keyed k x f) ∙ of_class)) ∙ none_passes (is_cover class s) x (values r) (none_covers (values r) s e) (found_in r k x f)
 
   -- closest objects have one span, where the class does not cross
   pub closest_span : (r : Reg) (s : Ends) (o x : Obj) → IsNested class r → s.first ≤ s.last → (c : IsClosestAt class r s o) (d : IsClosestAt class r s x) → c.span ≡ d.span

@@ -1,6 +1,6 @@
 -- The classes of spans: inetnums and as-blocks never cross in a sound registry, and routes never.
 use Rattle.std.proofs.Common.{◌≡◌, ℕ, ◌≤◌, Bool, true, false, not, ◌&&◌, List, refl, sym, ap, subst, ◌∙◌, arith}
-use Rattle.std.specs.Prelude.{None, Some, ◌==◌, if◌then◌else◌}
+use Rattle.std.specs.Prelude.{None, Some, ◌==◌, if◌then◌else◌, is_none}
 use Rattle.std.specs.List.{list_any, list_all}
 use Rattle.std.specs.Option.{option_map_or, option_and_then}
 use Rattle.std.specs.FinMap.{get, values}
@@ -13,10 +13,11 @@ use Rattle.rr_object.specs.declared.key.Key.TheVariants.{Mntner, AsBlock, AutNum
 use Rattle.rr_object.specs.KeyOrders.{IsKeyValue, IsRoute}
 use Rattle.rr_object.specs.Objects.{Obj}
 use Rattle.rr_auth.specs.Authority.{routes_pass}
-use Rattle.rr_auth.specs.Closest.{block_span, closest_block, closest_inetnum, closest_routes, inetnum_span, is_closest, is_cover, is_no_closer, origin_at, origins, route_prefix, route_span, same_prefix}
+use Rattle.rr_auth.specs.Closest.{block_span, closest_block, closest_inetnum, closest_of, closest_routes, inetnum_span, is_closest, is_cover, is_no_closer, origin_at, origins, route_prefix, route_span, same_prefix}
 use Rattle.rr_auth.specs.Conditions.{cover_refuses, route_passes, space_passes}
+use Rattle.rr_auth.specs.Laws.{IsClosestWhereCovered}
 use Rattle.rr_auth.specs.Registries.{Reg, Sound, keys_cross}
-use Rattle.rr_auth.proofs.Covers.{IsClosestAt, IsNested, closest_exists, closest_given, closest_none, closest_passes, closest_said, closest_span, closest_there}
+use Rattle.rr_auth.proofs.Covers.{IsClosestAt, IsNested, closest_exists, closest_given, closest_none, closest_passes, closest_said, closest_span, closest_span_is, closest_there, none_where_uncovered}
 use Rattle.rr_auth.proofs.Members.{found_in, list_any-filter_map, none_passes, same_tests, stands_at}
 
 some_same : {A : Type 0} {x y : A} → Some x ≡ Some y → x ≡ y
@@ -213,6 +214,22 @@ module _ (r : Reg) (secrets : List (List ℕ)) (p q : PrefixParts) (o : Obj) (so
 
 closest_prefix : (o : Obj) (s : Ends) → route_span o.key ≡ Some s → (q : PrefixParts) × (route_prefix o.key ≡ Some q)
 closest_prefix o s e = let key = route_key o.key s e in (key.0, ap route_prefix key.1.1.0)
+
+-- a closest route has a prefix, which is given
+closest_routes_none_alike : (r : Reg) (p : PrefixParts) → is_none (closest_routes r p) ≡ is_none (closest_of route_span (values r) (span_of p))
+closest_routes_none_alike r p =
+    elim (closest_of route_span (values r) (span_of p)) as (λ v. closest_of route_span (values r) (span_of p) ≡ v
+    → is_none (option_and_then (λ x. route_prefix x.key) v) ≡ is_none v) [
+      | None ↦ λ e. refl
+      | Some o ↦ λ e. let own = closest_span_is route_span (values r) (span_of p) o e in ap is_none (closest_prefix o own.0 own.1).1
+    ] refl
+
+pub nothing_closest_is_uncovered : (r : Reg) → IsClosestWhereCovered r
+nothing_closest_is_uncovered r = record {
+  inetnums = none_where_uncovered inetnum_span (values r);
+  blocks = none_where_uncovered block_span (values r);
+  routes = λ p. closest_routes_none_alike r p ∙ none_where_uncovered route_span (values r) (span_of p);
+}
 
 pub routes_ask_the_closest : (r : Reg) (secrets : List (List ℕ)) (p : PrefixParts) (n : ℕ) → Sound r
     → cover_refuses r secrets (Route p n) ≡ not (

@@ -1,5 +1,5 @@
 -- What every verdict keeps.
-use Rattle.std.specs.Prelude.{◌≡◌, ◌&&◌, ℕ, true, false, not, List, Some, if◌then◌else◌}
+use Rattle.std.specs.Prelude.{◌≡◌, ◌&&◌, ℕ, true, false, not, List, Some, if◌then◌else◌, is_none}
 use Rattle.std.specs.List.{list_any}
 use Rattle.std.specs.FinMap.{get, values}
 use Rattle.std.specs.Option.{option_map_or}
@@ -93,6 +93,18 @@ abbrev pub ClosestRoutesAgree : Type 0
 ClosestRoutesAgree =
     (r : Reg) (p : PrefixParts) (k : Key) (o : Obj) → Sound r → get r k ≡ Some o
     → is_closest route_span (values r) (span_of p) o ≡ true → closest_routes r p ≡ route_prefix o.key
+
+-- The closest inetnum to a span is none exactly where no inetnum of the registry covers the span; so are the closest
+-- as-block, and the closest routes to a prefix (RFC 2725, 9).
+pub record IsClosestWhereCovered (r : Reg) : Type 0 where
+  pub inetnums : (s : Ends) → is_none (closest_inetnum r s) ≡ not (list_any (is_cover inetnum_span s) (values r))
+  pub blocks : (s : Ends) → is_none (closest_block r s) ≡ not (list_any (is_cover block_span s) (values r))
+  pub routes : (p : PrefixParts) → is_none (closest_routes r p) ≡ not (list_any (is_cover route_span (span_of p)) (values r))
+
+-- In every registry, sound or not, nothing is closest exactly where nothing covers: so E12 is as RFC 2725, 9
+-- words it.
+abbrev pub NothingClosestIsUncovered : Type 0
+NothingClosestIsUncovered = (r : Reg) → IsClosestWhereCovered r
 
 -- E13 of a route in a sound registry: the names that decide about it pass for no closest route, or, where no route
 -- covers it, not for the closest inetnum.

@@ -1,6 +1,6 @@
 //! Laws of verdicts, for readers and for the proofs of other crates. Nothing calls these functions.
 
-ghost use Rattle.rr_auth.specs.Laws.{ClosestRoutesAgree, OneClosestBlock, OneClosestInetnum, RefusalLeaves, RoutesAskTheClosest, SecretsAreASet, StaysOfSource, StaysSound, StoredNamesDecide, VerdictsAreMet};
+ghost use Rattle.rr_auth.specs.Laws.{ClosestRoutesAgree, NothingClosestIsUncovered, OneClosestBlock, OneClosestInetnum, RefusalLeaves, RoutesAskTheClosest, SecretsAreASet, StaysOfSource, StaysSound, StoredNamesDecide, VerdictsAreMet};
 
 /// An item that is refused leaves the registry as it was.
 #[tactic(auto, using(crate::proofs::Steps::refusal_leaves))]
@@ -48,6 +48,11 @@ pub fn closest_blocks_are_one()
 /// The closest routes to a prefix have one prefix.
 pub fn closest_routes_have_one_prefix()
     ensures { ClosestRoutesAgree }
+{}
+
+/// Nothing is closest exactly where nothing covers: no inetnum or as-block to a span, and no route to a prefix.
+pub fn nothing_closest_is_uncovered()
+    ensures { NothingClosestIsUncovered }
 {}
 
 /// A route is refused by the space that it lies in where no closest route authorises it, or, where no route covers it,

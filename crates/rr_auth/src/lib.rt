@@ -8,6 +8,7 @@ mod item;
 mod judging;
 pub mod laws;
 mod passing;
+mod salted;
 mod secret;
 mod secrets;
 mod tried;

@@ -13,7 +13,8 @@ use rr_number::Name;
 use rr_object::{Auth, Object};
 
 /// Whether the maintainer passes: some secret fits one of its lines, so that SHA-256 of the salt and then the secret is
-/// the line's digest (profile; FIPS 180-4). However often it is asked, a secret is hashed with a line once.
+/// the line's digest (profile; FIPS 180-4). However often it is asked, a secret is hashed with each salt of
+/// its lines once.
 pub fn passes(maintainer: &Object, secrets: &mut Secrets) -> bool
     ensures answer { result ≡ passes secrets.old maintainer.now }
     ensures same_secrets { secrets.new ≡ secrets.old }
@@ -26,7 +27,7 @@ fn some_line_fits(lines: &[Auth], secrets: &mut Secrets) -> bool
     ensures same_secrets { secrets.new ≡ secrets.old }
 {
     'lines: for line in lines {
-        if secrets.some_fits(line) {
+        if secrets.some_fits(lines, line) {
             return true;
         }
     }

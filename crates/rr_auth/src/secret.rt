@@ -1,7 +1,8 @@
 //! One secret.
 
-ghost use Rattle.std.specs.Prelude.{◌≡◌, IfOk};
+ghost use Rattle.std.specs.Prelude.{◌≡◌, ◌++◌, IfOk};
 ghost use Rattle.std.specs.List.{list_any};
+ghost use Rattle.sha2.specs.Sha256.{sha256};
 ghost use Rattle.rr_auth.specs.Passing.{fits_line};
 
 use rr_object::Auth;
@@ -58,8 +59,15 @@ pub(crate) fn some_fits(secrets: &[Secret], line: &Auth) -> bool
 fn fits_line(line: &Auth, secret: &Secret) -> bool
     ensures { result ≡ fits_line line.now secret.now }
 {
+    salted_digest(line.salt(), secret) == *line.digest()
+}
+
+/// SHA-256 of the salt and then the secret (FIPS 180-4).
+pub(crate) fn salted_digest(salt: &[u8], secret: &Secret) -> [u8; 32]
+    ensures { result ≡ sha256 (salt.now ++ secret.now) }
+{
     let mut hasher = Sha256::new();
-    hasher.update(line.salt());
+    hasher.update(salt);
     hasher.update(secret.as_bytes());
-    hasher.finalize() == *line.digest()
+    hasher.finalize()
 }

@@ -79,11 +79,12 @@ impl Secrets {
         self.list.as_slice()
     }
 
-    /// Whether one of the secrets fits the line. It is remembered, so that each secret is hashed with a line once.
-    pub(crate) fn some_fits(&mut self, line: &Auth) -> bool
+    /// Whether one of the secrets fits the line, which stands among these lines. It is remembered of all of them, so that
+    /// each secret is hashed with each of their salts once.
+    pub(crate) fn some_fits(&mut self, lines: &[Auth], line: &Auth) -> bool
         ensures answer { result ≡ list_any (fits_line line.now) self.old }
         ensures same_secrets { self.new ≡ self.old }
     {
-        self.tried.some_fits(self.list.as_slice(), line)
+        self.tried.some_fits(self.list.as_slice(), lines, line)
     }
 }

@@ -1,5 +1,5 @@
 -- What goes wrong, the status that it ends the program with, and its words (profile).
-use Rattle.std.specs.Prelude.{ℕ, List, [], Option, None, Some, codes}
+use Rattle.std.specs.Prelude.{ℕ, ◌==◌, List, [], Option, None, Some, codes, if◌then◌else◌}
 use Rattle.rr_store.specs.declared.fault.CreateFault.TheVariants as creating
 use Rattle.rr_store.specs.declared.fault.MigrateFault.TheVariants as migrating
 use Rattle.rr_store.specs.declared.fault.OpenFault.TheVariants as opening
@@ -16,7 +16,7 @@ use Rattle.rr_cli.specs.declared.settings_file.SettingKey.TheVariants as key
 use Rattle.rr_cli.specs.declared.trouble.Trouble.{Trouble}
 use Rattle.rr_cli.specs.declared.trouble.Trouble.TheVariants.{BadWords, BadPort, BadCount, WordsNotText, SettingsUnread, SettingsNotText, SettingsTooLong, SettingsNotToml, SettingBad, Database, Creating, Opening, FileUnopened, Submission, Dumping, Loading, Migrating, ListenerUnopened, ProbeFailed, Unwritten, Memory}
 
--- the status: 2 at wrong words, 3 at wrong settings, 4 where the store failed or is stopped, and else 5, also where memory ran
+-- the status: 2 at wrong arguments, 3 at wrong settings, 4 where the store failed or is stopped, and else 5, also where memory ran
 -- out (profile)
 abbrev pub trouble_status : Trouble → ℕ
 trouble_status BadWords = 2
@@ -76,7 +76,7 @@ abbrev pub before_number : Trouble → List ℕ
 before_number BadWords = codes "`irrdesk --help` lists the commands"
 before_number BadPort = codes "a port is a number from 1 to 65535"
 before_number BadCount = codes "a count is a number from 1 to 1000000"
-before_number WordsNotText = codes "one of the words is no UTF-8 text"
+before_number WordsNotText = codes "an argument is no UTF-8 text"
 before_number (SettingsUnread cause) = codes "the settings cannot be read: "
 before_number SettingsNotText = codes "the settings are no UTF-8 text"
 before_number SettingsTooLong = codes "the settings are longer than 1048576 bytes"
@@ -88,35 +88,35 @@ before_number (SettingBad key.Limit) = codes "`limit` is missing or bad: it is a
 before_number (SettingBad key.Store) = codes "`store` is missing or bad: it is the path of the database"
 before_number (Database cause) = codes "the database cannot be used: "
 before_number (Creating creating.NotEmpty) = codes "the database has a registry already: take a new one"
-before_number (Creating creating.Store) = codes "the database refuses the tables of a registry"
+before_number (Creating creating.Store) = codes "the database refuses the tables of a registry: take a new one, on a disk with room"
 before_number (Creating creating.Memory) = codes "out of memory"
 before_number (Opening (opening.WrongVersion version)) = codes "the tables of the database are of version "
-before_number (Opening opening.BadRow) = codes "the rows of the database are no registry of the settings' source"
+before_number (Opening opening.BadRow) = codes "the rows of the database are no registry of the settings' source: correct `source`, or restore a backup"
 before_number (Opening opening.Store) = codes "the database has no registry that can be read: `irrdesk init` or `irrdesk load` makes one"
 before_number (Opening opening.Memory) = codes "out of memory"
 before_number (FileUnopened cause) = codes "the file cannot be opened: "
-before_number (Submission (desk.ReadFault items)) = codes "the submission could not be read to its end; items decided before that: "
-before_number (Submission (desk.WriteFault items)) = codes "the report could not be written; items decided before that: "
-before_number (Submission (desk.StoreFault items)) = codes "the database failed; items decided before that: "
+before_number (Submission (desk.ReadFault items)) = codes "the submission could not be read to its end: submit all of it again; items decided before that: "
+before_number (Submission (desk.WriteFault items)) = codes "the report could not be written: submit the whole text again; items decided before that: "
+before_number (Submission (desk.StoreFault items)) = codes "the database failed: look at its disk, and submit the whole text again; items decided before that: "
 before_number (Submission desk.Memory) = codes "out of memory"
-before_number (Submission desk.Stopped) = codes "the desk is stopped"
-before_number (Dumping dumping.Write) = codes "the dump could not be written whole"
+before_number (Submission desk.Stopped) = codes "the database failed before: run the command again"
+before_number (Dumping dumping.Write) = codes "the dump could not be written whole: make room for it, and dump again"
 before_number (Dumping dumping.Memory) = codes "out of memory: the dump is not whole"
-before_number (Dumping dumping.Stopped) = codes "the desk is stopped"
+before_number (Dumping dumping.Stopped) = codes "the database failed before: run the command again"
 before_number (Loading loading.NotEmpty) = codes "the database has a registry already: take a new one"
-before_number (Loading loading.Read) = codes "the dump could not be read to its end"
+before_number (Loading loading.Read) = codes "the dump could not be read to its end, and nothing is loaded: look at its file"
 before_number (Loading loading.Endless) = codes "the dump has no end within 16777216 reads"
 before_number (Loading (loading.Text number)) = codes "nothing is loaded, since paragraph "
 before_number (Loading (loading.Object number code)) = codes "nothing is loaded, since paragraph "
 before_number (Loading (loading.Duplicate number)) = codes "nothing is loaded, since paragraph "
 before_number (Loading (loading.Overlap number)) = codes "nothing is loaded, since paragraph "
 before_number (Loading (loading.Unnamed number)) = codes "nothing is loaded, since paragraph "
-before_number (Loading loading.Store) = codes "the database refuses the tables of a registry"
+before_number (Loading loading.Store) = codes "the database refuses the tables of a registry: take a new one, on a disk with room"
 before_number (Loading loading.Memory) = codes "out of memory"
 before_number (Migrating (migrating.WrongVersion version)) = codes "the tables of the database are of version "
-before_number (Migrating migrating.BadRow) = codes "the rows of the database are no registry of version 1 of the settings' source"
-before_number (Migrating migrating.NoRoot) = codes "the root of the settings is no maintainer of the registry"
-before_number (Migrating migrating.Store) = codes "the database has no registry that can be read"
+before_number (Migrating migrating.BadRow) = codes "the rows of the database are no registry of version 1 of the settings' source: correct `source`, or restore a backup"
+before_number (Migrating migrating.NoRoot) = codes "the root of the settings is no maintainer of the registry: let `root` name one that is"
+before_number (Migrating migrating.Store) = codes "the database has no registry that can be read: let `store` name another one"
 before_number (Migrating migrating.Memory) = codes "out of memory"
 before_number (ListenerUnopened cause) = codes "no connection can be listened for: "
 before_number (ProbeFailed cause) = codes "the program's own listener cannot be asked: "
@@ -152,10 +152,25 @@ told_number (Submission (desk.WriteFault items)) = Some items
 told_number (Submission (desk.StoreFault items)) = Some items
 told_number _ = None
 
+-- what to do with tables of another version than 2: those of version 1 are migrated, and another program wrote the others
+-- (profile)
+abbrev pub behind_opened : ℕ → List ℕ
+behind_opened version =
+    if version == 1
+    then codes ", and this program reads version 2: `irrdesk migrate SETTINGS` turns them into that"
+    else codes ", and this program reads version 2: another program wrote them, so take that one"
+
+-- what to do with tables of another version than 1, where some are to be migrated: nothing where they are of version 2 (profile)
+abbrev pub behind_migrated : ℕ → List ℕ
+behind_migrated version =
+    if version == 2
+    then codes ", as this program reads them: there is nothing to migrate"
+    else codes ", and what is migrated is version 1: another program wrote them, so take that one"
+
 -- the words behind the number (profile)
 abbrev pub behind_number : Trouble → List ℕ
-behind_number (Opening (opening.WrongVersion version)) = codes ", and this program reads version 2: `irrdesk migrate` makes it of version 1"
-behind_number (Migrating (migrating.WrongVersion version)) = codes ", and what is migrated is version 1"
+behind_number (Opening (opening.WrongVersion version)) = behind_opened version
+behind_number (Migrating (migrating.WrongVersion version)) = behind_migrated version
 behind_number (Loading (loading.Text number)) = codes " is no RPSL, or over 65536 bytes"
 behind_number (Loading (loading.Object number code)) = codes " is no object: "
 behind_number (Loading (loading.Duplicate number)) = codes " has the key of one before it"

@@ -48,11 +48,11 @@ impl Cause {
         ensures { result.now ≡ cause_text self }
     {
         match self {
-            Cause::Missing => "there is none of that name",
+            Cause::Missing => "there is none of that name: correct the path",
             Cause::Denied => "permission is denied",
-            Cause::Folder => "it is a folder",
-            Cause::NoFolder => "a part of the path is no folder",
-            Cause::Taken => "the address is in use",
+            Cause::Folder => "it is a folder: name a file",
+            Cause::NoFolder => "a part of the path is no folder: correct the path",
+            Cause::Taken => "the address is in use: take another port",
             Cause::Memory => "out of memory",
             Cause::Other => "the system refuses",
         }
@@ -111,9 +111,10 @@ impl DatabaseCause {
                 "there is no such file: `irrdesk init` or `irrdesk load` makes it",
             DatabaseCause::Unopened =>
                 "it cannot be opened or made: look at its folder and its permissions",
-            DatabaseCause::Busy => "another process has it open",
-            DatabaseCause::Damaged => "it is no database of a registry, or it is damaged",
-            DatabaseCause::Full => "the disk is full",
+            DatabaseCause::Busy => "another process has it open: stop that, or ask over its port",
+            DatabaseCause::Damaged =>
+                "it is no database of a registry, or it is damaged: name another file, or restore a backup",
+            DatabaseCause::Full => "the disk is full: make room",
             DatabaseCause::Memory => "out of memory",
             DatabaseCause::Other => "the system refuses to read or write it",
         }

@@ -1,15 +1,15 @@
 //! What went wrong: the status that it ends the program with, and its words.
 
 ghost use Rattle.std.specs.Prelude.{◌≡◌};
-ghost use Rattle.rr_cli.specs.Troubles.{behind_number, before_number, detail, paragraph_of, reason, told_number, trouble_status};
+ghost use Rattle.rr_cli.specs.Troubles.{before_number, behind_migrated, behind_number, behind_opened, detail, paragraph_of, reason, told_number, trouble_status};
 
 use crate::cause::{Cause, DatabaseCause};
 use crate::settings_file::SettingKey;
 use rr_desk::{CreateFault, DeskFault, DeskLoadFault, DumpFault, MigrateFault, OpenFault};
 use rr_object::Code;
 
-/// The status at wrong words.
-const WRONG_WORDS: u8 = 2;
+/// The status at wrong arguments.
+const WRONG_ARGUMENTS: u8 = 2;
 
 /// The status at wrong settings.
 const WRONG_SETTINGS: u8 = 3;
@@ -20,16 +20,22 @@ const STORE_FAILED: u8 = 4;
 /// The status at a fault of a file, a socket, or standard output, at a dump that is no registry, or where memory ran out.
 const FAILED: u8 = 5;
 
+/// The version of the tables that is read.
+const VERSION: u32 = 2;
+
+/// The version of the tables that is migrated.
+const OLD_VERSION: u32 = 1;
+
 /// What went wrong.
 #[derive(Clone, Copy, Debug, PartialEq, Eq)]
 pub enum Trouble {
-    /// The words are none of a command.
+    /// The arguments are none of a command.
     BadWords,
     /// A port is no number, or out of its bounds.
     BadPort,
     /// A count is no number, or out of its bounds.
     BadCount,
-    /// A word is no text.
+    /// An argument is no text.
     WordsNotText,
     /// The settings file cannot be read.
     SettingsUnread(Cause),
@@ -68,14 +74,14 @@ pub enum Trouble {
 }
 
 impl Trouble {
-    /// The status of the program: 2 at wrong words, 3 at wrong settings, 4 where the store failed or is stopped, and else 5,
+    /// The status of the program: 2 at wrong arguments, 3 at wrong settings, 4 where the store failed or is stopped, and else 5,
     /// also where memory ran out (profile).
     pub fn status(self) -> u8
         ensures { result ≡ trouble_status self }
     {
         match self {
             Trouble::BadWords | Trouble::BadPort | Trouble::BadCount | Trouble::WordsNotText => {
-                WRONG_WORDS
+                WRONG_ARGUMENTS
             }
             Trouble::SettingsUnread(_)
             | Trouble::SettingsNotText
@@ -106,7 +112,7 @@ impl Trouble {
             Trouble::BadWords => "`irrdesk --help` lists the commands",
             Trouble::BadPort => "a port is a number from 1 to 65535",
             Trouble::BadCount => "a count is a number from 1 to 1000000",
-            Trouble::WordsNotText => "one of the words is no UTF-8 text",
+            Trouble::WordsNotText => "an argument is no UTF-8 text",
             Trouble::SettingsUnread(_) => "the settings cannot be read: ",
             Trouble::SettingsNotText => "the settings are no UTF-8 text",
             Trouble::SettingsTooLong => "the settings are longer than 1048576 bytes",
@@ -150,10 +156,8 @@ impl Trouble {
         ensures { result.now ≡ behind_number self }
     {
         match self {
-            Trouble::Opening(OpenFault::WrongVersion(_)) =>
-                ", and this program reads version 2: `irrdesk migrate` makes it of version 1",
-            Trouble::Migrating(MigrateFault::WrongVersion(_)) =>
-                ", and what is migrated is version 1",
+            Trouble::Opening(OpenFault::WrongVersion(version)) => behind_opened(version),
+            Trouble::Migrating(MigrateFault::WrongVersion(version)) => behind_migrated(version),
             Trouble::Loading(fault) => behind_paragraph(fault),
             _ => "",
         }
@@ -258,7 +262,8 @@ fn creating_words(fault: CreateFault) -> &'static str
 {
     match fault {
         CreateFault::NotEmpty => "the database has a registry already: take a new one",
-        CreateFault::Store => "the database refuses the tables of a registry",
+        CreateFault::Store =>
+            "the database refuses the tables of a registry: take a new one, on a disk with room",
         CreateFault::Memory => "out of memory",
     }
 }
@@ -268,7 +273,8 @@ fn opening_words(fault: OpenFault) -> &'static str
 {
     match fault {
         OpenFault::WrongVersion(_) => "the tables of the database are of version ",
-        OpenFault::BadRow => "the rows of the database are no registry of the settings' source",
+        OpenFault::BadRow =>
+            "the rows of the database are no registry of the settings' source: correct `source`, or restore a backup",
         OpenFault::Store =>
             "the database has no registry that can be read: `irrdesk init` or `irrdesk load` makes one",
         OpenFault::Memory => "out of memory",
@@ -280,14 +286,15 @@ fn submission_words(fault: DeskFault) -> &'static str
 {
     match fault {
         DeskFault::ReadFault { .. } => {
-            "the submission could not be read to its end; items decided before that: "
+            "the submission could not be read to its end: submit all of it again; items decided before that: "
         }
         DeskFault::WriteFault { .. } => {
-            "the report could not be written; items decided before that: "
+            "the report could not be written: submit the whole text again; items decided before that: "
         }
-        DeskFault::StoreFault { .. } => "the database failed; items decided before that: ",
+        DeskFault::StoreFault { .. } =>
+            "the database failed: look at its disk, and submit the whole text again; items decided before that: ",
         DeskFault::Memory => "out of memory",
-        DeskFault::Stopped => "the desk is stopped",
+        DeskFault::Stopped => "the database failed before: run the command again",
     }
 }
 
@@ -295,9 +302,9 @@ fn dumping_words(fault: DumpFault) -> &'static str
     ensures { result.now ≡ before_number (Trouble.Dumping fault) }
 {
     match fault {
-        DumpFault::Write => "the dump could not be written whole",
+        DumpFault::Write => "the dump could not be written whole: make room for it, and dump again",
         DumpFault::Memory => "out of memory: the dump is not whole",
-        DumpFault::Stopped => "the desk is stopped",
+        DumpFault::Stopped => "the database failed before: run the command again",
     }
 }
 
@@ -306,14 +313,16 @@ fn loading_words(fault: DeskLoadFault) -> &'static str
 {
     match fault {
         DeskLoadFault::NotEmpty => "the database has a registry already: take a new one",
-        DeskLoadFault::Read => "the dump could not be read to its end",
+        DeskLoadFault::Read =>
+            "the dump could not be read to its end, and nothing is loaded: look at its file",
         DeskLoadFault::Endless => "the dump has no end within 16777216 reads",
         DeskLoadFault::Text(_)
         | DeskLoadFault::Object(_, _)
         | DeskLoadFault::Duplicate(_)
         | DeskLoadFault::Overlap(_)
         | DeskLoadFault::Unnamed(_) => "nothing is loaded, since paragraph ",
-        DeskLoadFault::Store => "the database refuses the tables of a registry",
+        DeskLoadFault::Store =>
+            "the database refuses the tables of a registry: take a new one, on a disk with room",
         DeskLoadFault::Memory => "out of memory",
     }
 }
@@ -333,6 +342,28 @@ pub fn paragraph_of(fault: DeskLoadFault) -> Option<u64>
         | DeskLoadFault::Endless
         | DeskLoadFault::Store
         | DeskLoadFault::Memory => None,
+    }
+}
+
+/// What to do with tables of this version, which is not the one that is read.
+fn behind_opened(version: u32) -> &'static str
+    ensures { result.now ≡ behind_opened version }
+{
+    if version == OLD_VERSION {
+        ", and this program reads version 2: `irrdesk migrate SETTINGS` turns them into that"
+    } else {
+        ", and this program reads version 2: another program wrote them, so take that one"
+    }
+}
+
+/// What to do with tables of this version, which is not the one that is migrated.
+fn behind_migrated(version: u32) -> &'static str
+    ensures { result.now ≡ behind_migrated version }
+{
+    if version == VERSION {
+        ", as this program reads them: there is nothing to migrate"
+    } else {
+        ", and what is migrated is version 1: another program wrote them, so take that one"
     }
 }
 
@@ -374,10 +405,12 @@ fn migrating_words(fault: MigrateFault) -> &'static str
     match fault {
         MigrateFault::WrongVersion(_) => "the tables of the database are of version ",
         MigrateFault::BadRow => {
-            "the rows of the database are no registry of version 1 of the settings' source"
+            "the rows of the database are no registry of version 1 of the settings' source: correct `source`, or restore a backup"
         }
-        MigrateFault::NoRoot => "the root of the settings is no maintainer of the registry",
-        MigrateFault::Store => "the database has no registry that can be read",
+        MigrateFault::NoRoot =>
+            "the root of the settings is no maintainer of the registry: let `root` name one that is",
+        MigrateFault::Store =>
+            "the database has no registry that can be read: let `store` name another one",
         MigrateFault::Memory => "out of memory",
     }
 }

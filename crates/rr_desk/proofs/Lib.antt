@@ -15,3 +15,4 @@ pub mod Loads
 pub mod Grown
 pub mod Migrated
 pub mod Sources
+pub mod DeskLaws

@@ -2,6 +2,7 @@
 use Rattle.std.specs.Prelude.{◌≡◌, ◌⊎◌, ◌||◌, ℕ, Bool, true, false, List, Result, Ok, Err, IfOk}
 use Rattle.rr_io.specs.Sending.{Writes}
 use Rattle.rr_io.specs.Told.{Told}
+use Rattle.rr_object.specs.Objects.{Obj}
 use Rattle.rr_auth.specs.Registries.{Reg}
 use Rattle.rr_answer.specs.declared.fault.QueryFault.{QueryFault}
 use Rattle.rr_answer.specs.declared.fault.QueryFault.TheVariants.{Bad, TooLong, TooMany, Memory, Store, Stopped}
@@ -33,10 +34,20 @@ abbrev pub told_number : Result (List ℕ) QueryFault → ℕ
 told_number (Ok text) = 0
 told_number (Err fault) = error_number fault
 
--- the objects that name a maintainer, as they are answered: where the disk gives back what was written, the tables have those of
--- the registry; or the store fails (profile)
+-- a text is that of some objects as they are answered, which has their public forms and nothing else of them (profile)
+pub record IsPublic (text : List ℕ) : Type 0 where
+  pub objects : List Obj
+  pub is_text : text ≡ objects_text objects
+
+-- what the tables have of the objects that name a maintainer is public in any case, and where the disk gives back what was written
+-- it is those of the registry (profile)
+pub record HasFound (clean : Type 0) (registry : Reg) (name text : List ℕ) : Type 0 where
+  pub is_public : IsPublic text
+  pub registered : clean → text ≡ objects_text (asked (Naming name) registry)
+
+-- the objects that name a maintainer, as they are answered; or the store fails (profile)
 abbrev pub IsFound : Type 0 → Reg → List ℕ → Result (List ℕ) QueryFault → Type 0
-IsFound clean registry name (Ok text) = clean → text ≡ objects_text (asked (Naming name) registry)
+IsFound clean registry name (Ok text) = HasFound clean registry name text
 IsFound clean registry name (Err fault) = fault ≡ Store
 
 -- the query asks what names a maintainer, which is looked for in the tables (profile)

@@ -14,3 +14,4 @@ pub mod Lookups
 pub mod LoadFaults
 pub mod Loaded
 pub mod Migrating
+pub mod Laws

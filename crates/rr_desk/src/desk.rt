@@ -6,7 +6,7 @@ ghost use Rattle.sqlite.specs.State.{HasCleanDisk, Survives};
 ghost use Rattle.rr_auth.specs.Sources.{IsRegistryOf};
 ghost use Rattle.rr_rows.specs.Made.{HasRow, IsVacant};
 ghost use Rattle.rr_rows.specs.Maps.{HasRows};
-ghost use Rattle.rr_store.specs.Opening.{IsOtherVersion};
+ghost use Rattle.rr_store.specs.Opening.{IsOfNoOther, IsOfRows, IsOtherVersion};
 ghost use Rattle.rr_rows.specs.Tables.{HasTables};
 ghost use Rattle.rr_store.specs.Kept.{IsLeft};
 ghost use Rattle.rr_store.specs.declared.fault.CreateFault.TheVariants.{NotEmpty};
@@ -90,6 +90,8 @@ impl<S: Alter> Desk<S> {
         ensures crash { IfOk result (λ d. Survives (state S.Store conn) (state S.Store d.stored.store) (λ _. (state S.Store conn).is_open ≡ false)) }
         ensures wrong_version { IfErr result (λ e. (number : ℕ) → e.0 ≡ WrongVersion number → HasCleanDisk (state S.Store e.1) → IsOtherVersion number (state S.Store conn).now) }
         ensures bad_row { IfErr result (λ e. e.0 ≡ BadRow → HasCleanDisk (state S.Store e.1) → HasNoRegistry settings.source (state S.Store conn).now) }
+        ensures no_other_said { IfErr result (λ e. e.0 ≡ BadRow → HasCleanDisk (state S.Store e.1) → IsOfNoOther (state S.Store conn).now) }
+        ensures tables { IfErr result (λ e. IsOfRows e.0 → HasCleanDisk (state S.Store e.1) → HasTables (state S.Store conn).now.schema) }
         ensures err { IfErr result (λ e. HasCleanDisk (state S.Store e.1) → IsTrue (state S.Store e.1).is_open → (state S.Store e.1).now ≡ (state S.Store conn).now) }
         ensures err_crash { IfErr result (λ e. Survives (state S.Store conn) (state S.Store e.1) (λ _. (state S.Store conn).is_open ≡ false)) }
         ensures err_autocommit { IfErr result (λ e. e.1.in_transaction ≡ false) }
@@ -114,6 +116,8 @@ impl<S: Alter> Desk<S> {
         ensures crash { IfOk result (λ d. Survives (state S.Store self.stored.store) (state S.Store d.stored.store) (λ _. (state S.Store self.stored.store).is_open ≡ false)) }
         ensures wrong_version { IfErr result (λ e. (number : ℕ) → e.0 ≡ WrongVersion number → HasCleanDisk (state S.Store e.1) → IsOtherVersion number (state S.Store self.stored.store).now) }
         ensures bad_row { IfErr result (λ e. e.0 ≡ BadRow → HasCleanDisk (state S.Store e.1) → HasNoRegistry self.settings.source (state S.Store self.stored.store).now) }
+        ensures no_other_said { IfErr result (λ e. e.0 ≡ BadRow → HasCleanDisk (state S.Store e.1) → IsOfNoOther (state S.Store self.stored.store).now) }
+        ensures tables { IfErr result (λ e. IsOfRows e.0 → HasCleanDisk (state S.Store e.1) → HasTables (state S.Store self.stored.store).now.schema) }
         ensures err { IfErr result (λ e. HasCleanDisk (state S.Store e.1) → IsTrue (state S.Store e.1).is_open → (state S.Store e.1).now ≡ (state S.Store self.stored.store).now) }
         ensures err_crash { IfErr result (λ e. Survives (state S.Store self.stored.store) (state S.Store e.1) (λ _. (state S.Store self.stored.store).is_open ≡ false)) }
         ensures err_autocommit { IfErr result (λ e. e.1.in_transaction ≡ false) }

@@ -4,6 +4,7 @@
 mod answering;
 mod desk;
 mod dumping;
+pub mod laws;
 mod loading;
 mod memory_peers;
 mod migrating;

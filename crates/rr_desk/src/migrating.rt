@@ -5,9 +5,10 @@ ghost use Rattle.sqlite.specs.Held.{state};
 ghost use Rattle.sqlite.specs.State.{HasCleanDisk, IsUnchanged, Survives};
 ghost use Rattle.rr_auth.specs.Registries.{Sound};
 ghost use Rattle.rr_auth.specs.Sources.{IsRegistryOf};
+ghost use Rattle.rr_rows.specs.Tables.{HasTables};
 ghost use Rattle.rr_store.specs.Kept.{IsLeft};
-ghost use Rattle.rr_store.specs.Migrating.{IsMigrated};
-ghost use Rattle.rr_store.specs.Opening.{IsNotOld};
+ghost use Rattle.rr_store.specs.Migrating.{IsMigrated, IsOfOldRows};
+ghost use Rattle.rr_store.specs.Opening.{IsNotOld, IsOfNoneButOld};
 ghost use Rattle.rr_store.specs.declared.fault.MigrateFault.TheVariants.{BadRow, Memory, NoRoot, WrongVersion};
 ghost use Rattle.rr_desk.specs.Migrating.{AreRegistry, HasBlock, HasBlockFault, HasLoadFault, HasNoOldRegistry, IsGrown, IsGrowthFault, IsRootless, told_as};
 ghost use Rattle.rr_desk.specs.Rows.{Holds};
@@ -27,7 +28,8 @@ impl<S: Alter> Desk<S> {
     /// The desk of the registry whose rows tables of version 1 hold, written anew as those of version 2, and of the block of the
     /// AS numbers of more than two octets, which the root maintains (RFC 6793). The settings say the source and the root. The
     /// connection is in no transaction. After a fault it is given back, with the rows as they were: that the tables are of
-    /// another version comes first, then that their rows are those of no registry, then that the root is not registered.
+    /// another version comes first, then that their rows are those of no registry, then that the root is not registered. Each of
+    /// these is told only of a file that has the three tables.
     pub fn migrate(
         alloc: Global,
         conn: Connection<S>,
@@ -43,6 +45,8 @@ impl<S: Alter> Desk<S> {
         ensures crash { IfOk result (λ d. Survives (state S.Store conn) (state S.Store d.stored.store) (IsLeft (state S.Store conn).is_open (IsMigrated settings.root settings.source (state S.Store conn).now))) }
         ensures wrong_version { IfErr result (λ e. (number : ℕ) → e.0 ≡ WrongVersion number → HasCleanDisk (state S.Store e.1) → IsNotOld number (state S.Store conn).now) }
         ensures bad_row { IfErr result (λ e. e.0 ≡ BadRow → HasCleanDisk (state S.Store e.1) → HasNoOldRegistry settings.source (state S.Store conn).now) }
+        ensures no_other_said { IfErr result (λ e. e.0 ≡ BadRow → HasCleanDisk (state S.Store e.1) → IsOfNoneButOld (state S.Store conn).now) }
+        ensures tables { IfErr result (λ e. IsOfOldRows e.0 → HasCleanDisk (state S.Store e.1) → HasTables (state S.Store conn).now.schema) }
         ensures no_root { IfErr result (λ e. e.0 ≡ NoRoot → HasCleanDisk (state S.Store e.1) → IsRootless settings (state S.Store conn).now) }
         ensures err { IfErr result (λ e. HasCleanDisk (state S.Store e.1) → IsTrue (state S.Store e.1).is_open → (state S.Store e.1).now ≡ (state S.Store conn).now) }
         ensures err_crash { IfErr result (λ e. Survives (state S.Store conn) (state S.Store e.1) (IsLeft (state S.Store conn).is_open (IsMigrated settings.root settings.source (state S.Store conn).now))) }
@@ -72,6 +76,8 @@ fn migrate_stored<S: Alter>(
     ensures crash { IfOk result (λ s. Survives (state S.Store conn) (state S.Store s.store) (IsLeft (state S.Store conn).is_open (IsMigrated settings.now.root settings.now.source (state S.Store conn).now))) }
     ensures wrong_version { IfErr result (λ e. (number : ℕ) → e.0 ≡ WrongVersion number → HasCleanDisk (state S.Store e.1) → IsNotOld number (state S.Store conn).now) }
     ensures bad_row { IfErr result (λ e. e.0 ≡ BadRow → HasCleanDisk (state S.Store e.1) → HasNoOldRegistry settings.now.source (state S.Store conn).now) }
+    ensures no_other_said { IfErr result (λ e. e.0 ≡ BadRow → HasCleanDisk (state S.Store e.1) → IsOfNoneButOld (state S.Store conn).now) }
+    ensures tables { IfErr result (λ e. IsOfOldRows e.0 → HasCleanDisk (state S.Store e.1) → HasTables (state S.Store conn).now.schema) }
     ensures no_root { IfErr result (λ e. e.0 ≡ NoRoot → HasCleanDisk (state S.Store e.1) → IsRootless settings.now (state S.Store conn).now) }
     ensures err { IfErr result (λ e. HasCleanDisk (state S.Store e.1) → IsTrue (state S.Store e.1).is_open → (state S.Store e.1).now ≡ (state S.Store conn).now) }
     ensures err_crash { IfErr result (λ e. Survives (state S.Store conn) (state S.Store e.1) (IsLeft (state S.Store conn).is_open (IsMigrated settings.now.root settings.now.source (state S.Store conn).now))) }
@@ -99,6 +105,8 @@ fn migrate_grown<S: Alter>(
     ensures crash { IfOk result (λ s. Survives (state S.Store conn) (state S.Store s.store) (IsLeft (state S.Store conn).is_open (IsMigrated settings.now.root settings.now.source (state S.Store conn).now))) }
     ensures wrong_version { IfErr result (λ e. (number : ℕ) → e.0 ≡ WrongVersion number → HasCleanDisk (state S.Store e.1) → IsNotOld number (state S.Store conn).now) }
     ensures bad_row { IfErr result (λ e. e.0 ≡ BadRow → HasCleanDisk (state S.Store e.1) → HasNoOldRegistry settings.now.source (state S.Store conn).now) }
+    ensures no_other_said { IfErr result (λ e. e.0 ≡ BadRow → HasCleanDisk (state S.Store e.1) → IsOfNoneButOld (state S.Store conn).now) }
+    ensures tables { IfErr result (λ e. IsOfOldRows e.0 → HasCleanDisk (state S.Store e.1) → HasTables (state S.Store conn).now.schema) }
     ensures no_root { IfErr result (λ e. e.0 ≡ NoRoot → HasCleanDisk (state S.Store e.1) → IsRootless settings.now (state S.Store conn).now) }
     ensures err { IfErr result (λ e. HasCleanDisk (state S.Store e.1) → IsTrue (state S.Store e.1).is_open → (state S.Store e.1).now ≡ (state S.Store conn).now) }
     ensures err_crash { IfErr result (λ e. Survives (state S.Store conn) (state S.Store e.1) (IsLeft (state S.Store conn).is_open (IsMigrated settings.now.root settings.now.source (state S.Store conn).now))) }
@@ -123,6 +131,8 @@ fn stored_growth<S: Alter>(
     ensures same { HasCleanDisk (state S.Store conn.new) → OnOk result (IsUnchanged (state S.Store conn.old) (state S.Store conn.new)) }
     ensures wrong_version { HasCleanDisk (state S.Store conn.new) → IfErr result (λ fault. (number : ℕ) → fault ≡ WrongVersion number → IsNotOld number (state S.Store conn.old).now) }
     ensures bad_row { HasCleanDisk (state S.Store conn.new) → IfErr result (λ fault. fault ≡ BadRow → HasNoOldRegistry settings.now.source (state S.Store conn.old).now) }
+    ensures no_other_said { HasCleanDisk (state S.Store conn.new) → IfErr result (λ fault. fault ≡ BadRow → IsOfNoneButOld (state S.Store conn.old).now) }
+    ensures tables { HasCleanDisk (state S.Store conn.new) → IfErr result (λ fault. IsOfOldRows fault → HasTables (state S.Store conn.old).now.schema) }
     ensures no_root { HasCleanDisk (state S.Store conn.new) → IfErr result (λ fault. fault ≡ NoRoot → IsRootless settings.now (state S.Store conn.old).now) }
     ensures err { HasCleanDisk (state S.Store conn.new) → IsTrue (state S.Store conn.new).is_open → OnErr result ((state S.Store conn.new).now ≡ (state S.Store conn.old).now) }
     ensures crash { Survives (state S.Store conn.old) (state S.Store conn.new) (λ _. (state S.Store conn.old).is_open ≡ false) }

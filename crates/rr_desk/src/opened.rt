@@ -7,7 +7,7 @@ ghost use Rattle.sqlite.specs.State.{HasCleanDisk, Survives};
 ghost use Rattle.rr_auth.specs.Sources.{IsRegistryOf};
 ghost use Rattle.rr_rows.specs.Made.{HasRow, IsVacant};
 ghost use Rattle.rr_rows.specs.Maps.{HasRows, IsObject};
-ghost use Rattle.rr_store.specs.Opening.{IsOtherVersion};
+ghost use Rattle.rr_store.specs.Opening.{IsOfNoOther, IsOfRows, IsOtherVersion};
 ghost use Rattle.rr_rows.specs.Tables.{HasTables};
 ghost use Rattle.rr_store.specs.Kept.{IsLeft};
 ghost use Rattle.rr_store.specs.Lent.{lent};
@@ -38,6 +38,8 @@ pub(crate) fn open_stored<S: Alter>(
     ensures crash { IfOk result (λ s. Survives (state S.Store conn) (state S.Store s.store) (λ _. (state S.Store conn).is_open ≡ false)) }
     ensures wrong_version { IfErr result (λ e. (number : ℕ) → e.0 ≡ WrongVersion number → HasCleanDisk (state S.Store e.1) → IsOtherVersion number (state S.Store conn).now) }
     ensures bad_row { IfErr result (λ e. e.0 ≡ BadRow → HasCleanDisk (state S.Store e.1) → HasNoRegistry source.now (state S.Store conn).now) }
+    ensures no_other_said { IfErr result (λ e. e.0 ≡ BadRow → HasCleanDisk (state S.Store e.1) → IsOfNoOther (state S.Store conn).now) }
+    ensures tables { IfErr result (λ e. IsOfRows e.0 → HasCleanDisk (state S.Store e.1) → HasTables (state S.Store conn).now.schema) }
     ensures err { IfErr result (λ e. HasCleanDisk (state S.Store e.1) → IsTrue (state S.Store e.1).is_open → (state S.Store e.1).now ≡ (state S.Store conn).now) }
     ensures err_crash { IfErr result (λ e. Survives (state S.Store conn) (state S.Store e.1) (λ _. (state S.Store conn).is_open ≡ false)) }
     ensures err_autocommit { IfErr result (λ e. e.1.in_transaction ≡ false) }

@@ -1,6 +1,6 @@
 -- Lemmas on submissions of a body: what is said of its reader is said of its bytes.
 use Rattle.std.proofs.Common.{◌≡◌, ◌≢◌, ℕ, ◌+◌, ◌<◌, ◌≤◌, inl, inr, List, [], ◌∷◌, ◌++◌, length, length-append, append_assoc, Some, Ok, Err, arith, refl, ap, sym, ◌∙◌, subst}
-use Rattle.std.specs.Prelude.{Result, OnOk, replicate}
+use Rattle.std.specs.Prelude.{Result, replicate}
 use Rattle.std.proofs.lemmas.List.{append_cancel_right, length-replicate}
 use Rattle.rr_io.specs.Told.{Told}
 use Rattle.rr_io.specs.Receiving.{BreaksOff, Gives, IsSpent, Reads}
@@ -14,7 +14,7 @@ use Rattle.rr_submission.specs.Served.{ReadsFront}
 use Rattle.rr_submission.specs.Submissions.{Sides, Submits}
 use Rattle.rr_http.specs.declared.body.Body.{Body}
 use Rattle.rr_http.specs.BodyReaders.{body_aside, body_failed, body_missing, body_reads, body_rest, body_told}
-use Rattle.rr_http.specs.Answering.{OnReadFault, SubmitsBody, in_memory}
+use Rattle.rr_http.specs.Answering.{EndsWhole, SubmitsBody, TellsMissing, in_memory}
 
 module _ (body rest : List ℕ) (missing faults reads : ℕ) where
   -- the reader before, and after: so many zeros stand behind the bytes
@@ -82,6 +82,9 @@ module _ (body rest : List ℕ) (missing faults reads : ℕ) where
     few = p.few;
   }
 
+  front_whole : (front : List ℕ) → ReadsFront start end front → EndsWhole front missing
+  front_whole front p = elim p.apart [ inl whole ↦ inl whole | inr at_end ↦ inr (none_missing at_end.1) ]
+
   -- a reading that did not come to the end ended with a failed read behind the bytes
   falls_short : (bytes : List ℕ) (by : ReadEnd) → length body ≤ 1048576 → (0 < faults → (0 < missing) × (rest ≡ [])) → by ≢ Whole → Reads start end bytes by →
       (missing ≢ 0) × (rest ≡ [])
@@ -109,9 +112,9 @@ module _ (body rest : List ℕ) (missing faults reads : ℕ) where
     abbrev sides : Told → Told → Sides
     sides from to = record { reader_before = from; reader_after = to; writer_before = old; writer_after = new; before = g.registry before; after = g.registry after }
 
-    made : (result : Result Done DeskFault) → Submits g source (sides plain_start plain_end) before after result → OnOk result (missing ≡ 0) →
-        OnReadFault result ((missing ≢ 0) × (rest ≡ [])) → SubmitsBody g source body missing before after old new result
-    made result p whole short = record { rest = rest; faults = faults; reads = reads; submits = p; whole = whole; short = short }
+    made : (result : Result Done DeskFault) (p : Submits g source (sides plain_start plain_end) before after result) →
+        TellsMissing g source (sides plain_start plain_end) before after rest missing result p → SubmitsBody g source body missing before after old new result
+    made result p tells = record { rest = rest; faults = faults; reads = reads; submits = p; tells = tells }
 
     -- what is submitted is a body
     pub submits_body : (result : Result Done DeskFault) → length body ≤ 1048576 → (0 < faults → (0 < missing) × (rest ≡ [])) →
@@ -126,7 +129,7 @@ module _ (body rest : List ℕ) (missing faults reads : ℕ) where
       writes = p.writes;
       counted = p.counted;
       refused = p.refused;
-    }) (none_missing p.reads.1) tt
+    }) (none_missing p.reads.1)
     submits_body (Err (fault.ReadFault items)) small fails p = made (Err (fault.ReadFault items)) (record {
       text = p.text;
       end = p.end;
@@ -140,12 +143,12 @@ module _ (body rest : List ℕ) (missing faults reads : ℕ) where
       writes = p.writes;
       ends = p.ends;
       counted = p.counted;
-    }) tt (falls_short p.text p.end small fails p.unended p.reads)
+    }) (falls_short p.text p.end small fails p.unended p.reads)
     submits_body (Err (fault.WriteFault items)) small fails (inl p) = made (Err (fault.WriteFault items)) (inl (record {
       front = p.front;
       reads = front_plain p.front p.reads;
       serves = p.serves;
-    })) tt tt
+    })) (front_whole p.front p.reads)
     submits_body (Err (fault.WriteFault items)) small fails (inr p) = made (Err (fault.WriteFault items)) (inr (record {
       text = p.text;
       items = p.items;
@@ -157,17 +160,17 @@ module _ (body rest : List ℕ) (missing faults reads : ℕ) where
       writes = p.writes;
       cut = p.cut;
       counted = p.counted;
-    })) tt tt
+    })) (none_missing p.reads.1)
     submits_body (Err (fault.StoreFault items)) small fails p = made (Err (fault.StoreFault items)) (record {
       front = p.front;
       reads = front_plain p.front p.reads;
       serves = p.serves;
-    }) tt tt
+    }) (front_whole p.front p.reads)
     submits_body (Err fault.Memory) small fails p = made (Err fault.Memory) (record {
       unread = same_plain p.unread;
       same = p.same;
       writes = p.writes;
-    }) tt tt
+    }) tt
     submits_body (Err fault.Stopped) small fails p = absurd p
 
 abbrev told_with : List ℕ → ℕ → ℕ → ℕ → Told

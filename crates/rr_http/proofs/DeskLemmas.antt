@@ -10,10 +10,10 @@ use Rattle.rr_auth.specs.declared.item.Item.{Item}
 use Rattle.rr_submission.specs.declared.submission.Done.{Done}
 use Rattle.rr_submission.specs.declared.submission.DeskFault.{DeskFault}
 use Rattle.rr_submission.specs.declared.submission.DeskFault.TheVariants as fault
-use Rattle.rr_submission.specs.Served.{HaltsAt, ServesHalted, ServesStopped}
+use Rattle.rr_submission.specs.Served.{HaltsAt, ServesHalted}
 use Rattle.rr_submission.specs.Submissions.{Sides, Submits}
 use Rattle.rr_desk.specs.declared.desk.Desk.{Desk}
-use Rattle.rr_desk.specs.Stocks.{Stock, stock_ledger}
+use Rattle.rr_desk.specs.Stocks.{stock_ledger}
 use Rattle.rr_http.specs.DeskRegistrars.{desk_ledger}
 
 halts_whole : {S : Type 0} (g : store.Ghosts S) (middle new : Desk S) (secrets : List (List ℕ)) (action : Result Item Code) →

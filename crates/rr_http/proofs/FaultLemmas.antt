@@ -1,10 +1,10 @@
 -- Lemmas on what the answer to a connection tells of its failed calls.
-use Rattle.std.proofs.Common.{◌≡◌, ℕ, ◌+◌, ◌<◌, ◌≤◌, ◌^◌, inl, inr, ◌⊎◌, Bool, true, false, List, length, drop, Ok, Err, arith, refl, ap, sym, ◌∙◌, subst}
+use Rattle.std.proofs.Common.{◌≡◌, ℕ, ◌+◌, ◌<◌, ◌≤◌, ◌^◌, inl, inr, Bool, true, false, List, drop, Ok, Err, arith, refl, ap, sym, ◌∙◌, subst}
 use Rattle.std.specs.Prelude.{Result, nat_lt}
 use Rattle.std.proofs.lemmas.Bool.{ltb-true, ltb-false}
 use Rattle.rr_io.specs.Told.{Told, Counts}
-use Rattle.rr_io.specs.Receiving.{BreaksOff, Gives}
-use Rattle.rr_io.specs.Sending.{TakesFront, Writes}
+use Rattle.rr_io.specs.Receiving.{BreaksOff}
+use Rattle.rr_io.specs.Sending.{TakesFront}
 use Rattle.rr_desk.specs.declared.dumping.DumpFault.{DumpFault}
 use Rattle.rr_desk.specs.declared.dumping.DumpFault.TheVariants as dump_fault
 use Rattle.rr_desk.specs.declared.peers.ConnFault.TheVariants.{Read, Write}
@@ -13,11 +13,11 @@ use Rattle.rr_desk.specs.Turns.{Answer}
 use Rattle.rr_http.specs.declared.body_reading.BodyEnd.{BodyEnd}
 use Rattle.rr_http.specs.declared.body_reading.BodyEnd.TheVariants.{Whole, Short, Broken}
 use Rattle.rr_http.specs.declared.registrar.Registrar.{Ghosts}
-use Rattle.rr_http.specs.Answering.{AnswersDump, AnswersQuery, IsDumped, Tells, dump_answer}
+use Rattle.rr_http.specs.Answering.{AnswersDump, AnswersQuery, Tells, dump_answer}
 use Rattle.rr_http.specs.Bodies.{ReadsBody}
 use Rattle.rr_http.specs.Faults.{CanCount, TellsFaults}
 use Rattle.rr_http.specs.Requests.{Asks, refused, submission, query, dump}
-use Rattle.rr_http.specs.Serving.{IsTakenIn, IsTurnedAway, Serves, ServesAsks, ServesWants, SubmitsRead, answer_by}
+use Rattle.rr_http.specs.Serving.{Serves, ServesAsks, ServesWants, SubmitsRead, answer_by}
 use Rattle.rr_http.specs.Wants.{Wants, whois, http}
 
 rises : (before between after : ℕ) → between ≡ before → before + 1 < 2 ^ 64 → Counts between after 1 → before < after
@@ -101,8 +101,10 @@ told_asks : {D : Type 0} (desk : Ghosts D) (begun : List ℕ) (asks : Asks) (bef
     CanCount from_old → CanCount old → ServesAsks desk begun asks before after from_old from_new old new result → TellsFaults from_old from_new old new result
 told_asks desk begun (refused refusal) before after from_old from_new old new result from_room room serves =
     told_reply _ from_old from_new old new result (ap (λ (told : Told). told.faults) serves.0) room serves.2
-told_asks desk begun (submission size) before after from_old from_new old new result from_room room (inl turned) =
-    told_reply _ from_old from_new old new result turned.reads.no_fault room turned.tells
+told_asks desk begun (submission size) before after from_old from_new old new result from_room room (inl (inl stopped)) =
+    told_reply _ from_old from_new old new result (ap (λ (told : Told). told.faults) stopped.unread) room stopped.unavailable.tells
+told_asks desk begun (submission size) before after from_old from_new old new result from_room room (inl (inr wanting)) =
+    told_reply _ from_old from_new old new result wanting.reads.1.no_fault room wanting.unavailable.tells
 told_asks desk begun (submission size) before after from_old from_new old new result from_room room (inr taken) =
     told_submission desk taken.body size taken.end before after from_old from_new old new result
     (body_reading taken.end from_old from_new begun size taken.body from_room taken.reads) room taken.submits
@@ -130,7 +132,10 @@ pub serves_tell : {D : Type 0} (desk : Ghosts D) (before after : D) (from_old fr
     CanCount from_old → CanCount old → Serves desk before after from_old from_new old new result → TellsFaults from_old from_new old new result
 serves_tell desk before after from_old from_new old new result from_room room (inl broken) =
     subst (TellsFaults from_old from_new old new) (sym broken.failed) (break_fails from_old from_new broken.bytes from_room broken.breaks)
-serves_tell desk before after from_old from_new old new result from_room room (inr served) =
+serves_tell desk before after from_old from_new old new result from_room room (inr (inl unserved)) =
+    from_front from_old unserved.between from_new old new result unserved.reads.gives.no_fault
+    (told_reply _ unserved.between from_new old new result (ap (λ (told : Told). told.faults) unserved.unrouted.1) room unserved.unrouted.3)
+serves_tell desk before after from_old from_new old new result from_room room (inr (inr served)) =
     let same = served.reads.gives.no_fault in
     from_front from_old served.between from_new old new result same
     (told_wants desk served.front served.wants before after served.between from_new old new result (subst (λ n. n + 1 < 2 ^ 64) (sym same) from_room) room served.serves)

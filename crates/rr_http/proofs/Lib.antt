@@ -1,6 +1,7 @@
 pub mod FrontLemmas
 pub mod LineLemmas
 pub mod RequestLemmas
+pub mod RouteLemmas
 pub mod ReplyLemmas
 pub mod WantLemmas
 pub mod SeenLemmas
@@ -9,5 +10,6 @@ pub mod AnswerLemmas
 pub mod BodyLemmas
 pub mod ServingLemmas
 pub mod ToldLemmas
+pub mod ReplyBytesLemmas
 pub mod FaultLemmas
 pub mod DeskLemmas

@@ -123,7 +123,7 @@ mapped_within : (n : ℕ) (found : Option ℕ) → IfSome found (λ place. place
 mapped_within n None h = tt
 mapped_within n (Some place) h = omega arith
 
-head_within : (text : List ℕ) → IfSome (head_length text) (λ place. place ≤ length text)
+pub head_within : (text : List ℕ) → IfSome (head_length text) (λ place. place ≤ length text)
 unfolding head_length
 head_within [] = tt
 head_within (b ∷ bs) = within_step b bs (is_line_feed b && nat_lt 0 (line_end bs)) refl (head_within bs)

@@ -1,12 +1,14 @@
 -- What a connection is answered, and what of it is written.
-use Rattle.std.specs.Prelude.{◌≡◌, ◌≢◌, ℕ, Bool, false, ◌⊎◌, List, [], ◌++◌, Result, Ok, Err, Some, OnOk}
+use Rattle.std.specs.Prelude.{◌≡◌, ◌≢◌, ℕ, Bool, false, ◌⊎◌, List, [], ◌++◌, Result, Ok, Err, Some}
+use Rattle.std.proofs.Common.{inl, inr}
 use Rattle.rr_io.specs.Told.{Told}
 use Rattle.rr_io.specs.Sending.{Takes, TakesFront, Writes}
+use Rattle.rr_text.specs.WholePart.{whole_part}
 use Rattle.rr_submission.specs.declared.ledger.Ledger.{Ghosts}
 use Rattle.rr_submission.specs.declared.submission.Done.{Done}
 use Rattle.rr_submission.specs.declared.submission.DeskFault.{DeskFault}
 use Rattle.rr_submission.specs.declared.submission.DeskFault.TheVariants as fault
-use Rattle.rr_submission.specs.Submissions.{Submits}
+use Rattle.rr_submission.specs.Submissions.{Sides, Submits}
 use Rattle.rr_desk.specs.declared.dumping.DumpFault.{DumpFault}
 use Rattle.rr_desk.specs.declared.dumping.DumpFault.TheVariants as dump_fault
 use Rattle.rr_desk.specs.declared.peers.ConnFault.TheVariants as conn_fault
@@ -72,28 +74,38 @@ AnswersDump text stopped old new result =
 abbrev pub in_memory : List ℕ → ℕ → ℕ → Told
 in_memory bytes faults reads = record { bytes = Some bytes; faults = faults; reads = reads }
 
--- a fact of a submission that ended with a failed read
-abbrev pub OnReadFault : Result Done DeskFault → Type 0 → Type 0
-OnReadFault (Ok done) fact = Unit {0}
-OnReadFault (Err (fault.ReadFault items)) fact = fact
-OnReadFault (Err (fault.WriteFault items)) fact = Unit {0}
-OnReadFault (Err (fault.StoreFault items)) fact = Unit {0}
-OnReadFault (Err fault.Memory) fact = Unit {0}
-OnReadFault (Err fault.Stopped) fact = Unit {0}
+-- the two sides of a submission of a body: a reader of its bytes, and the writer of the reply
+abbrev pub body_sides : {D : Type 0} → Ghosts D → List ℕ → List ℕ → ℕ → ℕ → D → D → Told → Told → Sides
+body_sides g body rest faults reads before after old new = record {
+  reader_before = in_memory body 0 0;
+  reader_after = in_memory rest faults reads;
+  writer_before = old;
+  writer_after = new;
+  before = g.registry before;
+  after = g.registry after;
+}
+
+-- a front of a body that was read ends with a blank line, so that its entries are the first of the body whatever follows, or with the
+-- body, and then no byte of it is missing (profile)
+abbrev pub EndsWhole : List ℕ → ℕ → Type 0
+EndsWhole front missing = (whole_part front ≡ front) ⊎ (missing ≡ 0)
+
+-- what a submission that ended so says of the bytes of its body that never came: none are missing where its end was reached, and some
+-- where a read failed, behind all that came (profile)
+abbrev pub TellsMissing : {D : Type 0} (g : Ghosts D) (source : List ℕ) (sides : Sides) (before after : D) (rest : List ℕ) (missing : ℕ) (result : Result Done DeskFault) → Submits g source sides before after result → Type 0
+TellsMissing g source sides before after rest missing (Ok done) submits = missing ≡ 0
+TellsMissing g source sides before after rest missing (Err (fault.ReadFault items)) submits = (missing ≢ 0) × (rest ≡ [])
+TellsMissing g source sides before after rest missing (Err (fault.WriteFault items)) (inl submits) = EndsWhole submits.front missing
+TellsMissing g source sides before after rest missing (Err (fault.WriteFault items)) (inr submits) = missing ≡ 0
+TellsMissing g source sides before after rest missing (Err (fault.StoreFault items)) submits = EndsWhole submits.front missing
+TellsMissing g source sides before after rest missing (Err fault.Memory) submits = Unit {0}
+TellsMissing g source sides before after rest missing (Err fault.Stopped) submits = Unit {0}
 
 -- a body was submitted of which these bytes came, and so many more did not: it is a text with an end where none are missing, and
--- ends with a failed read behind its bytes where some are (profile)
+-- ends with a failed read behind its bytes where some are; no item of it is one that misses bytes (profile)
 pub record SubmitsBody {D : Type 0} (g : Ghosts D) (source body : List ℕ) (missing : ℕ) (before after : D) (old new : Told) (result : Result Done DeskFault) : Type 0 where
   pub rest : List ℕ
   pub faults : ℕ
   pub reads : ℕ
-  pub submits : Submits g source (record {
-    reader_before = in_memory body 0 0;
-    reader_after = in_memory rest faults reads;
-    writer_before = old;
-    writer_after = new;
-    before = g.registry before;
-    after = g.registry after;
-  }) before after result
-  pub whole : OnOk result (missing ≡ 0)
-  pub short : OnReadFault result ((missing ≢ 0) × (rest ≡ []))
+  pub submits : Submits g source (body_sides g body rest faults reads before after old new) before after result
+  pub tells : TellsMissing g source (body_sides g body rest faults reads before after old new) before after rest missing result submits

@@ -1,5 +1,5 @@
 -- The body of a request: how it is read, and how it is given on.
-use Rattle.std.specs.Prelude.{◌≡◌, ℕ, ◌-◌, ◌<◌, List, ◌++◌, length, take}
+use Rattle.std.specs.Prelude.{◌≡◌, ℕ, ◌-◌, ◌<◌, ◌≤◌, List, ◌++◌, length, take}
 use Rattle.rr_io.specs.Told.{Told}
 use Rattle.rr_io.specs.Receiving.{BreaksOff, Gives, IsSpent}
 use Rattle.rr_http.specs.declared.body_reading.BodyEnd.{BodyEnd}
@@ -18,3 +18,7 @@ abbrev pub ReadsRest : Told → Told → List ℕ → ℕ → List ℕ → BodyE
 ReadsRest old new before size after Whole = (more : List ℕ) × Gives old new more × (after ≡ before ++ more) × (length after ≡ size)
 ReadsRest old new before size after Short = (more : List ℕ) × Gives old new more × IsSpent new × (after ≡ before ++ more) × (length after < size)
 ReadsRest old new before size after Broken = (more : List ℕ) × BreaksOff old new more × (after ≡ before ++ more) × (length after < size)
+
+-- no more than so many bytes were read, and no read failed
+abbrev pub GivesWithin : Told → Told → ℕ → Type 0
+GivesWithin old new room = (more : List ℕ) × Gives old new more × (length more ≤ room)

@@ -1,5 +1,5 @@
 -- What the answer to a connection tells of its failed calls.
-use Rattle.std.specs.Prelude.{◌≡◌, ℕ, ◌+◌, ◌<◌, ◌≤◌, ◌^◌, Ok, Err}
+use Rattle.std.specs.Prelude.{◌≡◌, ◌+◌, ◌<◌, ◌≤◌, ◌^◌, Ok, Err}
 use Rattle.rr_io.specs.Told.{Told}
 use Rattle.rr_desk.specs.declared.peers.ConnFault.TheVariants.{Read, Write}
 use Rattle.rr_desk.specs.Turns.{Answer}

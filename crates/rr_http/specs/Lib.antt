@@ -2,6 +2,7 @@ pub mod Asked
 pub mod Fronts
 pub mod FrontLines
 pub mod Requests
+pub mod Routes
 pub mod Replies
 pub mod Wants
 pub mod Wanted
@@ -11,4 +12,5 @@ pub mod Answering
 pub mod Serving
 pub mod Faults
 pub mod ToldBytes
+pub mod ReplyBytes
 pub mod DeskRegistrars

@@ -33,14 +33,8 @@ status_words refusal = code_digits (status_of refusal) ++ (codes " " ++ reason_o
 
 -- where the method is refused, the one of the page is named (RFC 9110, 10.2.1)
 abbrev pub allow_line : Refusal → List ℕ
-allow_line HeadTooLarge = []
-allow_line BadRequest = []
-allow_line NotImplemented = []
-allow_line NotFound = []
 allow_line (MethodNotAllowed page) = codes "Allow: " ++ (method_of page ++ codes "\r\n")
-allow_line LengthRequired = []
-allow_line PayloadTooLarge = []
-allow_line Unavailable = []
+allow_line other = []
 
 -- the fields of a refusal, with the length of its body, and the empty line behind them (RFC 9112, 2.1; profile)
 abbrev pub refusal_fields : Refusal → List ℕ

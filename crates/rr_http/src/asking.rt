@@ -9,10 +9,10 @@ ghost use Rattle.httparse.specs.Spans.{IsHeaderWithin, header_bytes};
 ghost use Rattle.rr_http.specs.Asked.{parts_of, seen};
 ghost use Rattle.rr_http.specs.Requests.{HasSmallSize, asks_of, asks_page, is_length, is_named, method_of, page_of, path_of, size_of, sized, values_of};
 
-use crate::routing::find_page;
+use crate::routing::Pages;
 use http::Method;
 use httparse::spans::HeaderSpan;
-use rr_bytes::{cut_before, is_keyword};
+use rr_bytes::is_keyword;
 
 /// How many bytes the body of a request has at most (profile).
 pub const BODY_SIZE: usize = 1_048_576;
@@ -77,8 +77,9 @@ pub enum Asked<'a> {
 /// What a request of this method, target and fields asks (RFC 9110; profile). The spans of the fields are of `head`.
 #[tactic(auto, unfolding(crate::specs::Requests::asks_of))]
 pub fn read_request<'a>(
+    pages: &Pages,
     method: &[u8],
-    target: &'a [u8],
+    target: &'a str,
     head: &[u8],
     fields: &[HeaderSpan],
 ) -> Asked<'a>
@@ -90,11 +91,11 @@ pub fn read_request<'a>(
         return Asked::Refused(Refusal::NotImplemented);
     }
     let path = path_of(target);
-    match find_page(path) {
+    match pages.find(path) {
         None => Asked::Refused(Refusal::NotFound),
         Some(page) => {
             if page.takes(method) {
-                read_page(path, page, head, fields)
+                read_page(path.as_bytes(), page, head, fields)
             } else {
                 Asked::Refused(Refusal::MethodNotAllowed(page))
             }
@@ -121,11 +122,13 @@ fn read_page<'a>(path: &'a [u8], page: Page, head: &[u8], fields: &[HeaderSpan])
 }
 
 /// The path of a target, which ends before its first `?`.
-fn path_of(target: &[u8]) -> &[u8]
+fn path_of(target: &str) -> &str
     ensures { result.now ≡ path_of target.now }
 {
-    let (path, _) = cut_before(target, b'?');
-    path
+    match target.split_once('?') {
+        Some((path, _)) => path,
+        None => target,
+    }
 }
 
 /// The size of the body that the fields tell (RFC 9110, 8.6).

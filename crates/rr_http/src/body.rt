@@ -1,7 +1,6 @@
 //! The body of a request as a reader.
 
 ghost use Rattle.std.specs.Prelude.{◌≡◌, ◌<◌, []};
-ghost use Rattle.std.specs.Prelude.{◌≡◌, ◌<◌, []};
 
 use rr_io::Source;
 use std::io;

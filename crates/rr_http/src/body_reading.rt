@@ -1,8 +1,7 @@
 //! The body of a request, read whole before it is submitted.
 
-ghost use Rattle.std.specs.Prelude.{◌≡◌, ◌≤◌, length, List, ℕ, IfOk, OnErr};
-ghost use Rattle.rr_io.specs.Receiving.{Gives};
-ghost use Rattle.rr_http.specs.Bodies.{ReadsBody, ReadsRest};
+ghost use Rattle.std.specs.Prelude.{◌≡◌, ◌≤◌, ◌-◌, length, IfOk, OnErr};
+ghost use Rattle.rr_http.specs.Bodies.{GivesWithin, ReadsBody, ReadsRest};
 
 use crate::asking::BODY_SIZE;
 use rr_io::{READ_SIZE, Source};
@@ -29,7 +28,7 @@ pub fn read_body<R: Source>(
 ) -> Result<(Vec<u8>, BodyEnd), AllocError>
     requires { size ≤ BODY_SIZE }
     ensures reads { IfOk result (λ read. ReadsBody (R.told reader.old) (R.told reader.new) begun.now size read.0.items read.1) }
-    ensures no_memory { OnErr result ((bytes : List ℕ) × Gives (R.told reader.old) (R.told reader.new) bytes) }
+    ensures no_memory { OnErr result (GivesWithin (R.told reader.old) (R.told reader.new) (size - length begun.now)) }
     ensures aside { R.aside reader.new ≡ R.aside reader.old }
 {
     let mut body = Vec::with_capacity(alloc, size)?;
@@ -47,7 +46,7 @@ fn read_rest<R: Source>(
     requires small { size ≤ BODY_SIZE }
     requires within { length body.old.items ≤ size }
     ensures reads { IfOk result (λ end. ReadsRest (R.told reader.old) (R.told reader.new) body.old.items size body.new.items end) }
-    ensures no_memory { OnErr result ((bytes : List ℕ) × Gives (R.told reader.old) (R.told reader.new) bytes) }
+    ensures no_memory { OnErr result (GivesWithin (R.told reader.old) (R.told reader.new) (size - length body.old.items)) }
     ensures aside { R.aside reader.new ≡ R.aside reader.old }
 {
     let mut block = [0u8; READ_SIZE];

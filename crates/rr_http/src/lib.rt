@@ -17,14 +17,12 @@ mod serving;
 mod short_reply;
 mod wanting;
 
-pub use answering::{answer_query, answer_whois, give_dump, refuse, submit_body};
 pub use asking::{Asked, BODY_SIZE, Page, Refusal, read_request};
-pub use body::Body;
 pub use body_reading::{BodyEnd, read_body};
 pub use both::Both;
-pub use fronts::{FRONT_SIZE, Goal, read_on};
-pub use lines::{speaks_http, whois_query};
+pub use fronts::FRONT_SIZE;
 pub use registrar::Registrar;
-pub use replying::{write_given_head, write_refusal};
+pub use replying::write_refusal;
+pub use routing::Pages;
 pub use serving::serve_one;
-pub use wanting::{FIELD_LIMIT, Wanted, read_front, wanted_of};
+pub use wanting::{Wanted, read_front, wanted_of};

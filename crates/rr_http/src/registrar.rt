@@ -3,7 +3,8 @@
 ghost use Rattle.std.specs.Prelude.{◌≡◌, false, Bool, ℕ, List};
 ghost use Rattle.rr_io.specs.Sending.{Writes};
 ghost use Rattle.rr_submission.specs.declared.ledger.Ledger.{Ghosts};
-ghost use Rattle.rr_submission.specs.Submissions.{Submits};
+ghost use Rattle.rr_auth.specs.Sources.{IsRegistryOf};
+ghost use Rattle.rr_submission.specs.Submissions.{Submits, UnlessStoreFault};
 ghost use Rattle.rr_desk.specs.Dumping.{Dumps};
 ghost use Rattle.rr_desk.specs.Settings.{SettingsParts};
 
@@ -48,7 +49,7 @@ pub trait Registrar {
         ensures dumps { stops self.now ≡ false → Dumps (dumped self.now) (W.told writer.old) (W.told writer.new) result }
         ensures aside { W.aside writer.new ≡ W.aside writer.old };
 
-    /// Submits what the reader gives, and writes the report.
+    /// Submits what the reader gives, and writes the report. Only a fault of the store stops it.
     fn submit<R: Source, W: Sink>(
         &mut self,
         alloc: Global,
@@ -63,6 +64,8 @@ pub trait Registrar {
           before = ledger.registry self.old;
           after = ledger.registry self.new;
         }) self.old self.new result }
+        ensures runs { stops self.old ≡ false → UnlessStoreFault result (stops self.new ≡ false) }
+        ensures of_source { IsRegistryOf (settings self.old).source (ledger.registry self.old) → IsRegistryOf (settings self.new).source (ledger.registry self.new) }
         ensures settings { settings self.new ≡ settings self.old }
         ensures reader_aside { R.aside reader.new ≡ R.aside reader.old }
         ensures writer_aside { W.aside writer.new ≡ W.aside writer.old };

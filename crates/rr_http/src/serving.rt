@@ -4,9 +4,10 @@ ghost use Rattle.std.specs.Prelude.{◌≡◌, ◌≤◌, ◌⊎◌, false, leng
 ghost use Rattle.rr_http.specs.Asked.{seen};
 ghost use Rattle.rr_http.specs.Faults.{CanCount, TellsFaults};
 ghost use Rattle.rr_http.specs.Requests.{HasSmallSize};
-ghost use Rattle.rr_http.specs.Serving.{IsTakenIn, IsTurnedAway, Serves, ServesAsks, ServesWants, SubmitsRead, answer_by};
+ghost use Rattle.rr_http.specs.Serving.{IsTakenIn, IsTurnedAway, IsUnrouted, Serves, ServesAsks, ServesWants, SubmitsRead, answer_by};
+ghost use Rattle.rr_http.specs.Wanted.{seen_wanted};
 ghost use Rattle.rr_http.specs.FrontLines.{speaks_http};
-ghost use Rattle.rr_http.specs.Wants.{FrontWants, Wants};
+ghost use Rattle.rr_http.specs.Wants.{FrontWants, IsInFront, Wants};
 
 use crate::answering::{answer_query, answer_whois, give_dump, refuse, submit_body};
 use crate::asking::{Asked, BODY_SIZE, Refusal};
@@ -45,11 +46,30 @@ fn serve_front<D: Registrar, C: Connection>(
     front: &[u8],
     connection: &mut C,
 ) -> Result<(), ConnFault>
-    ensures serves { (wants : Wants) × FrontWants (speaks_http front.now) front.now (nat_le 8192 (length front.now)) wants
-        × ServesWants D.Registrar front.now wants desk.old desk.new (C.Source.told connection.old) (C.Source.told connection.new) (C.Sink.told connection.old) (C.Sink.told connection.new) result }
+    ensures serves { IsUnrouted desk.old desk.new front.now (C.Source.told connection.old) (C.Source.told connection.new) (C.Sink.told connection.old) (C.Sink.told connection.new) result
+        ⊎ ((wants : Wants) × FrontWants (speaks_http front.now) front.now (nat_le 8192 (length front.now)) wants
+        × ServesWants D.Registrar front.now wants desk.old desk.new (C.Source.told connection.old) (C.Source.told connection.new) (C.Sink.told connection.old) (C.Sink.told connection.new) result) }
     ensures settings { D.settings desk.new ≡ D.settings desk.old }
 {
-    match wanted_of(front) {
+    match wanted_of(alloc, front) {
+        Ok(wanted) => serve_wanted(alloc, desk, front, wanted, connection),
+        Err(_) => refuse(connection, Refusal::Unavailable),
+    }
+}
+
+/// Does what a connection wants of which this front was read.
+fn serve_wanted<D: Registrar, C: Connection>(
+    alloc: Global,
+    desk: &mut D,
+    front: &[u8],
+    wanted: Wanted<'_>,
+    connection: &mut C,
+) -> Result<(), ConnFault>
+    requires { IsInFront front.now (seen_wanted wanted) }
+    ensures serves { ServesWants D.Registrar front.now (seen_wanted wanted.entry) desk.old desk.new (C.Source.told connection.old) (C.Source.told connection.new) (C.Sink.told connection.old) (C.Sink.told connection.new) result }
+    ensures settings { D.settings desk.new ≡ D.settings desk.old }
+{
+    match wanted {
         Wanted::Whois(query) => answer_whois(alloc, desk, query, connection),
         Wanted::Http(place, asked) => serve_asked(alloc, desk, &front[place..], asked, connection),
     }
@@ -84,7 +104,7 @@ fn take_in<D: Registrar, C: Connection>(
     connection: &mut C,
 ) -> Result<(), ConnFault>
     requires { size ≤ BODY_SIZE }
-    ensures serves { IsTurnedAway desk.old desk.new (C.Source.told connection.old) (C.Source.told connection.new) (C.Sink.told connection.old) (C.Sink.told connection.new) result
+    ensures serves { IsTurnedAway D.Registrar begun.now size desk.old desk.new (C.Source.told connection.old) (C.Source.told connection.new) (C.Sink.told connection.old) (C.Sink.told connection.new) result
         ⊎ IsTakenIn D.Registrar begun.now size desk.old desk.new (C.Source.told connection.old) (C.Source.told connection.new) (C.Sink.told connection.old) (C.Sink.told connection.new) result }
     ensures settings { D.settings desk.new ≡ D.settings desk.old }
 {

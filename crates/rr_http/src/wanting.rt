@@ -1,6 +1,6 @@
 //! What a connection wants, by the bytes at its front.
 
-ghost use Rattle.std.specs.Prelude.{◌≡◌, ◌≤◌, Option, length, nat_le, take, if◌then◌else◌, IfOk, OnErr};
+ghost use Rattle.std.specs.Prelude.{◌≡◌, ◌≤◌, true, Option, length, nat_le, take, if◌then◌else◌, IfOk, OnErr};
 ghost use Rattle.httparse.specs.Grammar.{RequestHead};
 ghost use Rattle.rr_http.specs.Asked.{seen};
 ghost use Rattle.rr_http.specs.Fronts.{head_length};
@@ -12,10 +12,12 @@ ghost use Rattle.rr_http.specs.Wants.{BreaksFront, FrontWants, HeadWants, IsInFr
 use crate::asking::{Asked, Refusal, read_request};
 use crate::fronts::{FRONT_SIZE, Goal, head_length, read_on};
 use crate::lines::{speaks_http, whois_query};
+use crate::routing::Pages;
 use httparse::Status;
 use httparse::spans::{EMPTY_HEADER_SPAN, parse_request};
 use rr_io::Source;
-use std::io;
+use std::alloc::{AllocError, Global};
+use std::{io, str};
 
 /// How many fields the head of a request has at most (profile).
 pub const FIELD_LIMIT: usize = 64;
@@ -45,25 +47,29 @@ pub fn read_front<R: Source>(reader: &mut R, front: &mut [u8]) -> io::Result<(us
     read_on(reader, Goal::Head, front, filled)
 }
 
-/// What a connection wants whose front is this.
-pub fn wanted_of(front: &[u8]) -> Wanted<'_>
-    ensures wants { FrontWants (speaks_http front.now) front.now (nat_le 8192 (length front.now)) (seen_wanted result) }
-    ensures in_front { IsInFront front.now (seen_wanted result) }
+/// What a connection wants whose front is this. The error is that memory was refused for the pages of HTTP.
+pub fn wanted_of(alloc: Global, front: &[u8]) -> Result<Wanted<'_>, AllocError>
+    ensures wants { IfOk result (λ wanted. FrontWants (speaks_http front.now) front.now (nat_le 8192 (length front.now)) (seen_wanted wanted)) }
+    ensures in_front { IfOk result (λ wanted. IsInFront front.now (seen_wanted wanted)) }
+    ensures speaks { OnErr result (speaks_http front.now ≡ true) }
 {
     if speaks_http(front) {
-        wanted_by_http(front)
+        wanted_by_http(alloc, front)
     } else {
-        Wanted::Whois(whois_query(front))
+        Ok(Wanted::Whois(whois_query(front)))
     }
 }
 
-fn wanted_by_http(front: &[u8]) -> Wanted<'_>
-    ensures wants { HeadWants (head_length front.now) front.now (nat_le 8192 (length front.now)) (seen_wanted result) }
-    ensures in_front { IsInFront front.now (seen_wanted result) }
+fn wanted_by_http(alloc: Global, front: &[u8]) -> Result<Wanted<'_>, AllocError>
+    ensures wants { IfOk result (λ wanted. HeadWants (head_length front.now) front.now (nat_le 8192 (length front.now)) (seen_wanted wanted)) }
+    ensures in_front { IfOk result (λ wanted. IsInFront front.now (seen_wanted wanted)) }
 {
     match head_length(front) {
-        Some(place) => Wanted::Http(place, asked_by(&front[..place])),
-        None => Wanted::Http(0, Asked::Refused(unended_head(front))),
+        Some(place) => match Pages::new(alloc) {
+            Ok(pages) => Ok(Wanted::Http(place, asked_by(&pages, &front[..place]))),
+            Err(fault) => Err(fault),
+        },
+        None => Ok(Wanted::Http(0, Asked::Refused(unended_head(front)))),
     }
 }
 
@@ -79,19 +85,23 @@ fn unended_head(front: &[u8]) -> Refusal
 }
 
 /// What a request asks that begins with this head, if it is one.
-fn asked_by(head: &[u8]) -> Asked<'_>
+fn asked_by<'a>(pages: &Pages, head: &'a [u8]) -> Asked<'a>
     ensures asks { (parsed : Option RequestHead) × IsParsed head.now parsed × (seen result ≡ head_asks parsed) }
     ensures small { HasSmallSize (seen result) }
 {
     let mut fields = [EMPTY_HEADER_SPAN; FIELD_LIMIT];
     match parse_request(head, &mut fields) {
         Ok(status) => match status {
-            Status::Complete(spans) => read_request(
-                spans.method.of(head),
-                spans.path.of(head),
-                head,
-                &fields[..spans.headers],
-            ),
+            Status::Complete(spans) => match str::from_utf8(spans.path.of(head)) {
+                Ok(target) => read_request(
+                    pages,
+                    spans.method.of(head),
+                    target,
+                    head,
+                    &fields[..spans.headers],
+                ),
+                Err(_) => Asked::Refused(Refusal::BadRequest),
+            },
             Status::Partial => Asked::Refused(Refusal::BadRequest),
         },
         Err(_) => Asked::Refused(Refusal::BadRequest),

@@ -4,8 +4,9 @@ use rr_http::{
     Asked, BodyEnd, FRONT_SIZE, Page, Refusal, Wanted, read_body, read_front, wanted_of,
     write_refusal,
 };
-use rr_io::{Counted, Cut};
+use rr_io::{Counted, Cut, Sink};
 use std::alloc::Global;
+use std::io;
 use std::test::Fail;
 
 /// What a connection wants, without what it borrows.
@@ -20,11 +21,14 @@ enum Seen {
 }
 
 /// What a connection wants that gives these bytes, at most `step` in a read.
-fn outcome(text: &[u8], step: usize) -> Seen {
+fn outcome(alloc: Global, text: &[u8], step: usize) -> Seen {
     let mut front = [0u8; FRONT_SIZE];
-    let mut source = Cut::new(Counted::new(text), step.max(1), 100_000);
-    match read_front(&mut source, &mut front) {
-        Ok((count, _)) => summary(wanted_of(&front[..count])),
+    let mut reader = Cut::new(Counted::new(text), step.max(1), 100_000);
+    match read_front(&mut reader, &mut front) {
+        Ok((count, _)) => match wanted_of(alloc, &front[..count]) {
+            Ok(wanted) => summary(wanted),
+            Err(_) => Seen::Failed,
+        },
         Err(_) => Seen::Failed,
     }
 }
@@ -69,7 +73,7 @@ fn post(alloc: Global, lines: &[u8]) -> Result<Vec<u8>, Fail> {
 fn a_head_is_read_in_pieces_of_any_size(rt: HostRuntime) {
     let text = b"POST /submissions HTTP/1.1\r\nContent-Length: 007 \r\n\r\nabcdefg".as_slice();
     for step in 1..text.len() {
-        assert_eq!(rt; outcome(text, step), Seen::Submission(52, 7));
+        assert_eq!(rt; outcome(rt.alloc(), text, step), Seen::Submission(52, 7));
     }
 }
 
@@ -82,16 +86,19 @@ fn a_head_cut_at_each_place_is_whois_or_refused(rt: HostRuntime) {
         } else {
             Seen::Refused(Refusal::BadRequest)
         };
-        assert_eq!(rt; outcome(&text[..end], 5), expected);
+        assert_eq!(rt; outcome(rt.alloc(), &text[..end], 5), expected);
     }
 }
 
 #[test]
 fn a_head_has_at_most_64_fields(rt: HostRuntime) -> Result<(), Fail> {
     let most = dump_request(rt.alloc(), 64, 1)?;
-    assert_eq!(rt; outcome(&most, 100), Seen::Dump);
+    assert_eq!(rt; outcome(rt.alloc(), &most, 100), Seen::Dump);
     let over = dump_request(rt.alloc(), 65, 1)?;
-    assert_eq!(rt; outcome(&over, 100), Seen::Refused(Refusal::BadRequest));
+    assert_eq!(rt;
+        outcome(rt.alloc(), &over, 100),
+        Seen::Refused(Refusal::BadRequest)
+    );
     Ok(())
 }
 
@@ -104,7 +111,7 @@ fn a_head_has_at_most_8192_bytes(rt: HostRuntime) -> Result<(), Fail> {
     ] {
         let text = dump_request(rt.alloc(), 1, value)?;
         assert_eq!(rt; text.len(), value + 26);
-        assert_eq!(rt; outcome(&text, 4_096), expected);
+        assert_eq!(rt; outcome(rt.alloc(), &text, 4_096), expected);
     }
     Ok(())
 }
@@ -115,11 +122,14 @@ fn a_first_line_of_8192_bytes_is_whois(rt: HostRuntime) -> Result<(), Fail> {
     for _ in 0..8_192 {
         text.push(b'a')?;
     }
-    assert_eq!(rt; outcome(&text, 1_000), Seen::Whois(8_192));
+    assert_eq!(rt; outcome(rt.alloc(), &text, 1_000), Seen::Whois(8_192));
     text.truncate(8_183);
     text.extend_from_slice(b" HTTP/1.1")?;
     assert_eq!(rt; text.len(), 8_192);
-    assert_eq!(rt; outcome(&text, 1_000), Seen::Refused(Refusal::HeadTooLarge));
+    assert_eq!(rt;
+        outcome(rt.alloc(), &text, 1_000),
+        Seen::Refused(Refusal::HeadTooLarge)
+    );
     Ok(())
 }
 
@@ -154,7 +164,7 @@ fn a_body_has_one_length_of_digits_alone(rt: HostRuntime) -> Result<(), Fail> {
         ),
     ] {
         let text = post(rt.alloc(), lines)?;
-        assert_eq!(rt; outcome(&text, 64), expected);
+        assert_eq!(rt; outcome(rt.alloc(), &text, 64), expected);
     }
     Ok(())
 }
@@ -185,7 +195,7 @@ fn paths_and_methods_are_told_apart(rt: HostRuntime) {
         (b"a\r", Seen::Whois(2)),
         (b"", Seen::Whois(0)),
     ] {
-        assert_eq!(rt; outcome(text, 7), expected);
+        assert_eq!(rt; outcome(rt.alloc(), text, 7), expected);
     }
 }
 
@@ -221,7 +231,7 @@ fn high_bytes_stand_in_targets_and_values(rt: HostRuntime) {
             Seen::Refused(Refusal::BadRequest),
         ),
     ] {
-        assert_eq!(rt; outcome(text, 9), expected);
+        assert_eq!(rt; outcome(rt.alloc(), text, 9), expected);
     }
 }
 
@@ -231,7 +241,7 @@ fn each_high_byte_stands_in_a_value(rt: HostRuntime) -> Result<(), Fail> {
         let mut text = Vec::from_slice(rt.alloc(), b"GET /dump HTTP/1.1\r\nA: ")?;
         text.push(byte)?;
         text.extend_from_slice(b"\r\n\r\n")?;
-        assert_eq!(rt; outcome(&text, 3), Seen::Dump, "{byte}");
+        assert_eq!(rt; outcome(rt.alloc(), &text, 3), Seen::Dump, "{byte}");
     }
     Ok(())
 }
@@ -246,13 +256,54 @@ fn refusals_are_whole_replies(rt: HostRuntime) {
     assert_eq!(rt; sink.into_inner().as_slice(), expected.as_slice());
 }
 
+/// A writer that counts its calls.
+#[derive(Drop)]
+struct Calls<W> {
+    inner: W,
+    calls: u64,
+}
+
+impl<W: Sink> Sink for Calls<W> {
+    ghost told = { λ c. W.told c.inner };
+
+    ghost aside = { λ c. W.aside c.inner };
+
+    fn write(&mut self, bytes: &[u8]) -> io::Result<usize> {
+        self.calls = self.calls.saturating_add(1);
+        self.inner.write(bytes)
+    }
+
+    fn failed_writes(&self) -> u64 {
+        self.inner.failed_writes()
+    }
+}
+
+#[test]
+fn a_refusal_is_written_in_one_call(rt: HostRuntime) {
+    for refusal in [
+        Refusal::HeadTooLarge,
+        Refusal::BadRequest,
+        Refusal::NotImplemented,
+        Refusal::NotFound,
+        Refusal::MethodNotAllowed(Page::Dump),
+        Refusal::LengthRequired,
+        Refusal::PayloadTooLarge,
+        Refusal::Unavailable,
+    ] {
+        let inner = Counted::new(Vec::new(rt.alloc()));
+        let mut sink = Calls { inner, calls: 0 };
+        assert!(rt; write_refusal(&mut sink, refusal).is_ok());
+        assert_eq!(rt; sink.calls, 1, "{refusal:?}");
+    }
+}
+
 #[test]
 fn a_body_is_short_where_its_bytes_do_not_come(rt: HostRuntime) -> Result<(), Fail> {
-    let mut source = Cut::new(Counted::new(b"cdef".as_slice()), 1, 3);
-    let (body, end) = read_body(rt.alloc(), &mut source, b"ab", 4)?;
+    let mut reader = Cut::new(Counted::new(b"cdef".as_slice()), 1, 3);
+    let (body, end) = read_body(rt.alloc(), &mut reader, b"ab", 4)?;
     assert_eq!(rt; body.as_slice(), b"abcd".as_slice());
     assert_eq!(rt; end, BodyEnd::Whole);
-    let (body, end) = read_body(rt.alloc(), &mut source, b"", 4)?;
+    let (body, end) = read_body(rt.alloc(), &mut reader, b"", 4)?;
     assert_eq!(rt; body.as_slice(), b"e".as_slice());
     assert_eq!(rt; end, BodyEnd::Broken);
     let mut ended = Counted::new(b"g".as_slice());

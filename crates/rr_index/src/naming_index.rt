@@ -4,7 +4,6 @@ ghost use Rattle.std.specs.Prelude.{◌≡◌, ◌+◌, ◌-◌, ℕ, List, [], 
 ghost use Rattle.std.specs.FinMap.{empty};
 ghost use Rattle.std.specs.Str.{bytes_eq};
 ghost use Rattle.rr_object.specs.Objects.{names_of};
-ghost use Rattle.rr_auth.specs.Registries.{is_mntner_of};
 ghost use Rattle.rr_index.specs.NamingIndexes.{HasNamings, count_at, namings, namings_by};
 
 use rr_number::Name;
@@ -102,7 +101,7 @@ impl NamingIndex {
         ensures ok { OnOk result ((other : List ℕ) → count_at self.new.counts other ≡ count_at self.old.counts other + namings other key.now (name.now ∷ [])) }
         ensures err { OnErr result ((other : List ℕ) → count_at self.new.counts other ≡ count_at self.old.counts other) }
     {
-        if is_own(key, name) {
+        if key.is_mntner_of(name) {
             Ok(())
         } else {
             self.count_up(alloc, name)
@@ -113,7 +112,7 @@ impl NamingIndex {
     fn lower(&mut self, key: &Key, name: &Name)
         ensures { (other : List ℕ) → count_at self.new.counts other ≡ count_at self.old.counts other - namings other key.now (name.now ∷ []) }
     {
-        if !is_own(key, name) {
+        if !key.is_mntner_of(name) {
             self.count_down(name);
         }
     }
@@ -174,14 +173,4 @@ fn take_one(count: &mut u64) -> bool
 {
     *count = count.saturating_sub(1);
     *count == 0
-}
-
-/// Whether the key is that of the maintainer of the name.
-fn is_own(key: &Key, name: &Name) -> bool
-    ensures { result ≡ is_mntner_of name.now key.now }
-{
-    match key {
-        Key::Mntner(own) => own == name,
-        _ => false,
-    }
 }

@@ -14,3 +14,4 @@ pub mod MapLists
 pub mod AddedLemmas
 pub mod MapNaming
 pub mod ListForms
+pub mod ObjectRows

@@ -23,10 +23,10 @@ use Rattle.sqlite.specs.Rows.{stamped}
 use Rattle.sqlite.specs.State.{State, Executes, Shown}
 use Rattle.sqlite.proofs.Callers.{reads_as}
 use Rattle.rr_rows.specs.Tables.{Layout, Rules, laid, table_with, stands_apart, HasTables}
-use Rattle.rr_rows.specs.Texts.{insert_meta, insert_object, insert_named, delete_object, delete_named, clear_meta, clear_object, clear_named, select_meta, select_object, select_named, select_naming, meta_numbers, object_numbers, named_numbers}
-use Rattle.rr_rows.specs.Queries.{Means, alone, rowids_of, rows_of, object_tests, named_tests, naming_tests}
-use Rattle.rr_rows.specs.Contents.{AreKeyed, IsTidy, Alters, Adds, Removes, IsListing, columns, contents, number, meta_values, object_values, named_values, passes, is_object_of, is_named_of, are_joined, pointed, by_one, by_two, by_three}
-use Rattle.rr_rows.proofs.TextLemmas.{insert_meta_is, insert_object_is, insert_named_is, delete_object_is, delete_named_is, clear_meta_is, clear_object_is, clear_named_is, select_meta_is, select_object_is, select_named_is, select_naming_is, meta_numbers_is, object_numbers_is, named_numbers_is}
+use Rattle.rr_rows.specs.Texts.{insert_meta, insert_object, insert_named, delete_object, delete_name, clear_meta, clear_object, clear_named, select_meta, select_object, select_of_key, select_named, select_naming, meta_numbers, object_numbers, named_numbers}
+use Rattle.rr_rows.specs.Queries.{Means, alone, rowids_of, rows_of, object_tests, name_tests, naming_tests}
+use Rattle.rr_rows.specs.Contents.{AreKeyed, IsTidy, Alters, Adds, Removes, IsListing, columns, contents, number, meta_values, object_values, named_values, passes, is_object_of, is_name_of, are_joined, pointed, by_one, by_two, by_three}
+use Rattle.rr_rows.proofs.TextLemmas.{insert_meta_is, insert_object_is, insert_named_is, delete_object_is, delete_name_is, clear_meta_is, clear_object_is, clear_named_is, select_meta_is, select_object_is, select_of_key_is, select_named_is, select_naming_is, meta_numbers_is, object_numbers_is, named_numbers_is}
 use Rattle.rr_rows.proofs.RowLemmas.{put_permutes, put_keyed, without_those, filter_keyed}
 use Rattle.rr_rows.proofs.ChangeLemmas.{Sets, inserted, deleted}
 use Rattle.rr_rows.proofs.QueryLemmas.{answers, matches_of, matches_of_pairs}
@@ -139,10 +139,10 @@ pub deletes_object : (class : ℕ) (key : List ℕ) (old new : State) → IsTidy
 deletes_object class key old new tidy count h =
     deletes 1 2 (inr (inl refl)) _ _ (λ l. l.object) (λ l. refl) delete_object (Int (pos class) ∷ Text key ∷ []) old new tidy object_tests delete_object_is (λ db. refl) (λ row. refl) count h
 
-pub deletes_named : (class : ℕ) (key : List ℕ) (old new : State) → IsTidy old.now → (count : ℕ) → Executes delete_named (Int (pos class) ∷ Text key ∷ []) old new (Ok count)
-    → Alters old.now new.now 4 (Removes (is_named_of class key))
-deletes_named class key old new tidy count h =
-    deletes 2 4 (inr (inr refl)) _ _ (λ l. l.named) (λ l. refl) delete_named (Int (pos class) ∷ Text key ∷ []) old new tidy named_tests delete_named_is (λ db. refl) (λ row. refl) count h
+pub deletes_name : (name : List ℕ) (class : ℕ) (key : List ℕ) (old new : State) → IsTidy old.now → (count : ℕ) → Executes delete_name (named_values name class key) old new (Ok count)
+    → Alters old.now new.now 4 (Removes (is_name_of class key name))
+deletes_name name class key old new tidy count h =
+    deletes 2 4 (inr (inr refl)) _ _ (λ l. l.named) (λ l. refl) delete_name (named_values name class key) old new tidy name_tests delete_name_is (λ db. refl) (λ row. refl) count h
 
 pub clears_meta : (old new : State) → IsTidy old.now → (count : ℕ) → Executes clear_meta [] old new (Ok count) → Alters old.now new.now 0 (Removes (λ row. true))
 clears_meta old new tidy = clears 0 0 (inl refl) _ _ (λ l. l.meta) (λ l. refl) clear_meta [] old new tidy clear_meta_is (λ db. refl)
@@ -188,6 +188,20 @@ numbers_object = selects 2 (λ db. refl) object_numbers (codes "rowid" ∷ []) (
 
 pub numbers_named : (old new : State) → HasTables old.now.schema → (rows : List Row) → Shown named_numbers [] old new rows → IsListing by_one (map number (old.now.trees 4)) rows
 numbers_named = selects 4 (λ db. refl) named_numbers (codes "rowid" ∷ []) (col 1 0 ∷ []) (col 1 0 ∷ []) by_one (λ a b. refl) named_numbers_is
+
+-- the rows of the objects of a class and a key
+pub selects_of_key : (class : ℕ) (key : List ℕ) (old new : State) → HasTables old.now.schema → (rows : List Row) → Shown select_of_key (Int (pos class) ∷ Text key ∷ []) old new rows
+    → IsPermutation (filter (is_object_of class key) (contents (old.now.trees 2))) rows
+selects_of_key class key old new has rows h =
+    let means = select_of_key_is has.layout in
+    let params : Row = Int (pos class) ∷ Text key ∷ [] in
+    let shown = col 1 1 ∷ col 1 2 ∷ col 1 3 ∷ [] in
+    let object = old.now.trees 2 in
+    let sure = (reads_as select_of_key params old new (laid has.layout) has.is _ means.is means.plain means.unlisted rows h).answer in
+    let list = answers (inner 2 end) object_tests shown [] params (overlay old.now.trees []) (λ a b. Equal) (λ a b. refl) rows sure in
+    subst (λ xs. IsPermutation xs rows)
+    (ap (map (eval_all shown)) (matches_of 2 object_tests params (overlay old.now.trees [])) ∙ map-map _ _ (filter (λ row. is_object_of class key (columns row)) object) ∙ sym (filter-map (is_object_of class key) columns object))
+    list.same
 
 -- the rows to which a maintainer's point
 pub selects_naming : (name : List ℕ) (old new : State) → HasTables old.now.schema → (rows : List Row) → Shown select_naming (Text name ∷ []) old new rows

@@ -4,8 +4,8 @@ use Rattle.sqlite_schema.specs.declared.command.Command.TheVariants.{Delete, Sel
 use Rattle.sqlite.specs.Listing.{understood}
 use Rattle.sqlite_tied.specs.Compute.{everything}
 use Rattle.rr_rows.specs.Tables.{Layout}
-use Rattle.rr_rows.specs.Texts.{insert_meta, insert_object, insert_named, delete_object, delete_named, clear_meta, clear_object, clear_named, select_meta, select_object, select_named, select_naming, meta_numbers, object_numbers, named_numbers}
-use Rattle.rr_rows.specs.Queries.{Means, insert_into, alone, rowids_of, numbers_of, object_tests, named_tests, meta_query, object_query, named_query, naming_query}
+use Rattle.rr_rows.specs.Texts.{insert_meta, insert_object, insert_named, delete_object, delete_name, clear_meta, clear_object, clear_named, select_meta, select_object, select_of_key, select_named, select_naming, meta_numbers, object_numbers, named_numbers}
+use Rattle.rr_rows.specs.Queries.{Means, insert_into, alone, rowids_of, numbers_of, object_tests, name_tests, meta_query, object_query, of_key_query, named_query, naming_query}
 
 pub insert_meta_is : (l : Layout) → Means l insert_meta (insert_into 0 2)
 unfolding understood everything
@@ -23,9 +23,9 @@ pub delete_object_is : (l : Layout) → Means l delete_object (Delete 1 (alone (
 unfolding understood everything
 delete_object_is l = record { is = refl; plain = (refl, refl); unlisted = refl }
 
-pub delete_named_is : (l : Layout) → Means l delete_named (Delete 2 (alone (rowids_of 4 named_tests)))
+pub delete_name_is : (l : Layout) → Means l delete_name (Delete 2 (alone (rowids_of 4 name_tests)))
 unfolding understood everything
-delete_named_is l = record { is = refl; plain = (refl, refl); unlisted = refl }
+delete_name_is l = record { is = refl; plain = (refl, refl); unlisted = refl }
 
 pub clear_meta_is : (l : Layout) → Means l clear_meta (Delete 0 (alone (rowids_of 0 [])))
 unfolding understood everything
@@ -46,6 +46,10 @@ select_meta_is l = record { is = refl; plain = (refl, refl); unlisted = refl }
 pub select_object_is : (l : Layout) → Means l select_object (Select (alone (object_query)) (codes "class" ∷ codes "okey" ∷ codes "body" ∷ []))
 unfolding understood everything
 select_object_is l = record { is = refl; plain = (refl, refl); unlisted = refl }
+
+pub select_of_key_is : (l : Layout) → Means l select_of_key (Select (alone (of_key_query)) (codes "class" ∷ codes "okey" ∷ codes "body" ∷ []))
+unfolding understood everything
+select_of_key_is l = record { is = refl; plain = (refl, refl); unlisted = refl }
 
 pub select_named_is : (l : Layout) → Means l select_named (Select (alone (named_query)) (codes "maintainer" ∷ codes "class" ∷ codes "okey" ∷ []))
 unfolding understood everything

@@ -1,7 +1,8 @@
 -- The rows of the three tables, and what a statement does to them.
 use Rattle.std.specs.Prelude.{ℤ, ◌<ℤ◌, Option, None, Some, ◌≡◌, ◌≢◌, ℕ, pos, true, not, Bool, List, [], ◌∷◌, ◌++◌, map, filter, IsPermutation, IsSorted, IsTrue}
 use Rattle.std.specs.declared.cmp.Ordering.{Ordering}
-use Rattle.std.specs.List.{AllByRecursion, list_all, flat_map}
+use Rattle.std.specs.List.{AllByRecursion, list_all, list_any, flat_map}
+use Rattle.sqlite_value.specs.declared.value.Value.{Value}
 use Rattle.sqlite_value.specs.declared.value.Value.TheVariants.{Null, Int, Text, Blob}
 use Rattle.sqlite_value.specs.declared.keys.Collation.TheVariants.{Binary}
 use Rattle.sqlite_value.specs.Order.{Row, column}
@@ -13,7 +14,7 @@ use Rattle.sqlite_trees.specs.View.{is_int}
 use Rattle.sqlite.specs.Effect.{Database}
 use Rattle.sqlite.specs.State.{State}
 use Rattle.rr_rows.specs.Tables.{HasTables}
-use Rattle.rr_rows.specs.Queries.{object_tests, named_tests, naming_tests}
+use Rattle.rr_rows.specs.Queries.{object_tests, name_tests, named_tests, naming_tests}
 
 -- each row has a number, and no two the same
 pub record AreKeyed (rows : List Row) : Type 0 where
@@ -104,6 +105,14 @@ is_object_of class key = passes object_tests (Int (pos class) ∷ Text key ∷ [
 abbrev pub is_named_of : ℕ → List ℕ → Row → Bool
 is_named_of class key = passes named_tests (Int (pos class) ∷ Text key ∷ [])
 
+-- and one that names this maintainer
+abbrev pub is_name_of : ℕ → List ℕ → List ℕ → Row → Bool
+is_name_of class key name = passes name_tests (Text name ∷ Int (pos class) ∷ Text key ∷ [])
+
+-- and one that names one of these
+abbrev pub is_name_among : ℕ → List ℕ → List (List ℕ) → Row → Bool
+is_name_among class key names row = list_any (λ name. is_name_of class key name row) names
+
 -- a row of `named` and one of `object` are of one object, and the first is of the maintainer
 abbrev pub are_joined : List ℕ → Row → Row → Bool
 are_joined name first second = list_all (holds ((Text name ∷ []) ∷ (Null ∷ first) ∷ (Null ∷ second) ∷ [])) naming_tests
@@ -125,6 +134,14 @@ by_three = key_cmp 0 (ascending Binary ∷ ascending Binary ∷ ascending Binary
 -- the number of a row, as a row
 abbrev pub number : Row → Row
 number row = rowid row ∷ []
+
+-- one number is below another
+abbrev pub IsBelow : Value → Value → Type 0
+IsBelow a b = (m n : ℤ) → a ≡ Int m → b ≡ Int n → m <ℤ n
+
+-- the numbers of rows rise
+abbrev pub AreRising : List Row → Type 0
+AreRising = IsAscending (λ a b. IsBelow (rowid a) (rowid b))
 
 -- a number is above the last, if there is one
 abbrev pub IsPast : Option ℤ → ℤ → Type 0

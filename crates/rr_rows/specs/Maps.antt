@@ -3,6 +3,7 @@ use Rattle.std.specs.Prelude.{◌≡◌, ◌≢◌, ℕ, true, List, [], ◌∷�
 use Rattle.std.specs.List.{AllByRecursion}
 use Rattle.std.specs.declared.cmp.Ordering.TheVariants.{Less}
 use Rattle.std.specs.FinMap.{FinMap, get, insert, remove, values}
+use Rattle.sqlite_value.specs.Order.{Row}
 use Rattle.sqlite_trees.specs.Tree.{IsAscending}
 use Rattle.sqlite.specs.Effect.{Database}
 use Rattle.rr_text.specs.Fields.{AreFields}
@@ -13,7 +14,7 @@ use Rattle.rr_object.specs.Objects.{Obj}
 use Rattle.rr_object.specs.OldKeys.{old_key_bytes}
 use Rattle.rr_object.specs.Readings.{ReadsAs, obj_of}
 use Rattle.rr_rows.specs.Contents.{setting, settings}
-use Rattle.rr_rows.specs.Entries.{Entry, AreRowsOf, entry_of}
+use Rattle.rr_rows.specs.Entries.{Entry, AreRowsOf, entry_of, object_row}
 
 -- `meta` has one row, `version` and this value (profile)
 abbrev pub HasVersion : List ℕ → Database → Type 0
@@ -42,6 +43,16 @@ pub record IsObject (object : Obj) : Type 0 where
 pub record IsObjectOf (source : List ℕ) (object : Obj) : Type 0 where
   pub fields : AreFields object.paragraph
   pub read : ReadsAs source object.paragraph object
+
+-- the tables hold the rows of some objects and no others
+pub record AreOfObjects (db : Database) : Type 0 where
+  pub objects : List Obj
+  pub read : AllByRecursion IsObject objects
+  pub rows : AreRowsOf (map entry_of objects) db
+
+-- where a row of `object` is that of an object, these are the maintainers that it names, each once
+abbrev pub AreNamesOf : List (List ℕ) → Row → Type 0
+AreNamesOf names row = (object : Obj) → IsObject object → row ≡ object_row (entry_of object) → names ≡ (entry_of object).names
 
 -- each object of a finite map stands under its own key, and the keys and objects are such as readers make
 pub record IsKeyed (objects : FinMap key_cmp Obj) : Type 0 where

@@ -57,6 +57,10 @@ object_tests = equals (col 1 1) (col 0 0) ∷ equals (col 1 2) (col 0 1) ∷ []
 abbrev pub named_tests : List Term
 named_tests = equals (col 1 2) (col 0 0) ∷ equals (col 1 3) (col 0 1) ∷ []
 
+-- and the maintainer too
+abbrev pub name_tests : List Term
+name_tests = equals (col 1 1) (col 0 0) ∷ equals (col 1 2) (col 0 1) ∷ equals (col 1 3) (col 0 2) ∷ []
+
 -- a row of `named` is of the maintainer that is given, and of the class and the key of a row of `object`
 abbrev pub naming_tests : List Term
 naming_tests = equals (col 2 1) (col 1 2) ∷ equals (col 2 2) (col 1 3) ∷ equals (col 1 1) (col 0 0) ∷ []
@@ -66,6 +70,10 @@ meta_query = rows_of 0 [] (col 1 1 ∷ col 1 2 ∷ []) (col 1 1 ∷ col 1 2 ∷ 
 
 abbrev pub object_query : Query
 object_query = rows_of 2 [] (col 1 1 ∷ col 1 2 ∷ col 1 3 ∷ []) (col 1 1 ∷ col 1 2 ∷ [])
+
+-- the objects of a class and a key
+abbrev pub of_key_query : Query
+of_key_query = rows_of 2 object_tests (col 1 1 ∷ col 1 2 ∷ col 1 3 ∷ []) []
 
 abbrev pub named_query : Query
 named_query = rows_of 4 [] (col 1 1 ∷ col 1 2 ∷ col 1 3 ∷ []) (col 1 1 ∷ col 1 2 ∷ col 1 3 ∷ [])

@@ -22,8 +22,8 @@ insert_named = codes "INSERT INTO named (maintainer, class, okey) VALUES (?1, ?2
 abbrev pub delete_object : List ℕ
 delete_object = codes "DELETE FROM object WHERE class = ?1 AND okey = ?2"
 
-abbrev pub delete_named : List ℕ
-delete_named = codes "DELETE FROM named WHERE class = ?1 AND okey = ?2"
+abbrev pub delete_name : List ℕ
+delete_name = codes "DELETE FROM named WHERE maintainer = ?1 AND class = ?2 AND okey = ?3"
 
 abbrev pub clear_meta : List ℕ
 clear_meta = codes "DELETE FROM meta"
@@ -39,6 +39,9 @@ select_meta = codes "SELECT name, value FROM meta ORDER BY name, value"
 
 abbrev pub select_object : List ℕ
 select_object = codes "SELECT class, okey, body FROM object ORDER BY class, okey"
+
+abbrev pub select_of_key : List ℕ
+select_of_key = codes "SELECT class, okey, body FROM object WHERE class = ?1 AND okey = ?2"
 
 abbrev pub select_named : List ℕ
 select_named = codes "SELECT maintainer, class, okey FROM named ORDER BY maintainer, class, okey"

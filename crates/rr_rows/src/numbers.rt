@@ -1,12 +1,13 @@
 //! Whether rows have numbers of their own.
 
 ghost use Rattle.std.specs.Prelude.{◌≡◌, IsTrue, IfOk};
-ghost use Rattle.rr_rows.specs.Contents.{AreKeyed, IsPast};
+ghost use Rattle.rr_rows.specs.Contents.{AreKeyed, AreRising, IsPast};
 
 use sqlite::{Error, Row};
 
 fn is_past(last: Option<i64>, number: i64) -> bool
-    ensures { IsTrue result → IsPast last number }
+    ensures is { IsTrue result → IsPast last number }
+    ensures only { IsPast last number → IsTrue result }
 {
     match last {
         Some(before) => before < number,
@@ -16,7 +17,8 @@ fn is_past(last: Option<i64>, number: i64) -> bool
 
 /// Whether rows, each of one number, have whole numbers that rise. The error is want of memory.
 pub fn are_numbered(rows: &[Row]) -> Result<bool, Error>
-    ensures { IfOk result (λ rise. IsTrue rise → AreKeyed rows.now) }
+    ensures is { IfOk result (λ rise. IsTrue rise → AreKeyed rows.now) }
+    ensures only { IfOk result (λ rise. AreRising rows.now → IsTrue rise) }
 {
     let mut last: Option<i64> = None;
     for row in rows {

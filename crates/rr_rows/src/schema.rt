@@ -11,7 +11,8 @@ use sqlite_value::keys::Collation;
 use sqlite_value::value::Value;
 
 fn is_required(column: &Column, name: &[u8], kind: Kind) -> bool
-    ensures { IsTrue result → column.now ≡ required name.now kind }
+    ensures is { IsTrue result → column.now ≡ required name.now kind }
+    ensures only { column.now ≡ required name.now kind → IsTrue result }
 {
     column.name.as_slice() == name
         && column.kind == kind
@@ -23,7 +24,8 @@ fn is_required(column: &Column, name: &[u8], kind: Kind) -> bool
 
 /// Whether a table has no foreign key, no rowid of its own and no default.
 fn is_plain(table: &Table) -> bool
-    ensures { IsTrue result → IsPlain table.now }
+    ensures is { IsTrue result → IsPlain table.now }
+    ensures only { IsPlain table.now → IsTrue result }
 {
     table.key.is_none()
         && table.references.is_empty()
@@ -35,7 +37,8 @@ fn is_plain(table: &Table) -> bool
 }
 
 fn are_settings(columns: &[Column]) -> bool
-    ensures { IsTrue result → columns.now ≡ required (codes "name") kind.Text ∷ required (codes "value") kind.Text ∷ [] }
+    ensures is { IsTrue result → columns.now ≡ required (codes "name") kind.Text ∷ required (codes "value") kind.Text ∷ [] }
+    ensures only { columns.now ≡ required (codes "name") kind.Text ∷ required (codes "value") kind.Text ∷ [] → IsTrue result }
 {
     match columns {
         [first, second] => is_required(first, b"name", Kind::Text)
@@ -45,7 +48,8 @@ fn are_settings(columns: &[Column]) -> bool
 }
 
 fn are_objects(columns: &[Column]) -> bool
-    ensures { IsTrue result → columns.now ≡ required (codes "class") kind.Integer ∷ required (codes "okey") kind.Text ∷ required (codes "body") kind.Blob ∷ [] }
+    ensures is { IsTrue result → columns.now ≡ required (codes "class") kind.Integer ∷ required (codes "okey") kind.Text ∷ required (codes "body") kind.Blob ∷ [] }
+    ensures only { columns.now ≡ required (codes "class") kind.Integer ∷ required (codes "okey") kind.Text ∷ required (codes "body") kind.Blob ∷ [] → IsTrue result }
 {
     match columns {
         [first, second, third] => is_required(first, b"class", Kind::Integer)
@@ -56,7 +60,8 @@ fn are_objects(columns: &[Column]) -> bool
 }
 
 fn are_names(columns: &[Column]) -> bool
-    ensures { IsTrue result → columns.now ≡ required (codes "maintainer") kind.Text ∷ required (codes "class") kind.Integer ∷ required (codes "okey") kind.Text ∷ [] }
+    ensures is { IsTrue result → columns.now ≡ required (codes "maintainer") kind.Text ∷ required (codes "class") kind.Integer ∷ required (codes "okey") kind.Text ∷ [] }
+    ensures only { columns.now ≡ required (codes "maintainer") kind.Text ∷ required (codes "class") kind.Integer ∷ required (codes "okey") kind.Text ∷ [] → IsTrue result }
 {
     match columns {
         [first, second, third] => is_required(first, b"maintainer", Kind::Text)
@@ -67,7 +72,8 @@ fn are_names(columns: &[Column]) -> bool
 }
 
 fn is_meta(table: &Table) -> bool
-    ensures { IsTrue result → table.now ≡ meta (rules_of table.now) }
+    ensures is { IsTrue result → table.now ≡ meta (rules_of table.now) }
+    ensures only { table.now ≡ meta (rules_of table.now) → IsTrue result }
 {
     table.name.as_slice() == b"meta".as_slice()
         && table.tree == 0
@@ -76,7 +82,8 @@ fn is_meta(table: &Table) -> bool
 }
 
 fn is_object(table: &Table) -> bool
-    ensures { IsTrue result → table.now ≡ object (rules_of table.now) }
+    ensures is { IsTrue result → table.now ≡ object (rules_of table.now) }
+    ensures only { table.now ≡ object (rules_of table.now) → IsTrue result }
 {
     table.name.as_slice() == b"object".as_slice()
         && table.tree == 2
@@ -85,7 +92,8 @@ fn is_object(table: &Table) -> bool
 }
 
 fn is_named(table: &Table) -> bool
-    ensures { IsTrue result → table.now ≡ named (rules_of table.now) }
+    ensures is { IsTrue result → table.now ≡ named (rules_of table.now) }
+    ensures only { table.now ≡ named (rules_of table.now) → IsTrue result }
 {
     table.name.as_slice() == b"named".as_slice()
         && table.tree == 4
@@ -126,13 +134,15 @@ fn are_ours(first: &Table, second: &Table, third: &Table, others: &[Table]) -> b
     ensures object { IsTrue result → second.now ≡ object (rules_of second.now) }
     ensures named { IsTrue result → third.now ≡ named (rules_of third.now) }
     ensures apart { IsTrue result → list_all stands_apart others.now ≡ true }
+    ensures only { first.now ≡ meta (rules_of first.now) → second.now ≡ object (rules_of second.now) → third.now ≡ named (rules_of third.now) → list_all stands_apart others.now ≡ true → IsTrue result }
 {
     is_meta(first) && is_object(second) && is_named(third) && stand_apart(others)
 }
 
 /// Whether the three tables are the first of the schema, in their order, and no other refers to them.
 pub fn has_tables(schema: &Schema) -> bool
-    ensures { IsTrue result → HasTables schema.now }
+    ensures is { IsTrue result → HasTables schema.now }
+    ensures only { HasTables schema.now → IsTrue result }
 {
     match schema.tables.as_slice() {
         [first, second, third, others @ ..] => are_ours(first, second, third, others),

@@ -7,7 +7,7 @@ use Rattle.rr_object.specs.KeyOrders.{IsKeyValue}
 use Rattle.rr_object.specs.Objects.{Obj}
 use Rattle.rr_rows.specs.Contents.{contents, settings}
 use Rattle.rr_rows.specs.Entries.{Entry, AreRowsOf, IsAdded, entry_of, named_rows, object_row}
-use Rattle.rr_rows.specs.Maps.{IsObject}
+use Rattle.rr_rows.specs.Maps.{AreOfObjects, IsObject}
 use Rattle.rr_rows.proofs.AddedLemmas.{append_none}
 use Rattle.rr_rows.proofs.MapEntries.{values_with_new}
 use Rattle.rr_object.proofs.KeyLaws.{keys_total}
@@ -22,6 +22,10 @@ one_more entry entries old new rows added = record {
   named = IsPermutation-trans _ _ _ (IsPermutation-append_right (named_rows entry) _ _ rows.named)
       (subst (λ l. IsPermutation (l ++ contents (old.trees 4)) (contents (new.trees 4))) (append_none (named_rows entry)) added.named);
 }
+
+pub added_held : (object : Obj) → IsObject object → (old new : Database) → AreOfObjects old → IsAdded (entry_of object ∷ []) old new → AreOfObjects new
+added_held object is old new held added =
+    record { objects = object ∷ held.objects; read = (is, held.read); rows = one_more (entry_of object) (map entry_of held.objects) old new held.rows added }
 
 -- the rows with those of an object of a new key are the rows of the map with it
 pub adds : (object : Obj) → IsKeyValue object.key → IsObject object → (old new : Database) → IsAdded (entry_of object ∷ []) old new → AddsTo object.key object old new

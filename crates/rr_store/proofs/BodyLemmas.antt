@@ -1,14 +1,16 @@
 -- What statements in a row do.
-use Rattle.std.proofs.Common.{◌≢◌, ℕ, List, [], ◌∷◌, ◌++◌, map, filter, not, Ok, Err, Result, OnOk, sym, ap, subst, subst₂, ◌∙◌, arith, IsPermutation}
+use Rattle.std.proofs.Common.{◌≡◌, ◌≢◌, ℕ, List, [], ◌∷◌, ◌++◌, map, filter, not, Ok, Err, Result, OnOk, sym, ap, subst, subst₂, ◌∙◌, arith, IsPermutation}
+use Rattle.std.specs.List.{AllByRecursion}
 use Rattle.sqlite.specs.Effect.{Database}
-use Rattle.rr_rows.specs.Contents.{Alters, Adds, Removes, contents, is_object_of, is_named_of, object_values, named_values}
+use Rattle.rr_rows.specs.Contents.{Alters, Adds, Removes, contents, is_name_among, is_object_of, is_named_of, object_values, named_values}
 use Rattle.sqlite_value.specs.Order.{Row}
 use Rattle.std.specs.Prelude.{codes}
 use Rattle.rr_rows.specs.Contents.{meta_values}
-use Rattle.rr_rows.specs.Entries.{Entry, IsAdded, IsPut}
+use Rattle.rr_rows.specs.Entries.{Entry, IsAdded, IsPut, IsTaken, named_rows, object_row}
 use Rattle.rr_rows.specs.Made.{IsBare}
-use Rattle.rr_rows.specs.Maps.{IsFilled, this_version}
+use Rattle.rr_rows.specs.Maps.{AreNamesOf, AreOfObjects, IsFilled, this_version}
 use Rattle.rr_rows.proofs.AddedLemmas.{append_none, filled_by}
+use Rattle.rr_rows.proofs.ObjectRows.{names_gone}
 
 pub then_ok : {X E P Q : Type 0} (r : Result X E) → OnOk r P → (P → Q) → OnOk r Q
 then_ok (Ok x) p f = f p
@@ -33,15 +35,20 @@ four_none : ◌≢◌ {A = ℕ} 4 0
 four_none h = omega arith
 
 -- the old rows of the object go, and the new ones come
-pub put_by : (class : ℕ) (key body : List ℕ) (names : List (List ℕ)) (a b c d e : Database) → Alters a b 4 (Removes (is_named_of class key)) → Alters b c 2 (Removes (is_object_of class key))
-    → Alters c d 2 (Adds (object_values class key body ∷ [])) → Alters d e 4 (Adds (map (λ name. named_values name class key) names)) → IsPut (record { class = class; key = key; body = body; names = names }) a e
-put_by class key body names a b c d e first second third fourth = record {
-  tidy = fourth.tidy;
-  objects = subst (IsPermutation _) (sym (ap contents (fourth.object two_four)))
-      (subst (λ xs. IsPermutation (object_values class key body ∷ xs) (contents (d.trees 2))) (second.change ∙ ap (λ rows. filter (λ row. not (is_object_of class key row)) (contents rows)) (first.object two_four)) third.change);
-  named = subst (λ xs. IsPermutation (map (λ name. named_values name class key) names ++ xs) (contents (e.trees 4))) (ap contents (third.named four_two ∙ second.named four_two) ∙ first.change) fourth.change;
-  meta = fourth.meta none_four ∙ third.meta none_two ∙ second.meta none_two ∙ first.meta none_four;
+pub put_by : (entry : Entry) (a b c : Database) → IsTaken entry.class entry.key a b → IsAdded (entry ∷ []) b c → IsPut entry a c
+put_by entry a b c taken added = record {
+  tidy = added.tidy;
+  objects = subst (λ xs. IsPermutation (object_row entry ∷ xs) (contents (c.trees 2))) taken.objects added.objects;
+  named = subst₂ (λ xs ys. IsPermutation (xs ++ ys) (contents (c.trees 4))) (append_none (named_rows entry)) taken.named added.named;
+  meta = added.meta ∙ taken.meta;
 }
+
+-- the names of the object of a key go one by one, and with them all names with the key
+pub forgotten : (class : ℕ) (key : List ℕ) (names : List (List ℕ)) (rows : List Row) (old mid new : Database) → AreOfObjects old → mid ≡ old → IsPermutation (filter (is_object_of class key) (contents (old.trees 2))) rows
+    → AllByRecursion (AreNamesOf names) rows → Alters mid new 4 (Removes (is_name_among class key names)) → Alters old new 4 (Removes (is_named_of class key))
+forgotten class key names rows old mid new held same found all alters =
+    let gone = subst (λ db. Alters db new 4 (Removes (is_name_among class key names))) same alters in
+    record { tidy = gone.tidy; change = gone.change ∙ names_gone class key names old rows held found all; meta = gone.meta; object = gone.object; named = gone.named }
 
 -- the rows of an object come
 pub added_by : (class : ℕ) (key body : List ℕ) (names : List (List ℕ)) (a b c : Database) → Alters a b 2 (Adds (object_values class key body ∷ [])) → Alters b c 4 (Adds (map (λ name. named_values name class key) names))

@@ -5,6 +5,7 @@ pub mod FillLemmas
 pub mod BodyLemmas
 pub mod CheckLemmas
 pub mod CommitLemmas
+pub mod KeptLemmas
 pub mod LookLemmas
 pub mod ObjectLemmas
 pub mod NamingLemmas
@@ -18,3 +19,4 @@ pub mod UpperLemmas
 pub mod MigratedLemmas
 pub mod MigrateLemmas
 pub mod VersionLemmas
+pub mod OtherVersions

@@ -1,5 +1,5 @@
 -- A query with no RETURNING leaves the database as it is, also where it fails.
-use Rattle.std.proofs.Common.{◌≡◌, inl, inr, false, ℕ, List, Option, Some, None, Ok, Err, Result, IfOk, IfErr, OnOk, OnErr, IsTrue, sym, subst, ◌∙◌, arith}
+use Rattle.std.proofs.Common.{◌≡◌, ◌⊎◌, inl, inr, false, ℕ, List, Option, Some, None, Ok, Err, Result, IfOk, IfErr, OnOk, OnErr, IsTrue, sym, subst, ◌∙◌, arith}
 use Rattle.std.proofs.lemmas.Bool.{cases_Bool, both_ways}
 use Rattle.sqlite_value.specs.Order.{Row}
 use Rattle.sqlite.specs.declared.error.Error.{Error}
@@ -11,10 +11,13 @@ use Rattle.rr_rows.specs.Tables.{Layout, HasTables}
 use Rattle.rr_rows.specs.Queries.{Means}
 use Rattle.rr_rows.specs.Entries.{TreesOf}
 use Rattle.sqlite.specs.Effect.{Database}
+use Rattle.rr_rows.specs.Contents.{IsStep}
 use Rattle.rr_store.specs.Kept.{IsLeft}
-use Rattle.sqlite.specs.State.{State, HasCleanDisk, IsUnchanged, Fails, Shown, ShowsRows, FailsToQuery, FailsToShow, IsNotRun, CommitsShowing, Survives}
+use Rattle.rr_store.proofs.BodyLemmas.{then_ok}
+use Rattle.sqlite.specs.State.{State, HasCleanDisk, IsUnchanged, Fails, Shown, ShowsRows, FailsToQuery, FailsToShow, IsNotRun, IsTooLate, KeepsCommit, CommitsShowing, Survives}
 use Rattle.sqlite.specs.Clock.{timed}
 use Rattle.sqlite.proofs.Callers.{IsPlain, never_commits}
+use Rattle.sqlite.proofs.InsideLemmas.{unchanged_keeps}
 use Rattle.sqlite.proofs.StateLemmas.{survives_then, survives_weaker}
 
 module _ (sql : List ℕ) (params : Row) (old new : State) where
@@ -66,6 +69,26 @@ module _ (sql : List ℕ) (params : Row) (old new : State) where
         go (Some what) (inl f) = f.1.0.was_open
         go (Some what) (inr f) = f.3.was_open on
 
+  unrun_keeps : (e : Error) → IsNotRun old new sql params e → KeepsCommit old new
+  unfolding IsNotRun
+  unrun_keeps e (inl h) = unchanged_keeps old new (inl h.1)
+  unrun_keeps e (inr h) = unchanged_keeps old new (inr h.3)
+
+  -- a query that failed committed nothing
+  failed_keeps : (e : Error) → FailsToQuery sql params old new e → KeepsCommit old new
+  unfolding FailsToQuery
+  failed_keeps e (inl h) = unrun_keeps e h
+  failed_keeps e (inr h) = go h.0.returning h.2
+    where
+      go : (o : Option Returning) → FailsToShow old new sql h.0 (timed params h.0.formats h.1.now) e o → KeepsCommit old new
+      go None f = unchanged_keeps old new (inl f.3)
+      go (Some what) (inl f) = unchanged_keeps old new (inl f.1)
+      go (Some what) (inr f) = unchanged_keeps old new (inr f.3)
+
+  refused_keeps : (e : Error) → FailsToQuery sql params old new e ⊎ IsTooLate sql params old new e → KeepsCommit old new
+  refused_keeps e (inl failed) = failed_keeps e failed
+  refused_keeps e (inr late) = unchanged_keeps old new (inl late.5)
+
   pub looks : (HasCleanDisk old → IsTrue old.is_open → IsPlain (understood old.now.schema sql)) → Survives old new (CommitsShowing sql params old) → Survives old new (λ _. old.is_open ≡ false)
   looks plain h = survives_weaker old new (CommitsShowing sql params old) (λ _. old.is_open ≡ false) (λ clean db made. elim (cases_Bool old.is_open) [
     | inl on ↦ absurd (never_commits sql params old db (plain (omega (arith, h.clean)) on) made)
@@ -79,6 +102,22 @@ on_each (Err e) P Q h f = tt
 pub on_err : {X E : Type 0} (r : Result X E) (P : E → Type 0) (Q : Type 0) → IfErr r P → ((e : E) → P e → Q) → OnErr r Q
 on_err (Ok x) P Q h f = tt
 on_err (Err e) P Q h f = f e h
+
+pub of_both : {X E : Type 0} (r : Result X E) (Q : Type 0) → OnOk r Q → OnErr r Q → Q
+of_both (Ok x) Q h k = h
+of_both (Err e) Q h k = k
+
+-- a query in a transaction, which goes on, leaves the database as it is
+module _ {X : Type 0} (items : X → List Row) (sql : List ℕ) (params : Row) (old new : State) (plain : IsTrue old.is_open → IsPlain (understood old.now.schema sql)) (r : Result X Error)
+    (shown : IfOk r (λ x. Shown sql params old new (items x))) where
+  pub asked_same : OnOk r (IsUnchanged old new)
+  asked_same = on_each r _ _ shown (λ x h. shown_same sql params old new (items x) (plain (shown_open sql params old new (items x) h)) h)
+
+  pub asked_step : OnOk r (IsStep old new)
+  asked_step = then_ok r asked_same (λ same. record { is_open = same.0.is_open; mode = same.0.mode; committed = same.0.committed_is })
+
+  pub asked_keeps : IfErr r (λ e. FailsToQuery sql params old new e ⊎ IsTooLate sql params old new e) → KeepsCommit old new
+  asked_keeps refused = of_both r _ (then_ok r asked_same (λ same. unchanged_keeps old new (inl same))) (on_err r _ _ refused (refused_keeps sql params old new))
 
 -- a text on the tables is plain under each schema that has them
 pub plain_of : (schema : Schema) (text : List ℕ) (command : Layout → Command) → ((l : Layout) → Means l text (command l)) → HasTables schema → IsPlain (understood schema text)
@@ -106,7 +145,3 @@ module _ (P : Database → Type 0) where
 
   pub quiet_made : (a b c : State) → Survives a b (λ _. a.is_open ≡ false) → Survives b c (TreesOf P) → Survives a c (IsLeft a.is_open P)
   quiet_made a b c one two = survives_then a b c (λ _. a.is_open ≡ false) (TreesOf P) (IsLeft a.is_open P) (λ clean db off. inl off) (λ clean db made. inr made) one two
-
-pub of_both : {X E : Type 0} (r : Result X E) (Q : Type 0) → OnOk r Q → OnErr r Q → Q
-of_both (Ok x) Q h k = h
-of_both (Err e) Q h k = k

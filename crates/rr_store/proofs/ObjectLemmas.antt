@@ -6,12 +6,14 @@ use Rattle.rr_text.specs.CanonicalText.{canonical}
 use Rattle.rr_text.proofs.RoundTrip.{canonical_determines}
 use Rattle.sqlite_value.specs.declared.value.Value.TheVariants.{Blob}
 use Rattle.sqlite_value.specs.Order.{column}
-use Rattle.rr_object.specs.Objects.{Obj}
+use Rattle.rr_object.specs.Objects.{Obj, names_of}
 use Rattle.rr_object.specs.Readings.{object_of, obj_of, ReadsAs}
 use Rattle.rr_object.specs.KeySpellings.{key_of}
 use Rattle.rr_object.specs.declared.key.Key.{Key}
 use Rattle.rr_object.proofs.Parsed.{of_any_source, kept_its_key, kept_paragraph}
-use Rattle.rr_rows.specs.Maps.{IsObjectOf, KeyForm}
+use Rattle.rr_rows.specs.Entries.{entry_of, object_row, once}
+use Rattle.rr_rows.specs.Maps.{IsObject, IsObjectOf, KeyForm}
+use Rattle.rr_rows.proofs.MapLists.{of_any}
 use Rattle.rr_store.specs.Reading.{AreRead, IsRowOf}
 
 module _ (form : KeyForm) (source : List ℕ) where
@@ -48,12 +50,31 @@ pub each_whole : (source text : List ℕ) (fields : List Field) (read : Option O
 each_whole source text fields (Some object) h good same = read_whole source text fields object h good same
 each_whole source text fields None h good same = tt
 
+pub any_whole : (source text : List ℕ) (fields : List Field) (read : Option Obj) → IfSome read (λ object. ReadsAs source fields object) → AreFields fields → canonical fields ≡ text
+    → IfSome read (λ object. IsObject object × (canonical object.paragraph ≡ text))
+any_whole source text fields (Some object) h good same = let whole = read_whole source text fields object h good same in (of_any source object whole.0, whole.1)
+any_whole source text fields None h good same = tt
+
 -- objects of one source that have one text are one
 pub same_object : (source : List ℕ) (a b : Obj) → IsObjectOf source a → IsObjectOf source b → canonical a.paragraph ≡ canonical b.paragraph → a ≡ b
 same_object source a b p q same =
     let one : a.paragraph ≡ b.paragraph = canonical_determines a.paragraph b.paragraph p.fields q.fields same in
     let both : ◌≡◌ {A = Result Obj _} (Ok a) (Ok b) = sym p.read ∙ ap (λ fs. object_of fs source) one ∙ q.read in
     cc
+
+one_object : (a b : Obj) → IsObject a → IsObject b → canonical a.paragraph ≡ canonical b.paragraph → a ≡ b
+one_object a b p q same =
+    let one : a.paragraph ≡ b.paragraph = canonical_determines a.paragraph b.paragraph p.fields q.fields same in
+    let both : ◌≡◌ {A = Result Obj _} (Ok a) (Ok b) = sym p.read ∙ ap obj_of one ∙ q.read in
+    cc
+
+-- the names of the object whose text a row has are those of the object whose row it is
+pub names_told : (a b : Obj) (row : Row) (text : List ℕ) (names : List (List ℕ)) → IsObject a → canonical a.paragraph ≡ text → column row 2 ≡ Blob text → names ≡ once (names_of a)
+    → IsObject b → row ≡ object_row (entry_of b) → names ≡ once (names_of b)
+names_told a b row text names is_a of third told is_b row_is =
+    let both : Blob (canonical b.paragraph) ≡ Blob text = ap (λ r. column r 2) (sym row_is) ∙ third in
+    let texts : canonical b.paragraph ≡ text = cc in
+    told ∙ ap (λ o. once (names_of o)) (one_object a b is_a is_b (of ∙ sym texts))
 
 -- the text in an object's row
 pub text_of_row : (form : KeyForm) (object : Obj) (r : Row) (text : List ℕ) → IsRowOf form object r → column r 2 ≡ Blob text → canonical object.paragraph ≡ text

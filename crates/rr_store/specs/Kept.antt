@@ -5,13 +5,13 @@ use Rattle.sqlite_trees.specs.Tree.{Trees}
 use Rattle.sqlite.specs.Effect.{Database}
 use Rattle.sqlite.specs.Held.{Held, state}
 use Rattle.sqlite.specs.State.{HasCleanDisk}
-use Rattle.rr_rows.specs.Contents.{IsTidy}
 use Rattle.rr_rows.specs.Entries.{TreesOf}
+use Rattle.rr_rows.specs.Maps.{AreOfObjects}
 
--- no transaction is under way, and the tables are there, whose rows have numbers of their own
+-- no transaction is under way, and the tables hold the rows of some objects and no others (profile)
 pub record IsKept {S : Type 0} (g : Ghosts S) (h : Held S) : Type 0 where
   pub autocommit : h.in_transaction ≡ false
-  pub tidy : HasCleanDisk (state g h) → IsTrue (state g h).is_open → IsTidy (state g h).now
+  pub held : HasCleanDisk (state g h) → IsTrue (state g h).is_open → AreOfObjects (state g h).now
 
 -- a stop may leave trees of such a database; of a connection that was closed before the call nothing is said
 abbrev pub IsLeft : Bool → (Database → Type 0) → Trees → Type 0

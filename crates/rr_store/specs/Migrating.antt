@@ -8,6 +8,8 @@ use Rattle.rr_object.specs.Objects.{Obj}
 use Rattle.rr_rows.specs.Entries.{entry_of}
 use Rattle.rr_rows.specs.Maps.{AreOldStored, AreStored, IsFilled, IsObjectOf}
 use Rattle.rr_object.specs.Readings.{ReadsAs}
+use Rattle.rr_store.specs.declared.fault.MigrateFault.{MigrateFault}
+use Rattle.rr_store.specs.declared.fault.MigrateFault.TheVariants.{WrongVersion, BadRow, NoRoot, Store, Memory}
 
 -- an attribute with a value of one line (RFC 2622, 2)
 abbrev pub one_line : List ℕ → List ℕ → Field
@@ -44,3 +46,11 @@ pub record HasNoRoot (root source : List ℕ) (db : Database) : Type 0 where
   pub objects : List Obj
   pub before : AreOldStored source objects db
   pub missing : has_mntner root objects ≡ false
+
+-- the fault is of the rows, and not of the database or of memory (profile)
+abbrev pub IsOfOldRows : MigrateFault → Type 0
+IsOfOldRows (WrongVersion number) = Unit {0}
+IsOfOldRows BadRow = Unit {0}
+IsOfOldRows NoRoot = Unit {0}
+IsOfOldRows Store = ⊥
+IsOfOldRows Memory = ⊥

@@ -3,12 +3,16 @@
 ghost use Rattle.std.specs.Prelude.{◌≡◌, [], ◌∷◌, map, OnOk, IsTrue};
 ghost use Rattle.sqlite.specs.State.{HasCleanDisk, KeepsCommit, Survives};
 ghost use Rattle.sqlite.specs.Held.{state};
-ghost use Rattle.rr_rows.specs.Contents.{Adds, Alters, IsStep, IsTidy, named_values};
+ghost use Rattle.rr_rows.specs.Contents.{Adds, Alters, IsStep, IsTidy, Removes, is_name_among, is_named_of, named_values};
 ghost use Rattle.rr_rows.specs.Entries.{IsAdded, IsPut, IsTaken};
+ghost use Rattle.rr_rows.specs.Maps.{AreOfObjects};
 
-use crate::statements::{add_name, add_object, remove_names, remove_object};
+use crate::fault::StoreFault;
+use crate::old_names::names_of_rows;
+use crate::statements::{add_name, add_object, remove_name, remove_object, rows_of_key};
 use rr_number::Name;
 use sqlite::{Alter, Error, Transaction};
+use std::alloc::Global;
 
 fn add_names<S: Alter>(
     tx: &mut Transaction<'_, S>,
@@ -48,41 +52,83 @@ pub(crate) fn add_rows<S: Alter>(
     add_names(tx, names, class, key)
 }
 
-/// Puts the rows of an object in place of those with its class and key.
-pub(crate) fn put_rows<S: Alter>(
+/// Takes out the rows of the names with this class and key.
+fn remove_names<S: Alter>(
     tx: &mut Transaction<'_, S>,
+    names: &[Name],
     class: u8,
     key: &[u8],
-    body: &[u8],
-    names: &[Name],
 ) -> Result<(), Error>
     requires { HasCleanDisk (state S.Store tx.old.conn.now) → IsTrue (state S.Store tx.old.conn.now).is_open → IsTidy (state S.Store tx.old.conn.now).now }
     ensures same_reference { tx.new.conn.ghost_name ≡ tx.old.conn.ghost_name }
-    ensures ok { HasCleanDisk (state S.Store tx.new.conn.now) → OnOk result (IsPut (record { class = class; key = key.now; body = body.now; names = names.now }) (state S.Store tx.old.conn.now).now (state S.Store tx.new.conn.now).now) }
+    ensures ok { HasCleanDisk (state S.Store tx.new.conn.now) → IsTrue (state S.Store tx.old.conn.now).is_open → OnOk result (Alters (state S.Store tx.old.conn.now).now (state S.Store tx.new.conn.now).now 4 (Removes (is_name_among class key.now names.now))) }
+    ensures step { HasCleanDisk (state S.Store tx.new.conn.now) → IsTrue (state S.Store tx.old.conn.now).is_open → OnOk result (IsStep (state S.Store tx.old.conn.now) (state S.Store tx.new.conn.now)) }
+    ensures kept { HasCleanDisk (state S.Store tx.new.conn.now) → KeepsCommit (state S.Store tx.old.conn.now) (state S.Store tx.new.conn.now) }
+    ensures survives { Survives (state S.Store tx.old.conn.now) (state S.Store tx.new.conn.now) (λ _. ⊥) }
+{
+    for name in names {
+        let _count = remove_name(tx, name.as_bytes(), class, key)?;
+    }
+    Ok(())
+}
+
+/// Takes out the rows of `named` of the object with this class and key, if there is one: each by its whole primary key,
+/// since no index of that table begins with the class.
+fn forget_names<S: Alter>(
+    tx: &mut Transaction<'_, S>,
+    alloc: Global,
+    class: u8,
+    key: &[u8],
+) -> Result<(), StoreFault>
+    requires { HasCleanDisk (state S.Store tx.old.conn.now) → IsTrue (state S.Store tx.old.conn.now).is_open → AreOfObjects (state S.Store tx.old.conn.now).now }
+    ensures same_reference { tx.new.conn.ghost_name ≡ tx.old.conn.ghost_name }
+    ensures ok { HasCleanDisk (state S.Store tx.new.conn.now) → OnOk result (Alters (state S.Store tx.old.conn.now).now (state S.Store tx.new.conn.now).now 4 (Removes (is_named_of class key.now))) }
     ensures step { HasCleanDisk (state S.Store tx.new.conn.now) → OnOk result (IsStep (state S.Store tx.old.conn.now) (state S.Store tx.new.conn.now)) }
     ensures kept { HasCleanDisk (state S.Store tx.new.conn.now) → KeepsCommit (state S.Store tx.old.conn.now) (state S.Store tx.new.conn.now) }
     ensures survives { Survives (state S.Store tx.old.conn.now) (state S.Store tx.new.conn.now) (λ _. ⊥) }
 {
-    let _names = remove_names(tx, class, key)?;
-    let _objects = remove_object(tx, class, key)?;
-    let _added = add_object(tx, class, key, body)?;
-    add_names(tx, names, class, key)
+    let rows = rows_of_key(tx, class, key)?;
+    let names = names_of_rows(alloc, &rows)?;
+    remove_names(tx, &names, class, key)?;
+    Ok(())
 }
 
 /// Takes out the rows of the object with this class and key, if there is one.
 pub(crate) fn remove_rows<S: Alter>(
     tx: &mut Transaction<'_, S>,
+    alloc: Global,
     class: u8,
     key: &[u8],
-) -> Result<(), Error>
-    requires { HasCleanDisk (state S.Store tx.old.conn.now) → IsTrue (state S.Store tx.old.conn.now).is_open → IsTidy (state S.Store tx.old.conn.now).now }
+) -> Result<(), StoreFault>
+    requires { HasCleanDisk (state S.Store tx.old.conn.now) → IsTrue (state S.Store tx.old.conn.now).is_open → AreOfObjects (state S.Store tx.old.conn.now).now }
     ensures same_reference { tx.new.conn.ghost_name ≡ tx.old.conn.ghost_name }
     ensures ok { HasCleanDisk (state S.Store tx.new.conn.now) → OnOk result (IsTaken class key.now (state S.Store tx.old.conn.now).now (state S.Store tx.new.conn.now).now) }
     ensures step { HasCleanDisk (state S.Store tx.new.conn.now) → OnOk result (IsStep (state S.Store tx.old.conn.now) (state S.Store tx.new.conn.now)) }
     ensures kept { HasCleanDisk (state S.Store tx.new.conn.now) → KeepsCommit (state S.Store tx.old.conn.now) (state S.Store tx.new.conn.now) }
     ensures survives { Survives (state S.Store tx.old.conn.now) (state S.Store tx.new.conn.now) (λ _. ⊥) }
 {
-    let _unnamed = remove_names(tx, class, key)?;
+    forget_names(tx, alloc, class, key)?;
     let _removed = remove_object(tx, class, key)?;
+    Ok(())
+}
+
+/// Puts the rows of an object in place of those with its class and key.
+pub(crate) fn put_rows<S: Alter>(
+    tx: &mut Transaction<'_, S>,
+    alloc: Global,
+    class: u8,
+    key: &[u8],
+    body: &[u8],
+    names: &[Name],
+) -> Result<(), StoreFault>
+    requires { HasCleanDisk (state S.Store tx.old.conn.now) → IsTrue (state S.Store tx.old.conn.now).is_open → AreOfObjects (state S.Store tx.old.conn.now).now }
+    ensures same_reference { tx.new.conn.ghost_name ≡ tx.old.conn.ghost_name }
+    ensures ok { HasCleanDisk (state S.Store tx.new.conn.now) → OnOk result (IsPut (record { class = class; key = key.now; body = body.now; names = names.now }) (state S.Store tx.old.conn.now).now (state S.Store tx.new.conn.now).now) }
+    ensures step { HasCleanDisk (state S.Store tx.new.conn.now) → OnOk result (IsStep (state S.Store tx.old.conn.now) (state S.Store tx.new.conn.now)) }
+    ensures kept { HasCleanDisk (state S.Store tx.new.conn.now) → KeepsCommit (state S.Store tx.old.conn.now) (state S.Store tx.new.conn.now) }
+    ensures survives { Survives (state S.Store tx.old.conn.now) (state S.Store tx.new.conn.now) (λ _. ⊥) }
+{
+    remove_rows(tx, alloc, class, key)?;
+    add_rows(tx, class, key, body, names)?;
     Ok(())
 }

@@ -13,6 +13,7 @@ mod migrating;
 mod names;
 mod namings;
 mod objects;
+mod old_names;
 mod opening;
 mod reading;
 mod settings;

@@ -8,9 +8,10 @@ ghost use Rattle.rr_rows.specs.Entries.{TreesOf, entry_of};
 ghost use Rattle.rr_rows.specs.Made.{IsBare};
 ghost use Rattle.rr_object.specs.Objects.{Obj};
 ghost use Rattle.rr_rows.specs.Maps.{AreOldStored, IsFilled};
+ghost use Rattle.rr_rows.specs.Tables.{HasTables};
 ghost use Rattle.rr_store.specs.Kept.{IsLeft};
 ghost use Rattle.rr_store.specs.Lent.{lent};
-ghost use Rattle.rr_store.specs.Migrating.{HasNoRoot, IsMigrated, IsRewritten, has_mntner};
+ghost use Rattle.rr_store.specs.Migrating.{HasNoRoot, IsMigrated, IsOfOldRows, IsRewritten, has_mntner};
 ghost use Rattle.rr_store.specs.Opening.{IsNotOld, IsOfNoneButOld};
 ghost use Rattle.rr_store.specs.declared.fault.MigrateFault.TheVariants.{BadRow, NoRoot, WrongVersion};
 
@@ -137,6 +138,7 @@ pub(crate) fn migrate_rows<S: Alter>(
     ensures wrong_version { HasCleanDisk (state S.Store conn.new) → IfErr result (λ fault. (number : ℕ) → fault ≡ WrongVersion number → IsNotOld number (state S.Store conn.old).now) }
     ensures bad_row { HasCleanDisk (state S.Store conn.new) → IfErr result (λ fault. fault ≡ BadRow → (objects : List Obj) → AreOldStored source.now objects (state S.Store conn.old).now → ⊥) }
     ensures no_other_said { HasCleanDisk (state S.Store conn.new) → IfErr result (λ fault. fault ≡ BadRow → IsOfNoneButOld (state S.Store conn.old).now) }
+    ensures tables { HasCleanDisk (state S.Store conn.new) → IfErr result (λ fault. IsOfOldRows fault → HasTables (state S.Store conn.old).now.schema) }
     ensures no_root { HasCleanDisk (state S.Store conn.new) → IfErr result (λ fault. fault ≡ NoRoot → HasNoRoot root.now source.now (state S.Store conn.old).now) }
     ensures crash { Survives (state S.Store conn.old) (state S.Store conn.new) (IsLeft (state S.Store conn.old).is_open (IsMigrated root.now source.now (state S.Store conn.old).now)) }
 {

@@ -1,41 +1,22 @@
 //! The maintainers that an object names, each once.
 
-ghost use Rattle.std.specs.Prelude.{◌≡◌, ◌++◌, IfOk, OnOk, map};
+ghost use Rattle.std.specs.Prelude.{◌≡◌, IfOk};
 ghost use Rattle.rr_object.specs.Objects.{names_of};
 ghost use Rattle.rr_rows.specs.Entries.{once};
 
 use rr_number::Name;
-use rr_object::{Grant, Object};
+use rr_object::Object;
 use std::alloc::{AllocError, Global};
 use std::collections::BTreeSet;
-
-fn push_names(all: &mut Vec<Name>, alloc: Global, names: &[Name]) -> Result<(), AllocError>
-    ensures { OnOk result (all.new.items ≡ all.old.items ++ names.now) }
-{
-    for name in names {
-        all.push(name.copy(alloc)?)?;
-    }
-    Ok(())
-}
-
-fn push_grantees(all: &mut Vec<Name>, alloc: Global, grants: &[Grant]) -> Result<(), AllocError>
-    ensures { OnOk result (all.new.items ≡ all.old.items ++ map (λ grant. grant.name) grants.now) }
-{
-    for grant in grants {
-        all.push(grant.name().copy(alloc)?)?;
-    }
-    Ok(())
-}
 
 /// The maintainers that the object names, as often as it names them.
 fn named(alloc: Global, object: &Object) -> Result<Vec<Name>, AllocError>
     ensures { IfOk result (λ names. names.items ≡ names_of object.now) }
 {
     let mut all = Vec::new(alloc);
-    push_names(&mut all, alloc, object.maintainers())?;
-    push_names(&mut all, alloc, object.lower())?;
-    push_grantees(&mut all, alloc, object.routes())?;
-    push_names(&mut all, alloc, object.by_ref().names())?;
+    for name in object.maintainers_named() {
+        all.push(name.copy(alloc)?)?;
+    }
     Ok(all)
 }
 

@@ -1,12 +1,14 @@
 //! The objects of rows.
 
 ghost use Rattle.std.specs.Prelude.{◌≡◌, IfOk, IfSome, IsSome, IsTrue, Some};
+ghost use Rattle.std.specs.List.{AllByRecursion};
 ghost use Rattle.rr_text.specs.CanonicalText.{canonical};
 ghost use Rattle.rr_object.specs.Classes.{class_number};
 ghost use Rattle.rr_object.specs.Keys.{class_of};
 ghost use Rattle.rr_object.specs.Readings.{ReadsAs};
 ghost use Rattle.rr_rows.specs.Contents.{object_values};
-ghost use Rattle.rr_rows.specs.Maps.{AreInOrder, IsObjectOf};
+ghost use Rattle.rr_rows.specs.Maps.{AreInOrder, IsObject, IsObjectOf};
+ghost use Rattle.rr_store.specs.Lent.{lent};
 ghost use Rattle.rr_store.specs.Reading.{AreRead, IsRowOf, is_below};
 ghost use Rattle.rr_store.specs.Versions.{form_of};
 
@@ -21,7 +23,7 @@ use std::alloc::{AllocError, Global};
 use std::cmp::Ordering;
 
 /// The object of the source that a paragraph is, if it is one.
-fn read_paragraph(
+pub(crate) fn read_paragraph(
     alloc: Global,
     paragraph: Paragraph,
     source: &Name,
@@ -106,6 +108,23 @@ pub(crate) fn read_objects(
         }
     }
     Ok(Some(objects))
+}
+
+/// Tells a caller's proof that the object is such as readers make; it does nothing.
+pub(crate) fn is_read(object: &Object)
+    ensures { IsObject object.now }
+{
+    object.is_read_from_its_paragraph();
+    let _attributes = object.paragraph().attributes();
+}
+
+/// The same of objects.
+pub(crate) fn are_read(objects: &[&Object])
+    ensures { AllByRecursion IsObject (lent objects.now) }
+{
+    for object in objects {
+        is_read(object);
+    }
 }
 
 /// Whether the key of an object is below that of the first of others, if there is one.

@@ -1,11 +1,11 @@
 //! One statement of a transaction each.
 
-ghost use Rattle.std.specs.Prelude.{◌≡◌, [], ◌∷◌, codes, true, IsTrue, OnOk};
+ghost use Rattle.std.specs.Prelude.{◌≡◌, [], ◌∷◌, codes, filter, true, IfOk, IsPermutation, IsTrue, OnOk};
 ghost use Rattle.sqlite.specs.State.{HasCleanDisk, KeepsCommit, Survives};
 ghost use Rattle.sqlite.specs.Held.{state};
-ghost use Rattle.rr_rows.specs.Contents.{Adds, Alters, IsStep, IsTidy, Removes, is_named_of, is_object_of, meta_values, named_values, object_values};
+ghost use Rattle.rr_rows.specs.Contents.{Adds, Alters, IsStep, IsTidy, Removes, contents, is_name_of, is_object_of, meta_values, named_values, object_values};
 
-use sqlite::{Alter, Error, Transaction};
+use sqlite::{Alter, Error, Row, Transaction};
 use sqlite_value::value::ValueRef;
 
 pub(crate) fn add_setting<'x, S: Alter>(
@@ -90,20 +90,45 @@ pub(crate) fn remove_object<S: Alter>(
     )
 }
 
-pub(crate) fn remove_names<S: Alter>(
+pub(crate) fn remove_name<'x, S: Alter>(
     tx: &mut Transaction<'_, S>,
+    name: &'x [u8],
     class: u8,
-    key: &[u8],
+    key: &'x [u8],
 ) -> Result<usize, Error>
     requires { HasCleanDisk (state S.Store tx.old.conn.now) → IsTrue (state S.Store tx.old.conn.now).is_open → IsTidy (state S.Store tx.old.conn.now).now }
     ensures same_reference { tx.new.conn.ghost_name ≡ tx.old.conn.ghost_name }
-    ensures ok { HasCleanDisk (state S.Store tx.new.conn.now) → OnOk result (Alters (state S.Store tx.old.conn.now).now (state S.Store tx.new.conn.now).now 4 (Removes (is_named_of class key.now))) }
+    ensures ok { HasCleanDisk (state S.Store tx.new.conn.now) → OnOk result (Alters (state S.Store tx.old.conn.now).now (state S.Store tx.new.conn.now).now 4 (Removes (is_name_of class key.now name.now))) }
     ensures step { HasCleanDisk (state S.Store tx.new.conn.now) → OnOk result (IsStep (state S.Store tx.old.conn.now) (state S.Store tx.new.conn.now)) }
     ensures kept { HasCleanDisk (state S.Store tx.new.conn.now) → KeepsCommit (state S.Store tx.old.conn.now) (state S.Store tx.new.conn.now) }
     ensures survives { Survives (state S.Store tx.old.conn.now) (state S.Store tx.new.conn.now) (λ _. ⊥) }
 {
     tx.execute(
-        "DELETE FROM named WHERE class = ?1 AND okey = ?2",
+        "DELETE FROM named WHERE maintainer = ?1 AND class = ?2 AND okey = ?3",
+        &[
+            ValueRef::Text(name),
+            ValueRef::Int(i64::from(class)),
+            ValueRef::Text(key),
+        ],
+    )
+}
+
+/// The rows of the objects with this class and key.
+pub(crate) fn rows_of_key<S: Alter>(
+    tx: &mut Transaction<'_, S>,
+    class: u8,
+    key: &[u8],
+) -> Result<Vec<Row>, Error>
+    requires { HasCleanDisk (state S.Store tx.old.conn.now) → IsTrue (state S.Store tx.old.conn.now).is_open → IsTidy (state S.Store tx.old.conn.now).now }
+    ensures same_reference { tx.new.conn.ghost_name ≡ tx.old.conn.ghost_name }
+    ensures rows { HasCleanDisk (state S.Store tx.new.conn.now) → IfOk result (λ rows. IsPermutation (filter (is_object_of class key.now) (contents ((state S.Store tx.old.conn.now).now.trees 2))) rows.items) }
+    ensures same { HasCleanDisk (state S.Store tx.new.conn.now) → OnOk result ((state S.Store tx.new.conn.now).now ≡ (state S.Store tx.old.conn.now).now) }
+    ensures step { HasCleanDisk (state S.Store tx.new.conn.now) → OnOk result (IsStep (state S.Store tx.old.conn.now) (state S.Store tx.new.conn.now)) }
+    ensures kept { HasCleanDisk (state S.Store tx.new.conn.now) → KeepsCommit (state S.Store tx.old.conn.now) (state S.Store tx.new.conn.now) }
+    ensures survives { Survives (state S.Store tx.old.conn.now) (state S.Store tx.new.conn.now) (λ _. ⊥) }
+{
+    tx.query_all(
+        "SELECT class, okey, body FROM object WHERE class = ?1 AND okey = ?2",
         &[ValueRef::Int(i64::from(class)), ValueRef::Text(key)],
     )
 }

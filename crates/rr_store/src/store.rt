@@ -18,7 +18,7 @@ ghost use Rattle.rr_rows.specs.Tables.{HasTables};
 ghost use Rattle.rr_store.specs.Adding.{AddsTo};
 ghost use Rattle.rr_store.specs.Kept.{IsLeft};
 ghost use Rattle.rr_store.specs.Lent.{lent};
-ghost use Rattle.rr_store.specs.Migrating.{HasNoRoot, IsMigrated};
+ghost use Rattle.rr_store.specs.Migrating.{HasNoRoot, IsMigrated, IsOfOldRows};
 ghost use Rattle.rr_store.specs.Opening.{IsNotOld, IsOfNoOther, IsOfNoneButOld, IsOfRows, IsOtherVersion, IsReadable, IsUnreadable};
 ghost use Rattle.rr_store.specs.Reading.{names_it};
 ghost use Rattle.rr_store.specs.declared.fault.CreateFault.TheVariants.{NotEmpty};
@@ -31,6 +31,7 @@ use crate::creating::create_where_vacant;
 use crate::fault::{CreateFault, MigrateFault, OpenFault, StoreFault};
 use crate::migrating::migrate_rows;
 use crate::names::maintainers_of;
+use crate::objects::{are_read, is_read};
 use crate::opening::stored_objects;
 use crate::version::Version;
 use crate::writes::{insert_entry, put_entry, remove_entry};
@@ -79,6 +80,7 @@ impl<S: Alter> Store<S> {
         ensures err_autocommit { IfErr result (λ e. e.1.in_transaction ≡ false) }
         ensures err_crash { IfErr result (λ e. Survives (state S.Store conn) (state S.Store e.1) (IsLeft (state S.Store conn).is_open (IsFilled (map entry_of (lent objects.now))))) }
     {
+        are_read(objects);
         match create_where_vacant(&mut conn, alloc, objects) {
             Ok(()) => Ok(Store { conn }),
             Err(fault) => Err((fault, conn)),
@@ -178,6 +180,7 @@ impl<S: Alter> Store<S> {
         ensures wrong_version { IfErr result (λ e. (number : ℕ) → HasCleanDisk (state S.Store e.1) → e.0 ≡ NotOld number → IsNotOld number (state S.Store conn).now) }
         ensures bad_row { IfErr result (λ e. HasCleanDisk (state S.Store e.1) → e.0 ≡ UnreadRow → (objects : List Obj) → AreOldStored source.now objects (state S.Store conn).now → ⊥) }
         ensures no_other_said { IfErr result (λ e. HasCleanDisk (state S.Store e.1) → e.0 ≡ UnreadRow → IsOfNoneButOld (state S.Store conn).now) }
+        ensures tables { IfErr result (λ e. IsOfOldRows e.0 → HasCleanDisk (state S.Store e.1) → HasTables (state S.Store conn).now.schema) }
         ensures no_root { IfErr result (λ e. HasCleanDisk (state S.Store e.1) → e.0 ≡ NoRoot → HasNoRoot root.now source.now (state S.Store conn).now) }
         ensures err_autocommit { IfErr result (λ e. e.1.in_transaction ≡ false) }
         ensures err_crash { IfErr result (λ e. Survives (state S.Store conn) (state S.Store e.1) (IsLeft (state S.Store conn).is_open (IsMigrated root.now source.now (state S.Store conn).now))) }
@@ -198,8 +201,7 @@ impl<S: Alter> Store<S> {
         ensures crash_puts { Survives (state S.Store self.old) (state S.Store self.new) (TreesOf (Puts object.now.key object.now (state S.Store self.old).now)) }
     {
         object.key_is_well_formed();
-        object.is_read_from_its_paragraph();
-        let _attributes = object.paragraph().attributes();
+        is_read(object);
         self.put_rows_of(alloc, object)
     }
 
@@ -209,18 +211,16 @@ impl<S: Alter> Store<S> {
         ensures err { HasCleanDisk (state S.Store self.new) → IsTrue (state S.Store self.new).is_open → OnErr result ((state S.Store self.new).now ≡ (state S.Store self.old).now) }
         ensures crash { Survives (state S.Store self.old) (state S.Store self.new) (TreesOf (IsPut (entry_of object.now) (state S.Store self.old).now)) }
     {
+        is_read(object);
         let class = object.key().class().number();
         let key = object.key().bytes(alloc)?;
         let body = print(alloc, object.paragraph())?;
         let names = maintainers_of(alloc, object)?;
-        match put_entry(&mut self.conn, class, &key, body.as_slice(), &names) {
-            Ok(()) => Ok(()),
-            Err(_) => Err(StoreFault::Store),
-        }
+        put_entry(&mut self.conn, alloc, class, &key, body.as_slice(), &names)
     }
 
-    /// Adds the rows of an object whose key no stored one has: those of its key are not looked for, as [`Store::put`] does. That some
-    /// stand is a fault of the store. After a fault the rows are as they were.
+    /// Adds the rows of an object whose key no stored one has: those of its key are not looked for, as [`Store::put`] does. Where
+    /// some stand, the primary key of the tables that [`Store::create`] makes refuses them. After a fault the rows are as they were.
     pub fn add(&mut self, alloc: Global, object: &Object) -> Result<(), StoreFault>
         ensures ok { HasCleanDisk (state S.Store self.new) → OnOk result (IsAdded (entry_of object.now ∷ []) (state S.Store self.old).now (state S.Store self.new).now) }
         ensures adds { HasCleanDisk (state S.Store self.new) → OnOk result (AddsTo object.now.key object.now (state S.Store self.old).now (state S.Store self.new).now) }
@@ -230,8 +230,7 @@ impl<S: Alter> Store<S> {
         ensures crash_adds { Survives (state S.Store self.old) (state S.Store self.new) (TreesOf (AddsTo object.now.key object.now (state S.Store self.old).now)) }
     {
         object.key_is_well_formed();
-        object.is_read_from_its_paragraph();
-        let _attributes = object.paragraph().attributes();
+        is_read(object);
         self.add_rows_of(alloc, object)
     }
 
@@ -241,6 +240,7 @@ impl<S: Alter> Store<S> {
         ensures err { HasCleanDisk (state S.Store self.new) → IsTrue (state S.Store self.new).is_open → OnErr result ((state S.Store self.new).now ≡ (state S.Store self.old).now) }
         ensures crash { Survives (state S.Store self.old) (state S.Store self.new) (TreesOf (IsAdded (entry_of object.now ∷ []) (state S.Store self.old).now)) }
     {
+        is_read(object);
         let class = object.key().class().number();
         let key = object.key().bytes(alloc)?;
         let body = print(alloc, object.paragraph())?;
@@ -272,10 +272,7 @@ impl<S: Alter> Store<S> {
     {
         let class = key.class().number();
         let bytes = key.bytes(alloc)?;
-        match remove_entry(&mut self.conn, class, &bytes) {
-            Ok(()) => Ok(()),
-            Err(_) => Err(StoreFault::Store),
-        }
+        remove_entry(&mut self.conn, alloc, class, &bytes)
     }
 
     /// All objects, in order of class and key. The source is that of the objects; a row that is none of one of it is a fault of

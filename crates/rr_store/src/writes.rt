@@ -5,32 +5,38 @@ ghost use Rattle.sqlite.specs.State.{HasCleanDisk, Survives};
 ghost use Rattle.sqlite.specs.Held.{state};
 ghost use Rattle.rr_rows.specs.Contents.{IsTidy};
 ghost use Rattle.rr_rows.specs.Entries.{IsAdded, IsPut, IsTaken, TreesOf};
+ghost use Rattle.rr_rows.specs.Maps.{AreOfObjects};
 
 use crate::bodies::{add_rows, put_rows, remove_rows};
+use crate::fault::StoreFault;
 use rr_number::Name;
 use sqlite::{Alter, Connection, Error};
+use std::alloc::Global;
 
 /// Puts the rows of an object in place of those with its class and key. After an error the rows are as they were; a stop
 /// leaves those that stood before or those with this one.
 pub(crate) fn put_entry<S: Alter>(
     conn: &mut Connection<S>,
+    alloc: Global,
     class: u8,
     key: &[u8],
     body: &[u8],
     names: &[Name],
-) -> Result<(), Error>
+) -> Result<(), StoreFault>
     requires autocommit { conn.old.in_transaction ≡ false }
-    requires tidy { HasCleanDisk (state S.Store conn.old) → IsTrue (state S.Store conn.old).is_open → IsTidy (state S.Store conn.old).now }
+    requires held { HasCleanDisk (state S.Store conn.old) → IsTrue (state S.Store conn.old).is_open → AreOfObjects (state S.Store conn.old).now }
     ensures autocommit { conn.new.in_transaction ≡ false }
     ensures ok { HasCleanDisk (state S.Store conn.new) → OnOk result (IsPut (record { class = class; key = key.now; body = body.now; names = names.now }) (state S.Store conn.old).now (state S.Store conn.new).now) }
     ensures is_open { HasCleanDisk (state S.Store conn.new) → OnOk result (IsTrue (state S.Store conn.new).is_open) }
+    ensures was_open { HasCleanDisk (state S.Store conn.new) → OnOk result (IsTrue (state S.Store conn.old).is_open) }
     ensures err { HasCleanDisk (state S.Store conn.new) → IsTrue (state S.Store conn.new).is_open → OnErr result (((state S.Store conn.new).now ≡ (state S.Store conn.old).now) × IsTrue (state S.Store conn.old).is_open) }
     ensures crash { Survives (state S.Store conn.old) (state S.Store conn.new) (TreesOf (IsPut (record { class = class; key = key.now; body = body.now; names = names.now }) (state S.Store conn.old).now)) }
 {
     let _settled = conn.is_autocommit();
     let mut tx = conn.transaction();
-    put_rows(&mut tx, class, key, body, names)?;
-    tx.commit()
+    put_rows(&mut tx, alloc, class, key, body, names)?;
+    tx.commit()?;
+    Ok(())
 }
 
 /// Adds the rows of an object. After an error the rows are as they were; a stop leaves those that stood before or those with
@@ -47,6 +53,7 @@ pub(crate) fn insert_entry<S: Alter>(
     ensures autocommit { conn.new.in_transaction ≡ false }
     ensures ok { HasCleanDisk (state S.Store conn.new) → OnOk result (IsAdded (record { class = class; key = key.now; body = body.now; names = names.now } ∷ []) (state S.Store conn.old).now (state S.Store conn.new).now) }
     ensures is_open { HasCleanDisk (state S.Store conn.new) → OnOk result (IsTrue (state S.Store conn.new).is_open) }
+    ensures was_open { HasCleanDisk (state S.Store conn.new) → OnOk result (IsTrue (state S.Store conn.old).is_open) }
     ensures err { HasCleanDisk (state S.Store conn.new) → IsTrue (state S.Store conn.new).is_open → OnErr result (((state S.Store conn.new).now ≡ (state S.Store conn.old).now) × IsTrue (state S.Store conn.old).is_open) }
     ensures crash { Survives (state S.Store conn.old) (state S.Store conn.new) (TreesOf (IsAdded (record { class = class; key = key.now; body = body.now; names = names.now } ∷ []) (state S.Store conn.old).now)) }
 {
@@ -60,19 +67,22 @@ pub(crate) fn insert_entry<S: Alter>(
 /// stop leaves those that stood before or those without this one.
 pub(crate) fn remove_entry<S: Alter>(
     conn: &mut Connection<S>,
+    alloc: Global,
     class: u8,
     key: &[u8],
-) -> Result<(), Error>
+) -> Result<(), StoreFault>
     requires autocommit { conn.old.in_transaction ≡ false }
-    requires tidy { HasCleanDisk (state S.Store conn.old) → IsTrue (state S.Store conn.old).is_open → IsTidy (state S.Store conn.old).now }
+    requires held { HasCleanDisk (state S.Store conn.old) → IsTrue (state S.Store conn.old).is_open → AreOfObjects (state S.Store conn.old).now }
     ensures autocommit { conn.new.in_transaction ≡ false }
     ensures ok { HasCleanDisk (state S.Store conn.new) → OnOk result (IsTaken class key.now (state S.Store conn.old).now (state S.Store conn.new).now) }
     ensures is_open { HasCleanDisk (state S.Store conn.new) → OnOk result (IsTrue (state S.Store conn.new).is_open) }
+    ensures was_open { HasCleanDisk (state S.Store conn.new) → OnOk result (IsTrue (state S.Store conn.old).is_open) }
     ensures err { HasCleanDisk (state S.Store conn.new) → IsTrue (state S.Store conn.new).is_open → OnErr result (((state S.Store conn.new).now ≡ (state S.Store conn.old).now) × IsTrue (state S.Store conn.old).is_open) }
     ensures crash { Survives (state S.Store conn.old) (state S.Store conn.new) (TreesOf (IsTaken class key.now (state S.Store conn.old).now)) }
 {
     let _settled = conn.is_autocommit();
     let mut tx = conn.transaction();
-    remove_rows(&mut tx, class, key)?;
-    tx.commit()
+    remove_rows(&mut tx, alloc, class, key)?;
+    tx.commit()?;
+    Ok(())
 }

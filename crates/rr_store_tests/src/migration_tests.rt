@@ -2,7 +2,7 @@
 
 use rr_number::Name;
 use rr_store::{MigrateFault, Store};
-use sqlite::{Connection, MemStore, Row};
+use sqlite::{Alter, Connection, Error, MemStore, Row};
 use sqlite_value::value::ValueRef;
 use std::alloc::Global;
 use std::test::Fail;
@@ -16,41 +16,46 @@ const NUMBERS: &[u8] =
 const OTHER: &[u8] =
     b"mntner:         A-MNT\nauth:           SHA256-PW a:ba7816bf8f01cfea414140de5dae2223b00361a396177a9cb410ff61f20015ad\nmnt-by:         A-MNT\nsource:         TEST\n";
 
-fn run(conn: &mut Connection<MemStore>, sql: &str) -> Result<(), Fail> {
+fn run<S: Alter>(conn: &mut Connection<S>, sql: &str) -> Result<(), Error> {
     let _count = conn.execute(sql, &[])?;
     Ok(())
 }
 
-/// The three tables, of version 1 and with no object.
+/// Makes the three tables, of version 1 and with no object.
+fn make_old<S: Alter>(conn: &mut Connection<S>) -> Result<(), Error> {
+    for sql in [
+        "CREATE TABLE IF NOT EXISTS meta (name TEXT NOT NULL PRIMARY KEY, value TEXT NOT NULL) STRICT",
+        "CREATE TABLE IF NOT EXISTS object (class INTEGER NOT NULL CHECK (class >= 1 AND class <= 7), okey TEXT NOT NULL, body BLOB NOT NULL, PRIMARY KEY (class, okey)) STRICT",
+        "CREATE TABLE IF NOT EXISTS named (maintainer TEXT NOT NULL, class INTEGER NOT NULL, okey TEXT NOT NULL, PRIMARY KEY (maintainer, class, okey)) STRICT",
+        "INSERT INTO meta (name, value) VALUES ('version', '1')",
+    ] {
+        run(conn, sql)?;
+    }
+    Ok(())
+}
+
+/// The same in memory.
 fn old_tables(alloc: Global) -> Result<Connection<MemStore>, Fail> {
     let mut conn = Connection::open_in_memory(alloc)?;
-    run(
-        &mut conn,
-        "CREATE TABLE IF NOT EXISTS meta (name TEXT NOT NULL PRIMARY KEY, value TEXT NOT NULL) STRICT",
-    )?;
-    run(
-        &mut conn,
-        "CREATE TABLE IF NOT EXISTS object (class INTEGER NOT NULL CHECK (class >= 1 AND class <= 7), okey TEXT NOT NULL, body BLOB NOT NULL, PRIMARY KEY (class, okey)) STRICT",
-    )?;
-    run(
-        &mut conn,
-        "CREATE TABLE IF NOT EXISTS named (maintainer TEXT NOT NULL, class INTEGER NOT NULL, okey TEXT NOT NULL, PRIMARY KEY (maintainer, class, okey)) STRICT",
-    )?;
-    run(
-        &mut conn,
-        "INSERT INTO meta (name, value) VALUES ('version', '1')",
-    )?;
+    make_old(&mut conn)?;
     Ok(conn)
 }
 
+/// Makes a registry of version 1, of the root and its AS numbers.
+pub fn old_registry<S: Alter>(conn: &mut Connection<S>) -> Result<(), Error> {
+    make_old(conn)?;
+    add(conn, 1, b"ROOT-MNT", ROOT, b"ROOT-MNT")?;
+    add(conn, 2, b"0000-ffff", NUMBERS, b"ROOT-MNT")
+}
+
 /// Adds the rows of an object that names itself or the root alone.
-fn add<'x>(
-    conn: &mut Connection<MemStore>,
+fn add<'x, S: Alter>(
+    conn: &mut Connection<S>,
     class: i64,
     key: &'x [u8],
     body: &'x [u8],
     maintainer: &'x [u8],
-) -> Result<(), Fail> {
+) -> Result<(), Error> {
     let row = [
         ValueRef::Int(class),
         ValueRef::Text(key),

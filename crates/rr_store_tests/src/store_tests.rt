@@ -9,27 +9,27 @@ use std::alloc::Global;
 use std::process::Abort;
 use std::test::Fail;
 
-const HOLDER: &str = "\
+pub const HOLDER: &str = "\
 mntner:         A-MNT
 auth:           SHA256-PW ab:ba7816bf8f01cfea414140de5dae2223b00361a396177a9cb410ff61f20015ad
 mnt-by:         A-MNT
 source:         TEST
 ";
 
-const ROOT: &str = "\
+pub const ROOT: &str = "\
 mntner:         ROOT-MNT
 auth:           SHA256-PW a:ba7816bf8f01cfea414140de5dae2223b00361a396177a9cb410ff61f20015ad
 mnt-by:         ROOT-MNT
 source:         TEST
 ";
 
-const WHOLE: &str = "\
+pub const WHOLE: &str = "\
 inetnum:        0.0.0.0 - 255.255.255.255
 mnt-by:         ROOT-MNT
 source:         TEST
 ";
 
-const TEN: &str = "\
+pub const TEN: &str = "\
 inetnum:        10.0.0.0 - 10.255.255.255
 mnt-by:         A-MNT
 source:         TEST
@@ -45,19 +45,19 @@ source:         TEST
 const SPACED: &str =
     "UPDATE object SET body = x'696e65746e756d3a20202020202020202031302e302e302e30202d2031302e3235352e3235352e3235350a6d6e742d62793a202020202020202020412d4d4e540a736f757263653a202020202020202020544553540a' WHERE okey = '0a000000-0affffff'";
 
-fn name(alloc: Global, text: &str) -> Result<Name, Fail> {
+pub fn name(alloc: Global, text: &str) -> Result<Name, Fail> {
     Ok(Name::read(alloc, text.as_bytes())?.ok_or("no name")?)
 }
 
 /// The object of a text.
-fn object(alloc: Global, text: &str) -> Result<Object, Fail> {
+pub fn object(alloc: Global, text: &str) -> Result<Object, Fail> {
     let source = name(alloc, "TEST")?;
     let (paragraph, _end) = next_paragraph(alloc, text.as_bytes(), 0)?.ok_or("no object")?;
     Ok(Object::read(alloc, paragraph, &source)?)
 }
 
 /// The objects of four texts, not in the order of their keys.
-fn four(alloc: Global) -> Result<Vec<Object>, Fail> {
+pub fn four(alloc: Global) -> Result<Vec<Object>, Fail> {
     let mut objects = Vec::new(alloc);
     for text in [TEN, WHOLE, ROOT, HOLDER] {
         objects.push(object(alloc, text)?)?;
@@ -66,7 +66,7 @@ fn four(alloc: Global) -> Result<Vec<Object>, Fail> {
 }
 
 /// The canonical texts of objects, one behind the other.
-fn text_of(alloc: Global, objects: &[Object]) -> Result<Vec<u8>, Fail> {
+pub fn text_of(alloc: Global, objects: &[Object]) -> Result<Vec<u8>, Fail> {
     let mut text = Vec::new(alloc);
     for object in objects {
         text.extend_from_slice(print(alloc, object.paragraph())?.as_slice())?;
@@ -109,6 +109,17 @@ fn opened(
     match Store::open_all(alloc, conn, &source) {
         Ok((_store, objects)) => Ok(Ok(objects)),
         Err((fault, _conn)) => Ok(Err(fault)),
+    }
+}
+
+/// The store in this database, opened without its objects.
+fn opened_alone(alloc: Global, conn: Connection<MemStore>) -> Result<Store<MemStore>, Fail> {
+    if !conn.is_autocommit() {
+        return Err("in a transaction".into());
+    }
+    match Store::open(alloc, conn, &name(alloc, "TEST")?) {
+        Ok(store) => Ok(store),
+        Err((fault, _conn)) => Err(fault.into()),
     }
 }
 
@@ -155,6 +166,8 @@ fn a_closed_store_is_opened_as_it_was(rt: HostRuntime) -> Result<(), Fail> {
     store.remove(rt.alloc(), object(rt.alloc(), TEN)?.key())?;
     let all = format!(in rt.alloc(); "{HOLDER}{ROOT}{WHOLE}{ELEVEN}")?;
     expect_all(&rt, &mut store, all.as_str())?;
+    let mut store = opened_alone(rt.alloc(), store.close())?;
+    expect_all(&rt, &mut store, all.as_str())?;
     let objects = opened(rt.alloc(), store.close(), "TEST")??;
     assert_eq!(rt; text_of(rt.alloc(), &objects)?.as_slice(), all.as_bytes());
     Ok(())
@@ -167,6 +180,35 @@ fn no_store_is_made_over_another(rt: HostRuntime) -> Result<(), Fail> {
         made(rt.alloc(), store.close())?.err(),
         Some(CreateFault::NotEmpty)
     );
+    Ok(())
+}
+
+/// What a store of the four objects answers that is made over another, after these statements.
+fn made_anew(alloc: Global, statements: &[&str]) -> Result<Option<CreateFault>, Fail> {
+    let store = created(alloc)?;
+    let mut conn = store.close();
+    for sql in statements {
+        let _count = conn.execute(sql, &[])?;
+    }
+    Ok(made(alloc, conn)?.err())
+}
+
+#[test]
+fn a_row_of_any_table_leaves_no_room(rt: HostRuntime) -> Result<(), Fail> {
+    let (meta, object, named) = (
+        "DELETE FROM meta",
+        "DELETE FROM object",
+        "DELETE FROM named",
+    );
+    let full = Some(CreateFault::NotEmpty);
+    for (statements, fault) in [
+        ([object, named, named], full),
+        ([meta, named, named], full),
+        ([meta, object, object], full),
+        ([meta, object, named], None),
+    ] {
+        assert_eq!(rt; made_anew(rt.alloc(), &statements)?, fault);
+    }
     Ok(())
 }
 

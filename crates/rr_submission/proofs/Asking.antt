@@ -16,12 +16,13 @@ use Rattle.rr_object.specs.Objects.{Obj}
 use Rattle.rr_object.specs.Readings.{object_of}
 use Rattle.rr_object.proofs.KeyBounds.{key_formed, object_key_formed}
 use Rattle.rr_object.proofs.Parsed.{kept_its_key, kept_paragraph, of_any_source}
+use Rattle.rr_auth.specs.Laws.{key_about}
 use Rattle.rr_auth.specs.Sources.{IsReadIn, IsReadObject}
 use Rattle.rr_registry.specs.RunLaws.{AreReadIn}
 use Rattle.rr_submission.specs.declared.request.Request.{Request}
 use Rattle.rr_submission.specs.SubmissionItems.{AreItems, Asked, submitted}
 use Rattle.rr_submission.specs.SubmissionItems.AreItems.{at_end, secrets_alone, asked, faulty, unread_for_memory}
-use Rattle.rr_submission.specs.Requests.{IsRequest, IsTied, action_of, item_key, request_of, request_of_key, submission, unread}
+use Rattle.rr_submission.specs.Requests.{IsRequest, IsTied, action_of, request_of, request_of_key, submission, unread}
 
 -- with a key that was read
 pub IsRequest-at_key : (source : List ℕ) (fields own : List Field) (key : Key) (action : Result Item Code) → own ≡ own_fields fields → key_of own ≡ Ok key →
@@ -97,7 +98,7 @@ tied_request source fields = tied_key source (own_fields fields) (asks_deletion 
 pub IsTied-request : (source : List ℕ) (fields : List Field) (request : Request) → IsRequest source fields request → IsTied source request
 IsTied-request source fields request (inl e) = subst (IsTied source) (sym e) (tied_request source fields)
 IsTied-request source fields request (inr lacks) =
-    subst (λ action. IfOk action (λ item. (request.key ≡ Some (item_key item)) × IsReadIn source item)) (sym lacks.refused) tt
+    subst (λ action. IfOk action (λ item. (request.key ≡ Some (key_about item)) × IsReadIn source item)) (sym lacks.refused) tt
 
 read_item : (source : List ℕ) (key : Option Key) (action : Result Item Code) → IsTied source (record { key = key; action = action }) → IfOk action (IsReadIn source)
 read_item source key (Ok item) h = h.1

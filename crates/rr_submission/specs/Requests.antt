@@ -13,6 +13,7 @@ use Rattle.rr_object.specs.Objects.{Obj}
 use Rattle.rr_object.specs.Readings.{object_of}
 use Rattle.rr_auth.specs.declared.item.Item.{Item}
 use Rattle.rr_auth.specs.declared.item.Item.TheVariants.{Submit, Delete}
+use Rattle.rr_auth.specs.Laws.{key_about}
 use Rattle.rr_auth.specs.Sources.{IsReadIn}
 use Rattle.rr_submission.specs.declared.request.Request.{Request}
 use Rattle.rr_submission.specs.SubmissionTexts.{own_fields, asks_deletion}
@@ -60,12 +61,7 @@ pub record LacksMemory (fields : List Field) (request : Request) : Type 0 where
 abbrev pub IsRequest : List ℕ → List Field → Request → Type 0
 IsRequest source fields request = (request ≡ request_of source fields) ⊎ LacksMemory fields request
 
--- the key that an item is about
-abbrev pub item_key : Item → Key
-item_key (Submit object) = object.key
-item_key (Delete key) = key
-
 -- what is asked is tied to what is shown and to the source: the key of an item is the one that is shown, and the item
 -- is as it is read in the source
 abbrev pub IsTied : List ℕ → Request → Type 0
-IsTied source request = IfOk request.action (λ item. (request.key ≡ Some (item_key item)) × IsReadIn source item)
+IsTied source request = IfOk request.action (λ item. (request.key ≡ Some (key_about item)) × IsReadIn source item)

@@ -1,119 +1,20 @@
-//! Worked expansions of sets, over registries taken from lists and over those of submissions.
-use crate::desks::{loaded, submitted};
+//! Worked expansions of sets, asked as queries.
+use crate::books::submitted;
 use crate::texts::HOLDERS;
+use crate::worked::{Asked, expect_answers};
+use rr_index::IndexedBook;
 use rr_number::SetName;
-use rr_sets::{SetBook, expand_as_set, expand_route_set};
-use std::alloc::Global;
-use std::fmt::Write;
+use rr_registry::{Keeper, PlainBook};
+use rr_sets::{ExpandFault, SetBook, expand_as_set, expand_route_set};
 use std::process::Abort;
 use std::test::Fail;
 
-/// The maintainers of `HOLDERS`, for lists.
-const MAINTAINERS: &str = "\
-mntner: A-MNT
-auth: NONE
-mnt-by: A-MNT
-source: TEST
-
-mntner: B-MNT
-auth: NONE
-mnt-by: B-MNT
-source: TEST
-
-";
-
-/// Every secret.
-const SECRETS: &str = "password: bc\npassword: c\npassword: abc\n\n";
-
-/// What a set is asked for.
-#[derive(Clone, Copy)]
-enum Asked {
-    Numbers,
-    Ranges,
-}
-
-/// What the set stands for, then its missing names, or the fault.
-fn members<B: SetBook>(
-    alloc: Global,
-    book: &B,
-    asked: Asked,
-    name: &str,
-    limit: usize,
-) -> Result<String, Fail> {
-    let name = SetName::read(alloc, name.as_bytes())?.ok_or("no name of a set")?;
-    match asked {
-        Asked::Numbers => numbers_of(alloc, book, &name, limit),
-        Asked::Ranges => ranges_of(alloc, book, &name, limit),
-    }
-}
-
-fn numbers_of<B: SetBook>(
-    alloc: Global,
-    book: &B,
-    name: &SetName,
-    limit: usize,
-) -> Result<String, Fail> {
-    let mut text = String::new(alloc);
-    match expand_as_set(alloc, book, name, limit) {
-        Ok(members) => {
-            for number in &members.found {
-                write!(text, "{number} ")?;
-            }
-            for name in &members.missing {
-                write!(text, "missing {name} ")?;
-            }
-        }
-        Err(fault) => write!(text, "{fault}")?,
-    }
-    Ok(text)
-}
-
-fn ranges_of<B: SetBook>(
-    alloc: Global,
-    book: &B,
-    name: &SetName,
-    limit: usize,
-) -> Result<String, Fail> {
-    let mut text = String::new(alloc);
-    match expand_route_set(alloc, book, name, limit) {
-        Ok(members) => {
-            for range in &members.found {
-                write!(text, "{range} ")?;
-            }
-            for name in &members.missing {
-                write!(text, "missing {name} ")?;
-            }
-        }
-        Err(fault) => write!(text, "{fault}")?,
-    }
-    Ok(text)
-}
-
-/// Asserts what sets stand for under these limits, where the objects of the text are a list and where they are
-/// submitted.
-fn expect_members<R: Abort + AllocGlobal>(
-    rt: &R,
-    text: &str,
-    cases: &[(Asked, &str, usize, &str)],
-) -> Result<(), Fail> {
-    let alloc = rt.alloc();
-    let list = format!(in alloc; "{MAINTAINERS}{text}")?;
-    let Ok(listed) = loaded(alloc, list.as_str())? else {
-        return Err("no registry".into());
-    };
-    let submission = format!(in alloc; "{SECRETS}{text}")?;
-    let (decided, _) = submitted(alloc, &[HOLDERS, submission.as_str()])?;
-    for (asked, name, limit, want) in cases {
-        let of_list = members(alloc, listed.book(), *asked, name, *limit)?;
-        assert_eq!(rt; of_list.as_str(), *want, "{name} {limit}");
-        let of_items = members(alloc, decided.book(), *asked, name, *limit)?;
-        assert_eq!(rt; of_items.as_str(), *want, "{name} {limit}");
-    }
-    Ok(())
-}
-
 /// AS-A lists AS-B, which lists it again and AS-GONE; AS-SELF lists itself alone.
 const CYCLES: &str = "\
+password: bc
+password: c
+password: abc
+
 as-set: AS-A
 members: AS1, AS-B
 mnt-by: A-MNT
@@ -148,42 +49,12 @@ mnt-by: B-MNT
 source: TEST
 ";
 
-#[test]
-fn listed_sets_are_followed_once(rt: HostRuntime) -> Result<(), Fail> {
-    expect_members(
-        &rt,
-        CYCLES,
-        &[
-            (Asked::Numbers, "as-a", 3, "AS1 AS2 missing AS-GONE "),
-            (Asked::Numbers, "AS-A", 2, "too many members"),
-            (Asked::Numbers, "AS-SELF", 1, ""),
-            (Asked::Numbers, "AS-NONE", 0, "no such set"),
-            (Asked::Numbers, "AS-GONE", 0, "no such set"),
-            (Asked::Numbers, "RS-C", 0, "no such set"),
-            (Asked::Numbers, "RS-ANY", 0, "no such set"),
-            (Asked::Numbers, "AS-ALL", 2, "AS3 AS4 "),
-            (Asked::Numbers, "AS-ANY", 1, "AS3 AS4 "),
-            (Asked::Numbers, "AS-ALL", 1, "too many members"),
-            (Asked::Numbers, "AS-ANY", 0, "too many members"),
-        ],
-    )
-}
-
-#[test]
-fn a_set_that_refers_to_itself_has_ever_longer_prefixes(rt: HostRuntime) -> Result<(), Fail> {
-    let longer = "10.0.0.0/30 10.0.0.0/30^- 10.0.0.0/30^32 ";
-    expect_members(
-        &rt,
-        CYCLES,
-        &[
-            (Asked::Ranges, "rs-c", 3, longer),
-            (Asked::Ranges, "RS-C", 2, "too many members"),
-        ],
-    )
-}
-
 /// Sets whose operators act on each other and drop ranges.
 const OPERATORS: &str = "\
+password: bc
+password: c
+password: abc
+
 route-set: RS-D
 members: RS-E^27-30
 mnt-by: A-MNT
@@ -205,22 +76,12 @@ mnt-by: A-MNT
 source: TEST
 ";
 
-#[test]
-fn operators_act_on_the_ranges_of_the_set_that_they_follow(rt: HostRuntime) -> Result<(), Fail> {
-    expect_members(
-        &rt,
-        OPERATORS,
-        &[
-            (Asked::Ranges, "RS-D", 2, "30.0.0.0/8^27-30 "),
-            (Asked::Ranges, "RS-X", 3, "missing RS-GONE "),
-            (Asked::Ranges, "RS-X", 2, "too many members"),
-            (Asked::Ranges, "RS-GONE", 0, "no such set"),
-        ],
-    )
-}
-
 /// AS1 and AS2 with a route each, and sets that refer to them.
 const REFERRED: &str = "\
+password: bc
+password: c
+password: abc
+
 aut-num: AS1
 mnt-by: A-MNT
 source: TEST
@@ -250,25 +111,29 @@ mnt-by: A-MNT
 source: TEST
 ";
 
-#[test]
-fn sets_stand_for_the_routes_of_their_ases(rt: HostRuntime) -> Result<(), Fail> {
-    expect_members(
-        &rt,
-        REFERRED,
-        &[
-            (Asked::Ranges, "RS-F", 5, "10.0.0.0/8 10.1.0.0/16^+ "),
-            (Asked::Ranges, "RS-F", 4, "too many members"),
-            (Asked::Ranges, "RS-ANY", 2, "10.0.0.0/8 10.1.0.0/16 "),
-            (Asked::Ranges, "AS-ANY", 5, "10.0.0.0/8 10.1.0.0/16 "),
-            (Asked::Ranges, "AS-A", 2, "10.0.0.0/8 "),
-        ],
-    )
-}
+/// Every kind of member with an operator, members that are missing, and numbers without a route.
+const WIDE: &str = "\
+password: c
+
+route-set: RS-W
+members: RS-ANY^24, AS-ANY^+, 10.2.0.0/16^-, AS9, AS-GONE, RS-GONE^32
+mnt-by: A-MNT
+source: TEST
+
+route-set: RS-Z
+members: AS7, AS8
+mnt-by: A-MNT
+source: TEST
+";
 
 /// AS1 of A-MNT, AS2 of B-MNT and a route of each say that they belong to AS-R and RS-R.
 const REFERRERS: &str = "\
+password: bc
+password: c
+password: abc
+
 aut-num: AS1
-member-of: AS-R
+member-of: AS-R, RS-R
 mnt-by: A-MNT
 source: TEST
 
@@ -288,11 +153,14 @@ origin: AS1
 member-of: RS-R
 mnt-by: A-MNT
 source: TEST
-
 ";
 
 /// AS-R and RS-R that take the word of A-MNT.
 const TAKES_A: &str = "\
+password: bc
+password: c
+password: abc
+
 as-set: AS-R
 mbrs-by-ref: A-MNT
 mnt-by: A-MNT
@@ -306,6 +174,10 @@ source: TEST
 
 /// AS-R and RS-R that take anybody's word.
 const TAKES_ANY: &str = "\
+password: bc
+password: c
+password: abc
+
 as-set: AS-R
 mbrs-by-ref: ANY
 mnt-by: A-MNT
@@ -319,6 +191,10 @@ source: TEST
 
 /// AS-R and RS-R that take nobody's word.
 const TAKES_NONE: &str = "\
+password: bc
+password: c
+password: abc
+
 as-set: AS-R
 mnt-by: A-MNT
 source: TEST
@@ -329,7 +205,11 @@ source: TEST
 ";
 
 /// AS1 belongs to no set any more, and the route of AS2 is gone.
-const LEFT: &str = "
+const LEFT: &str = "\
+password: bc
+password: c
+password: abc
+
 aut-num: AS1
 mnt-by: A-MNT
 source: TEST
@@ -339,57 +219,170 @@ origin: AS2
 delete: x
 ";
 
+const LISTED: &[Asked] = &[
+    Asked {
+        given: &[HOLDERS, CYCLES],
+        answers: &[
+            ("expand as-a", 3, "AS1\nAS2\n% missing AS-GONE\n"),
+            ("expand AS-A", 2, "% error 3\n"),
+            ("expand AS-SELF", 1, "% empty\n"),
+            ("expand AS-NONE", 0, "% no entries\n"),
+            ("expand AS-GONE", 0, "% no entries\n"),
+            ("expand AS-ALL", 2, "AS3\nAS4\n"),
+            ("expand AS-ANY", 1, "AS3\nAS4\n"),
+            ("expand AS-ALL", 1, "% error 3\n"),
+            ("expand AS-ANY", 0, "% error 3\n"),
+            (
+                "expand rs-c",
+                3,
+                "10.0.0.0/30\n10.0.0.0/30^-\n10.0.0.0/30^32\n",
+            ),
+            ("expand RS-C", 2, "% error 3\n"),
+        ],
+    },
+    Asked {
+        given: &[HOLDERS, OPERATORS],
+        answers: &[
+            ("expand RS-D", 2, "30.0.0.0/8^27-30\n"),
+            ("expand RS-X", 3, "% missing RS-GONE\n"),
+            ("expand RS-X", 2, "% error 3\n"),
+            ("expand RS-GONE", 0, "% no entries\n"),
+        ],
+    },
+    Asked {
+        given: &[HOLDERS, REFERRED],
+        answers: &[
+            ("expand RS-F", 5, "10.0.0.0/8\n10.1.0.0/16^+\n"),
+            ("expand RS-F", 4, "% error 3\n"),
+            ("expand RS-ANY", 2, "10.0.0.0/8\n10.1.0.0/16\n"),
+            ("prefixes RS-F", 5, "10.0.0.0/8\n10.1.0.0/16^+\n"),
+            ("prefixes AS-ANY", 5, "10.0.0.0/8\n10.1.0.0/16\n"),
+            ("prefixes AS-A", 2, "10.0.0.0/8\n"),
+            ("prefixes AS-NONE", 2, "% no entries\n"),
+        ],
+    },
+    Asked {
+        given: &[HOLDERS, REFERRED, WIDE],
+        answers: &[
+            (
+                "expand RS-W",
+                11,
+                "10.0.0.0/8^+\n10.0.0.0/8^24\n10.1.0.0/16^+\n10.1.0.0/16^24\n10.2.0.0/16^-\n% missing AS-GONE\n% missing RS-GONE\n",
+            ),
+            ("expand RS-W", 10, "% error 3\n"),
+            ("expand RS-Z", 3, "% empty\n"),
+            ("expand RS-Z", 2, "% error 3\n"),
+        ],
+    },
+];
+
 #[test]
-fn members_by_reference_are_asked_for(rt: HostRuntime) -> Result<(), Fail> {
-    for (sets, numbers, ranges) in [
-        (TAKES_A, "AS1 ", "10.1.0.0/16 "),
-        (TAKES_ANY, "AS1 AS2 ", "10.0.0.0/8 10.1.0.0/16 "),
-        (TAKES_NONE, "", ""),
-    ] {
-        let text = format!(in rt.alloc(); "{REFERRERS}{sets}")?;
-        expect_members(
-            &rt,
-            text.as_str(),
-            &[
-                (Asked::Numbers, "AS-R", 1, numbers),
-                (Asked::Ranges, "RS-R", 2, ranges),
-            ],
-        )?;
-    }
-    Ok(())
+fn sets_stand_for_what_their_chains_reach(rt: HostRuntime) -> Result<(), Fail> {
+    expect_answers(&rt, LISTED)
 }
 
-/// What AS-R and RS-R stand for once these texts were submitted in turn, with a bar between them.
-fn referring(alloc: Global, texts: &[&str]) -> Result<String, Fail> {
-    let mut submission = String::from_str(alloc, SECRETS)?;
-    for text in texts {
-        submission.push_str(text)?;
-        submission.push_str("\n")?;
-    }
-    let (registry, _) = submitted(alloc, &[submission.as_str()])?;
-    let book = registry.book();
-    let numbers = members(alloc, book, Asked::Numbers, "AS-R", 1)?;
-    let ranges = members(alloc, book, Asked::Ranges, "RS-R", 2)?;
-    Ok(format!(in alloc; "{numbers}| {ranges}")?)
-}
+/// What AS-R and RS-R stand for, as they take the word of nobody, of A-MNT or of anybody, and as members come and go.
+const REFERRING: &[Asked] = &[
+    Asked {
+        given: &[HOLDERS, REFERRERS],
+        answers: &[
+            ("expand AS-R", 1, "% no entries\n"),
+            ("expand RS-R", 2, "% no entries\n"),
+            ("prefixes AS-R", 1, "% no entries\n"),
+        ],
+    },
+    Asked {
+        given: &[HOLDERS, REFERRERS, TAKES_NONE],
+        answers: &[
+            ("expand AS-R", 1, "% empty\n"),
+            ("expand RS-R", 2, "% empty\n"),
+        ],
+    },
+    Asked {
+        given: &[HOLDERS, REFERRERS, TAKES_A],
+        answers: &[
+            ("expand AS-R", 1, "AS1\n"),
+            ("expand RS-R", 2, "10.1.0.0/16\n"),
+            ("prefixes AS-R", 2, "10.1.0.0/16\n"),
+            ("prefixes AS-R", 1, "% error 3\n"),
+        ],
+    },
+    Asked {
+        given: &[HOLDERS, REFERRERS, TAKES_A, TAKES_ANY],
+        answers: &[
+            ("expand AS-R", 1, "AS1\nAS2\n"),
+            ("expand RS-R", 3, "10.0.0.0/8\n10.1.0.0/16\n"),
+            ("prefixes AS-R", 4, "10.0.0.0/8\n10.1.0.0/16\n"),
+            ("prefixes AS-R", 3, "% error 3\n"),
+        ],
+    },
+    Asked {
+        given: &[HOLDERS, REFERRERS, TAKES_A, TAKES_ANY, LEFT],
+        answers: &[
+            ("expand AS-R", 1, "AS2\n"),
+            ("expand RS-R", 2, "10.1.0.0/16\n"),
+            ("prefixes AS-R", 2, "% empty\n"),
+            ("prefixes AS-R", 1, "% error 3\n"),
+        ],
+    },
+    Asked {
+        given: &[HOLDERS, REFERRERS, TAKES_A, TAKES_ANY, LEFT, TAKES_A],
+        answers: &[
+            ("expand AS-R", 1, "% empty\n"),
+            ("expand RS-R", 2, "10.1.0.0/16\n"),
+        ],
+    },
+    Asked {
+        given: &[
+            HOLDERS, REFERRERS, TAKES_A, TAKES_ANY, LEFT, TAKES_A, TAKES_NONE,
+        ],
+        answers: &[
+            ("expand AS-R", 1, "% empty\n"),
+            ("expand RS-R", 2, "% empty\n"),
+        ],
+    },
+];
 
 #[test]
 fn members_by_reference_change_with_the_set_and_with_the_member(
     rt: HostRuntime,
 ) -> Result<(), Fail> {
-    let texts = [
-        HOLDERS, REFERRERS, TAKES_A, TAKES_ANY, LEFT, TAKES_A, TAKES_NONE,
-    ];
-    for (count, wanted) in [
-        (2, "no such set| no such set"),
-        (3, "AS1 | 10.1.0.0/16 "),
-        (4, "AS1 AS2 | 10.0.0.0/8 10.1.0.0/16 "),
-        (5, "AS2 | 10.1.0.0/16 "),
-        (6, "| 10.1.0.0/16 "),
-        (7, "| "),
-    ] {
-        let found = referring(rt.alloc(), &texts[..count])?;
-        assert_eq!(rt; found.as_str(), wanted, "{count}");
+    expect_answers(&rt, REFERRING)
+}
+
+/// Names, what their expansions as as-sets fail with, and how many ranges they have as route-sets.
+const KINDS: &[(&str, Option<ExpandFault>, usize)] = &[
+    ("AS-SELF", None, 0),
+    ("RS-C", Some(ExpandFault::NoSuchSet), 3),
+    ("RS-ANY", Some(ExpandFault::NoSuchSet), 0),
+];
+
+/// Asserts what the expansions of a name are.
+fn expect_kind<B: SetBook, R: Abort + AllocGlobal>(
+    rt: &R,
+    book: &B,
+    name: &str,
+    fault: Option<ExpandFault>,
+    ranges: usize,
+) -> Result<(), Fail> {
+    let set = SetName::read(rt.alloc(), name.as_bytes())?.ok_or("no name of a set")?;
+    let numbers = expand_as_set(rt.alloc(), book, &set, 3);
+    assert_eq!(rt; numbers.err(), fault, "{name}");
+    let found = expand_route_set(rt.alloc(), book, &set, 3)?.found;
+    assert_eq!(rt; found.len(), ranges, "{name}");
+    Ok(())
+}
+
+fn expect_kinds<B: Keeper + Drop, R: Abort + AllocGlobal>(rt: &R) -> Result<(), Fail> {
+    let (registry, _report) = submitted::<B>(rt.alloc(), &[HOLDERS, CYCLES])?;
+    for (name, fault, ranges) in KINDS {
+        expect_kind(rt, registry.book(), name, *fault, *ranges)?;
     }
     Ok(())
+}
+
+#[test]
+fn as_sets_are_expanded_by_their_names_alone(rt: HostRuntime) -> Result<(), Fail> {
+    expect_kinds::<PlainBook, HostRuntime>(&rt)?;
+    expect_kinds::<IndexedBook, HostRuntime>(&rt)
 }

@@ -1,9 +1,13 @@
 //! Thousands of texts of a seeded generator, each submitted whole and in pieces.
-use crate::desks::{opened, report};
+use crate::books::{cut_report, report, taken};
+use crate::texts::OPENING;
 use rand_core::utils::NextWord;
 use rand_pcg::Pcg32;
-use rr_io::{Counted, Cut};
-use std::alloc::Global;
+use rr_index::IndexedBook;
+use rr_io::Counted;
+use rr_registry::{Keeper, PlainBook};
+use std::alloc::{AllocError, Global};
+use std::process::Abort;
 use std::test::Fail;
 
 const TEXTS: u32 = 2_000;
@@ -29,32 +33,41 @@ const PARTS: [&str; 16] = [
 ];
 
 /// A text of up to 15 pieces, now and then with an item that is too large.
-fn any_text(alloc: Global, words: &mut Pcg32) -> Result<Vec<u8>, Fail> {
-    let mut text = Vec::new(alloc);
-    text.extend_from_slice(b"password: bc\n\n")?;
-    if words.next_word() % 64 == 0 {
-        for _ in 0..1_500 {
-            text.extend_from_slice(b"descr: a line of a paragraph that is too large\n")?;
-        }
+fn any_text(alloc: Global, words: &mut Pcg32) -> Result<Vec<u8>, AllocError> {
+    let mut text = Vec::from_slice(alloc, b"password: bc\n\n")?;
+    if words.next_word() % 256 == 0 {
+        add_lines(&mut text)?;
     }
-    for _ in 0..words.next_word() % 16 {
-        add_piece(words, &mut text)?;
-    }
+    add_pieces(words, &mut text)?;
     Ok(text)
 }
 
-/// Adds a part, a part cut short, or a byte.
-fn add_piece(words: &mut Pcg32, text: &mut Vec<u8>) -> Result<(), Fail> {
-    let [kind, which, place, byte] = words.next_word().to_le_bytes();
-    let part = PARTS[usize::from(which % 16)].as_bytes();
-    if kind % 4 == 0 {
-        text.push(byte)?;
-    } else if kind % 4 == 1 {
-        text.extend_from_slice(&part[..usize::from(place).min(part.len())])?;
-    } else {
-        text.extend_from_slice(part)?;
+/// Adds lines of a paragraph that is too large.
+fn add_lines(text: &mut Vec<u8>) -> Result<(), AllocError> {
+    for _ in 0..1_500 {
+        text.extend_from_slice(b"descr: a line of a paragraph that is too large\n")?;
     }
     Ok(())
+}
+
+fn add_pieces(words: &mut Pcg32, text: &mut Vec<u8>) -> Result<(), AllocError> {
+    for _ in 0..words.next_word() % 16 {
+        add_piece(words, text)?;
+    }
+    Ok(())
+}
+
+/// Adds a part, a part cut short, or a byte.
+fn add_piece(words: &mut Pcg32, text: &mut Vec<u8>) -> Result<(), AllocError> {
+    let [kind, which, place, byte] = words.next_word().to_le_bytes();
+    let part = PARTS[usize::from(which % 16)].as_bytes();
+    let one = [byte];
+    let piece = match kind % 4 {
+        0 => &one[..],
+        1 => &part[..usize::from(place).min(part.len())],
+        _ => part,
+    };
+    text.extend_from_slice(piece)
 }
 
 /// How many paragraphs a text has, told by its blank lines.
@@ -77,31 +90,39 @@ fn is_blank(line: &[u8]) -> bool {
         .all(|byte| matches!(*byte, b' ' | b'\t' | b'\r'))
 }
 
-#[test]
-fn any_text_has_its_report_however_it_is_cut(rt: HostRuntime) -> Result<(), Fail> {
+/// Asserts the lines of a report: one for each item, and the number of them. The first paragraph is of passwords alone.
+fn expect_lines<R: Abort + AllocGlobal>(rt: &R, text: &[u8], report: &[u8]) -> Result<(), Fail> {
+    let count = paragraphs(text);
+    let last = format!(in rt.alloc(); "% items {}\n", count.saturating_sub(1))?;
+    assert!(rt; report.ends_with(last.as_bytes()));
+    let lines = report.iter().filter(|byte| **byte == b'\n').count();
+    assert_eq!(rt; lines as u64, count);
+    Ok(())
+}
+
+/// Submits the texts to a book whole, and to another kind of book by single bytes and in pieces: the reports are the same.
+fn expect_reports<P: Keeper + Drop, I: Keeper + Drop, R: Abort + AllocGlobal>(
+    rt: &R,
+) -> Result<(), Fail> {
     let alloc = rt.alloc();
     let mut words = Pcg32::new(42, 54);
-    let mut registries = [opened(alloc)?, opened(alloc)?, opened(alloc)?];
+    let mut plain = taken::<P>(alloc, OPENING.as_bytes())?;
+    let mut by_bytes = taken::<I>(alloc, OPENING.as_bytes())?;
+    let mut by_pieces = taken::<I>(alloc, OPENING.as_bytes())?;
     for _ in 0..TEXTS {
         let text = any_text(alloc, &mut words)?;
-        let whole = report(
-            alloc,
-            &mut registries[0],
-            &mut Counted::new(text.as_slice()),
-        )?;
-        let mut bytes = Cut::new(Counted::new(text.as_slice()), 1, usize::MAX);
-        let by_bytes = report(alloc, &mut registries[1], &mut bytes)?;
-        assert_eq!(rt; by_bytes.as_slice(), whole.as_slice());
         let step = usize::from(words.next_word().to_le_bytes()[0]) + 1;
-        let mut pieces = Cut::new(Counted::new(text.as_slice()), step, usize::MAX);
-        let by_pieces = report(alloc, &mut registries[2], &mut pieces)?;
-        assert_eq!(rt; by_pieces.as_slice(), whole.as_slice());
-        // The first paragraph is of passwords alone, and the last line counts the items.
-        let items = paragraphs(&text).saturating_sub(1);
-        let last = format!(in alloc; "% items {items}\n")?;
-        assert!(rt; whole.ends_with(last.as_bytes()));
-        let lines = whole.iter().filter(|byte| **byte == b'\n').count();
-        assert_eq!(rt; lines, paragraphs(&text) as usize);
+        let whole = report(alloc, &mut plain, &mut Counted::new(text.as_slice()))?;
+        expect_lines(rt, &text, &whole)?;
+        let of_bytes = cut_report(alloc, &mut by_bytes, &text, 1)?;
+        assert_eq!(rt; of_bytes.as_slice(), whole.as_slice());
+        let of_pieces = cut_report(alloc, &mut by_pieces, &text, step)?;
+        assert_eq!(rt; of_pieces.as_slice(), whole.as_slice());
     }
     Ok(())
+}
+
+#[test]
+fn any_text_has_its_report_however_it_is_cut(rt: HostRuntime) -> Result<(), Fail> {
+    expect_reports::<PlainBook, IndexedBook, _>(&rt)
 }

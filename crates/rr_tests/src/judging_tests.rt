@@ -1,13 +1,15 @@
 //! Calls below the desk, each with ample memory: verdicts, runs, names for routes, and the lists of a book.
-use crate::desks::{loaded, object, objects};
-use rr_auth::{Book, Item, Secrets, Verdict, judge, route_names};
+use crate::books::{item, objects, taken};
+use rr_auth::{Book, Secrets, Verdict, judge, route_names};
+use rr_index::IndexedBook;
 use rr_io::{Counted, write_all};
-use rr_number::{Prefix, SetName};
+use rr_number::{AsNumber, Prefix, SetName};
 use rr_object::{Code, Object};
-use rr_registry::{Outcome, PlainBook, Registry, Submitted};
+use rr_registry::{Keeper, Outcome, PlainBook, Registry, Submitted};
 use rr_sets::SetBook;
 use std::alloc::Global;
 use std::fmt::Write;
+use std::process::Abort;
 use std::test::Fail;
 
 /// A-MNT of the secret `c`, B-MNT of the secret `abc`, AS1 of A-MNT, and sets, two of which stand below AS1 and RS-A.
@@ -65,23 +67,6 @@ fn secrets(alloc: Global, list: &[&str]) -> Result<Secrets, Fail> {
     Ok(secrets)
 }
 
-/// The item of an object, or of its deletion.
-fn item(alloc: Global, deletes: bool, text: &str) -> Result<Item, Fail> {
-    let object = object(alloc, text)?;
-    if deletes {
-        Ok(Item::Delete(object.key().copy(alloc)?))
-    } else {
-        Ok(Item::Submit(object))
-    }
-}
-
-fn registry(alloc: Global, text: &str) -> Result<Registry<PlainBook>, Fail> {
-    match loaded(alloc, text)? {
-        Ok(registry) => Ok(registry),
-        Err(_) => Err("no registry".into()),
-    }
-}
-
 const ALONE: &str = "route-set: RS-C\nmnt-by: A-MNT\nsource: TEST\n";
 
 const KNOWN: &str = "route-set: RS-A\nmnt-by: A-MNT\nsource: TEST\n";
@@ -99,9 +84,9 @@ const BY_NOBODY: &str = "route-set: RS-C\nmnt-by: C-MNT\nsource: TEST\n";
 const TAKING: &str = "route-set: RS-C\nmbrs-by-ref: C-MNT\nmnt-by: A-MNT\nsource: TEST\n";
 
 /// The verdict on an object or its deletion, with this secret.
-fn verdict(
+fn verdict<B: Keeper>(
     alloc: Global,
-    registry: &Registry<PlainBook>,
+    registry: &Registry<B>,
     secret: &str,
     deletes: bool,
     text: &str,
@@ -111,68 +96,86 @@ fn verdict(
     Ok(judge(alloc, registry.book(), &mut secrets, &item)?)
 }
 
-#[test]
-fn route_sets_are_judged_by_their_place(rt: HostRuntime) -> Result<(), Fail> {
-    let registry = registry(rt.alloc(), HELD_SETS)?;
-    for (secret, deletes, text, wanted) in [
-        ("c", false, ALONE, Verdict::Add),
-        ("abc", false, ALONE, Verdict::Refuse(Code::E11)),
-        ("c", false, KNOWN, Verdict::Same),
-        ("c", false, OTHER, Verdict::Change),
-        ("abc", false, OTHER, Verdict::Refuse(Code::E11)),
-        ("c", false, BELOW, Verdict::Add),
-        ("c", false, DEEPER, Verdict::Refuse(Code::E13)),
-        ("c", false, NOWHERE, Verdict::Refuse(Code::E12)),
-        ("c", false, BY_NOBODY, Verdict::Refuse(Code::E10)),
-        ("c", false, TAKING, Verdict::Refuse(Code::E10)),
-        ("c", true, KNOWN, Verdict::Delete),
-        ("abc", true, KNOWN, Verdict::Refuse(Code::E11)),
-        ("c", true, ALONE, Verdict::Refuse(Code::E18)),
-    ] {
-        let verdict = verdict(rt.alloc(), &registry, secret, deletes, text)?;
-        assert_eq!(rt; verdict, wanted, "{secret} {text}");
+/// A secret, whether the object or its deletion is asked for, the object, and the verdict.
+const VERDICTS: &[(&str, bool, &str, Verdict)] = &[
+    ("c", false, ALONE, Verdict::Add),
+    ("abc", false, ALONE, Verdict::Refuse(Code::E11)),
+    ("c", false, KNOWN, Verdict::Same),
+    ("c", false, OTHER, Verdict::Change),
+    ("abc", false, OTHER, Verdict::Refuse(Code::E11)),
+    ("c", false, BELOW, Verdict::Add),
+    ("c", false, DEEPER, Verdict::Refuse(Code::E13)),
+    ("c", false, NOWHERE, Verdict::Refuse(Code::E12)),
+    ("c", false, BY_NOBODY, Verdict::Refuse(Code::E10)),
+    ("c", false, TAKING, Verdict::Refuse(Code::E10)),
+    ("c", true, KNOWN, Verdict::Delete),
+    ("abc", true, KNOWN, Verdict::Refuse(Code::E11)),
+    ("c", true, ALONE, Verdict::Refuse(Code::E18)),
+];
+
+fn expect_verdicts<B: Keeper + Drop, R: Abort + AllocGlobal>(rt: &R) -> Result<(), Fail> {
+    let registry = taken::<B>(rt.alloc(), HELD_SETS.as_bytes())?;
+    for (secret, deletes, text, wanted) in VERDICTS {
+        let verdict = verdict(rt.alloc(), &registry, secret, *deletes, text)?;
+        assert_eq!(rt; verdict, *wanted, "{secret} {text}");
     }
     Ok(())
 }
 
+#[test]
+fn route_sets_are_judged_by_their_place(rt: HostRuntime) -> Result<(), Fail> {
+    expect_verdicts::<PlainBook, HostRuntime>(&rt)?;
+    expect_verdicts::<IndexedBook, HostRuntime>(&rt)
+}
+
 /// What is submitted with these secrets: an object or its deletion.
-fn given(alloc: Global, list: &[&str], deletes: bool, text: &str) -> Result<Submitted, Fail> {
+fn given(
+    alloc: Global,
+    list: &[&str],
+    deletes: bool,
+    text: Option<&str>,
+) -> Result<Submitted, Fail> {
     let secrets = secrets(alloc, list)?;
-    let action = Ok(item(alloc, deletes, text)?);
+    let action = match text {
+        Some(text) => Ok(item(alloc, deletes, text)?),
+        None => Err(Code::E01),
+    };
     Ok(Submitted { secrets, action })
 }
 
-/// A run: an addition, a change, the same again, a deletion, two refusals and an addition.
+/// A run: the secrets of each item, whether it is a deletion, its object, and the outcome. One has no object.
+const RUN: &[(&[&str], bool, Option<&str>, Outcome)] = &[
+    (&["c"], false, Some(ALONE), Outcome::Added),
+    (&["c"], false, Some(OTHER), Outcome::Changed),
+    (&["c"], false, Some(OTHER), Outcome::Same),
+    (&["c"], true, Some(ALONE), Outcome::Deleted),
+    (&["c"], false, Some(DEEPER), Outcome::Refused(Code::E13)),
+    (&[], false, None, Outcome::Refused(Code::E01)),
+    (&["c", "abc"], false, Some(DEEPER), Outcome::Added),
+];
+
 fn worked_run(alloc: Global) -> Result<Vec<Submitted>, Fail> {
     let mut run = Vec::new(alloc);
-    run.push(given(alloc, &["c"], false, ALONE)?)?;
-    run.push(given(alloc, &["c"], false, OTHER)?)?;
-    run.push(given(alloc, &["c"], false, OTHER)?)?;
-    run.push(given(alloc, &["c"], true, ALONE)?)?;
-    run.push(given(alloc, &["c"], false, DEEPER)?)?;
-    run.push(Submitted {
-        secrets: Secrets::new(alloc),
-        action: Err(Code::E01),
-    })?;
-    run.push(given(alloc, &["c", "abc"], false, DEEPER)?)?;
+    for (secrets, deletes, text, _) in RUN {
+        run.push(given(alloc, secrets, *deletes, *text)?)?;
+    }
     Ok(run)
+}
+
+fn expect_outcomes<B: Keeper + Drop, R: Abort + AllocGlobal>(rt: &R) -> Result<(), Fail> {
+    let mut registry = taken::<B>(rt.alloc(), HELD_SETS.as_bytes())?;
+    let outcomes = registry.run_items(rt.alloc(), worked_run(rt.alloc())?)?;
+    assert_eq!(rt; outcomes.len(), RUN.len());
+    for (outcome, (_, _, text, wanted)) in outcomes.iter().zip(RUN.iter()) {
+        assert_eq!(rt; outcome, wanted, "{}", text.unwrap_or("no object"));
+    }
+    Ok(())
 }
 
 #[test]
 fn a_run_has_the_outcome_of_each_item(rt: HostRuntime) -> Result<(), Fail> {
-    let mut registry = registry(rt.alloc(), HELD_SETS)?;
-    let outcomes = registry.run_items(rt.alloc(), worked_run(rt.alloc())?)?;
-    let wanted = [
-        Outcome::Added,
-        Outcome::Changed,
-        Outcome::Same,
-        Outcome::Deleted,
-        Outcome::Refused(Code::E13),
-        Outcome::Refused(Code::E01),
-        Outcome::Added,
-    ];
-    assert_eq!(rt; outcomes.as_slice(), wanted.as_slice());
-    Ok(())
+    expect_outcomes::<PlainBook, HostRuntime>(&rt)?;
+    expect_outcomes::<IndexedBook, HostRuntime>(&rt)
 }
 
 /// An inetnum with a range, with no braces and with empty ones.
@@ -207,9 +210,20 @@ mnt-by: A-MNT
 source: TEST
 ";
 
+/// Objects of a text, prefixes, and the names that decide about a route of them below those.
+const NAMES: &[(&str, usize, &str, &str)] = &[
+    (GRANTING, 0, "10.1.5.0/24", "C-MNT D-MNT "),
+    (GRANTING, 0, "10.1.0.0/16", "D-MNT "),
+    (GRANTING, 0, "10.2.5.0/24", "D-MNT "),
+    (GOVERNING, 0, "10.1.0.0/16", "A-MNT "),
+    (GOVERNING, 1, "10.1.0.0/16", "B-MNT D-MNT "),
+    (GOVERNING, 2, "10.1.0.0/16", "B-MNT "),
+    (GOVERNING, 3, "10.1.0.0/16", "A-MNT "),
+];
+
 /// The names that decide about a route of the prefix below the n-th object of a text.
 fn names_for(alloc: Global, text: &str, n: usize, prefix: &str) -> Result<String, Fail> {
-    let objects = objects(alloc, text)?;
+    let objects = objects(alloc, text.as_bytes())?;
     let object = objects.get(n).ok_or("no object")?;
     let prefix = Prefix::read(prefix.as_bytes()).ok_or("no prefix")?;
     let mut names = String::new(alloc);
@@ -223,17 +237,9 @@ fn names_for(alloc: Global, text: &str, n: usize, prefix: &str) -> Result<String
 fn names_for_a_route_are_those_of_its_grants_else_of_its_object(
     rt: HostRuntime,
 ) -> Result<(), Fail> {
-    for (text, n, prefix, wanted) in [
-        (GRANTING, 0, "10.1.5.0/24", "C-MNT D-MNT "),
-        (GRANTING, 0, "10.1.0.0/16", "D-MNT "),
-        (GRANTING, 0, "10.2.5.0/24", "D-MNT "),
-        (GOVERNING, 0, "10.1.0.0/16", "A-MNT "),
-        (GOVERNING, 1, "10.1.0.0/16", "B-MNT D-MNT "),
-        (GOVERNING, 2, "10.1.0.0/16", "B-MNT "),
-        (GOVERNING, 3, "10.1.0.0/16", "A-MNT "),
-    ] {
-        let names = names_for(rt.alloc(), text, n, prefix)?;
-        assert_eq!(rt; names.as_str(), wanted, "{prefix}");
+    for (text, n, prefix, wanted) in NAMES {
+        let names = names_for(rt.alloc(), text, *n, prefix)?;
+        assert_eq!(rt; names.as_str(), *wanted, "{prefix}");
     }
     Ok(())
 }
@@ -248,46 +254,49 @@ fn keys(alloc: Global, objects: &[&Object]) -> Result<Vec<u8>, Fail> {
     Ok(keys.into_inner())
 }
 
-/// The keys of the objects whose `member-of` names the set.
-fn referrers(alloc: Global, registry: &Registry<PlainBook>, set: &str) -> Result<Vec<u8>, Fail> {
-    let set = SetName::read(alloc, set.as_bytes())?.ok_or("no name of a set")?;
-    keys(alloc, &registry.book().referrers(alloc, &set)?)
-}
+/// Sets, with who refers to them in `member-of`.
+const REFERRERS: &[(&str, &str)] = &[
+    ("rs-a", "AS1|10.1.0.0/16 AS1|"),
+    ("RS-B", "10.1.0.0/16 AS1|"),
+    ("RS-C", ""),
+];
 
-/// The origins of the routes of the prefix.
-fn origins(alloc: Global, registry: &Registry<PlainBook>, prefix: &str) -> Result<String, Fail> {
-    let prefix = Prefix::read(prefix.as_bytes()).ok_or("no prefix")?;
-    let mut text = String::new(alloc);
-    for origin in &registry.book().origins(alloc, prefix)? {
-        write!(text, "{origin} ")?;
+/// Asserts who refers to each set.
+fn expect_referrers<B: SetBook, R: Abort + AllocGlobal>(rt: &R, book: &B) -> Result<(), Fail> {
+    for (set, wanted) in REFERRERS {
+        let name = SetName::read(rt.alloc(), set.as_bytes())?.ok_or("no name of a set")?;
+        let found = keys(rt.alloc(), &book.referrers(rt.alloc(), &name)?)?;
+        assert_eq!(rt; found.as_slice(), wanted.as_bytes(), "{set}");
     }
-    Ok(text)
+    Ok(())
 }
 
-#[test]
-fn a_book_lists_numbers_and_routes(rt: HostRuntime) -> Result<(), Fail> {
-    let alloc = rt.alloc();
-    let registry = registry(alloc, HELD_SETS)?;
-    let numbers = keys(alloc, &registry.book().aut_nums(alloc)?)?;
+/// Asserts which numbers and routes there are, and the origins of one prefix.
+fn expect_lists<B: SetBook, R: Abort + AllocGlobal>(rt: &R, book: &B) -> Result<(), Fail> {
+    let numbers = keys(rt.alloc(), &book.aut_nums(rt.alloc())?)?;
     assert_eq!(rt; numbers.as_slice(), b"AS1|AS2|".as_slice());
-    let routes = keys(alloc, &registry.book().routes(alloc)?)?;
+    let routes = keys(rt.alloc(), &book.routes(rt.alloc())?)?;
     let wanted = b"10.1.0.0/16 AS1|10.1.0.0/16 AS2|";
     assert_eq!(rt; routes.as_slice(), wanted.as_slice());
-    let origins = origins(alloc, &registry, "10.1.0.0/16")?;
-    assert_eq!(rt; origins.as_str(), "AS1 AS2 ");
+    let of_first = keys(rt.alloc(), &book.routes_of(rt.alloc(), AsNumber::new(1))?)?;
+    assert_eq!(rt; of_first.as_slice(), b"10.1.0.0/16 AS1|".as_slice());
+    let prefix = Prefix::read(b"10.1.0.0/16").ok_or("no prefix")?;
+    let origins = book.origins(rt.alloc(), prefix)?;
+    assert_eq!(rt;
+        origins.as_slice(),
+        [AsNumber::new(1), AsNumber::new(2)].as_slice()
+    );
     Ok(())
 }
 
+fn expect_book<B: Keeper + Drop, R: Abort + AllocGlobal>(rt: &R) -> Result<(), Fail> {
+    let registry = taken::<B>(rt.alloc(), HELD_SETS.as_bytes())?;
+    expect_lists(rt, registry.book())?;
+    expect_referrers(rt, registry.book())
+}
+
 #[test]
-fn a_book_lists_who_refers_to_a_set(rt: HostRuntime) -> Result<(), Fail> {
-    let registry = registry(rt.alloc(), HELD_SETS)?;
-    for (set, wanted) in [
-        ("rs-a", "AS1|10.1.0.0/16 AS1|"),
-        ("RS-B", "10.1.0.0/16 AS1|"),
-        ("RS-C", ""),
-    ] {
-        let keys = referrers(rt.alloc(), &registry, set)?;
-        assert_eq!(rt; keys.as_slice(), wanted.as_bytes(), "{set}");
-    }
-    Ok(())
+fn a_book_lists_numbers_routes_and_referrers(rt: HostRuntime) -> Result<(), Fail> {
+    expect_book::<PlainBook, _>(&rt)?;
+    expect_book::<IndexedBook, _>(&rt)
 }

@@ -1,21 +1,19 @@
-//! Tests that cross crates: worked submissions, expansions, verdicts, and streams that fail. What is expected comes
-//! from the rules, read by hand.
+//! Tests that cross crates, on registries in either book: worked submissions, answers, expansions, verdicts, and
+//! streams that fail. What is expected comes from the rules, read by hand.
 #![tactic(auto)]
 
 #[cfg(test)]
+mod answer_tests;
+#[cfg(test)]
 mod book_tests;
+#[cfg(test)]
+mod books;
 #[cfg(test)]
 mod change_tests;
 #[cfg(test)]
 mod confinement_tests;
 #[cfg(test)]
-mod desk_tests;
-#[cfg(test)]
-mod desks;
-#[cfg(test)]
 mod expansion_tests;
-#[cfg(test)]
-mod fault_tests;
 #[cfg(test)]
 mod hostile_tests;
 #[cfg(test)]
@@ -27,8 +25,6 @@ mod loading_tests;
 #[cfg(test)]
 mod number_tests;
 #[cfg(test)]
-mod query_tests;
-#[cfg(test)]
 mod reading_tests;
 #[cfg(test)]
 mod route_tests;
@@ -38,3 +34,5 @@ mod set_tests;
 mod stream_tests;
 #[cfg(test)]
 mod texts;
+#[cfg(test)]
+mod worked;

@@ -1,11 +1,10 @@
 //! Who may add a set.
-use crate::desks::expect_report;
 use crate::texts::HOLDERS;
+use crate::worked::{Worked, expect_reports};
 use std::test::Fail;
 
-#[test]
-fn a_set_is_asked_for_by_the_sets_below_it(rt: HostRuntime) -> Result<(), Fail> {
-    let text = "\
+/// Sets under each other, some with mnt-lower.
+const SETS: &str = "\
 password: c
 
 as-set: AS-A
@@ -34,7 +33,12 @@ as-set: AS-A:AS-B:AS-C
 mnt-by: A-MNT
 source: TEST
 ";
-    let report = "\
+
+const PARENTS: &[Worked] = &[
+    Worked {
+        shows: "a set is asked for by the sets below it",
+        given: &[HOLDERS, SETS],
+        report: "\
 1 as-set AS-A: added
 2 route-set RS-A: added
 3 route-set RS-A:RS-X: refused E13
@@ -42,9 +46,14 @@ source: TEST
 5 as-set AS-A:AS-B: added
 6 as-set AS-A:AS-B:AS-C: refused E13
 % items 6
-";
-    expect_report(&rt, &[HOLDERS, text], report)?;
-    let below = "\
+",
+    },
+    Worked {
+        shows: "a set is asked for by the sets below it",
+        given: &[
+            HOLDERS,
+            SETS,
+            "\
 password: abc
 
 route-set: RS-A:RS-X
@@ -62,20 +71,21 @@ source: TEST
 as-set: AS-A:AS-D:AS-C
 mnt-by: B-MNT
 source: TEST
-";
-    let report = "\
+",
+        ],
+        report: "\
 1 route-set RS-A:RS-X: added
 2 as-set AS-A:AS-D: refused E13
 3 as-set AS-A:AS-B:AS-C: added
 4 as-set AS-A:AS-D:AS-C: refused E12
 % items 4
-";
-    expect_report(&rt, &[HOLDERS, text, below], report)
-}
-
-#[test]
-fn a_number_is_asked_for_by_the_sets_below_it(rt: HostRuntime) -> Result<(), Fail> {
-    let text = "\
+",
+    },
+    Worked {
+        shows: "a number is asked for by the sets below it",
+        given: &[
+            HOLDERS,
+            "\
 password: bc
 password: c
 
@@ -102,8 +112,9 @@ source: TEST
 route-set: AS-A:RS-X
 mnt-by: A-MNT
 source: TEST
-";
-    let report = "\
+",
+        ],
+        report: "\
 1 aut-num AS1: added
 2 route-set AS1:RS-X: added
 3 route-set AS1:RS-X:AS2: added
@@ -111,6 +122,11 @@ source: TEST
 5 as-set AS2:AS-X: refused E12
 6 -: refused E03
 % items 6
-";
-    expect_report(&rt, &[HOLDERS, text], report)
+",
+    },
+];
+
+#[test]
+fn sets_are_judged_by_their_parent(rt: HostRuntime) -> Result<(), Fail> {
+    expect_reports(&rt, PARENTS)
 }

@@ -1,8 +1,14 @@
-//! Submissions whose reader or writer fails in mid-stream.
-use crate::desks::{opened, submit};
-use rr_desk::{DeskFault, Done};
-use rr_io::{Counted, Cut};
-use std::alloc::Global;
+//! Submissions whose reader or writer fails in mid-stream, and paragraphs at their greatest size.
+use crate::books::{cut_report, source, taken};
+use crate::texts::OPENING;
+use crate::worked::expect_text;
+use rr_index::IndexedBook;
+use rr_io::{Counted, Cut, Sink};
+use rr_registry::Registry;
+use rr_submission::{DeskFault, Done, submit};
+use std::alloc::{AllocError, Global};
+use std::io;
+use std::process::Abort;
 use std::test::Fail;
 
 /// Three inetnums of the root.
@@ -22,106 +28,203 @@ mnt-by: ROOT-MNT
 source: TEST
 ";
 
-#[test]
-fn a_failed_read_leaves_the_items_before_it(rt: HostRuntime) -> Result<(), Fail> {
-    let mut registry = opened(rt.alloc())?;
-    let mut reader = Cut::new(Counted::new(THREE.as_bytes()), 7, THREE.len() - 5);
-    let mut writer = Counted::new(Vec::new(rt.alloc()));
-    let done = submit(rt.alloc(), &mut registry, &mut reader, &mut writer)?;
-    assert_eq!(rt; done, Err(DeskFault::ReadFault { items: 2 }));
-    let report = "\
+const ADDED: &str = "\
+1 inetnum 10.0.0.0 - 10.255.255.255: added
+2 inetnum 11.0.0.0 - 11.255.255.255: added
+3 inetnum 12.0.0.0 - 12.255.255.255: added
+% items 3
+";
+
+/// The same where a read fails before the first is complete.
+const NONE_READ: &str = "% read fault after 0 items\n";
+
+/// The same where a read fails inside the second.
+const ONE_READ: &str = "\
+1 inetnum 10.0.0.0 - 10.255.255.255: added
+% read fault after 1 items
+";
+
+/// The same where a read fails inside the third.
+const TWO_READ: &str = "\
 1 inetnum 10.0.0.0 - 10.255.255.255: added
 2 inetnum 11.0.0.0 - 11.255.255.255: added
 % read fault after 2 items
 ";
-    assert_eq!(rt; writer.into_inner().as_slice(), report.as_bytes());
-    assert_eq!(rt; registry.objects(rt.alloc())?.len(), 6);
+
+/// Submits the three where the reader fails after so many bytes and the writer after others; answers with what is
+/// answered, and with the bytes written.
+fn submit_cut(
+    alloc: Global,
+    registry: &mut Registry<IndexedBook>,
+    (given, room): (usize, usize),
+) -> Result<(Result<Done, DeskFault>, Vec<u8>), Fail> {
+    let source = source(alloc)?;
+    let mut reader = Cut::new(Counted::new(THREE.as_bytes()), 7, given);
+    let mut writer = Cut::new(Counted::new(Vec::new(alloc)), 5, room);
+    let done = submit(alloc, registry, &source, &mut reader, &mut writer);
+    Ok((done, writer.into_inner().into_inner()))
+}
+
+/// Asserts what comes of the three: what is answered, that this front of the report was written, and how many stand.
+fn expect_cut<R: Abort + AllocGlobal>(
+    rt: &R,
+    (given, room): (usize, usize),
+    wanted: Result<Done, DeskFault>,
+    told: &str,
+    items: u64,
+) -> Result<(), Fail> {
+    let mut registry = taken::<IndexedBook>(rt.alloc(), OPENING.as_bytes())?;
+    let (done, written) = submit_cut(rt.alloc(), &mut registry, (given, room))?;
+    assert_eq!(rt; done, wanted, "{given} bytes to read, room for {room}");
+    let front = &told.as_bytes()[..room.min(told.len())];
+    assert!(rt;
+        written.as_slice() == front,
+        "{given} bytes to read, room for {room}"
+    );
+    let stand = registry.objects(rt.alloc())?.len() as u64;
+    assert_eq!(rt;
+        stand,
+        items.saturating_add(4),
+        "{given} bytes to read, room for {room}"
+    );
     Ok(())
+}
+
+/// How many of the three are decided where there is room for so many bytes of lines.
+fn decided(room: usize) -> u64 {
+    match room {
+        0..=42 => 1,
+        43..=85 => 2,
+        _ => 3,
+    }
 }
 
 #[test]
 fn a_failed_write_leaves_the_items_told(rt: HostRuntime) -> Result<(), Fail> {
-    for room in 0..=139 {
-        let items = match room {
-            0..=42 => 1,
-            43..=85 => 2,
-            _ => 3,
-        };
-        let mut registry = opened(rt.alloc())?;
-        let mut reader = Counted::new(THREE.as_bytes());
-        let mut writer = Cut::new(Counted::new(Vec::new(rt.alloc())), 5, room);
-        let done = submit(rt.alloc(), &mut registry, &mut reader, &mut writer)?;
+    for room in 0..=140 {
+        let items = decided(room);
         let wanted = if room < 139 {
             Err(DeskFault::WriteFault { items })
         } else {
             Ok(Done { items, refused: 0 })
         };
-        assert_eq!(rt; done, wanted, "with room for {room} bytes");
-        let stand = registry.objects(rt.alloc())?.len();
-        assert_eq!(rt; stand as u64, 4 + items, "with room for {room} bytes");
+        expect_cut(&rt, (usize::MAX, room), wanted, ADDED, items)?;
     }
     Ok(())
 }
 
+/// How many of the three are complete where so many bytes can be read, and the report on these.
+fn complete(given: usize) -> (u64, &'static str) {
+    match given {
+        0..=64 => (0, NONE_READ),
+        65..=115 => (1, ONE_READ),
+        _ => (2, TWO_READ),
+    }
+}
+
 #[test]
-fn a_failed_read_and_a_failed_write_leave_the_items_told(rt: HostRuntime) -> Result<(), Fail> {
-    let report = "\
-1 inetnum 10.0.0.0 - 10.255.255.255: added
-2 inetnum 11.0.0.0 - 11.255.255.255: added
-% read fault after 2 items
-";
-    for (room, wanted, stand) in [
-        (0, DeskFault::WriteFault { items: 1 }, 5),
-        (42, DeskFault::WriteFault { items: 1 }, 5),
-        (43, DeskFault::WriteFault { items: 2 }, 6),
-        (86, DeskFault::ReadFault { items: 2 }, 6),
-        (100, DeskFault::ReadFault { items: 2 }, 6),
-    ] {
-        let mut registry = opened(rt.alloc())?;
-        let mut reader = Cut::new(Counted::new(THREE.as_bytes()), 7, THREE.len() - 5);
-        let mut writer = Cut::new(Counted::new(Vec::new(rt.alloc())), 5, room);
-        let done = submit(rt.alloc(), &mut registry, &mut reader, &mut writer)?;
-        assert_eq!(rt; done, Err(wanted), "with room for {room} bytes");
-        assert_eq!(rt;
-            registry.objects(rt.alloc())?.len(),
-            stand,
-            "with room for {room} bytes"
-        );
-        let written = writer.into_inner().into_inner();
-        assert_eq!(rt; written.as_slice(), &report.as_bytes()[..room]);
+fn a_failed_read_leaves_the_items_before_it(rt: HostRuntime) -> Result<(), Fail> {
+    for given in 0..=THREE.len() {
+        let (items, told) = complete(given);
+        let wanted = Err(DeskFault::ReadFault { items });
+        expect_cut(&rt, (given, usize::MAX), wanted, told, items)?;
+    }
+    for room in 0..=113 {
+        let items = decided(room).min(2);
+        let wanted = if room < 86 {
+            DeskFault::WriteFault { items }
+        } else {
+            DeskFault::ReadFault { items }
+        };
+        expect_cut(&rt, (THREE.len() - 5, room), Err(wanted), TWO_READ, items)?;
     }
     Ok(())
 }
 
-/// The root's secret, a line of 1,000,000 bytes, and an inetnum of the root.
-fn behind_a_long_line(alloc: Global) -> Result<Vec<u8>, Fail> {
-    let mut text = Vec::from_slice(alloc, b"password: bc\n\n")?;
-    for _ in 0..1_000_000 {
-        text.push(b'x')?;
+/// A writer that counts its calls, and those of them that end with a line.
+#[derive(Drop)]
+struct Calls<W> {
+    inner: W,
+    calls: u64,
+    line_ends: u64,
+}
+
+impl<W: Sink> Sink for Calls<W> {
+    ghost told = { λ c. W.told c.inner };
+
+    ghost aside = { λ c. W.aside c.inner };
+
+    fn write(&mut self, bytes: &[u8]) -> io::Result<usize> {
+        self.calls = self.calls.saturating_add(1);
+        if bytes.ends_with(b"\n") {
+            self.line_ends = self.line_ends.saturating_add(1);
+        }
+        self.inner.write(bytes)
     }
-    text.extend_from_slice(b"\n\ninetnum: 10.0.0.0/8\nmnt-by: ROOT-MNT\nsource: TEST\n")?;
-    Ok(text)
+
+    fn failed_writes(&self) -> u64 {
+        self.inner.failed_writes()
+    }
 }
 
 #[test]
-fn a_line_of_a_million_bytes_is_one_refused_item(rt: HostRuntime) -> Result<(), Fail> {
-    let report = "\
-1 -: refused E07
-2 inetnum 10.0.0.0 - 10.255.255.255: added
-% items 2
-";
-    let text = behind_a_long_line(rt.alloc())?;
-    for step in [1, 4_096] {
-        let mut registry = opened(rt.alloc())?;
-        let mut reader = Cut::new(Counted::new(text.as_slice()), step, usize::MAX);
-        let mut writer = Counted::new(Vec::new(rt.alloc()));
-        let done = submit(rt.alloc(), &mut registry, &mut reader, &mut writer)??;
-        assert_eq!(rt; done.items, 2);
-        assert_eq!(rt;
-            writer.into_inner().as_slice(),
-            report.as_bytes(),
-            "{step} bytes a read"
-        );
+fn each_line_is_written_in_one_call(rt: HostRuntime) -> Result<(), Fail> {
+    let source = source(rt.alloc())?;
+    let mut registry = taken::<IndexedBook>(rt.alloc(), OPENING.as_bytes())?;
+    let mut reader = Counted::new(THREE.as_bytes());
+    let inner = Counted::new(Vec::new(rt.alloc()));
+    let mut writer = Calls {
+        inner,
+        calls: 0,
+        line_ends: 0,
+    };
+    let _done = submit(rt.alloc(), &mut registry, &source, &mut reader, &mut writer)?;
+    let Calls {
+        inner,
+        calls,
+        line_ends,
+    } = writer;
+    assert_eq!(rt; (calls, line_ends), (4, 4));
+    expect_text(&rt, &inner.into_inner(), ADDED, "the report is whole")
+}
+
+/// The root's secret, then this text lengthened to so many bytes, then an inetnum of the root.
+fn lengthened(alloc: Global, text: &str, size: usize) -> Result<Vec<u8>, AllocError> {
+    let mut whole = Vec::from_slice(alloc, b"password: bc\n\n")?;
+    whole.extend_from_slice(text.as_bytes())?;
+    for _byte in text.len()..size {
+        whole.push(b'x')?;
+    }
+    whole.extend_from_slice(b"\n\ninetnum: 11.0.0.0/8\nmnt-by: ROOT-MNT\nsource: TEST\n")?;
+    Ok(whole)
+}
+
+const BEFORE: &str = "inetnum: 10.0.0.0/8\nmnt-by: ROOT-MNT\nsource: TEST\ndescr: ";
+
+/// Texts with their sizes without the line end behind them, the bytes a read, and the first line of the report.
+const SIZES: &[(&str, usize, usize, &str)] = &[
+    (
+        BEFORE,
+        65_535,
+        4_096,
+        "1 inetnum 10.0.0.0 - 10.255.255.255: added\n",
+    ),
+    (BEFORE, 65_536, 4_096, "1 -: refused E07\n"),
+    (" ", 65_535, 4_096, "1 -: refused E01\n"),
+    (" ", 65_536, 4_096, "1 -: refused E07\n"),
+    ("x", 1_000_000, 1, "1 -: refused E07\n"),
+    ("x", 1_000_000, 4_096, "1 -: refused E07\n"),
+];
+
+#[test]
+fn a_paragraph_has_at_most_65536_bytes(rt: HostRuntime) -> Result<(), Fail> {
+    let behind = "2 inetnum 11.0.0.0 - 11.255.255.255: added\n% items 2\n";
+    for (text, size, step, first) in SIZES {
+        let text = lengthened(rt.alloc(), text, *size)?;
+        let mut registry = taken::<IndexedBook>(rt.alloc(), OPENING.as_bytes())?;
+        let found = cut_report(rt.alloc(), &mut registry, &text, *step)?;
+        let wanted = format!(in rt.alloc(); "{first}{behind}")?;
+        expect_text(&rt, &found, &wanted, "the size decides")?;
     }
     Ok(())
 }

@@ -45,3 +45,9 @@ returns-in-Err-clause-err_crash g c = rw (← c.root.ensures, ← c.source.ensur
 
 pub returns-in-Err-clause-err_autocommit : goal.returns-in-Err-clause-err_autocommit
 returns-in-Err-clause-err_autocommit g c = c.in-Err.ensures.err_autocommit
+
+pub returns-in-Err-clause-no_other_said : goal.returns-in-Err-clause-no_other_said
+returns-in-Err-clause-no_other_said g c = λ is clean. c.in-Err.ensures.no_other_said clean is
+
+pub returns-in-Err-clause-tables : goal.returns-in-Err-clause-tables
+returns-in-Err-clause-tables g c = c.in-Err.ensures.tables

@@ -3,7 +3,8 @@ use Rattle.sqlite.specs.Held.{state}
 use Rattle.rr_auth.specs.Sources.{IsRegistryOf}
 use Rattle.rr_store.proofs.LookLemmas.{quiet_left}
 use Rattle.rr_store.specs.Migrating.{IsMigrated}
-use Rattle.rr_store.specs.Opening.{IsNotOld}
+use Rattle.rr_rows.specs.Tables.{HasTables}
+use Rattle.rr_store.specs.Opening.{IsNotOld, IsOfNoneButOld}
 use Rattle.rr_desk.specs.Migrating.{HasNoOldRegistry, IsGrown, IsRootless}
 use Rattle.rr_desk.proofs.Migrated.{each_err, each_ok, migrated_then}
 use Rattle.rr_desk.proofs.migrating.migrate_stored.Goals as goal
@@ -76,3 +77,19 @@ returns-in-Err-clause-err_crash g c = quiet_left (IsMigrated c.args.settings.now
 
 pub returns-in-Err-clause-err_autocommit : goal.returns-in-Err-clause-err_autocommit
 returns-in-Err-clause-err_autocommit g c = c.stored_growth.ensures.autocommit
+
+pub returns-in-Ok-clause-no_other_said : goal.returns-in-Ok-clause-no_other_said
+returns-in-Ok-clause-no_other_said g c =
+    each_err c.migrate_grown.result _ _ _ c.migrate_grown.ensures.no_other_said c.migrate_grown.ensures.err_crash
+    (λ e told survives is clean. subst IsOfNoneButOld (c.in-Ok.ensures.same (omega (arith, survives.clean))).0.now_is (told is clean))
+
+pub returns-in-Ok-clause-tables : goal.returns-in-Ok-clause-tables
+returns-in-Ok-clause-tables g c =
+    each_err c.migrate_grown.result _ _ _ c.migrate_grown.ensures.tables c.migrate_grown.ensures.err_crash
+    (λ e told survives of clean. subst (λ db. HasTables db.schema) (c.in-Ok.ensures.same (omega (arith, survives.clean))).0.now_is (told of clean))
+
+pub returns-in-Err-clause-no_other_said : goal.returns-in-Err-clause-no_other_said
+returns-in-Err-clause-no_other_said g c = λ is clean. c.in-Err.ensures.no_other_said clean is
+
+pub returns-in-Err-clause-tables : goal.returns-in-Err-clause-tables
+returns-in-Err-clause-tables g c = λ of clean. c.in-Err.ensures.tables clean of

@@ -2,6 +2,8 @@ use Rattle.std.proofs.Common.{subst}
 use Rattle.sqlite.specs.Held.{state}
 use Rattle.rr_store.proofs.CheckLemmas.{each_err}
 use Rattle.rr_store.proofs.LookLemmas.{each_shown}
+use Rattle.rr_store.proofs.OtherVersions.{stored_says_it}
+use Rattle.rr_store.specs.Opening.{IsOfNoneButOld}
 use Rattle.rr_desk.specs.Migrating.{IsGrowthFault, IsGrown}
 use Rattle.rr_desk.proofs.Migrated.{always_err, always_ok, each_ok, grown_of_source, growth_rootless, no_old_registry}
 use Rattle.rr_desk.proofs.migrating.stored_growth.Goals as goal
@@ -38,3 +40,13 @@ returns-clause-no_root g c clean =
     let os = c.in_ok-objects.objects.items in
     each_err c.grow.result _ _ c.grow.ensures.fault
     (λ fault h is. growth_rootless c.args.settings.now os _ c.are_good.ensures (rw c.source.ensures at (c.in_ok-objects.ensures.ok clean)) (subst (IsGrowthFault c.args.settings.now os) is h))
+
+pub returns-clause-no_other_said : goal.returns-clause-no_other_said
+returns-clause-no_other_said g c clean =
+    let says : IsOfNoneButOld (state g.S.Store c.args.conn.now).now = stored_says_it _ c.args.settings.now.source c.in_ok-objects.objects.items (state g.S.Store c.args.conn.now).now (rw c.source.ensures at (c.in_ok-objects.ensures.ok clean)) in
+    each_err c.grow.result _ _ c.grow.ensures.fault (λ fault h is. says)
+
+pub returns-clause-tables : goal.returns-clause-tables
+returns-clause-tables g c clean =
+    let tables = (c.in_ok-objects.ensures.ok clean).rows.tidy.has in
+    each_err c.grow.result _ _ c.grow.ensures.fault (λ fault h of. tables)

@@ -1,5 +1,6 @@
 use Rattle.std.proofs.Common.{subst}
 use Rattle.rr_rows.specs.Maps.{HasRows}
+use Rattle.rr_store.proofs.OtherVersions.{stored_says_it}
 use Rattle.rr_desk.proofs.ListRows.{opened_rows}
 use Rattle.rr_desk.proofs.Listed.{bad_objects, no_version, unreadable_rows}
 use Rattle.rr_desk.proofs.Sources.{taken_of_source}
@@ -63,3 +64,18 @@ returns-in-Err-clause-err_autocommit g c = c.in-Err.ensures.err_autocommit
 pub returns-in-Ok-from_objects-clause-of_source : goal.returns-in-Ok-from_objects-clause-of_source
 returns-in-Ok-from_objects-clause-of_source g c =
     rw c.of.ensures.registry (taken_of_source c.args.source.now _ _ c.in-Ok-from_objects.ensures c.sound.ensures c.in-Ok.ensures.of_source)
+
+pub returns-in-Err-from_objects-clause-no_other_said : goal.returns-in-Err-from_objects-clause-no_other_said
+returns-in-Err-from_objects-clause-no_other_said g c =
+    rw (c.refused.ensures, c.close.ensures.same)
+    (λ is clean. stored_says_it _ c.args.source.now _ _ (rw (c.in-Ok.ensures.same clean) at c.in-Ok.ensures.ok clean))
+
+pub returns-in-Err-from_objects-clause-tables : goal.returns-in-Err-from_objects-clause-tables
+returns-in-Err-from_objects-clause-tables g c =
+    rw c.close.ensures.same (λ of clean. (rw (c.in-Ok.ensures.same clean) at c.in-Ok.ensures.ok clean).rows.tidy.has)
+
+pub returns-in-Err-clause-no_other_said : goal.returns-in-Err-clause-no_other_said
+returns-in-Err-clause-no_other_said g c = c.in-Err.ensures.no_other_said
+
+pub returns-in-Err-clause-tables : goal.returns-in-Err-clause-tables
+returns-in-Err-clause-tables g c = c.in-Err.ensures.tables

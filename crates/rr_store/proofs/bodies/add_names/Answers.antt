@@ -4,7 +4,7 @@ use Rattle.std.proofs.lemmas.List.{take_more, map-append}
 use Rattle.sqlite_value.specs.Order.{Row}
 use Rattle.sqlite.specs.Held.{state}
 use Rattle.rr_rows.specs.Contents.{Adds, Alters, named_values}
-use Rattle.rr_store.proofs.AddingLemmas.{HasAdded, added_more}
+use Rattle.rr_store.proofs.AddingLemmas.{HasAltered, added_more}
 use Rattle.rr_store.proofs.bodies.add_names.Goals as goal
 
 pub loop-name-preserved : goal.loop-name-preserved
@@ -17,7 +17,7 @@ loop-name-preserved g c =
     let grown : map row (take (at + 1) names) ≡ map row (take at names) ++ row name ∷ [] =
     ap (map row) (take_more names at name within ∙ ap (λ n. take at names ++ n ∷ []) (sym c.name-item.is)) ∙ map-append row (take at names) (name ∷ []) in (
       c.in_ok-_count.ensures.same_reference ∙ c.loop-name.invariant.0,
-      subst (HasAdded g.S.Store c.args.tx.now.conn.now c.add_name.new.tx.conn.now) (sym grown)
+      subst (λ rows. HasAltered g.S.Store c.args.tx.now.conn.now c.add_name.new.tx.conn.now (Adds rows)) (sym grown)
           (added_more g.S.Store c.args.tx.now.conn.now c.loop-name.tx.conn.now c.add_name.new.tx.conn.now (map row (take at names)) (row name) c.loop-name.invariant.1
           (λ clean. rw c.as_bytes.ensures.value at (c.in_ok-_count.ensures.ok clean)) c.in_ok-_count.ensures.step c.in_ok-_count.ensures.kept c.in_ok-_count.ensures.survives),
     )

@@ -42,3 +42,9 @@ returns-in-Err-clause-err_autocommit g c = c.in-Err.ensures.err_autocommit
 
 pub returns-in-Ok-clause-of_source : goal.returns-in-Ok-clause-of_source
 returns-in-Ok-clause-of_source g c = rw (← c.source.ensures) c.in-Ok.ensures.of_source
+
+pub returns-in-Err-clause-no_other_said : goal.returns-in-Err-clause-no_other_said
+returns-in-Err-clause-no_other_said g c = c.in-Err.ensures.no_other_said
+
+pub returns-in-Err-clause-tables : goal.returns-in-Err-clause-tables
+returns-in-Err-clause-tables g c = c.in-Err.ensures.tables

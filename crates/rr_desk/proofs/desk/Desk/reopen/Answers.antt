@@ -38,3 +38,9 @@ returns-clause-err_autocommit g c = c.open.ensures.err_autocommit
 
 pub returns-clause-of_source : goal.returns-clause-of_source
 returns-clause-of_source g c = c.open.ensures.of_source
+
+pub returns-clause-no_other_said : goal.returns-clause-no_other_said
+returns-clause-no_other_said g c = rw (← c.close.ensures.same) c.open.ensures.no_other_said
+
+pub returns-clause-tables : goal.returns-clause-tables
+returns-clause-tables g c = rw (← c.close.ensures.same) c.open.ensures.tables

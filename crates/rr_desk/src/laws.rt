@@ -1,0 +1,13 @@
+//! Laws of desks, for readers and for the proofs of other crates. Nothing calls these functions.
+
+ghost use Rattle.rr_desk.specs.Laws.{FullDumpsAreLoaded, RowsAreDumpable};
+
+/// The full dump of a registry loads as that registry, and fails for no fault of the dump.
+pub fn full_dumps_are_loaded()
+    ensures { FullDumpsAreLoaded }
+{}
+
+/// The registry whose rows tables hold can be dumped and loaded, if its texts are not too large to be read.
+pub fn rows_are_dumpable()
+    ensures { RowsAreDumpable }
+{}

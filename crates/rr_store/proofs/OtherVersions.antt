@@ -1,0 +1,61 @@
+-- What rows that are stored in tables of a version say of it, and which faults are of rows.
+use Rattle.std.proofs.Common.{◌≡◌, inl, inr, ℕ, ◌<◌, ◌^◌, List, [], ◌∷◌, codes, sym, subst, ◌∙◌, arith}
+use Rattle.std.specs.Prelude.{decimal, Contains}
+use Rattle.std.proofs.lemmas.Fmt.{decimal_digit, decimal_injective}
+use Rattle.std.proofs.lemmas.List.Elements.{Contains-push_cases}
+use Rattle.sqlite.specs.Effect.{Database}
+use Rattle.rr_object.specs.Objects.{Obj}
+use Rattle.rr_rows.specs.Contents.{setting}
+use Rattle.rr_rows.specs.Maps.{AreStoredIn}
+use Rattle.rr_rows.specs.Tables.{HasTables}
+use Rattle.rr_store.specs.Faults.{migrate_fault, unread_fault}
+use Rattle.rr_store.specs.Migrating.{IsOfOldRows}
+use Rattle.rr_store.specs.Opening.{IsOfRows, SaysNoOther}
+use Rattle.rr_store.specs.Versions.{form_of, version_number, version_text}
+use Rattle.rr_store.specs.declared.fault.OpenFault.{OpenFault}
+use Rattle.rr_store.specs.declared.fault.OpenFault.TheVariants as opened
+use Rattle.rr_store.specs.declared.fault.StoreFault.{StoreFault}
+use Rattle.rr_store.specs.declared.fault.StoreFault.TheVariants as store
+use Rattle.rr_store.specs.declared.version.Version.{Version}
+use Rattle.rr_store.specs.declared.version.Version.TheVariants.{Old, This}
+
+-- rows that are stored in tables of a version say no other version
+text_is : (version : Version) → version_text version ≡ decimal (version_number version)
+text_is Old = sym (decimal_digit 1 (omega arith))
+text_is This = sym (decimal_digit 2 (omega arith))
+
+is_low : (version : Version) → version_number version < 2 ^ 64
+is_low Old = omega arith
+is_low This = omega arith
+
+no_member : {X : Type 0} (x : X) → Contains [] x → ⊥
+no_member x h = omega (arith, h.1)
+
+one_value : (name a b : List ℕ) → Contains (setting name a ∷ []) (setting name b) → b ≡ a
+one_value name a b h =
+    elim (Contains-push_cases [] (setting name a) (setting name b) h) [
+      | inl none ↦ absurd (no_member (setting name b) none)
+      | inr same ↦ cc
+    ]
+
+pub stored_says_it : (version : Version) (source : List ℕ) (objects : List Obj) (db : Database) → AreStoredIn (form_of version) (version_text version) source objects db → SaysNoOther version db
+stored_says_it version source objects db stored = record {
+  only = λ n low says.
+      let is = one_value (codes "version") (version_text version) (decimal n) (subst (λ rows. Contains rows (setting (codes "version") (decimal n))) stored.version says) in
+      decimal_injective n (version_number version) (omega (arith, low)) (is_low version) (is ∙ text_is version);
+}
+
+-- they are stored in the three tables
+pub stored_tables : (version : Version) (source : List ℕ) (objects : List Obj) (db : Database) → AreStoredIn (form_of version) (version_text version) source objects db → HasTables db.schema
+stored_tables version source objects db stored = stored.rows.tidy.has
+
+-- which fault of a migration is of the rows
+pub unread_rows : (fault : OpenFault) → IsOfOldRows (unread_fault fault) → IsOfRows fault
+unread_rows (opened.WrongVersion n) h = tt
+unread_rows opened.BadRow h = tt
+unread_rows opened.Store h = h
+unread_rows opened.Memory h = h
+
+pub database_fault : (fault : StoreFault) → IsOfOldRows (migrate_fault fault) → ⊥
+database_fault store.Store h = h
+database_fault store.Memory h = h

@@ -1,0 +1,10 @@
+use Rattle.sqlite.specs.Held.{state}
+use Rattle.rr_rows.proofs.ObjectRows.{filled_held}
+use Rattle.rr_store.specs.Lent.{lent}
+use Rattle.rr_store.proofs.store.Store.create.Goals as goal
+
+pub invariant_of-result : goal.invariant_of-result
+invariant_of-result g c = record {
+  autocommit = c.create_where_vacant.ensures.autocommit;
+  held = λ clean on. filled_held (lent c.args.objects.now) (state g.S.Store c.create_where_vacant.new.conn).now c.are_read.ensures (c.in-Ok.ensures.ok clean);
+}

@@ -1,0 +1,75 @@
+//! The maintainers that an object names whose rows go.
+
+ghost use Rattle.std.specs.Prelude.{◌≡◌, IfOk, IfSome};
+ghost use Rattle.std.specs.List.{AllByRecursion, find};
+ghost use Rattle.std.specs.Option.{option_copied};
+ghost use Rattle.rr_text.specs.Fields.{is_named};
+ghost use Rattle.rr_text.specs.CanonicalText.{canonical};
+ghost use Rattle.rr_object.specs.Kinds.{kind_name};
+ghost use Rattle.rr_object.specs.declared.kind.Kind.TheVariants.{Source};
+ghost use Rattle.rr_rows.specs.Maps.{AreNamesOf, IsObject};
+ghost use Rattle.rr_store.specs.Reading.{first_source};
+
+use crate::columns::third_bytes;
+use crate::fault::StoreFault;
+use crate::names::maintainers_of;
+use crate::objects::read_paragraph;
+use rr_number::Name;
+use rr_object::{Kind, Object};
+use rr_text::{Attribute, Paragraph, meaning, read_canonical};
+use sqlite::Row;
+use std::alloc::{AllocError, Global};
+
+/// The first attribute `source`.
+fn first_named(attributes: &[Attribute]) -> Option<&Attribute>
+    ensures { option_copied result ≡ find (is_named (kind_name Source)) attributes.now }
+{
+    attributes.iter().find(|attribute| attribute.is_named(Kind::Source.name().as_bytes()))
+}
+
+/// The source that it names, if it names one.
+fn first_source(alloc: Global, paragraph: &Paragraph) -> Result<Option<Name>, AllocError>
+    ensures { IfOk result (λ source. source ≡ first_source paragraph.now) }
+{
+    match first_named(paragraph.attributes()) {
+        Some(attribute) => Name::read(alloc, meaning(alloc, attribute)?.as_slice()),
+        None => Ok(None),
+    }
+}
+
+/// The object whose canonical text this is, if it is that of one of any source.
+fn read_any(alloc: Global, text: &[u8]) -> Result<Option<Object>, AllocError>
+    ensures found { IfOk result (λ read. IfSome read (λ object. IsObject object × (canonical object.paragraph ≡ text.now))) }
+{
+    let Some(paragraph) = read_canonical(alloc, text)? else {
+        return Ok(None);
+    };
+    match first_source(alloc, &paragraph)? {
+        Some(source) => Ok(read_paragraph(alloc, paragraph, &source)?),
+        None => Ok(None),
+    }
+}
+
+/// The maintainers that the object of a row names, each once. A row that is none of an object is a fault of the store.
+fn names_of_row(alloc: Global, row: &Row) -> Result<Vec<Name>, StoreFault>
+    ensures { IfOk result (λ names. AreNamesOf names.items row.now) }
+{
+    let Some(text) = third_bytes(row) else {
+        return Err(StoreFault::Store);
+    };
+    match read_any(alloc, text)? {
+        Some(object) => Ok(maintainers_of(alloc, &object)?),
+        None => Err(StoreFault::Store),
+    }
+}
+
+/// The same of the rows of a class and a key, of which there is at most one.
+pub(crate) fn names_of_rows(alloc: Global, rows: &[Row]) -> Result<Vec<Name>, StoreFault>
+    ensures { IfOk result (λ names. AllByRecursion (AreNamesOf names.items) rows.now) }
+{
+    match rows {
+        [] => Ok(Vec::new(alloc)),
+        [row] => names_of_row(alloc, row),
+        _ => Err(StoreFault::Store),
+    }
+}

@@ -1,0 +1,127 @@
+//! Registries in memory, in either book: of texts, and after submissions.
+use crate::texts::OPENING;
+use rr_answer::{answer_to, dump};
+use rr_auth::Item;
+use rr_io::{Counted, Cut, Source};
+use rr_number::Name;
+use rr_object::Object;
+use rr_registry::{Keeper, LoadFault, Registry};
+use rr_submission::submit;
+use rr_text::next_paragraph;
+use std::alloc::Global;
+use std::test::Fail;
+
+/// The source of every registry here.
+pub fn source(alloc: Global) -> Result<Name, Fail> {
+    Ok(Name::read(alloc, b"TEST")?.ok_or("no name")?)
+}
+
+/// The objects of a text.
+pub fn objects(alloc: Global, text: &[u8]) -> Result<Vec<Object>, Fail> {
+    let source = source(alloc)?;
+    let mut objects = Vec::new(alloc);
+    let mut rest = text;
+    for _paragraph in 0..text.len() {
+        let Some((paragraph, next)) = next_paragraph(alloc, rest, 0)? else {
+            break;
+        };
+        objects.push(Object::read(alloc, paragraph, &source)?)?;
+        let Some(behind) = rest.get(next..) else {
+            break;
+        };
+        rest = behind;
+    }
+    Ok(objects)
+}
+
+/// The first object of a text.
+pub fn object(alloc: Global, text: &str) -> Result<Object, Fail> {
+    let objects = objects(alloc, text.as_bytes())?;
+    Ok(objects.into_iter().next().ok_or("no object")?)
+}
+
+/// The item of a text's first object, or of its deletion.
+pub fn item(alloc: Global, deletes: bool, text: &str) -> Result<Item, Fail> {
+    let object = object(alloc, text)?;
+    if deletes {
+        Ok(Item::Delete(object.key().copy(alloc)?))
+    } else {
+        Ok(Item::Submit(object))
+    }
+}
+
+/// The registry of a text's objects, or why there is none.
+pub fn loaded<B: Keeper>(
+    alloc: Global,
+    text: &[u8],
+) -> Result<Result<Registry<B>, LoadFault>, Fail> {
+    Ok(Registry::from_objects(alloc, objects(alloc, text)?))
+}
+
+/// The registry of a text's objects.
+pub fn taken<B: Keeper>(alloc: Global, text: &[u8]) -> Result<Registry<B>, Fail> {
+    match loaded(alloc, text)? {
+        Ok(registry) => Ok(registry),
+        Err(_) => Err("no registry".into()),
+    }
+}
+
+/// Submits what the reader gives to a registry; answers with the report.
+pub fn report<B: Keeper, R: Source>(
+    alloc: Global,
+    registry: &mut Registry<B>,
+    reader: &mut R,
+) -> Result<Vec<u8>, Fail> {
+    let source = source(alloc)?;
+    let mut writer = Counted::new(Vec::new(alloc));
+    let _done = submit(alloc, registry, &source, reader, &mut writer)?;
+    Ok(writer.into_inner())
+}
+
+/// Submits a text that comes in pieces of at most so many bytes, or of one; answers with the report.
+pub fn cut_report<B: Keeper>(
+    alloc: Global,
+    registry: &mut Registry<B>,
+    text: &[u8],
+    step: usize,
+) -> Result<Vec<u8>, Fail> {
+    let mut reader = Cut::new(Counted::new(text), step.max(1), usize::MAX);
+    report(alloc, registry, &mut reader)
+}
+
+/// The registry of the opening objects after these submissions, and the report on the last of them.
+pub fn submitted<B: Keeper + Drop>(
+    alloc: Global,
+    given: &[&str],
+) -> Result<(Registry<B>, Vec<u8>), Fail> {
+    let mut registry = taken(alloc, OPENING.as_bytes())?;
+    let mut last = Vec::new(alloc);
+    for text in given {
+        last = report(alloc, &mut registry, &mut Counted::new(text.as_bytes()))?;
+    }
+    Ok((registry, last))
+}
+
+/// The dump of a registry.
+pub fn dumped<B: Keeper>(
+    alloc: Global,
+    registry: &Registry<B>,
+    full: bool,
+) -> Result<Vec<u8>, Fail> {
+    let mut writer = Counted::new(Vec::new(alloc));
+    let _count = dump(alloc, registry, &mut writer, full)?;
+    Ok(writer.into_inner())
+}
+
+/// What a registry answers to a query.
+pub fn answered<B: Keeper>(
+    alloc: Global,
+    registry: &Registry<B>,
+    limit: usize,
+    query: &str,
+) -> Result<Vec<u8>, Fail> {
+    match answer_to(alloc, registry, limit, query.as_bytes()) {
+        Ok(text) => Ok(text),
+        Err(fault) => Ok(Vec::from_slice(alloc, fault.line())?),
+    }
+}

@@ -12,7 +12,8 @@ use Rattle.std.proofs.lemmas.Bool.Decides.{nat_tests}
 use Rattle.std.proofs.lemmas.Float.{T_from_true}
 use Rattle.rr_number.specs.Spans.{Ends, crosses, span_cmp}
 use Rattle.rr_number.proofs.SpanOrder.{span_cmp_total, span_cmp-IsAntisymmetric}
-use Rattle.rr_cover.specs.SpanLists.{nearer, listed, IsInOrder, StandsAt, BelongsAt}
+use Rattle.rr_cover.specs.SpanLists.{listed, IsInOrder}
+use Rattle.rr_cover.specs.ListParts.{nearer, StandsAt, BelongsAt}
 use Rattle.rr_cover.specs.SpanMaps.{SpanMap, NoneCross, IsClosest, NoneCovers, crosses_some}
 use Rattle.rr_cover.proofs.Among.{Among, found_among, among_found, some_value, tied_same}
 use Rattle.rr_cover.proofs.Nearest.{IsLeastCover, IsNearest, nearest_found, contradicted}

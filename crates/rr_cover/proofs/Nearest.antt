@@ -2,7 +2,7 @@
 use Rattle.std.proofs.Common.{◌≡◌, ◌≤◌, ◌<◌, ◌&&◌, ◌⊎◌, Bool, true, false, cond, nat_lt, List, [], ◌∷◌, fold, Option, Some, None, refl, sym, ap, subst, inl, inr, arith}
 use Rattle.std.proofs.lemmas.Bool.Decides.{nat_tests}
 use Rattle.rr_number.specs.Spans.{Ends, covers, size}
-use Rattle.rr_cover.specs.SpanLists.{nearer}
+use Rattle.rr_cover.specs.ListParts.{nearer}
 use Rattle.rr_cover.proofs.Among.{Among}
 
 pub contradicted : (b : Bool) → b ≡ false → b ≡ true → ⊥

@@ -13,7 +13,7 @@ use Rattle.std.specs.FinMap.{find, put, is_sorted}
 use Rattle.std.specs.FinMap.Entries.{where_key, by_order, below_all}
 use Rattle.rr_number.specs.Spans.{Ends, span_cmp}
 use Rattle.rr_number.proofs.SpanOrder.{span_cmp_total, span_cmp-IsAntisymmetric}
-use Rattle.rr_cover.specs.SpanLists.{StandsAt, BelongsAt}
+use Rattle.rr_cover.specs.ListParts.{StandsAt, BelongsAt}
 
 -- the other way round
 pub turned : (s t : Ends) (r : Ordering) → span_cmp s t ≡ r → span_cmp t s ≡ ordering_reverse r

@@ -1,4 +1,5 @@
 pub mod InsertFaults
+pub mod ListParts
 pub mod NestParts
 pub mod PrefixTrees
 pub mod SpanLists

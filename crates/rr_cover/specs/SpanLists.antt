@@ -1,11 +1,7 @@
 -- A list of spans with their values, as the map that it holds.
-use Rattle.std.specs.Prelude.{◌≡◌, ℕ, ◌<◌, ◌≤◌, not, ◌&&◌, if◌then◌else◌, nat_lt, IsTrue, List, Option, None, Some, length, slice_set}
-use Rattle.std.specs.List.{insert, remove, slice_get}
-use Rattle.std.specs.Option.{option_map}
-use Rattle.std.specs.FinMap.{from_sorted, is_sorted, find, put}
-use Rattle.std.specs.FinMap.Entries.{where_key}
-use Rattle.std.specs.Ordering.{eq_by_cmp}
-use Rattle.rr_number.specs.Spans.{Ends, covers, size, span_cmp}
+use Rattle.std.specs.Prelude.{IsTrue, List}
+use Rattle.std.specs.FinMap.{from_sorted, is_sorted}
+use Rattle.rr_number.specs.Spans.{Ends, span_cmp}
 use Rattle.rr_cover.specs.SpanMaps.{SpanMap, NoneCross}
 
 -- The map of a list whose spans rise.
@@ -16,21 +12,3 @@ listed es = from_sorted es
 pub record IsInOrder {T : Type 0} (es : List (Ends × T)) : Type 0 where
   pub rising : IsTrue (is_sorted span_cmp es)
   pub apart : NoneCross (listed es)
-
--- The entry of s stands at an index: there it is found, changed and taken out.
-pub record StandsAt {T : Type 0} (es : List (Ends × T)) (s : Ends) (at : ℕ) : Type 0 where
-  pub within : at < length es
-  pub found : find span_cmp s es ≡ option_map (λ e. e.1) (slice_get es at)
-  pub changed : (value : T) → put span_cmp s value es ≡ slice_set es at (s, value)
-  pub left : where_key span_cmp (λ t. not (eq_by_cmp span_cmp s t)) es ≡ remove es at
-
--- No entry of s stands in the list, and one would come to an index.
-pub record BelongsAt {T : Type 0} (es : List (Ends × T)) (s : Ends) (at : ℕ) : Type 0 where
-  pub within : at ≤ length es
-  pub missing : find span_cmp s es ≡ None
-  pub placed : (value : T) → put span_cmp s value es ≡ insert es at (s, value)
-
--- The nearer of two entries to s: the new one, where it covers s and no smaller one was found before.
-abbrev pub nearer : {T : Type 0} → Ends → Option (Ends × T) → Ends × T → Option (Ends × T)
-nearer s None e = if covers e.0 s then Some e else None
-nearer s (Some x) e = if covers e.0 s && nat_lt (size e.0) (size x.0) then Some e else Some x

@@ -8,7 +8,7 @@ use Rattle.rr_text.specs.declared.line_so_far.LineSoFar.{LineSoFar}
 use Rattle.rr_text.specs.declared.line_so_far.LineSoFar.TheVariants.{Nothing, Blank, Skipped, Kept}
 use Rattle.rr_text.specs.declared.line_so_far.LineEnd.{LineEnd}
 use Rattle.rr_text.specs.declared.line_so_far.LineEnd.TheVariants.{Passed, Taken, Closed}
-use Rattle.rr_text.specs.LinesSoFar.{line_so_far, line_with, line_end}
+use Rattle.rr_text.specs.LineParts.{line_so_far, line_with, line_end}
 use Rattle.rr_bytes.specs.Blanks.{is_blank_or_line_feed, is_line_feed}
 use Rattle.rr_text.specs.Lines.{text_lines, are_whole_lines, is_blank_line, is_skipped_line, is_paragraph_line, is_remark_sign}
 

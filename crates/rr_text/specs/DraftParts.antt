@@ -7,7 +7,7 @@ use Rattle.rr_text.specs.declared.draft.Draft.{Draft}
 use Rattle.rr_text.specs.declared.line_so_far.LineSoFar.TheVariants.{Nothing}
 use Rattle.rr_text.specs.declared.line_so_far.LineEnd.{LineEnd}
 use Rattle.rr_text.specs.declared.line_so_far.LineEnd.TheVariants.{Passed, Taken, Closed}
-use Rattle.rr_text.specs.LinesSoFar.{line_so_far, line_with}
+use Rattle.rr_text.specs.LineParts.{line_so_far, line_with}
 use Rattle.rr_bytes.specs.Blanks.{is_line_feed}
 use Rattle.rr_text.specs.Lines.{text_lines, are_whole_lines, is_blank_line, is_paragraph_line}
 use Rattle.rr_text.specs.Blocks.{starts_block}

@@ -10,7 +10,7 @@ pub mod Meanings
 pub mod CanonicalText
 pub mod WholePart
 pub mod Laws
-pub mod LinesSoFar
+pub mod LineParts
 pub mod DraftParts
 pub mod ReaderParts
 pub mod ParagraphReaders

@@ -28,7 +28,7 @@ pub(crate) struct Draft {
 impl Draft {
     ghost use Rattle.std.specs.Prelude.{◌≡◌, ◌<◌, ◌∷◌, ◌++◌, ℕ, List, [], IfOk, IfSome};
     ghost use Rattle.rr_text.specs.Lines.{text_lines};
-    ghost use Rattle.rr_text.specs.LinesSoFar.{line_end};
+    ghost use Rattle.rr_text.specs.LineParts.{line_end};
     ghost use Rattle.rr_text.specs.DraftParts as parts;
 
     /// The draft of no text, with room for a paragraph; the error is want of memory.

@@ -2,7 +2,7 @@
 
 ghost use Rattle.std.specs.Prelude.{◌≡◌, ◌<◌, length};
 ghost use Rattle.rr_text.specs.Lines.{are_whole_lines};
-ghost use Rattle.rr_text.specs.LinesSoFar as lines;
+ghost use Rattle.rr_text.specs.LineParts as lines;
 
 use crate::line::{begins_skipped, is_blank_only};
 

@@ -1,6 +1,6 @@
 use Rattle.std.proofs.Common.{◌≡◌, fold, None, drop}
 use Rattle.std.specs.Option.{option_copied}
-use Rattle.rr_cover.specs.SpanLists.{nearer}
+use Rattle.rr_cover.specs.ListParts.{nearer}
 use Rattle.rr_cover.proofs.span_list.smallest_cover.Given as goal
 
 -- the entries that are left lead on to the answer

@@ -1,4 +1,4 @@
--- What is known of a line of which a front was read: a part of the reader of paragraphs.
+-- What is known of a line of which a front was read: parts of the reader of paragraphs.
 use Rattle.std.specs.Prelude.{ℕ, Bool, List, [], ◌∷◌, if◌then◌else◌}
 use Rattle.rr_text.specs.declared.line_so_far.LineSoFar.{LineSoFar}
 use Rattle.rr_text.specs.declared.line_so_far.LineSoFar.TheVariants.{Nothing, Blank, Skipped, Kept}

@@ -32,7 +32,7 @@ use Rattle.rr_registry.specs.declared.gathered.Gathered.{Gathered}
 use Rattle.rr_registry.specs.declared.load.LoadFault.{LoadFault}
 use Rattle.rr_registry.specs.declared.load.LoadFault.TheVariants.{Memory, Overlap}
 use Rattle.rr_registry.specs.Loading.{clash_of, is_crossed_by_some, is_key_of_some}
-use Rattle.rr_registry.specs.Private.{HasSpans, IsApart, IsEntered, IsHeld, IsTakenIn}
+use Rattle.rr_registry.specs.Private.{HoldsSpans, IsApart, IsEntered, IsHeld, IsTakenIn}
 
 -- the derived order of keys is their order
 pub one_order : (derived.ghosts).cmp ≡ key_cmp
@@ -120,7 +120,7 @@ module _ (os : List Obj) (key : Ends → Key) (spans : SpanMap (Unit {0})) (are 
       ∙ ap (λ k. keys_cross k (key s)) (same_key (key t) one.0.key one.1.1)
       ∙ none_passes (λ o. keys_cross o.key (key s)) one.0 os none one.1.0))
 
-module _ (os : List Obj) (inetnums blocks : SpanMap (Unit {0})) (has : HasSpans os inetnums blocks) where
+module _ (os : List Obj) (inetnums blocks : SpanMap (Unit {0})) (has : HoldsSpans os inetnums blocks) where
   pub inetnums_cross : (s : Ends) → crosses_some inetnums s ≡ is_crossed_by_some (Inetnum s) os
   inetnums_cross s = spans_cross os Inetnum inetnums has.inetnums_are (λ t u. refl) crossing_inetnum s
 

@@ -40,7 +40,7 @@ abbrev pub objects_of : Gathered → List Obj
 objects_of g = values g.objects
 
 -- The spans are those of the inetnums and of the as-blocks of a list.
-pub record HasSpans (os : List Obj) (inetnums blocks : SpanMap (Unit {0})) : Type 0 where
+pub record HoldsSpans (os : List Obj) (inetnums blocks : SpanMap (Unit {0})) : Type 0 where
   pub inetnums_are : (s : Ends) → contains_key inetnums s ≡ is_key_of_some (Inetnum s) os
   pub blocks_are : (s : Ends) → contains_key blocks s ≡ is_key_of_some (AsBlock s) os
 
@@ -54,4 +54,4 @@ pub record IsEntered (os : List Obj) (key : Key) (inetnums blocks : SpanMap (Uni
 pub record IsHeld (g : Gathered) : Type 0 where
   pub apart : IsApart (values g.objects)
   pub keyed : g.objects.entries ≡ map entry (values g.objects)
-  pub spans : HasSpans (values g.objects) g.spans.inetnums g.spans.blocks
+  pub spans : HoldsSpans (values g.objects) g.spans.inetnums g.spans.blocks

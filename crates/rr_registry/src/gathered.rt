@@ -5,7 +5,7 @@ ghost use Rattle.std.specs.FinMap.{insert};
 ghost use Rattle.rr_object.specs.Objects.{Obj};
 ghost use Rattle.rr_cover.specs.SpanMaps.{crosses_some};
 ghost use Rattle.rr_registry.specs.Loading.{clash_of, is_crossed_by_some};
-ghost use Rattle.rr_registry.specs.Private.{HasSpans, IsEntered, IsHeld, IsTakenIn, objects_of};
+ghost use Rattle.rr_registry.specs.Private.{HoldsSpans, IsEntered, IsHeld, IsTakenIn, objects_of};
 
 use crate::load::LoadFault;
 use rr_cover::{InsertFault, SpanNest};
@@ -71,9 +71,9 @@ impl Gathered {
 impl Spans {
     /// Enters the span of the n-th object, where its key is one.
     fn enter(&mut self, n: u64, key: &Key) -> Result<(), LoadFault>
-        ensures ok { OnOk result ((os : List Obj) → HasSpans os self.old.inetnums self.old.blocks → IsEntered os key.now self.new.inetnums self.new.blocks) }
+        ensures ok { OnOk result ((os : List Obj) → HoldsSpans os self.old.inetnums self.old.blocks → IsEntered os key.now self.new.inetnums self.new.blocks) }
         ensures err { IfErr result (λ fault. (fault ≡ LoadFault.Memory)
-            ⊎ ((os : List Obj) → HasSpans os self.old.inetnums self.old.blocks → (fault ≡ LoadFault.Overlap n) × (is_crossed_by_some key.now os ≡ true))) }
+            ⊎ ((os : List Obj) → HoldsSpans os self.old.inetnums self.old.blocks → (fault ≡ LoadFault.Overlap n) × (is_crossed_by_some key.now os ≡ true))) }
     {
         match key {
             Key::Inetnum(span) => hold(&mut self.inetnums, n, *span),

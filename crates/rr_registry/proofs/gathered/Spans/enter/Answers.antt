@@ -5,7 +5,7 @@ use Rattle.rr_object.specs.declared.key.Key.TheVariants.{AsBlock, Inetnum}
 use Rattle.rr_cover.specs.SpanMaps.{SpanMap}
 use Rattle.rr_registry.proofs.Held.{block_entered, blocks_cross, both_good, crossed_fault, inetnum_entered, inetnums_cross, rest_entered}
 use Rattle.rr_registry.specs.Loading.{is_crossed_by_some}
-use Rattle.rr_registry.specs.Private.{HasSpans, IsEntered}
+use Rattle.rr_registry.specs.Private.{HoldsSpans, IsEntered}
 use Rattle.rr_registry.proofs.gathered.Spans.enter.Goals as goal
 
 pub returns-in-Inetnum-clause-ok : goal.returns-in-Inetnum-clause-ok
@@ -16,7 +16,7 @@ returns-in-Inetnum-clause-ok c =
 
 pub returns-in-Inetnum-clause-err : goal.returns-in-Inetnum-clause-err
 returns-in-Inetnum-clause-err c =
-    IfErr-weaker c.hold.result _ _ (λ fault is. crossed_fault fault c.args.n _ (λ os. HasSpans os c.args.self.now.inetnums c.args.self.now.blocks) c.args.key.now
+    IfErr-weaker c.hold.result _ _ (λ fault is. crossed_fault fault c.args.n _ (λ os. HoldsSpans os c.args.self.now.inetnums c.args.self.now.blocks) c.args.key.now
     (λ os has crossed. ap (λ k. is_crossed_by_some k os) c.in-Inetnum.is ∙ sym (inetnums_cross os _ _ has c.in-Inetnum.span) ∙ crossed) is) c.hold.ensures.err
 
 pub returns-in-AsBlock-clause-ok : goal.returns-in-AsBlock-clause-ok
@@ -27,7 +27,7 @@ returns-in-AsBlock-clause-ok c =
 
 pub returns-in-AsBlock-clause-err : goal.returns-in-AsBlock-clause-err
 returns-in-AsBlock-clause-err c =
-    IfErr-weaker c.hold-in-AsBlock.result _ _ (λ fault is. crossed_fault fault c.args.n _ (λ os. HasSpans os c.args.self.now.inetnums c.args.self.now.blocks) c.args.key.now
+    IfErr-weaker c.hold-in-AsBlock.result _ _ (λ fault is. crossed_fault fault c.args.n _ (λ os. HoldsSpans os c.args.self.now.inetnums c.args.self.now.blocks) c.args.key.now
     (λ os has crossed. ap (λ k. is_crossed_by_some k os) (c.in-AsBlock.is ∙ ap AsBlock (sym c.span.ensures.value)) ∙ sym (blocks_cross os _ _ has c.span.result) ∙ crossed) is) c.hold-in-AsBlock.ensures.err
 
 pub returns-in_default : goal.returns-in_default

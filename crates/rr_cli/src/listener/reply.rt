@@ -63,7 +63,7 @@ impl Write for Reply<'_> {
     fn write(&mut self, buf: &[u8]) -> io::Result<usize> {
         for _ in 1..MOST_CALLS {
             let answer = self.send(buf);
-            if !is_out_of_time(&answer) {
+            if !is_made_again(&answer) {
                 return answer;
             }
         }
@@ -75,11 +75,12 @@ impl Write for Reply<'_> {
     }
 }
 
-/// Whether a call waited for the peer until its time was over.
-fn is_out_of_time(answer: &io::Result<usize>) -> bool {
+/// Whether a call waited for the peer until its time was over, or was broken off by the system, as where the process is held
+/// still and goes on: in both cases it is to be made again.
+fn is_made_again(answer: &io::Result<usize>) -> bool {
     match answer {
         Ok(_) => false,
-        Err(error) => error.kind() == ErrorKind::WouldBlock,
+        Err(error) => matches!(error.kind(), ErrorKind::WouldBlock | ErrorKind::Interrupted),
     }
 }
 

@@ -5,12 +5,16 @@ ghost use Rattle.std.specs.Io.{ReadsAtMost};
 use super::deadline::Deadline;
 use rr_io::READ_SIZE;
 use std::io;
-use std::io::Read;
+use std::io::{ErrorKind, Read};
 use std::net::TcpStream;
 use std::time::Instant;
 
 /// How many seconds a peer is given for all that it asks (profile).
 const REQUEST_TIME: u64 = 60;
+
+/// How many calls a read makes at most, where the system breaks calls off before a byte came, as it does where the process is
+/// held still and goes on (profile).
+const MOST_CALLS: u32 = 9;
 
 /// How many seconds what it sends behind that is taken in, at most (profile).
 const DRAIN_TIME: u64 = 1;
@@ -49,7 +53,7 @@ impl<'a> Request<'a> {
         Ok(())
     }
 
-    /// Reads some bytes, where the peer is given so many seconds in all.
+    /// Reads some bytes by one call, where the peer is given so many seconds in all.
     fn receive(&mut self, buf: &mut [u8], seconds: u64) -> io::Result<usize>
         ensures { ReadsAtMost result buf.new }
     {
@@ -57,15 +61,29 @@ impl<'a> Request<'a> {
             self.socket.set_read_timeout(Some(timeout))?;
         }
         let begun = Instant::now(self.rt)?;
-        let count = self.socket.read(buf)?;
+        let answer = self.socket.read(buf);
         let waited = begun.elapsed(self.rt)?;
         self.deadline.take(waited);
-        Ok(count)
+        answer
     }
 }
 
 impl Read for Request<'_> {
     fn read(&mut self, buf: &mut [u8]) -> io::Result<usize> {
+        for _ in 1..MOST_CALLS {
+            let answer = self.receive(buf, REQUEST_TIME);
+            if !is_broken_off(&answer) {
+                return answer;
+            }
+        }
         self.receive(buf, REQUEST_TIME)
+    }
+}
+
+/// Whether the system broke a call off, and it is to be made again.
+fn is_broken_off(answer: &io::Result<usize>) -> bool {
+    match answer {
+        Ok(_) => false,
+        Err(error) => error.kind() == ErrorKind::Interrupted,
     }
 }

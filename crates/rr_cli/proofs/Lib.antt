@@ -1,5 +1,4 @@
 mod AskedLemmas
-mod NumberLemmas
 mod PlainLemmas
 mod ShownLemmas
 mod WritingLemmas

@@ -1,12 +1,8 @@
 -- Numbers in the words of the command line (profile).
-use Rattle.std.specs.Prelude.{ℕ, ◌+◌, ◌&&◌, nat_le, nat_lt, min, Bool, List, length, Option, Some, None, if◌then◌else◌}
+use Rattle.std.specs.Prelude.{ℕ, ◌&&◌, nat_le, nat_lt, Bool, List, length, Option, Some, None, if◌then◌else◌}
 use Rattle.std.specs.Char.{is_ascii_digit}
 use Rattle.std.specs.List.{list_all}
 use Rattle.std.specs.Str.Parse.{digits_value}
-
--- what digits spell, or one more than the greatest where that is less
-abbrev pub capped_value : ℕ → List ℕ → ℕ
-capped_value greatest digits = min (digits_value 10 digits) (greatest + 1)
 
 -- a word spells a number from 1 to the greatest, in decimal digits alone; leading zeros are taken (profile)
 abbrev pub is_number_within : ℕ → List ℕ → Bool

@@ -1,23 +1,22 @@
 //! The words of the command line.
 
-ghost use Rattle.std.specs.Prelude.{◌≡◌, ◌<◌, ◌≤◌, ◌^◌, IfSome, true};
-ghost use Rattle.std.specs.Char.{is_ascii_digit};
-ghost use Rattle.std.specs.List.{list_all};
-ghost use Rattle.rr_cli.specs.Numbers.{capped_value, number_within};
+ghost use Rattle.std.specs.Prelude.{◌≡◌, ◌<◌, ◌≤◌, ◌^◌, IfSome};
+ghost use Rattle.rr_cli.specs.Numbers.{number_within};
 
 use crate::fault::ProgramFault;
 use crate::help;
 use crate::trouble::Trouble;
 use clap::error::ErrorKind;
 use clap::{Arg, ArgAction, ArgMatches};
+use rr_http::{are_digits, capped_value};
 use std::alloc::{AllocError, Global};
 use std::convert::AsStr;
 
 /// The greatest port.
-const GREATEST_PORT: u64 = 65_535;
+const GREATEST_PORT: usize = 65_535;
 
 /// The greatest number of connections that are served in one run (profile).
-const GREATEST_COUNT: u64 = 1_000_000;
+const GREATEST_COUNT: usize = 1_000_000;
 
 /// What the program is asked to do. `settings` is the path of a settings file.
 #[derive(Debug, Drop)]
@@ -183,7 +182,7 @@ fn read_port<'a>(found: &ArgMatches<'a>) -> Result<u16, ProgramFault<'a>> {
 fn read_count<'a>(found: &ArgMatches<'a>) -> Result<u64, ProgramFault<'a>> {
     let word = read_word(found, "N")?;
     match read_number(word, GREATEST_COUNT) {
-        Some(count) => Ok(count),
+        Some(count) => Ok(count as u64),
         None => Err(ProgramFault::of(word, Trouble::BadCount)),
     }
 }
@@ -349,7 +348,7 @@ fn option<'a>(alloc: Global, place: &'a str, name: &'a str, help: &'a str) -> Ar
 }
 
 /// The number that a word spells in decimal digits alone, where it is 1 to `greatest`.
-fn read_number(word: &str, greatest: u64) -> Option<u64>
+fn read_number(word: &str, greatest: usize) -> Option<usize>
     requires { greatest < 2 ^ 32 }
     ensures value { result ≡ number_within greatest word.now }
     ensures within { IfSome result (λ number. number ≤ greatest) }
@@ -362,23 +361,4 @@ fn read_number(word: &str, greatest: u64) -> Option<u64>
         number if number <= greatest => Some(number),
         _ => None,
     }
-}
-
-fn are_digits(text: &[u8]) -> bool
-    ensures { result ≡ list_all is_ascii_digit text.now }
-{
-    text.iter().all(|byte| byte.is_ascii_digit())
-}
-
-/// The number that the digits spell, or one more than the greatest where it is larger.
-fn capped_value(digits: &[u8], greatest: u64) -> u64
-    requires digits { list_all is_ascii_digit digits.now ≡ true }
-    requires fits { greatest < 2 ^ 32 }
-    ensures { result ≡ capped_value greatest digits.now }
-{
-    let mut value = 0;
-    'digits: for digit in digits {
-        value = (value * 10 + u64::from(*digit - b'0')).min(greatest + 1);
-    }
-    value
 }

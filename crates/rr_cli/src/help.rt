@@ -73,7 +73,8 @@ pub const DUMP: &str = "Prints all objects, by class and key, and their number";
 /// `dump` by an example.
 pub const DUMP_EXAMPLE: &str = "Example, a backup:
   irrdesk dump irr.toml --full > backup.rpsl
-A whole dump ends in a line `% end n`. One without --full shows no `auth`, and cannot be loaded.";
+A whole dump ends in a line `% end n`. One without --full shows `# filtered` as each
+value of `auth`, and cannot be loaded.";
 
 /// What `load` does.
 pub const LOAD: &str =
@@ -120,4 +121,4 @@ pub const PROBE: &str =
 /// `probe` by an example.
 pub const PROBE_EXAMPLE: &str = "Example:
   irrdesk probe irr.toml
-prints the root maintainer of irr.toml, its `auth` left out.";
+prints the root maintainer of irr.toml, with `# filtered` as the value of its `auth`.";

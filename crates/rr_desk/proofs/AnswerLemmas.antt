@@ -14,7 +14,7 @@ use Rattle.rr_answer.specs.declared.query.Query.TheVariants.{Object, Exact, Clos
 use Rattle.rr_answer.specs.Answers.{IsAnswer, IsAnswerOf, IsAnswerTo, IsExpanded}
 use Rattle.rr_answer.specs.Queries.{is_too_long, is_unreadable, or_bad, query_of, query_of_words}
 use Rattle.rr_desk.specs.Answering.{IsAnswered, IsAnswerWhere, IsRunningAnswer, is_store_fault, stops}
-use Rattle.rr_desk.specs.Lookups.{IsUnfound, LooksUp}
+use Rattle.rr_desk.specs.LookupParts.{IsUnfound, LooksUp}
 
 -- the fault of a query is that the store failed
 abbrev stops_query : Result Query QueryFault → Bool

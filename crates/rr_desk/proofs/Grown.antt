@@ -21,7 +21,7 @@ use Rattle.rr_registry.specs.Loading.{IsTaken, load_fault}
 use Rattle.rr_rows.specs.Maps.{AreApart}
 use Rattle.rr_rows.proofs.MapLists.{put_all}
 use Rattle.rr_store.specs.Migrating.{has_mntner, is_mntner_of}
-use Rattle.rr_desk.specs.Migrating.{HasLoadFault}
+use Rattle.rr_desk.specs.MigratingParts.{HasLoadFault}
 use Rattle.rr_desk.specs.Opening.{four_octets_fields}
 use Rattle.rr_desk.specs.Settings.{IsSettings, SettingsParts}
 use Rattle.rr_desk.proofs.ListRows.{gathered_is}

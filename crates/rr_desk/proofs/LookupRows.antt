@@ -7,7 +7,7 @@ use Rattle.rr_auth.specs.Registries.{Reg}
 use Rattle.rr_store.specs.declared.fault.StoreFault.{StoreFault}
 use Rattle.rr_store.specs.declared.fault.StoreFault.TheVariants as unread
 use Rattle.rr_rows.specs.Maps.{HasRows}
-use Rattle.rr_desk.specs.Lookups.{is_refused}
+use Rattle.rr_desk.specs.LookupParts.{is_refused}
 use Rattle.rr_desk.specs.Rows.{Holds, KeepsRows}
 
 -- a store that holds the rows of a registry keeps them

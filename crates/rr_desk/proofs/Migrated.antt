@@ -28,7 +28,8 @@ use Rattle.rr_store.specs.declared.fault.MigrateFault.{MigrateFault}
 use Rattle.rr_store.specs.declared.fault.MigrateFault.TheVariants as migrate
 use Rattle.rr_store.specs.Kept.{IsLeft}
 use Rattle.rr_store.specs.Migrating.{HasNoRoot, IsMigrated, has_mntner, is_mntner_of}
-use Rattle.rr_desk.specs.Migrating.{AreRegistry, HasBlock, HasBlockFault, HasLoadFault, HasNoOldRegistry, IsGrown, IsGrowthFault, IsRootless, told_as}
+use Rattle.rr_desk.specs.Migrating.{AreRegistry, HasBlock, HasNoOldRegistry, IsGrown, IsRootless}
+use Rattle.rr_desk.specs.MigratingParts.{HasBlockFault, HasLoadFault, IsGrowthFault, told_as}
 use Rattle.rr_desk.specs.Opening.{four_octets_fields}
 use Rattle.rr_desk.specs.Settings.{IsSettings, SettingsParts}
 use Rattle.rr_desk.proofs.Grown.{rootless, the_block}

@@ -36,7 +36,8 @@ use Rattle.rr_object.specs.declared.class.Class.TheVariants as class
 use Rattle.rr_object.specs.declared.key.Key.{Key}
 use Rattle.rr_object.specs.declared.key.Key.TheVariants.{Mntner, AsBlock, Inetnum}
 use Rattle.rr_object.specs.declared.kind.Kind.TheVariants.{MntBy, Source, Auth, MntLower, MntRoutes, Members, MbrsByRef, MemberOf}
-use Rattle.rr_desk.specs.Opening.{AreOpening, IsParagraphOf, HasObject, addresses_fields, auth_line, field, four_octets_fields, numbers_fields, owned, root_fields}
+use Rattle.rr_desk.specs.Opening.{AreOpening, addresses_fields, auth_line, field, four_octets_fields, numbers_fields, owned, root_fields}
+use Rattle.rr_desk.specs.Private.{IsParagraphOf, HasObject}
 use Rattle.rr_desk.specs.Settings.{IsSettings, SettingsParts}
 use Rattle.rr_desk.proofs.PlainTexts.{IsShown, shown_line, shown_meaning}
 use Rattle.rr_desk.proofs.OpeningLines.{auth_read, equal_texts, maintainer_read, one_item, plain_name, shown_auth, shown_name}

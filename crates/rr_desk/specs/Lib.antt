@@ -10,8 +10,9 @@ pub mod MemoryTurns
 pub mod MemoryTold
 pub mod Answering
 pub mod Dumping
-pub mod Lookups
+pub mod LookupParts
 pub mod LoadFaults
 pub mod Loaded
 pub mod Migrating
+pub mod MigratingParts
 pub mod Laws

@@ -1,18 +1,14 @@
 -- Tables of version 1 that a desk migrates (profile).
-use Rattle.std.specs.Prelude.{◌≡◌, ℕ, false, List, [], ◌∷◌, ◌++◌, Some}
+use Rattle.std.specs.Prelude.{◌≡◌, ℕ, false, List, [], ◌∷◌, ◌++◌}
 use Rattle.std.specs.FinMap.{values}
 use Rattle.sqlite.specs.Effect.{Database}
 use Rattle.rr_object.specs.Objects.{Obj}
 use Rattle.rr_object.specs.Readings.{ReadsAs}
 use Rattle.rr_auth.specs.Registries.{Reg, Sound}
 use Rattle.rr_auth.specs.Sources.{IsRegistryOf}
-use Rattle.rr_registry.specs.declared.load.LoadFault.{LoadFault}
-use Rattle.rr_registry.specs.declared.load.LoadFault.TheVariants.{Duplicate, Overlap, Unnamed, Memory}
-use Rattle.rr_registry.specs.Loading.{IsTaken, load_fault}
+use Rattle.rr_registry.specs.Loading.{IsTaken}
 use Rattle.rr_rows.specs.Maps.{AreOldStored}
 use Rattle.rr_store.specs.Migrating.{has_mntner}
-use Rattle.rr_store.specs.declared.fault.MigrateFault.{MigrateFault}
-use Rattle.rr_store.specs.declared.fault.MigrateFault.TheVariants as migrate
 use Rattle.rr_desk.specs.Opening.{four_octets_fields}
 use Rattle.rr_desk.specs.Settings.{SettingsParts}
 
@@ -45,29 +41,3 @@ pub record IsRootless (settings : SettingsParts) (old : Database) : Type 0 where
   pub before : AreOldStored settings.source objects old
   pub sound : AreRegistry objects
   pub missing : has_mntner settings.root objects ≡ false
-
--- something is the matter with objects as a registry (profile)
-pub record HasLoadFault (objects : List Obj) : Type 0 where
-  pub fault : LoadFault
-  pub is_fault : load_fault objects ≡ Some fault
-
--- something is the matter with the objects and the block of the other AS numbers (profile)
-pub record HasBlockFault (settings : SettingsParts) (objects : List Obj) : Type 0 where
-  pub block : Obj
-  pub read : ReadsAs settings.source (four_octets_fields settings) block
-  pub fault : HasLoadFault (objects ++ block ∷ [])
-
--- want of memory is told as such, and what else is the matter with objects as this fault (profile)
-abbrev pub told_as : LoadFault → MigrateFault → MigrateFault
-told_as (Duplicate n) told = told
-told_as (Overlap n) told = told
-told_as (Unnamed n) told = told
-told_as Memory told = migrate.Memory
-
--- why there is no registry of the objects and the block (profile)
-abbrev pub IsGrowthFault : SettingsParts → List Obj → MigrateFault → Type 0
-IsGrowthFault settings objects (migrate.WrongVersion number) = ⊥
-IsGrowthFault settings objects migrate.BadRow = HasLoadFault objects
-IsGrowthFault settings objects migrate.NoRoot = AreRegistry objects × HasBlockFault settings objects
-IsGrowthFault settings objects migrate.Store = ⊥
-IsGrowthFault settings objects migrate.Memory = Unit {0}

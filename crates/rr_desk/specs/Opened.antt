@@ -1,15 +1,12 @@
 -- Tables that a desk opens, or that are made for one (profile).
-use Rattle.std.specs.Prelude.{◌≡◌, ◌⊎◌, ℕ, List, Some}
+use Rattle.std.specs.Prelude.{◌≡◌, ℕ, List, Some}
 use Rattle.sqlite.specs.Effect.{Database}
 use Rattle.rr_object.specs.Objects.{Obj}
 use Rattle.rr_auth.specs.Registries.{Reg}
 use Rattle.rr_auth.specs.Sources.{IsRegistryOf}
 use Rattle.rr_registry.specs.declared.load.LoadFault.{LoadFault}
-use Rattle.rr_registry.specs.declared.load.LoadFault.TheVariants.{Duplicate, Overlap, Unnamed, Memory}
 use Rattle.rr_registry.specs.Loading.{load_fault}
 use Rattle.rr_rows.specs.Maps.{AreStored, HasRows}
-use Rattle.rr_store.specs.declared.fault.OpenFault.{OpenFault}
-use Rattle.rr_store.specs.declared.fault.OpenFault.TheVariants as opened
 use Rattle.rr_desk.specs.Opening.{IsOpened}
 use Rattle.rr_desk.specs.Settings.{SettingsParts}
 
@@ -30,10 +27,3 @@ pub record HasOpeningRows (settings : SettingsParts) (db : Database) : Type 0 wh
   pub registry : Reg
   pub is_opened : IsOpened settings registry
   pub rows : HasRows registry db
-
--- rows of objects that are no registry are bad rows; want of memory is told as such (profile)
-abbrev pub open_fault : LoadFault → OpenFault
-open_fault (Duplicate n) = opened.BadRow
-open_fault (Overlap n) = opened.BadRow
-open_fault (Unnamed n) = opened.BadRow
-open_fault Memory = opened.Memory

@@ -45,15 +45,6 @@ abbrev pub opening_paragraphs : SettingsParts → List (List Field)
 opening_paragraphs settings =
     root_fields settings ∷ (numbers_fields settings ∷ (four_octets_fields settings ∷ (addresses_fields settings ∷ [])))
 
--- a paragraph is this object in the registry of a source (profile)
-pub record IsParagraphOf (source : List ℕ) (fields : List Field) (object : Obj) : Type 0 where
-  pub read : object_of fields source ≡ Ok object
-
--- a paragraph is an object in the registry of a source (profile)
-pub record HasObject (source : List ℕ) (fields : List Field) : Type 0 where
-  pub object : Obj
-  pub read : object_of fields source ≡ Ok object
-
 -- the objects that these paragraphs are in the registry of the settings' source, in this order (profile)
 pub record AreOpening (settings : SettingsParts) (objects : List Obj) : Type 0 where
   pub read : map (λ fields. object_of fields settings.source) (opening_paragraphs settings) ≡ map Ok objects

@@ -1,5 +1,5 @@
--- What only private functions of the desk need.
-use Rattle.std.specs.Prelude.{◌≡◌, None}
+-- What private functions of the desk promise each other. No public clause cites these.
+use Rattle.std.specs.Prelude.{◌≡◌, None, ℕ, List, Ok}
 use Rattle.std.specs.FinMap.{get, insert, remove}
 use Rattle.sqlite.specs.Effect.{Database}
 use Rattle.rr_object.specs.declared.key.Key.{Key}
@@ -8,6 +8,12 @@ use Rattle.rr_auth.specs.Registries.{Reg}
 use Rattle.rr_registry.specs.declared.outcome.Outcome.{Outcome}
 use Rattle.rr_registry.specs.declared.outcome.Outcome.TheVariants.{Added, Changed, Same as Unchanged, Deleted, Refused}
 use Rattle.rr_rows.specs.Maps.{HasRows}
+use Rattle.rr_registry.specs.declared.load.LoadFault.{LoadFault}
+use Rattle.rr_registry.specs.declared.load.LoadFault.TheVariants.{Duplicate, Overlap, Unnamed, Memory}
+use Rattle.rr_store.specs.declared.fault.OpenFault.{OpenFault}
+use Rattle.rr_store.specs.declared.fault.OpenFault.TheVariants as opened
+use Rattle.rr_text.specs.Fields.{Field}
+use Rattle.rr_object.specs.Readings.{object_of}
 
 -- one registry is another with an object under this key
 pub record Gains (before : Reg) (key : Key) (after : Reg) : Type 0 where
@@ -39,3 +45,19 @@ FollowsNew key after old new = (before : Reg) → GainsNew before key after → 
 -- where the rows were those of the registry before the item, they are those of the one after it
 abbrev pub Follows : Key → Outcome → Reg → Database → Database → Type 0
 Follows key outcome after old new = (before : Reg) → Leads before key outcome after → HasRows before old → HasRows after new
+
+-- rows of objects that are no registry are bad rows; want of memory is told as such (profile)
+abbrev pub open_fault : LoadFault → OpenFault
+open_fault (Duplicate n) = opened.BadRow
+open_fault (Overlap n) = opened.BadRow
+open_fault (Unnamed n) = opened.BadRow
+open_fault Memory = opened.Memory
+
+-- a paragraph is this object in the registry of a source (profile)
+pub record IsParagraphOf (source : List ℕ) (fields : List Field) (object : Obj) : Type 0 where
+  pub read : object_of fields source ≡ Ok object
+
+-- a paragraph is an object in the registry of a source (profile)
+pub record HasObject (source : List ℕ) (fields : List Field) : Type 0 where
+  pub object : Obj
+  pub read : object_of fields source ≡ Ok object

@@ -1,6 +1,6 @@
 //! What a desk answers to queries.
 
-ghost use Rattle.std.specs.Prelude.{◌≡◌, ◌≢◌, false, true, map, IfErr, IfOk, MatchResult};
+ghost use Rattle.std.specs.Prelude.{◌≡◌, ◌≢◌, false, true, IfErr, IfOk, MatchResult};
 ghost use Rattle.sqlite.specs.Held.{state};
 ghost use Rattle.sqlite.specs.State.{HasCleanDisk};
 ghost use Rattle.rr_io.specs.Sending.{Writes};
@@ -9,7 +9,7 @@ ghost use Rattle.rr_answer.specs.Answers.{IsAnswer};
 ghost use Rattle.rr_answer.specs.Queries as queries;
 ghost use Rattle.rr_answer.specs.Texts as texts;
 ghost use Rattle.rr_desk.specs.Answering.{Answers, IsAnswered};
-ghost use Rattle.rr_desk.specs.Lookups.{LooksUp};
+ghost use Rattle.rr_desk.specs.LookupParts.{LooksUp};
 ghost use Rattle.rr_desk.specs.Rows.{Holds, KeepsRows};
 
 use crate::desk::Desk;
@@ -17,7 +17,7 @@ use rr_answer::{Query, QueryFault, answer, is_too_long, objects_text, read_query
 use rr_io::{Sink, write_all};
 use rr_number::Name;
 use rr_object::Object;
-use rr_store::StoreFault;
+use rr_store::{StoreFault, lent};
 use sqlite::Alter;
 use std::alloc::{AllocError, Global};
 use thiserror::Error;
@@ -136,12 +136,6 @@ fn text_of(alloc: Global, objects: &[Object]) -> Result<Vec<u8>, AllocError>
 {
     let lent = lent(alloc, objects)?;
     objects_text(alloc, &lent)
-}
-
-fn lent(alloc: Global, objects: &[Object]) -> Result<Vec<&Object>, AllocError>
-    ensures { IfOk result (λ found. map (λ object. object.now) found.items ≡ objects.now) }
-{
-    objects.iter().collect(alloc)
 }
 
 /// Writes an answer, whose error has this number.

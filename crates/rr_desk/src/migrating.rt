@@ -10,7 +10,8 @@ ghost use Rattle.rr_store.specs.Kept.{IsLeft};
 ghost use Rattle.rr_store.specs.Migrating.{IsMigrated, IsOfOldRows};
 ghost use Rattle.rr_store.specs.Opening.{IsNotOld, IsOfNoneButOld};
 ghost use Rattle.rr_store.specs.declared.fault.MigrateFault.TheVariants.{BadRow, Memory, NoRoot, WrongVersion};
-ghost use Rattle.rr_desk.specs.Migrating.{AreRegistry, HasBlock, HasBlockFault, HasLoadFault, HasNoOldRegistry, IsGrown, IsGrowthFault, IsRootless, told_as};
+ghost use Rattle.rr_desk.specs.Migrating.{AreRegistry, HasBlock, HasNoOldRegistry, IsGrown, IsRootless};
+ghost use Rattle.rr_desk.specs.MigratingParts.{HasBlockFault, HasLoadFault, IsGrowthFault, told_as};
 ghost use Rattle.rr_desk.specs.Rows.{Holds};
 
 use crate::desk::Desk;

@@ -1,26 +1,24 @@
 //! How a registry and the store of its rows come about: from tables that are there, or with new ones.
 
 ghost use Rattle.std.specs.Prelude.{◌≡◌, ℕ, false, IfErr, IfOk, IsTrue};
-ghost use Rattle.std.specs.List.{AllByRecursion};
 ghost use Rattle.sqlite.specs.Held.{state};
 ghost use Rattle.sqlite.specs.State.{HasCleanDisk, Survives};
 ghost use Rattle.rr_auth.specs.Sources.{IsRegistryOf};
 ghost use Rattle.rr_rows.specs.Made.{HasRow, IsVacant};
-ghost use Rattle.rr_rows.specs.Maps.{HasRows, IsObject};
+ghost use Rattle.rr_rows.specs.Maps.{HasRows};
 ghost use Rattle.rr_store.specs.Opening.{IsOfNoOther, IsOfRows, IsOtherVersion};
 ghost use Rattle.rr_rows.specs.Tables.{HasTables};
 ghost use Rattle.rr_store.specs.Kept.{IsLeft};
-ghost use Rattle.rr_store.specs.Lent.{lent};
 ghost use Rattle.rr_store.specs.declared.fault.CreateFault.TheVariants.{NotEmpty};
 ghost use Rattle.rr_store.specs.declared.fault.OpenFault.TheVariants.{BadRow, WrongVersion};
-ghost use Rattle.rr_desk.specs.Opened.{HasNoRegistry, open_fault};
+ghost use Rattle.rr_desk.specs.Opened.{HasNoRegistry};
+ghost use Rattle.rr_desk.specs.Private.{open_fault};
 
 use crate::stored::Stored;
 use rr_index::IndexedBook;
 use rr_number::Name;
-use rr_object::Object;
 use rr_registry::{LoadFault, Registry};
-use rr_store::{CreateFault, OpenFault, Store};
+use rr_store::{CreateFault, OpenFault, Store, are_read};
 use sqlite::{Alter, Connection};
 use std::alloc::Global;
 
@@ -113,15 +111,5 @@ fn create_store<S: Alter>(
             Store::create(alloc, conn, &objects)
         }
         Err(_) => Err((CreateFault::Memory, conn)),
-    }
-}
-
-/// Tells a caller's proof that the objects are such as readers make; it does nothing.
-fn are_read(objects: &[&Object])
-    ensures { AllByRecursion IsObject (lent objects.now) }
-{
-    for object in objects {
-        object.is_read_from_its_paragraph();
-        let _attributes = object.paragraph().attributes();
     }
 }

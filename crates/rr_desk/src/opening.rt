@@ -2,7 +2,8 @@
 
 ghost use Rattle.std.specs.Prelude.{◌≡◌, [], ◌∷◌, ◌++◌, IfOk};
 ghost use Rattle.rr_text.specs.Fields.{AreFields, IsField};
-ghost use Rattle.rr_desk.specs.Opening.{AreOpening, IsParagraphOf, IsOpened, HasObject, addresses_fields, auth_line, field, four_octets_fields, numbers_fields, owned, root_fields};
+ghost use Rattle.rr_desk.specs.Opening.{AreOpening, IsOpened, addresses_fields, auth_line, field, four_octets_fields, numbers_fields, owned, root_fields};
+ghost use Rattle.rr_desk.specs.Private.{IsParagraphOf, HasObject};
 
 use crate::settings::Settings;
 use rr_index::IndexedBook;

@@ -9,7 +9,7 @@ ghost use Rattle.rr_auth.specs.Laws.{key_about};
 ghost use Rattle.rr_rows.specs.Entries.{TreesOf};
 ghost use Rattle.rr_rows.specs.Maps.{HasRows};
 ghost use Rattle.rr_desk.specs.Halts.{IsHalted, changes};
-ghost use Rattle.rr_desk.specs.Lookups.{is_refused};
+ghost use Rattle.rr_desk.specs.LookupParts.{is_refused};
 ghost use Rattle.rr_desk.specs.Private.{Follows, FollowsGain, FollowsNew};
 ghost use Rattle.rr_desk.specs.Rows.{Holds, KeepsRows};
 

@@ -1,17 +1,10 @@
 -- Lemmas on what a request asks.
-use Rattle.std.proofs.Common.{◌≡◌, ℕ, ◌+◌, ◌-◌, ◌*◌, ◌≤◌, ◌<◌, Bool, true, false, List, ◌∷◌, length, take, get_or, Some, None, arith, refl, ap, cond, subst, length-append}
-use Rattle.std.specs.Prelude.{min, nat_eq, codes}
-use Rattle.std.specs.List.{list_all, starts_with}
-use Rattle.std.specs.Char.{is_ascii_digit}
-use Rattle.std.specs.Int.{IsInRange}
-use Rattle.std.specs.Str.Parse.{digits_value}
+use Rattle.std.proofs.Common.{◌≡◌, ℕ, ◌≤◌, Bool, true, false, List, ◌∷◌, length, Some, None, arith, refl, ap, cond, subst, length-append}
+use Rattle.std.specs.Prelude.{nat_eq, codes, All}
+use Rattle.std.specs.List.{starts_with}
 use Rattle.std.proofs.lemmas.Bool.{and_parts}
-use Rattle.std.proofs.lemmas.Bool.Decides.{Decides-eqb, nat_tests}
+use Rattle.std.proofs.lemmas.Bool.Decides.{Decides-eqb}
 use Rattle.std.proofs.lemmas.Slice.Eq.{starts_is}
-use Rattle.std.proofs.lemmas.List.Folds.{list_all_at}
-use Rattle.std.proofs.lemmas.Int.Digits.{digits_value_more}
-use Rattle.std.proofs.lemmas.Str.{digit_value_digit}
-use Rattle.std.specs.Prelude.{All}
 use Rattle.std.proofs.lemmas.List.Elements.{All-tail}
 use Rattle.httparse.specs.Spans.{IsHeaderWithin, header_bytes}
 use Rattle.httparse.specs.declared.spans.HeaderSpan.{HeaderSpan}
@@ -27,22 +20,6 @@ values_passed name head rest behind field cut other = rw cut (rw other refl)
 -- what holds of the spans holds of those behind the first
 pub within_behind : (n : ℕ) (rest behind : List HeaderSpan) (field : HeaderSpan) → rest ≡ field ∷ behind → All (IsHeaderWithin n) rest → All (IsHeaderWithin n) behind
 within_behind n rest behind field cut within = All-tail (IsHeaderWithin n) field behind (subst (λ spans. All (IsHeaderWithin n) spans) cut within)
-
-not_false : (b : Bool) → (b ≡ false → ⊥) → b ≡ true
-not_false true h = refl
-not_false false h = absurd (h refl)
-
-digit_at : (ds : List ℕ) (i : ℕ) → list_all is_ascii_digit ds ≡ true → i < length ds → is_ascii_digit (get_or ds i 0) ≡ true
-digit_at ds i all h = not_false _ (λ e. let f : list_all is_ascii_digit ds ≡ false = list_all_at is_ascii_digit ds i 0 h e in cc)
-
--- a number read on by one digit, as far as its bound
-pub capped_more : (ds : List ℕ) (i size : ℕ) → list_all is_ascii_digit ds ≡ true → i < length ds → size ≡ min (digits_value 10 (take i ds)) 1048577 →
-    min (size * 10 + (get_or ds i 0 - 48)) 1048577 ≡ min (digits_value 10 (take (i + 1) ds)) 1048577
-capped_more ds i size all h so_far =
-    let digit = digit_at ds i all h in
-    let within : IsInRange 48 57 (get_or ds i 0) = grind (arith, nat_tests) in
-    let worth = digit_value_digit (get_or ds i 0) within in
-    omega (arith, digits_value_more 10 ds i h)
 
 last_of : (a b q : Bool) → cond a (Some page.Submissions) (cond b (Some page.Dump) (cond q (Some page.Query) None)) ≡ Some page.Query → q ≡ true
 last_of true b q e = cc

@@ -13,12 +13,6 @@ ReadsBody old new begun size body Whole =
 ReadsBody old new begun size body Short = (more : List ℕ) × Gives old new more × IsSpent new × (body ≡ begun ++ more) × (length body < size)
 ReadsBody old new begun size body Broken = (more : List ℕ) × BreaksOff old new more × (body ≡ begun ++ more) × (length body < size)
 
--- the rest of a body of so many bytes was read behind those that are there
-abbrev pub ReadsRest : Told → Told → List ℕ → ℕ → List ℕ → BodyEnd → Type 0
-ReadsRest old new before size after Whole = (more : List ℕ) × Gives old new more × (after ≡ before ++ more) × (length after ≡ size)
-ReadsRest old new before size after Short = (more : List ℕ) × Gives old new more × IsSpent new × (after ≡ before ++ more) × (length after < size)
-ReadsRest old new before size after Broken = (more : List ℕ) × BreaksOff old new more × (after ≡ before ++ more) × (length after < size)
-
 -- no more than so many bytes were read, and no read failed
 abbrev pub GivesWithin : Told → Told → ℕ → Type 0
 GivesWithin old new room = (more : List ℕ) × Gives old new more × (length more ≤ room)

@@ -1,12 +1,14 @@
 pub mod Asked
 pub mod Fronts
 pub mod FrontLines
+pub mod Digits
 pub mod Requests
 pub mod Routes
 pub mod Replies
 pub mod Wants
 pub mod Wanted
 pub mod Bodies
+pub mod BodyParts
 pub mod BodyReaders
 pub mod Answering
 pub mod Serving

@@ -1,14 +1,12 @@
 //! What a request asks: its page, its method, and the size of its body.
 
-ghost use Rattle.std.specs.Prelude.{◌≡◌, ◌≤◌, ◌∷◌, [], IfOk, Some, codes, length, true, min, All, IfSome, MatchOption};
-ghost use Rattle.std.specs.List.{list_all};
+ghost use Rattle.std.specs.Prelude.{◌≡◌, ◌≤◌, ◌∷◌, [], IfOk, Some, codes, length, All, IfSome, MatchOption};
 ghost use Rattle.std.specs.Str.{bytes_eq};
-ghost use Rattle.std.specs.Str.Parse.{digits_value};
-ghost use Rattle.std.specs.Char.{is_ascii_digit};
 ghost use Rattle.httparse.specs.Spans.{IsHeaderWithin, header_bytes};
 ghost use Rattle.rr_http.specs.Asked.{parts_of, seen};
 ghost use Rattle.rr_http.specs.Requests.{HasSmallSize, asks_of, asks_page, is_length, is_named, method_of, page_of, path_of, size_of, sized, values_of};
 
+use crate::digits::{are_digits, capped_value};
 use crate::routing::Pages;
 use http::Method;
 use httparse::spans::HeaderSpan;
@@ -184,7 +182,7 @@ fn size_of(text: &[u8]) -> Result<usize, Refusal>
     if !is_length(text) {
         return Err(Refusal::BadRequest);
     }
-    let size = capped_size(text);
+    let size = capped_value(text, BODY_SIZE);
     if size <= BODY_SIZE {
         Ok(size)
     } else {
@@ -196,22 +194,4 @@ fn is_length(text: &[u8]) -> bool
     ensures { result ≡ is_length text.now }
 {
     !text.is_empty() && are_digits(text)
-}
-
-fn are_digits(text: &[u8]) -> bool
-    ensures { result ≡ list_all is_ascii_digit text.now }
-{
-    text.iter().all(|byte| byte.is_ascii_digit())
-}
-
-/// The number that the digits spell, or one more than a body may have where it is larger.
-fn capped_size(digits: &[u8]) -> usize
-    requires { list_all is_ascii_digit digits.now ≡ true }
-    ensures { result ≡ min (digits_value 10 digits.now) 1048577 }
-{
-    let mut size = 0;
-    'digits: for digit in digits {
-        size = (size * 10 + usize::from(*digit - b'0')).min(BODY_SIZE + 1);
-    }
-    size
 }

@@ -1,7 +1,8 @@
 //! The body of a request, read whole before it is submitted.
 
 ghost use Rattle.std.specs.Prelude.{◌≡◌, ◌≤◌, ◌-◌, length, IfOk, OnErr};
-ghost use Rattle.rr_http.specs.Bodies.{GivesWithin, ReadsBody, ReadsRest};
+ghost use Rattle.rr_http.specs.Bodies.{GivesWithin, ReadsBody};
+ghost use Rattle.rr_http.specs.BodyParts.{ReadsRest};
 
 use crate::asking::BODY_SIZE;
 use rr_io::{READ_SIZE, Source};

@@ -6,7 +6,7 @@ use Rattle.sqlite.proofs.Callers.{one_permutation}
 use Rattle.rr_store.specs.declared.version.Version.{Version}
 use Rattle.rr_store.specs.declared.fault.OpenFault.{OpenFault}
 use Rattle.rr_store.specs.declared.fault.OpenFault.TheVariants.{WrongVersion, BadRow, Store, Memory}
-use Rattle.rr_store.specs.Checks.{IsVersionFault}
+use Rattle.rr_store.specs.CheckParts.{IsVersionFault}
 
 pub each_err : {X E : Type 0} (r : Result X E) (P Q : E → Type 0) → IfErr r P → ((e : E) → P e → Q e) → IfErr r Q
 each_err (Ok x) P Q h f = tt

@@ -16,7 +16,7 @@ use Rattle.rr_number.proofs.NumberOrders.{ties}
 use Rattle.rr_rows.specs.Contents.{by_three}
 use Rattle.rr_store.specs.declared.namings.Naming.{Naming}
 use Rattle.rr_store.specs.contracts.namings.NamingOrd.TheImpl as derived
-use Rattle.rr_store.specs.Namings.{naming_row}
+use Rattle.rr_store.specs.NamingParts.{naming_row}
 use Rattle.rr_store.proofs.SortedLemmas.{sorted_once}
 
 by_three_total : IsTotalOrder by_three

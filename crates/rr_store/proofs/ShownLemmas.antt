@@ -12,7 +12,7 @@ use Rattle.rr_rows.specs.Entries.{entry_of, object_row}
 use Rattle.rr_rows.specs.Maps.{HasRows, this_form}
 use Rattle.rr_rows.proofs.MapLists.{of_any, same_objects, values_are_objects, values_in_order}
 use Rattle.rr_rows.proofs.MapNaming.{naming_told}
-use Rattle.rr_store.specs.Checks.{HoldsObjects}
+use Rattle.rr_store.specs.CheckParts.{HoldsObjects}
 use Rattle.rr_store.specs.Reading.{names_it}
 use Rattle.rr_store.proofs.StoredLemmas.{read_objects, read_rows}
 

@@ -25,10 +25,10 @@ use Rattle.rr_rows.specs.Entries.{named_rows, object_row}
 use Rattle.rr_rows.specs.Maps.{AreApart, AreInOrder, AreStoredIn, HasVersion, IsObjectOf, KeyForm, entry_in}
 use Rattle.rr_rows.proofs.MapKeys.{KeepsOrder, keys_exact, old_form_keeps_order, this_form_keeps_order}
 use Rattle.rr_rows.proofs.MapLists.{formed_key, in_order_apart, of_any}
-use Rattle.rr_store.specs.Checks.{HoldsNone, HoldsObjects, IsVersionFault, SaysVersion}
+use Rattle.rr_store.specs.CheckParts.{HoldsNone, HoldsObjects, IsVersionFault}
 use Rattle.rr_store.specs.Opening.{HoldNone, SaysNoOther, SaysOther}
 use Rattle.rr_store.specs.Reading.{AreRead}
-use Rattle.rr_store.specs.Versions.{form_of, version_number, version_text}
+use Rattle.rr_store.specs.Versions.{SaysVersion, form_of, version_number, version_text}
 use Rattle.rr_store.specs.declared.fault.OpenFault.{OpenFault}
 use Rattle.rr_store.specs.declared.fault.OpenFault.TheVariants.{WrongVersion, BadRow, Store, Memory}
 use Rattle.rr_store.specs.declared.version.Version.{Version}

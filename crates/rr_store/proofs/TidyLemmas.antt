@@ -7,7 +7,7 @@ use Rattle.std.proofs.lemmas.List.Sorted.{length_permutation}
 use Rattle.sqlite_value.specs.Order.{Row}
 use Rattle.rr_rows.specs.Contents.{AreKeyed, number}
 use Rattle.rr_rows.proofs.NumberLemmas.{keyed_by}
-use Rattle.rr_store.specs.Empty.{SaysEmpty}
+use Rattle.rr_store.specs.VacancyParts.{SaysEmpty}
 
 -- rows have numbers of their own where the answer that lists these has
 pub keyed_as : {E : Type 0} (r : Result Bool E) (rows answer : List Row) → IsPermutation (map number rows) answer → IfOk r (λ are. IsTrue are → AreKeyed answer) → IfOk r (λ are. IsTrue are → AreKeyed rows)

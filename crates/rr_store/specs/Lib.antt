@@ -1,11 +1,11 @@
 pub mod Adding
-pub mod Checks
-pub mod Empty
+pub mod CheckParts
+pub mod VacancyParts
 pub mod Faults
 pub mod Kept
 pub mod Lent
 pub mod Migrating
-pub mod Namings
+pub mod NamingParts
 pub mod Opening
 pub mod Reading
 pub mod Versions

@@ -4,8 +4,7 @@ use Rattle.sqlite.specs.Effect.{Database}
 use Rattle.rr_object.specs.Objects.{Obj}
 use Rattle.rr_rows.specs.Contents.{settings}
 use Rattle.rr_rows.specs.Maps.{AreStored, AreStoredIn}
-use Rattle.rr_store.specs.Checks.{SaysVersion}
-use Rattle.rr_store.specs.Versions.{form_of, version_number, version_text}
+use Rattle.rr_store.specs.Versions.{SaysVersion, form_of, version_number, version_text}
 use Rattle.rr_store.specs.declared.fault.OpenFault.{OpenFault}
 use Rattle.rr_store.specs.declared.fault.OpenFault.TheVariants.{WrongVersion, BadRow, Store, Memory}
 use Rattle.rr_store.specs.declared.version.Version.{Version}

@@ -1,9 +1,11 @@
 -- The versions of tables.
-use Rattle.std.specs.Prelude.{ℕ, List}
+use Rattle.std.specs.Prelude.{ℕ, List, Contains, codes, decimal}
 use Rattle.rr_store.specs.declared.version.Version.{Version}
 use Rattle.rr_store.specs.declared.version.Version.TheVariants.{Old, This}
 use Rattle.rr_object.specs.OldKeys.{old_key_bytes}
 use Rattle.rr_rows.specs.Maps.{KeyForm, old_version, this_form, this_version}
+use Rattle.sqlite_value.specs.Order.{Row}
+use Rattle.rr_rows.specs.Contents.{setting}
 
 abbrev pub version_number : Version → ℕ
 version_number Old = 1
@@ -18,3 +20,7 @@ version_text This = this_version
 abbrev pub form_of : Version → KeyForm
 form_of Old = old_key_bytes
 form_of This = this_form
+
+-- some setting says that the tables are of the version of this number (profile)
+abbrev pub SaysVersion : ℕ → List Row → Type 0
+SaysVersion n rows = Contains rows (setting (codes "version") (decimal n))

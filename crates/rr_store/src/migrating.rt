@@ -17,6 +17,7 @@ ghost use Rattle.rr_store.specs.declared.fault.MigrateFault.TheVariants.{BadRow,
 
 use crate::fault::{MigrateFault, StoreFault};
 use crate::filling::fill;
+use crate::objects::lent;
 use crate::opening::stored_objects;
 use crate::statements::{clear_names, clear_objects, clear_settings};
 use crate::upper::upper_object;
@@ -84,12 +85,6 @@ fn with_block(mut objects: Vec<Object>, block: Object) -> Result<Vec<Object>, Al
 {
     objects.push(block)?;
     Ok(objects)
-}
-
-fn lent(alloc: Global, objects: &[Object]) -> Result<Vec<&Object>, AllocError>
-    ensures { IfOk result (λ found. lent found.items ≡ objects.now) }
-{
-    objects.iter().collect(alloc)
 }
 
 /// Puts the rows of the objects and of the block of the other AS numbers in place of all rows, in one transaction.

@@ -5,7 +5,7 @@ ghost use Rattle.std.specs.List.{flat_map};
 ghost use Rattle.rr_rows.specs.Contents.{by_three, named_values};
 ghost use Rattle.rr_rows.specs.Entries.{named_rows};
 ghost use Rattle.rr_rows.specs.Maps.{entry_in};
-ghost use Rattle.rr_store.specs.Namings.{naming_row};
+ghost use Rattle.rr_store.specs.NamingParts.{naming_row};
 ghost use Rattle.rr_store.specs.Versions.{form_of};
 
 use crate::columns::is_named_row;

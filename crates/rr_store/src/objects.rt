@@ -118,13 +118,20 @@ pub(crate) fn is_read(object: &Object)
     let _attributes = object.paragraph().attributes();
 }
 
-/// The same of objects.
-pub(crate) fn are_read(objects: &[&Object])
+/// Tells a caller's proof that the objects are such as readers make; it does nothing.
+pub fn are_read(objects: &[&Object])
     ensures { AllByRecursion IsObject (lent objects.now) }
 {
     for object in objects {
         is_read(object);
     }
+}
+
+/// The objects, lent; the error is want of memory.
+pub fn lent(alloc: Global, objects: &[Object]) -> Result<Vec<&Object>, AllocError>
+    ensures { IfOk result (λ found. lent found.items ≡ objects.now) }
+{
+    objects.iter().collect(alloc)
 }
 
 /// Whether the key of an object is below that of the first of others, if there is one.

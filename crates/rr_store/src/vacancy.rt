@@ -5,7 +5,7 @@ ghost use Rattle.sqlite.specs.Held.{state};
 ghost use Rattle.sqlite.specs.State.{HasCleanDisk, IsUnchanged, Survives};
 ghost use Rattle.rr_rows.specs.Made.{HasRow, IsBare, no_schema};
 ghost use Rattle.rr_rows.specs.Tables.{HasTables};
-ghost use Rattle.rr_store.specs.Empty.{SaysEmpty};
+ghost use Rattle.rr_store.specs.VacancyParts.{SaysEmpty};
 
 use crate::reading::{meta_numbers, named_numbers, object_numbers};
 use sqlite::{Alter, Connection, Error};

@@ -8,7 +8,7 @@ use Rattle.rr_submission.specs.declared.ending.Ending.TheVariants.{Complete}
 use Rattle.rr_submission.specs.declared.submission.Done.{Done}
 use Rattle.rr_submission.specs.Endings.{last_line}
 use Rattle.rr_submission.specs.Reports.{report}
-use Rattle.rr_submission.specs.Served.{ServesRead}
+use Rattle.rr_submission.specs.ServedParts.{ServesRead}
 use Rattle.rr_submission.specs.Submissions.{Sides, IsDone}
 
 -- the report was written whole

@@ -31,7 +31,8 @@ use Rattle.rr_submission.specs.SubmissionItems.{AreItems, Asked, submitted}
 use Rattle.rr_submission.specs.SubmissionItems.AreItems.{at_end, secrets_alone, asked, faulty}
 use Rattle.rr_submission.specs.Refusals.{is_refusal, refusals}
 use Rattle.rr_submission.specs.Reports.{item_line, lines_from, stop_lines}
-use Rattle.rr_submission.specs.Served.{HaltsAt, ReadsFront, Serves, ServesAll, ServesHalted, ServesOne, ServesRead, ServesSome, ServesStopped, ServesUnwritten}
+use Rattle.rr_submission.specs.Served.{HaltsAt, ReadsFront, ServesHalted, ServesSome, ServesStopped, ServesUnwritten}
+use Rattle.rr_submission.specs.ServedParts.{Serves, ServesAll, ServesOne, ServesRead}
 
 -- one item more is decided
 pub Run-more : (old between new : Reg) (items : List Asked) (outcomes : List Outcome) (item : Asked) (outcome : Outcome) →

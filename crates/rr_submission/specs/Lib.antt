@@ -5,6 +5,7 @@ pub mod Endings
 pub mod Reports
 pub mod ItemReaders
 pub mod Served
+pub mod ServedParts
 pub mod Submissions
 pub mod SubmissionLaws
 pub mod SubmissionTexts

@@ -1,11 +1,9 @@
 -- The items of the entries of a text decided one by one, each with its line (profile).
-use Rattle.std.specs.Prelude.{◌≡◌, ℕ, ◌+◌, ◌^◌, ◌≤◌, ◌⊎◌, List, [], ◌∷◌, ◌++◌, length, map, Result, Ok, Err, if◌then◌else◌}
+use Rattle.std.specs.Prelude.{◌≡◌, ℕ, ◌+◌, ◌^◌, ◌≤◌, ◌⊎◌, List, [], ◌∷◌, ◌++◌, length, map, Result, Ok, Err}
 use Rattle.rr_io.specs.Told.{Told}
 use Rattle.rr_io.specs.Receiving.{Gives, IsSpent}
 use Rattle.rr_io.specs.Sending.{Takes, TakesFront, TakesSome}
-use Rattle.rr_io.specs.declared.receiving.ReadEnd.{ReadEnd}
 use Rattle.rr_text.specs.Entries.{entries}
-use Rattle.rr_text.specs.ParagraphReaders.{HasEnded}
 use Rattle.rr_text.specs.WholePart.{whole_part}
 use Rattle.rr_text.specs.Fields.{Field}
 use Rattle.rr_text.specs.declared.fault.TextFault.{TextFault}
@@ -13,25 +11,10 @@ use Rattle.rr_object.specs.declared.code.Code.{Code}
 use Rattle.rr_auth.specs.declared.item.Item.{Item}
 use Rattle.rr_auth.specs.Registries.{Reg}
 use Rattle.rr_registry.specs.declared.outcome.Outcome.{Outcome}
-use Rattle.rr_registry.specs.Runs.{Decides, Run}
+use Rattle.rr_registry.specs.Runs.{Run}
 use Rattle.rr_submission.specs.declared.ledger.Ledger.{Ghosts}
-use Rattle.rr_submission.specs.declared.stop.Stop.{Stop}
-use Rattle.rr_submission.specs.declared.stop.Stop.TheVariants.{Unwritten, Halted}
-use Rattle.rr_submission.specs.declared.submission.Done.{Done}
 use Rattle.rr_submission.specs.SubmissionItems.{AreItems, Asked, submitted}
-use Rattle.rr_submission.specs.Refusals.{is_refusal, refusals}
 use Rattle.rr_submission.specs.Reports.{item_line, lines_from, stop_lines}
-use Rattle.rr_submission.specs.declared.request.Request.{Request}
-
--- each item was decided, and its line was written
-pub record ServesAll (source : List ℕ) (entries : List (Result (List Field) TextFault)) (old new : Reg) (before after : Told) (done : Done) : Type 0 where
-  pub items : List Asked
-  pub outcomes : List Outcome
-  pub are_items : AreItems source [] entries items
-  pub runs : Run old (map submitted items) outcomes new
-  pub writes : Takes before after (lines_from 1 items outcomes)
-  pub counted : done.items ≡ length items
-  pub refused : done.refused ≡ refusals outcomes
 
 -- the line of the last item could not be written: it was decided, the items told before it had been decided and their
 -- lines written whole
@@ -77,12 +60,6 @@ pub record ReadsFront (start now : Told) (front : List ℕ) : Type 0 where
   pub apart : (whole_part front ≡ front) ⊎ ((left ≡ []) × IsSpent now)
   pub few : now.reads ≤ start.reads + 2 ^ 24
 
--- the text was read to its end, or to a failed read or the limit of reads, and these of its entries count
-pub record ServesRead (source : List ℕ) (start now : Told) (end : ReadEnd) (old new : Reg) (before after : Told) (done : Done) : Type 0 where
-  pub given : List (Result (List Field) TextFault)
-  pub ended : HasEnded start now end given
-  pub serves : ServesAll source given old new before after done
-
 -- a front of the text was read, up to the item whose line could not be written
 pub record ServesUnwritten (source : List ℕ) (start now : Told) (old new : Reg) (before after : Told) (count : ℕ) : Type 0 where
   pub front : List ℕ
@@ -94,43 +71,3 @@ pub record ServesStopped {L : Type 0} (g : Ghosts L) (source : List ℕ) (start 
   pub front : List ℕ
   pub reads : ReadsFront start now front
   pub serves : ServesHalted g source (entries front) old new before after count
-
--- all of the items, with what is counted; those up to the one whose line could not be written, with their number; or
--- those before the one at which the ledger came to a halt
-abbrev pub Serves : {L : Type 0} → Ghosts L → List ℕ → Told → Told → L → L → Told → Told → Result (Done × ReadEnd) Stop → Type 0
-Serves g source start now old new before after (Ok served) = ServesRead source start now served.1 (g.registry old) (g.registry new) before after served.0
-Serves g source start now old new before after (Err (Unwritten count)) = ServesUnwritten source start now (g.registry old) (g.registry new) before after count
-Serves g source start now old new before after (Err (Halted count)) = ServesStopped g source start now old new before after count
-
--- a fact that holds unless the ledger came to a halt
-abbrev pub UnlessHalted : {T : Type 0} → Result T Stop → Type 0 → Type 0
-UnlessHalted (Ok done) fact = fact
-UnlessHalted (Err (Unwritten count)) fact = fact
-UnlessHalted (Err (Halted count)) fact = Unit {0}
-
--- an item was decided and counted, and its line was written
-pub record IsServed (secrets : List (List ℕ)) (request : Request) (done : Done) (old new : Reg) (before after : Told) (counted : Done) : Type 0 where
-  pub outcome : Outcome
-  pub decides : Decides old secrets request.action outcome new
-  pub items : counted.items ≡ done.items + 1
-  pub refused : counted.refused ≡ done.refused + (if is_refusal outcome then 1 else 0)
-  pub writes : Takes before after (item_line counted.items request.key outcome)
-
--- an item was decided, and its line could not be written
-pub record IsUntold (secrets : List (List ℕ)) (request : Request) (done : Done) (old new : Reg) (before after : Told) (count : ℕ) : Type 0 where
-  pub outcome : Outcome
-  pub decides : Decides old secrets request.action outcome new
-  pub items : count ≡ done.items + 1
-  pub writes : TakesFront before after (item_line count request.key outcome)
-
--- the ledger came to a halt at an item, which is not counted
-pub record HasHalted {L : Type 0} (g : Ghosts L) (secrets : List (List ℕ)) (request : Request) (done : Done) (old new : L) (before after : Told) (count : ℕ) : Type 0 where
-  pub halts : HaltsAt g old secrets request.action new
-  pub items : count ≡ done.items
-  pub writes : TakesSome before after (stop_lines count request.key)
-
--- an item was decided, and its line was written or not, or the ledger came to a halt
-abbrev pub ServesOne : {L : Type 0} → Ghosts L → List (List ℕ) → Request → Done → L → L → Told → Told → Result Done Stop → Type 0
-ServesOne g secrets request done old new before after (Ok counted) = IsServed secrets request done (g.registry old) (g.registry new) before after counted
-ServesOne g secrets request done old new before after (Err (Unwritten count)) = IsUntold secrets request done (g.registry old) (g.registry new) before after count
-ServesOne g secrets request done old new before after (Err (Halted count)) = HasHalted g secrets request done old new before after count

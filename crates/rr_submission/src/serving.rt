@@ -6,7 +6,8 @@ ghost use Rattle.rr_text.specs.ParagraphReaders.{HasGiven};
 ghost use Rattle.rr_registry.specs.Runs.{Decides};
 ghost use Rattle.rr_submission.specs.Refusals.{is_refusal};
 ghost use Rattle.rr_submission.specs.Reports.{stop_lines};
-ghost use Rattle.rr_submission.specs.Served.{HaltsAt, Serves, ServesOne, UnlessHalted};
+ghost use Rattle.rr_submission.specs.Served.{HaltsAt};
+ghost use Rattle.rr_submission.specs.ServedParts.{Serves, ServesOne, UnlessHalted};
 ghost use Rattle.rr_submission.specs.SubmissionLaws.{ConfinesTexts};
 ghost use Rattle.rr_submission.specs.Submissions.{Submits, UnlessStoreFault};
 

@@ -4,7 +4,8 @@ use Rattle.rr_store.proofs.CheckLemmas.{each_err}
 use Rattle.rr_store.proofs.LookLemmas.{each_shown}
 use Rattle.rr_store.proofs.OtherVersions.{stored_says_it}
 use Rattle.rr_store.specs.Opening.{IsOfNoneButOld}
-use Rattle.rr_desk.specs.Migrating.{IsGrowthFault, IsGrown}
+use Rattle.rr_desk.specs.Migrating.{IsGrown}
+use Rattle.rr_desk.specs.MigratingParts.{IsGrowthFault}
 use Rattle.rr_desk.proofs.Migrated.{always_err, always_ok, each_ok, grown_of_source, growth_rootless, no_old_registry}
 use Rattle.rr_desk.proofs.migrating.stored_growth.Goals as goal
 

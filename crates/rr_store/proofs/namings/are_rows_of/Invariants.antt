@@ -1,5 +1,5 @@
 use Rattle.std.proofs.Common.{◌≡◌, length, map}
-use Rattle.rr_store.specs.Namings.{naming_row}
+use Rattle.rr_store.specs.NamingParts.{naming_row}
 use Rattle.rr_store.proofs.namings.are_rows_of.Given as goal
 
 abbrev pub invariant-loop-rest : goal.invariant-loop-rest

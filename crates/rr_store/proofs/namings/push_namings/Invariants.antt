@@ -1,6 +1,6 @@
 use Rattle.std.proofs.Common.{◌≡◌, ◌++◌, map, take}
 use Rattle.rr_rows.specs.Contents.{named_values}
-use Rattle.rr_store.specs.Namings.{naming_row}
+use Rattle.rr_store.specs.NamingParts.{naming_row}
 use Rattle.rr_store.proofs.namings.push_namings.Given as goal
 
 abbrev pub invariant-loop-name : goal.invariant-loop-name

@@ -1,6 +1,6 @@
 use Rattle.std.proofs.Common.{map, subst, IsPermutation}
 use Rattle.std.proofs.lemmas.List.Sorted.{IsPermutation-map}
-use Rattle.rr_store.specs.Namings.{naming_row}
+use Rattle.rr_store.specs.NamingParts.{naming_row}
 use Rattle.rr_store.proofs.NamingLemmas.{sorted_rows}
 use Rattle.rr_store.proofs.namings.sorted_namings.Goals as goal
 

@@ -1,4 +1,4 @@
--- Whether a table has a row.
+-- What private functions that look for a row promise each other. No public clause cites these.
 use Rattle.std.specs.Prelude.{◌≡◌, ◌≢◌, Bool, false, List, [], IsTrue}
 use Rattle.sqlite_value.specs.Order.{Row}
 

@@ -1,18 +1,14 @@
--- Faults that the rows of the three tables show.
-use Rattle.std.specs.Prelude.{◌≡◌, ◌≢◌, ℕ, ◌<◌, ◌^◌, List, [], ◌∷◌, Contains, codes, decimal}
+-- What private functions that check the rows of tables promise each other. No public clause cites these.
+use Rattle.std.specs.Prelude.{◌≡◌, ◌≢◌, ℕ, ◌<◌, ◌^◌, List, [], ◌∷◌, codes}
 use Rattle.sqlite_value.specs.Order.{Row}
 use Rattle.rr_object.specs.Objects.{Obj}
 use Rattle.rr_rows.specs.Contents.{IsListing, by_two, setting}
 use Rattle.rr_rows.specs.Maps.{AreInOrder, KeyForm}
 use Rattle.rr_store.specs.Reading.{AreRead}
-use Rattle.rr_store.specs.Versions.{version_number, version_text}
+use Rattle.rr_store.specs.Versions.{SaysVersion, version_number, version_text}
 use Rattle.rr_store.specs.declared.version.Version.{Version}
 use Rattle.rr_store.specs.declared.fault.OpenFault.{OpenFault}
 use Rattle.rr_store.specs.declared.fault.OpenFault.TheVariants.{WrongVersion, BadRow, Store, Memory}
-
--- some setting says that the tables are of the version of this number (profile)
-abbrev pub SaysVersion : ℕ → List Row → Type 0
-SaysVersion n rows = Contains rows (setting (codes "version") (decimal n))
 
 -- no setting says another version, and they are not the one that says this (profile)
 pub record IsBadVersion (version : Version) (rows : List Row) : Type 0 where

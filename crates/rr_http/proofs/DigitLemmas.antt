@@ -1,4 +1,4 @@
--- Lemmas on numbers in words.
+-- Lemmas on numbers in digits.
 use Rattle.std.proofs.Common.{◌≡◌, ℕ, ◌+◌, ◌-◌, ◌*◌, ◌<◌, Bool, true, false, List, length, take, get_or, arith, refl}
 use Rattle.std.specs.Prelude.{min}
 use Rattle.std.specs.List.{list_all}

@@ -1,7 +1,7 @@
 use Rattle.std.proofs.Common.{◌∙◌, ap, ◌+◌, ◌*◌}
 use Rattle.std.specs.Prelude.{min}
-use Rattle.rr_cli.proofs.NumberLemmas.{capped_next}
-use Rattle.rr_cli.proofs.arguments.capped_value.Goals as goal
+use Rattle.rr_http.proofs.DigitLemmas.{capped_next}
+use Rattle.rr_http.proofs.digits.capped_value.Goals as goal
 
 pub digits-preserved : goal.digits-preserved
 digits-preserved c =

@@ -1,4 +1,4 @@
--- What only private functions that look for names in the tables need.
+-- What private functions that look for names in the tables promise each other. No public clause cites these.
 use Rattle.std.specs.Prelude.{◌≡◌, ℕ, Bool, true, false, List, Result, Ok, Err}
 use Rattle.rr_auth.specs.Registries.{Reg}
 use Rattle.rr_store.specs.declared.fault.StoreFault.{StoreFault}

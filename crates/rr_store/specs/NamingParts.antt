@@ -1,4 +1,4 @@
--- Who names whom, as rows.
+-- What private functions that list who names whom promise each other. No public clause cites these.
 use Rattle.sqlite_value.specs.Order.{Row}
 use Rattle.rr_rows.specs.Contents.{named_values}
 use Rattle.rr_store.specs.declared.namings.Naming.{Naming}

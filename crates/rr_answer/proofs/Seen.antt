@@ -3,7 +3,7 @@ use Rattle.std.proofs.Common.{◌≡◌, ℕ, Bool, true, false, cond, List, [],
 use Rattle.std.specs.Prelude.{Ok, map, filter, unwrap_or, if◌then◌else◌}
 use Rattle.std.specs.Str.{bytes_eq}
 use Rattle.std.proofs.lemmas.Slice.Eq.{bytes_eq-Decides}
-use Rattle.rr_text.specs.Fields.{Field, is_named, with_value}
+use Rattle.rr_text.specs.Fields.{Field, has_name, with_value}
 use Rattle.rr_text.specs.Meanings.{value_meaning}
 use Rattle.rr_object.specs.declared.class.Class.{Class}
 use Rattle.rr_object.specs.declared.key.Key.{Key}
@@ -41,15 +41,15 @@ hide field = with_value (kind_name Auth) hidden field
 values_behind : (name : List ℕ) (field : Field) (xs ys : List Field) → values_of name xs ≡ values_of name ys
     → values_of name (field ∷ xs) ≡ values_of name (field ∷ ys)
 values_behind name field xs ys rest =
-    elim (is_named name field) as (λ b.
-    map (λ f. value_meaning f.lines) (cond b (field ∷ filter (is_named name) xs) (filter (is_named name) xs))
-    ≡ map (λ f. value_meaning f.lines) (cond b (field ∷ filter (is_named name) ys) (filter (is_named name) ys))) [
+    elim (has_name name field) as (λ b.
+    map (λ f. value_meaning f.lines) (cond b (field ∷ filter (has_name name) xs) (filter (has_name name) xs))
+    ≡ map (λ f. value_meaning f.lines) (cond b (field ∷ filter (has_name name) ys) (filter (has_name name) ys))) [
       | true ↦ ap (λ values. value_meaning field.lines ∷ values) rest
       | false ↦ rest
     ]
 
 -- the values behind one more attribute, of which it is known whether it is one that is hidden
-values_step : (name : List ℕ) (field : Field) (xs ys : List Field) (b : Bool) → is_named (kind_name Auth) field ≡ b
+values_step : (name : List ℕ) (field : Field) (xs ys : List Field) (b : Bool) → has_name (kind_name Auth) field ≡ b
     → bytes_eq (kind_name Auth) name ≡ false → values_of name xs ≡ values_of name ys
     → values_of name ((if b then record { name = field.name; lines = hidden ∷ [] } else field) ∷ xs) ≡ values_of name (field ∷ ys)
 values_step name field xs ys true e apart rest =
@@ -63,7 +63,7 @@ seen_values : (name : List ℕ) (fields : List Field) → bytes_eq (kind_name Au
     → values_of name (map hide fields) ≡ values_of name fields
 seen_values name [] apart = refl
 seen_values name (field ∷ fields) apart =
-    values_step name field (map hide fields) fields (is_named (kind_name Auth) field) refl apart (seen_values name fields apart)
+    values_step name field (map hide fields) fields (has_name (kind_name Auth) field) refl apart (seen_values name fields apart)
 
 -- so are the items of such an attribute
 seen_items : (kind : Kind) (fields : List Field) → bytes_eq (kind_name Auth) (kind_name kind) ≡ false → items_of kind (map hide fields) ≡ items_of kind fields

@@ -8,7 +8,7 @@ use Rattle.std.proofs.lemmas.List.Folds.{flat_map-map, list_all-map}
 use Rattle.rr_number.specs.Prefixes.{PrefixParts, span_of}
 use Rattle.rr_number.specs.Spans.{Ends, covers}
 use Rattle.rr_object.specs.declared.key.Key.{Key}
-use Rattle.rr_object.specs.Objects.{Obj}
+use Rattle.rr_object.specs.Objects.{Obj, object_names}
 use Rattle.rr_auth.specs.Closest.{closest_inetnum, closest_of, closest_routes, inetnum_span, is_closest, is_no_closer, prefix_of_closest, route_prefix, route_span}
 use Rattle.rr_auth.specs.Registries.{Reg}
 use Rattle.rr_book.specs.Listings.{covers_span, lies_in}
@@ -16,7 +16,7 @@ use Rattle.rr_answer.specs.declared.query.Query.{Query}
 use Rattle.rr_answer.specs.declared.query.Query.TheVariants.{Object, Exact, Closest, Less, More, Naming, Originated, Expand, Prefixes}
 use Rattle.rr_answer.specs.Dumps.{dump, dumped, end_line}
 use Rattle.rr_sets.specs.Lists.{is_originated}
-use Rattle.rr_answer.specs.Selections.{asked, is_at, is_route_of, names, routes_closest}
+use Rattle.rr_answer.specs.Selections.{asked, is_at, is_route_of, routes_closest}
 use Rattle.rr_answer.specs.Texts.{no_entries, objects_text, or_else, public_text}
 use Rattle.rr_answer.proofs.Alike.{Alike, same_values}
 use Rattle.rr_answer.proofs.Seen.{seen}
@@ -100,7 +100,7 @@ asked_alike (Closest p) r s alike =
     ∙ sym (closest_in_seen p (values s)) ∙ ap (map seen) (sym (closest_is p s))
 asked_alike (Less p) r s alike = selected (covers_span (span_of p)) (λ o. refl) r s alike
 asked_alike (More p) r s alike = selected (lies_in (span_of p)) (λ o. refl) r s alike
-asked_alike (Naming name) r s alike = selected (names name) (λ o. refl) r s alike
+asked_alike (Naming name) r s alike = selected (object_names name) (λ o. refl) r s alike
 asked_alike (Originated n) r s alike = selected (is_originated n) (λ o. refl) r s alike
 asked_alike (Expand name) r s alike = refl
 asked_alike (Prefixes name) r s alike = refl

@@ -22,7 +22,7 @@ use Rattle.rr_object.specs.Objects.{Obj}
 use Rattle.rr_object.specs.Parts.{ByRefParts}
 use Rattle.rr_auth.specs.Registries.{Reg}
 use Rattle.rr_sets.specs.AsSets.{BelongsTo, InAsSet, IsAnyNumber, IsDirect, IsMissing, IsReachedSet, ListsNumber, ListsSet, has_as_set}
-use Rattle.rr_sets.specs.RouteSets.{AsSetRefers, HasRange, HasTooMany, InRouteSet, IsAnyRange, IsByReference, IsMissingName, IsOriginated, IsReachedFrom, IsTaken, ListsRange, Refers, RefersAs, RouteSetRefers, has_set, registered_set}
+use Rattle.rr_sets.specs.RouteSets.{AsSetRefers, HasRange, HasTooMany, InRouteSet, IsAnyRange, IsByReference, IsMissingName, IsOriginated, IsReachedFrom, IsRangeTaken, ListsRange, Refers, RefersAs, RouteSetRefers, has_set, registered_set}
 use Rattle.rr_sets.specs.SetObjects.{takes}
 use Rattle.rr_answer.proofs.Alike.{Alike, other_object}
 use Rattle.rr_answer.proofs.Seen.{seen}
@@ -126,7 +126,7 @@ module _ (r s : Reg) (alike : Alike r s) where
       let found = other_object r s (key_of_kind (kind_of name) name) h.0 alike h.1 in
       (found.0, found.1, subst (λ ms. Contains ms (member.Range range)) (members_alike h.0 found.0 found.2) h.2)
 
-  taken_on : (a b : ByRefParts) (name : List ℕ) (range : RangeParts) → a ≡ b → IsTaken r a name range → IsTaken s b name range
+  taken_on : (a b : ByRefParts) (name : List ℕ) (range : RangeParts) → a ≡ b → IsRangeTaken r a name range → IsRangeTaken s b name range
   taken_on a b name range same h =
       let found = other_object r s (Route h.0 h.1) h.2 alike h.3 in (
         h.0,

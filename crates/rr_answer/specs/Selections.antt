@@ -1,12 +1,11 @@
 -- Which objects of a registry a query asks for.
 use Rattle.std.specs.Prelude.{Bool, ◌&&◌, ℕ, List, [], filter, is_some}
-use Rattle.std.specs.List.{cons_option, list_any}
+use Rattle.std.specs.List.{cons_option}
 use Rattle.std.specs.Option.{option_map_or}
 use Rattle.std.specs.FinMap.{get, values}
-use Rattle.std.specs.Str.{bytes_eq}
 use Rattle.rr_number.specs.Prefixes.{PrefixParts, span_of}
 use Rattle.rr_number.specs.Spans.{Ends}
-use Rattle.rr_object.specs.Objects.{Obj, names_of}
+use Rattle.rr_object.specs.Objects.{Obj, object_names}
 use Rattle.rr_auth.specs.Closest.{closest_inetnum, closest_routes, origin_at}
 use Rattle.rr_auth.specs.Registries.{Reg}
 use Rattle.rr_book.specs.Listings.{covering, covers_span, inside, lies_in}
@@ -22,10 +21,6 @@ is_at s o = covers_span s o && lies_in s o
 abbrev pub is_route_of : PrefixParts → Obj → Bool
 is_route_of p o = is_some (origin_at p o.key)
 
--- The object names the maintainer in an interpreted attribute (profile).
-abbrev pub names : List ℕ → Obj → Bool
-names name o = list_any (λ n. bytes_eq n name) (names_of o)
-
 -- The routes of the closest prefix to this one (RFC 2725, 9).
 abbrev pub routes_closest : Reg → PrefixParts → List Obj
 routes_closest r p = option_map_or (λ closest. filter (is_route_of closest) (values r)) (closest_routes r p) []
@@ -39,7 +34,7 @@ asked (Exact p) r = filter (is_at (span_of p)) (values r)
 asked (Closest p) r = cons_option (closest_inetnum r (span_of p)) (routes_closest r p)
 asked (Less p) r = covering r (span_of p)
 asked (More p) r = inside r (span_of p)
-asked (Naming name) r = filter (names name) (values r)
+asked (Naming name) r = filter (object_names name) (values r)
 asked (Originated n) r = filter (is_originated n) (values r)
 asked (Expand name) r = []
 asked (Prefixes name) r = []

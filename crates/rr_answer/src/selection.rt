@@ -5,6 +5,7 @@ ghost use Rattle.std.specs.FinMap.{get, values};
 ghost use Rattle.std.specs.List.{cons_option, filter_map};
 ghost use Rattle.std.specs.Option.{option_copied};
 ghost use Rattle.rr_number.specs.Prefixes.{span_of};
+ghost use Rattle.rr_object.specs.Objects.{object_names};
 ghost use Rattle.rr_object.specs.declared.key.Key.TheVariants as key;
 ghost use Rattle.rr_sets.specs.Lists.{lent};
 ghost use Rattle.rr_answer.specs.declared.query.Query.TheVariants as query;
@@ -88,7 +89,7 @@ fn naming<'a, B: Keeper>(
     registry: &'a Registry<B>,
     name: &Name,
 ) -> Result<Vec<&'a Object>, AllocError>
-    ensures { IfOk result (λ found. lent found.items ≡ filter (select.names name.now) (values registry.now)) }
+    ensures { IfOk result (λ found. lent found.items ≡ filter (object_names name.now) (values registry.now)) }
 {
     let objects = registry.objects(alloc)?;
     those_naming(alloc, &objects, name)
@@ -100,19 +101,13 @@ fn those_naming<'a>(
     objects: &[&'a Object],
     name: &Name,
 ) -> Result<Vec<&'a Object>, AllocError>
-    ensures { IfOk result (λ found. found.items ≡ filter (λ object. select.names name.now object.now) objects.now) }
+    ensures { IfOk result (λ found. found.items ≡ filter (λ object. object_names name.now object.now) objects.now) }
 {
     objects
         .iter()
         .copied()
-        .filter(|object| names(object, name))
+        .filter(|object| object.names(name))
         .collect(alloc)
-}
-
-fn names(object: &Object, name: &Name) -> bool
-    ensures { result ≡ select.names name.now object.now }
-{
-    object.maintainers_named().any(|own| own == name)
 }
 
 /// The closest inetnum to the prefix, and the closest routes.

@@ -20,7 +20,7 @@ use Rattle.rr_auth.specs.declared.item.Item.TheVariants.{Submit, Delete as Delet
 use Rattle.rr_auth.specs.declared.verdict.Verdict.{Verdict}
 use Rattle.rr_auth.specs.declared.verdict.Verdict.TheVariants.{Add, Change, Same, Delete, Refuse}
 use Rattle.rr_auth.specs.Passing.{names_pass}
-use Rattle.rr_auth.specs.Conditions.{names_unknown, unauthorised, lacks_origin, origin_refuses, is_uncovered, cover_refuses, crosses_some, is_in_use}
+use Rattle.rr_auth.specs.Conditions.{names_unknown, unauthorised, lacks_origin, origin_refuses, is_uncovered, cover_refuses, crosses_registered, is_in_use}
 use Rattle.rr_auth.specs.Verdicts.{verdict, submission, addition, change, deletion, place}
 use Rattle.rr_auth.proofs.Crossing.{keys_cross_back, crosses_itself}
 use Rattle.rr_object.proofs.KeyLaws.{keys_total, same_key}
@@ -82,7 +82,7 @@ sound_insert r o s formed named apart = record {
 }
 
 -- what the conditions of an addition say
-apart_from : (r : Reg) (k : Key) → Sound r → crosses_some r k ≡ false → (l : Key) (x : Obj) → get r l ≡ Some x → keys_cross l k ≡ false
+apart_from : (r : Reg) (k : Key) → Sound r → crosses_registered r k ≡ false → (l : Key) (x : Obj) → get r l ≡ Some x → keys_cross l k ≡ false
 apart_from r k s e l x f =
     ap (λ m. keys_cross m k) (sym (s.keyed l x f)) ∙ none_passes (λ o. keys_cross o.key k) x (values r) e (found_in r l x f)
 
@@ -116,7 +116,7 @@ add_is_no_change e = cc
 
 first_five : (r : Reg) (secrets : List (List ℕ)) (k : Key) → place r secrets k ≡ Change → ⊥
 first_five r secrets k e =
-    let a = not_first (crosses_some r k) E16 _ _ e (change_differs E16) in
+    let a = not_first (crosses_registered r k) E16 _ _ e (change_differs E16) in
     let b = not_first (lacks_origin r k) E14 _ _ a.1 (change_differs E14) in
     let c = not_first (origin_refuses r secrets k) E15 _ _ b.1 (change_differs E15) in
     let d = not_first (is_uncovered r k) E12 _ _ c.1 (change_differs E12) in
@@ -136,7 +136,7 @@ sound_added r secrets o s formed e =
       | None ↦ λ f.
           let ten = not_first (names_unknown (seen_by (Some o) r) o) E10 _ _ f (add_differs E10) in
           let eleven = not_first (unauthorised (seen_by (Some o) r) secrets o) E11 _ _ ten.1 (add_differs E11) in
-          let sixteen = not_first (crosses_some r o.key) E16 _ _ eleven.1 (add_differs E16) in
+          let sixteen = not_first (crosses_registered r o.key) E16 _ _ eleven.1 (add_differs E16) in
           sound_insert r o s formed (seen_names r o.key o (names_of o) ten.0) (apart_from r o.key s sixteen.0)
       | Some stored ↦ λ f. absurd (change_is_no_add r secrets stored o f)
     ] e

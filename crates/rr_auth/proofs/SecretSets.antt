@@ -20,7 +20,7 @@ use Rattle.rr_auth.specs.declared.verdict.Verdict.TheVariants.{Add, Change, Same
 use Rattle.rr_auth.specs.Authority.{lower_of, routes_of}
 use Rattle.rr_auth.specs.SetParents.{parent_object, parent_refuses}
 use Rattle.rr_auth.specs.Closest.{closest_inetnum, closest_block, closest_routes, origins}
-use Rattle.rr_auth.specs.Conditions.{names_unknown, lacks_origin, origin_refuses, is_uncovered, cover_refuses, space_passes, crosses_some, is_in_use}
+use Rattle.rr_auth.specs.Conditions.{names_unknown, lacks_origin, origin_refuses, is_uncovered, cover_refuses, space_passes, crosses_registered, is_in_use}
 use Rattle.rr_auth.specs.Laws.{SameSecrets}
 use Rattle.rr_auth.specs.Passing.{fits_line, names_pass}
 use Rattle.rr_auth.specs.Registries.{Reg, maintainer, names_nobody, seen_by}
@@ -97,7 +97,7 @@ module _ (secrets others : List (List ℕ)) (s : SameSecrets secrets others) whe
 
   place_says : (r : Reg) (k : Key) → place r secrets k ≡ place r others k
   place_says r k = λ i. first_of (
-      record { holds = crosses_some r k; code = E16 } ∷ (
+      record { holds = crosses_registered r k; code = E16 } ∷ (
       record { holds = lacks_origin r k; code = E14 } ∷ (
       record { holds = origin_says r k i; code = E15 } ∷ (
       record { holds = is_uncovered r k; code = E12 } ∷ (

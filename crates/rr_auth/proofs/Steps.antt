@@ -16,7 +16,7 @@ use Rattle.rr_auth.specs.Registries.{Reg, Sound, seen_by}
 use Rattle.rr_auth.specs.Laws.{IsItem}
 use Rattle.rr_auth.specs.Sources.{IsReadIn, IsReadObject, IsRegistryOf}
 use Rattle.rr_auth.specs.Verdicts.{deletion, is_met_by, place, submission, verdict, after, step}
-use Rattle.rr_auth.specs.Conditions.{names_unknown, unauthorised, is_uncovered, cover_refuses, lacks_origin, origin_refuses, crosses_some, is_in_use}
+use Rattle.rr_auth.specs.Conditions.{names_unknown, unauthorised, is_uncovered, cover_refuses, lacks_origin, origin_refuses, crosses_registered, is_in_use}
 use Rattle.rr_auth.proofs.Keeping.{after_insert, still_there, sound_added, sound_changed, sound_removed}
 
 pub refusal_leaves : (r : Reg) (secrets : List (List ℕ)) (i : Item) (code : Code) → verdict r secrets i ≡ Refuse code → step r secrets i ≡ r
@@ -52,7 +52,7 @@ changed_or_same o false = refl
 
 place_met : (r : Reg) (secrets : List (List ℕ)) (o : Obj) (k : Key) → is_met_by (Submit o) (place r secrets k) ≡ true
 place_met r secrets o k =
-    met_if (Submit o) (λ code. refl) (crosses_some r k) E16 _ (
+    met_if (Submit o) (λ code. refl) (crosses_registered r k) E16 _ (
     met_if (Submit o) (λ code. refl) (lacks_origin r k) E14 _ (
     met_if (Submit o) (λ code. refl) (origin_refuses r secrets k) E15 _ (
     met_if (Submit o) (λ code. refl) (is_uncovered r k) E12 _ (

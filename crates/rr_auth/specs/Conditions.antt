@@ -67,8 +67,8 @@ origin_refuses r secrets (Route p n) = not (option_map_or (routes_pass r secrets
 origin_refuses r secrets _ = false
 
 -- E16: the new object's span crosses one of its class (profile).
-abbrev pub crosses_some : Reg → Key → Bool
-crosses_some r k = list_any (λ o. keys_cross o.key k) (values r)
+abbrev pub crosses_registered : Reg → Key → Bool
+crosses_registered r k = list_any (λ o. keys_cross o.key k) (values r)
 
 -- E17: another object names the mntner that is to be deleted (profile).
 abbrev pub is_in_use : Reg → Key → Bool

@@ -1,13 +1,12 @@
 -- A registry: a finite map from keys to objects, and when it is sound.
 use Rattle.std.specs.Prelude.{◌≡◌, ℕ, Bool, false, not, ◌&&◌, List, Option, None, Some, is_none}
 use Rattle.std.specs.List.{list_any}
-use Rattle.std.specs.Str.{bytes_eq}
 use Rattle.std.specs.FinMap.{FinMap, get, insert, values}
 use Rattle.rr_number.specs.Spans.{crosses}
 use Rattle.rr_object.specs.declared.key.Key.{Key}
 use Rattle.rr_object.specs.declared.key.Key.TheVariants.{Mntner, AsBlock, Inetnum}
 pub use Rattle.rr_object.specs.Keys.{is_mntner_of}
-use Rattle.rr_object.specs.Objects.{Obj, names_of}
+use Rattle.rr_object.specs.Objects.{Obj, names_of, object_names}
 use Rattle.rr_object.specs.KeyOrders.{IsKeyValue, key_cmp}
 
 -- A registry has at most one object of a class and key.
@@ -41,7 +40,7 @@ keys_cross _ _ = false
 
 -- An object other than the maintainer of this name names it.
 abbrev pub names_another : List ℕ → Obj → Bool
-names_another name o = not (is_mntner_of name o.key) && list_any (λ n. bytes_eq n name) (names_of o)
+names_another name o = not (is_mntner_of name o.key) && object_names name o
 
 -- Some object of the registry, other than the maintainer of this name, names it.
 abbrev pub is_named : Reg → List ℕ → Bool

@@ -12,7 +12,7 @@ use Rattle.rr_auth.specs.declared.item.Item.TheVariants.{Submit, Delete as Delet
 use Rattle.rr_auth.specs.declared.verdict.Verdict.{Verdict}
 use Rattle.rr_auth.specs.declared.verdict.Verdict.TheVariants.{Add, Change, Same, Delete, Refuse}
 use Rattle.rr_auth.specs.Registries.{Reg, seen_by}
-use Rattle.rr_auth.specs.Conditions.{names_unknown, unauthorised, is_uncovered, cover_refuses, lacks_origin, origin_refuses, crosses_some, is_in_use, is_unregistered}
+use Rattle.rr_auth.specs.Conditions.{names_unknown, unauthorised, is_uncovered, cover_refuses, lacks_origin, origin_refuses, crosses_registered, is_in_use, is_unregistered}
 
 -- A condition of refusal with its code.
 pub record Refusal : Type 0 where
@@ -27,7 +27,7 @@ first_of (c ∷ cs) v = if c.holds then Refuse c.code else first_of cs v
 -- What the place of a new object in the hierarchy says of it (RFC 2725, 9; profile).
 abbrev pub place : Reg → List (List ℕ) → Key → Verdict
 place r secrets k = first_of (
-    record { holds = crosses_some r k; code = E16 } ∷ (
+    record { holds = crosses_registered r k; code = E16 } ∷ (
     record { holds = lacks_origin r k; code = E14 } ∷ (
     record { holds = origin_refuses r secrets k; code = E15 } ∷ (
     record { holds = is_uncovered r k; code = E12 } ∷ (

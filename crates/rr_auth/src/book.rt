@@ -13,7 +13,7 @@ use std::alloc::{AllocError, Global};
 /// One sound registry. Its calls are answers over a finite map from keys to objects; none but `origins` takes memory.
 pub trait Book {
     ghost use Rattle.rr_auth.specs.Registries.{Reg, Sound, maintainer, is_named};
-    ghost use Rattle.rr_auth.specs.Conditions.{crosses_some};
+    ghost use Rattle.rr_auth.specs.Conditions.{crosses_registered};
     ghost use Rattle.rr_auth.specs.Closest.{closest_inetnum, closest_block, closest_routes, origins};
 
     ghost contents: { Self → Reg };
@@ -49,7 +49,7 @@ pub trait Book {
 
     /// Whether an inetnum or as-block of the registry crosses the key, being of its class (profile).
     fn crosses(&self, key: &Key) -> bool
-        ensures { result ≡ crosses_some (contents self.now) key.now };
+        ensures { result ≡ crosses_registered (contents self.now) key.now };
 
     /// Whether an object other than the maintainer of this name names it (profile).
     fn names_maintainer(&self, name: &Name) -> bool

@@ -25,7 +25,7 @@ use Rattle.rr_object.specs.declared.key.Key.TheVariants.{Mntner, AsBlock, AutNum
 use Rattle.rr_book.proofs.Places.{T_parts, is_Less}
 use Rattle.rr_book.specs.SetLists.{is_of_class}
 use Rattle.rr_sets.proofs.Numbers.{Contains-filter}
-use Rattle.rr_sets.specs.Lists.{IsAutNum, IsRoute, ListsOnce, lent}
+use Rattle.rr_sets.specs.Lists.{IsAutNum, IsRegisteredRoute, ListsOnce, lent}
 
 abbrev Entry : Type 0
 Entry = Key × Obj
@@ -133,8 +133,8 @@ module _ (r : Reg) (sound : Sound r) where
       ))
       (λ o (n, here). (AutNum n, here))
 
-  pub lists_routes : (found : List (Bor Obj)) → lent found ≡ filter (is_of_class class.Route) (values r) → ListsOnce (IsRoute r) found
-  lists_routes found is = lists_those (is_of_class class.Route) (IsRoute r) found is
+  pub lists_routes : (found : List (Bor Obj)) → lent found ≡ filter (is_of_class class.Route) (values r) → ListsOnce (IsRegisteredRoute r) found
+  lists_routes found is = lists_those (is_of_class class.Route) (IsRegisteredRoute r) found is
       (λ k o at. (
         λ passes. let p = parts_of_route o.key passes in (p.0, p.1, subst (λ (l : Key). get r l ≡ Some o) (sym (sound.keyed k o at) ∙ p.2) at),
         λ (prefix, origin, here). ap (λ (l : Key). class_number (class_of l) == 5) (sound.keyed (Route prefix origin) o here),

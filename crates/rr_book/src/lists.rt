@@ -4,8 +4,6 @@ ghost use Rattle.std.specs.Prelude.{◌≡◌, ◌<◌, ◌≤◌, not, true, fi
 ghost use Rattle.std.specs.List.{list_any};
 ghost use Rattle.std.specs.Option.{option_copied};
 ghost use Rattle.std.specs.Ordering.{eq_by_cmp, is_gt};
-ghost use Rattle.std.specs.Str.{bytes_eq};
-ghost use Rattle.rr_object.specs.Objects.{names_of};
 ghost use Rattle.rr_object.specs.KeyOrders.{key_cmp};
 ghost use Rattle.rr_object.specs.Keys.{is_mntner_of};
 ghost use Rattle.rr_auth.specs.Registries.{keys_cross, names_another};
@@ -112,14 +110,7 @@ pub(crate) fn some_names(objects: &[Object], name: &Name) -> bool
 pub fn names_another(object: &Object, name: &Name) -> bool
     ensures { result ≡ names_another name.now object.now }
 {
-    !object.key().is_mntner_of(name) && object_names(object, name)
-}
-
-/// Whether the object names the maintainer.
-fn object_names(object: &Object, name: &Name) -> bool
-    ensures { result ≡ list_any (λ n. bytes_eq n name.now) (names_of object.now) }
-{
-    object.maintainers_named().any(|own| own == name)
+    !object.key().is_mntner_of(name) && object.names(name)
 }
 
 /// The origins of the routes of the prefix, in the order of the objects.

@@ -22,7 +22,7 @@ use Rattle.rr_auth.specs.declared.verdict.Verdict.{Verdict}
 use Rattle.rr_auth.specs.declared.verdict.Verdict.TheVariants.{Add}
 use Rattle.rr_auth.specs.Authority.{lower_passes, routes_pass}
 use Rattle.rr_auth.specs.Closest.{closest_inetnum, is_closest, route_span}
-use Rattle.rr_auth.specs.Conditions.{names_unknown, unauthorised, is_uncovered, cover_refuses, lacks_origin, origin_refuses, crosses_some}
+use Rattle.rr_auth.specs.Conditions.{names_unknown, unauthorised, is_uncovered, cover_refuses, lacks_origin, origin_refuses, crosses_registered}
 use Rattle.rr_auth.specs.Laws.{IsItem, IsRefusal, key_about}
 use Rattle.rr_auth.specs.Passing.{names_pass}
 use Rattle.rr_auth.specs.Registries.{Reg, Sound, seen_by}
@@ -42,7 +42,7 @@ use Rattle.rr_confinement.proofs.Space.{inetnum_inside, inetnum_theirs, route_co
 -- a new object that the space above it refuses is refused
 place_refused : (r : Reg) (secrets : List (List ℕ)) (k : Key) → cover_refuses r secrets k ≡ true → IsRefusal (place r secrets k)
 place_refused r secrets k e =
-    refused_if (crosses_some r k) E16 _ (
+    refused_if (crosses_registered r k) E16 _ (
     refused_if (lacks_origin r k) E14 _ (
     refused_if (origin_refuses r secrets k) E15 _ (
     refused_if (is_uncovered r k) E12 _ (

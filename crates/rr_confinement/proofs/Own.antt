@@ -23,7 +23,7 @@ use Rattle.rr_auth.specs.declared.item.Item.TheVariants.{Submit, Delete as Delet
 use Rattle.rr_auth.specs.declared.verdict.Verdict.TheVariants.{Add, Change, Same, Delete}
 use Rattle.rr_auth.specs.Authority.{lower_passes, routes_pass}
 use Rattle.rr_auth.specs.Closest.{closest_inetnum, is_closest, route_span}
-use Rattle.rr_auth.specs.Conditions.{names_unknown, unauthorised, is_uncovered, cover_refuses, lacks_origin, origin_refuses, crosses_some, is_in_use}
+use Rattle.rr_auth.specs.Conditions.{names_unknown, unauthorised, is_uncovered, cover_refuses, lacks_origin, origin_refuses, crosses_registered, is_in_use}
 use Rattle.rr_auth.specs.Laws.{IsItem}
 use Rattle.rr_auth.specs.Registries.{Reg, Sound, keys_cross, seen_by, with_mntner}
 use Rattle.rr_auth.specs.SetParents.{parent_key, parent_object}
@@ -72,7 +72,7 @@ crosser (RouteSet n) s e = cc
 
 -- an inetnum inside the prefix is crossed in one registry only by what crosses it in the other
 crossed_too : (h : Holding) (r q : Reg) (s : Ends) → Sound r → IsHeld h r → Agree h r q → covers (space_of h) s ≡ true
-    → crosses_some r (Inetnum s) ≡ true → crosses_some q (Inetnum s) ≡ true
+    → crosses_registered r (Inetnum s) ≡ true → crosses_registered q (Inetnum s) ≡ true
 crossed_too h r q s sound held agree inside e =
     let one = passing_one (λ x. keys_cross x.key (Inetnum s)) (values r) e in
     let other = crosser one.0.key s one.1.1 in
@@ -83,11 +83,11 @@ crossed_too h r q s sound held agree inside e =
     some_passes (λ x. keys_cross x.key (Inetnum s)) one.0 (values q) (found_in q (Inetnum other.0) one.0 too) one.1.1
 
 -- nothing crosses a key that crosses nothing
-uncrossed : (r : Reg) (k : Key) → ((l : Key) → keys_cross k l ≡ false) → crosses_some r k ≡ false
+uncrossed : (r : Reg) (k : Key) → ((l : Key) → keys_cross k l ≡ false) → crosses_registered r k ≡ false
 uncrossed r k alone = all_fail (λ x. keys_cross x.key k) (values r) (λ x i. keys_cross_back x.key k ∙ alone x.key)
 
 module _ (h : Holding) (r q : Reg) (secrets : List (List ℕ)) (sound : Sound r) (sound_q : Sound q) (held : IsHeld h r) (held_q : IsHeld h q) (agree : Agree h r q) where
-  crossed_alike : (k : Key) → is_within h k ≡ true → crosses_some r k ≡ crosses_some q k
+  crossed_alike : (k : Key) → is_within h k ≡ true → crosses_registered r k ≡ crosses_registered q k
   crossed_alike (Inetnum s) e =
       both_or_none _ _ (crossed_too h r q s sound held agree e) (crossed_too h q r s sound_q held_q (agree_back h r q agree) e)
   crossed_alike (Route p n) e = uncrossed r (Route p n) (λ l. refl) ∙ sym (uncrossed q (Route p n) (λ l. refl))

@@ -25,11 +25,11 @@ use Rattle.rr_registry.specs.declared.outcome.Outcome.{Outcome}
 use Rattle.rr_registry.specs.declared.outcome.Outcome.TheVariants.{Deleted}
 use Rattle.rr_registry.specs.Runs.{IsStep, outcome_of}
 use Rattle.rr_rows.specs.Entries.{TreesOf}
-use Rattle.rr_rows.specs.Maps.{HasRows, Puts, Takes}
+use Rattle.rr_rows.specs.Maps.{HasRows, Puts, TakesOut}
 use Rattle.rr_store.specs.Adding.{AddsTo}
 use Rattle.rr_desk.specs.Halts.{IsHalted, changes}
 use Rattle.rr_desk.specs.Rows.{Holds}
-use Rattle.rr_desk.specs.Private.{Follows, FollowsGain, FollowsNew, Gains, GainsNew, Leads}
+use Rattle.rr_desk.specs.Private.{Follows, FollowsGain, FollowsNew, Gains, GainsNew, LeadsTo}
 
 -- a change is never an addition
 behind : (b : Bool) (c : Code) (v : Verdict) → (if b then Refuse c else v) ≡ Add → v ≡ Add
@@ -55,7 +55,7 @@ absent_if_added r secrets o added =
 
 -- a verdict that an item can meet leads where its outcome says
 effect_leads : (before : Reg) (item : Item) (judged : Verdict) → is_met_by item judged ≡ true → ((o : Obj) → item ≡ Submit o → judged ≡ Add → get before o.key ≡ None)
-    → Leads before (key_about item) (outcome_of judged) (after judged before item)
+    → LeadsTo before (key_about item) (outcome_of judged) (after judged before item)
 effect_leads before (Submit o) Add met absent = record { gain = record { object = o; of_key = refl; is = refl }; absent = absent o refl refl }
 effect_leads before (Submit o) Change met absent = record { object = o; of_key = refl; is = refl }
 effect_leads before (Submit o) Same met absent = refl
@@ -68,7 +68,7 @@ effect_leads before (DeleteItem k) Delete met absent = refl
 effect_leads before (DeleteItem k) (Refuse code) met absent = refl
 
 -- so does an item, which is refused for want of memory or meets its verdict
-pub leads : (before : Reg) (secrets : List (List ℕ)) (item : Item) (outcome : Outcome) (later : Reg) → IsStep before secrets item outcome later → Leads before (key_about item) outcome later
+pub leads : (before : Reg) (secrets : List (List ℕ)) (item : Item) (outcome : Outcome) (later : Reg) → IsStep before secrets item outcome later → LeadsTo before (key_about item) outcome later
 leads before secrets item outcome later (inl e) =
     rw (e.outcome_is, e.effect) (effect_leads before item (verdict before secrets item) (verdicts_are_met before secrets item)
     (λ o is added. absent_if_added before secrets o (subst (λ i. verdict before secrets i ≡ Add) is added)))
@@ -96,7 +96,7 @@ new_follows key after object old new found adds before begun rows =
     subst (λ r. HasRows r new) (ap (λ o. insert before o.key o) same ∙ (ap (λ k. insert before k gain.object) gain.of_key ∙ sym gain.is)) (adds before rows (ap (get before) here ∙ begun.absent))
 
 -- and those of one that is deleted are taken out
-pub loss_follows : (key : Key) (after : Reg) (old new : Database) → Takes key old new → Follows key Deleted after old new
+pub loss_follows : (key : Key) (after : Reg) (old new : Database) → TakesOut key old new → Follows key Deleted after old new
 loss_follows key after old new takes before is rows = subst (λ r. HasRows r new) (sym is) (takes before rows)
 
 -- what is true of the database of trees can be said of them
@@ -108,7 +108,7 @@ then_ok (Ok x) h f = f h
 then_ok (Err e) h f = tt
 
 -- where the rows followed the registry, the store holds the rows of the one after the item
-pub still_held : (old new : State) (before after : Reg) (key : Key) (outcome : Outcome) (P : Trees → Type 0) → (HasCleanDisk old → Holds before old) → Leads before key outcome after → Survives old new P
+pub still_held : (old new : State) (before after : Reg) (key : Key) (outcome : Outcome) (P : Trees → Type 0) → (HasCleanDisk old → Holds before old) → LeadsTo before key outcome after → Survives old new P
     → (HasCleanDisk new → Follows key outcome after old.now new.now) → (HasCleanDisk new → IsTrue old.is_open → IsTrue new.is_open)
     → (IsTrue new.is_open → (trees : Trees) → new.may_leave trees → trees ≡ new.now.trees) → HasCleanDisk new → Holds after new
 still_held old new before after key outcome P held leading survives follows on settled clean =
@@ -121,7 +121,7 @@ pub halts_there : (old new : State) (before after : Reg) (secrets : List (List �
     → IsHalted before secrets item after true new
 halts_there old new before after secrets item key outcome is_key step changing held same survives =
     let earlier : HasCleanDisk new → HasCleanDisk old = λ clean. omega (arith, survives.clean) in
-    let leading : Leads before key outcome after = subst (λ k. Leads before k outcome after) (sym is_key) (leads before secrets item outcome after step) in
+    let leading : LeadsTo before key outcome after = subst (λ k. LeadsTo before k outcome after) (sym is_key) (leads before secrets item outcome after step) in
     record {
       outcome = outcome;
       step = step;

@@ -16,7 +16,7 @@ use Rattle.rr_store.specs.Opening.{IsUnreadable}
 use Rattle.rr_store.specs.declared.fault.OpenFault.TheVariants as opened
 use Rattle.rr_load.proofs.SoundLists.{sound_list}
 use Rattle.rr_desk.specs.Opened.{HasNoRegistry, IsUnsound}
-use Rattle.rr_desk.specs.Private.{open_fault}
+use Rattle.rr_desk.specs.Private.{opening_fault}
 use Rattle.rr_desk.proofs.ListRows.{gathered_is}
 
 -- rows of objects that are no registry are those of no registry
@@ -42,15 +42,15 @@ pub unreadable_rows : (source : List ℕ) (db : Database) → IsUnreadable sourc
 unreadable_rows source db bad r of_source rows = bad (values r) (registry_stored source r db of_source rows)
 
 -- what is the matter with a list is never told as another version
-pub no_version : (fault : LoadFault) (number : ℕ) → open_fault fault ≡ opened.WrongVersion number → ⊥
+pub no_version : (fault : LoadFault) (number : ℕ) → opening_fault fault ≡ opened.WrongVersion number → ⊥
 no_version (Duplicate n) number is = absurd (cc)
 no_version (Overlap n) number is = absurd (cc)
 no_version (Unnamed n) number is = absurd (cc)
 no_version Memory number is = absurd (cc)
 
 -- and as bad rows only where they are those of no registry
-pub bad_objects : (source : List ℕ) (os : List Obj) (fault : LoadFault) (db : Database) → IsFaultOf os fault → open_fault fault ≡ opened.BadRow → AreStored source os db → HasNoRegistry source db
+pub bad_objects : (source : List ℕ) (os : List Obj) (fault : LoadFault) (db : Database) → IsFaultOf os fault → opening_fault fault ≡ opened.BadRow → AreStored source os db → HasNoRegistry source db
 bad_objects source os fault db (inl memory) is stored =
-    let told : open_fault Memory ≡ opened.BadRow = subst (λ f. open_fault f ≡ opened.BadRow) memory is in
+    let told : opening_fault Memory ≡ opened.BadRow = subst (λ f. opening_fault f ≡ opened.BadRow) memory is in
     absurd (cc)
 bad_objects source os fault db (inr bad) is stored = unsound_rows source db (record { objects = os; stored = stored; fault = fault; is_fault = bad })

@@ -46,15 +46,15 @@ pub record HasFound (clean : Type 0) (registry : Reg) (name text : List ℕ) : T
   pub registered : clean → text ≡ objects_text (asked (Naming name) registry)
 
 -- the objects that name a maintainer, as they are answered; or the store fails (profile)
-abbrev pub IsFound : Type 0 → Reg → List ℕ → Result (List ℕ) QueryFault → Type 0
-IsFound clean registry name (Ok text) = HasFound clean registry name text
-IsFound clean registry name (Err fault) = fault ≡ Store
+abbrev pub IsNamingFound : Type 0 → Reg → List ℕ → Result (List ℕ) QueryFault → Type 0
+IsNamingFound clean registry name (Ok text) = HasFound clean registry name text
+IsNamingFound clean registry name (Err fault) = fault ≡ Store
 
 -- the query asks what names a maintainer, which is looked for in the tables (profile)
 pub record IsLookup (clean : Type 0) (registry : Reg) (text : List ℕ) (answer : Result (List ℕ) QueryFault) : Type 0 where
   pub name : List ℕ
   pub asks : query_of text ≡ Ok (Naming name)
-  pub found : IsFound clean registry name answer
+  pub found : IsNamingFound clean registry name answer
 
 -- a desk that runs gives the answer of its registry, or what the tables have, or tells that there is no memory for it (profile)
 abbrev pub IsRunningAnswer : Type 0 → Reg → ℕ → List ℕ → Result (List ℕ) QueryFault → Type 0

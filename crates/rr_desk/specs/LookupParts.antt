@@ -5,7 +5,7 @@ use Rattle.rr_store.specs.declared.fault.StoreFault.{StoreFault}
 use Rattle.rr_store.specs.declared.fault.StoreFault.TheVariants as unread
 use Rattle.rr_answer.specs.declared.fault.QueryFault.{QueryFault}
 use Rattle.rr_answer.specs.declared.fault.QueryFault.TheVariants.{Bad, TooLong, TooMany, Memory, Store, Stopped}
-use Rattle.rr_desk.specs.Answering.{IsFound}
+use Rattle.rr_desk.specs.Answering.{IsNamingFound}
 
 -- the database refused
 abbrev pub is_refused : {X : Type 0} → Result X StoreFault → Bool
@@ -24,5 +24,5 @@ IsUnfound Stopped stopped = ⊥
 
 -- what names a maintainer was found, or not, and whether the desk is stopped
 abbrev pub LooksUp : Type 0 → Reg → List ℕ → Bool → Result (List ℕ) QueryFault → Type 0
-LooksUp clean registry name stopped (Ok text) = (stopped ≡ false) × IsFound clean registry name (Ok text)
+LooksUp clean registry name stopped (Ok text) = (stopped ≡ false) × IsNamingFound clean registry name (Ok text)
 LooksUp clean registry name stopped (Err fault) = IsUnfound fault stopped

@@ -27,12 +27,12 @@ pub record GainsNew (before : Reg) (key : Key) (after : Reg) : Type 0 where
   pub absent : get before key ≡ None
 
 -- what an outcome of an item about this key says of the registry before it and the one after it
-abbrev pub Leads : Reg → Key → Outcome → Reg → Type 0
-Leads before key Added after = GainsNew before key after
-Leads before key Changed after = Gains before key after
-Leads before key Unchanged after = after ≡ before
-Leads before key Deleted after = after ≡ remove before key
-Leads before key (Refused code) after = after ≡ before
+abbrev pub LeadsTo : Reg → Key → Outcome → Reg → Type 0
+LeadsTo before key Added after = GainsNew before key after
+LeadsTo before key Changed after = Gains before key after
+LeadsTo before key Unchanged after = after ≡ before
+LeadsTo before key Deleted after = after ≡ remove before key
+LeadsTo before key (Refused code) after = after ≡ before
 
 -- where the rows were those of a registry, they are those of the one that it is with an object under this key
 abbrev pub FollowsGain : Key → Reg → Database → Database → Type 0
@@ -44,14 +44,14 @@ FollowsNew key after old new = (before : Reg) → GainsNew before key after → 
 
 -- where the rows were those of the registry before the item, they are those of the one after it
 abbrev pub Follows : Key → Outcome → Reg → Database → Database → Type 0
-Follows key outcome after old new = (before : Reg) → Leads before key outcome after → HasRows before old → HasRows after new
+Follows key outcome after old new = (before : Reg) → LeadsTo before key outcome after → HasRows before old → HasRows after new
 
 -- rows of objects that are no registry are bad rows; want of memory is told as such (profile)
-abbrev pub open_fault : LoadFault → OpenFault
-open_fault (Duplicate n) = opened.BadRow
-open_fault (Overlap n) = opened.BadRow
-open_fault (Unnamed n) = opened.BadRow
-open_fault Memory = opened.Memory
+abbrev pub opening_fault : LoadFault → OpenFault
+opening_fault (Duplicate n) = opened.BadRow
+opening_fault (Overlap n) = opened.BadRow
+opening_fault (Unnamed n) = opened.BadRow
+opening_fault Memory = opened.Memory
 
 -- a paragraph is this object in the registry of a source (profile)
 pub record IsParagraphOf (source : List ℕ) (fields : List Field) (object : Obj) : Type 0 where

@@ -12,7 +12,7 @@ ghost use Rattle.rr_store.specs.Kept.{IsLeft};
 ghost use Rattle.rr_store.specs.declared.fault.CreateFault.TheVariants.{NotEmpty};
 ghost use Rattle.rr_store.specs.declared.fault.OpenFault.TheVariants.{BadRow, WrongVersion};
 ghost use Rattle.rr_desk.specs.Opened.{HasNoRegistry};
-ghost use Rattle.rr_desk.specs.Private.{open_fault};
+ghost use Rattle.rr_desk.specs.Private.{opening_fault};
 
 use crate::stored::Stored;
 use rr_index::IndexedBook;
@@ -56,7 +56,7 @@ pub(crate) fn open_stored<S: Alter>(
 
 /// Why tables whose objects are no registry are not opened.
 fn refused(fault: LoadFault) -> OpenFault
-    ensures { result ≡ open_fault fault }
+    ensures { result ≡ opening_fault fault }
 {
     match fault {
         LoadFault::Duplicate(_) | LoadFault::Overlap(_) | LoadFault::Unnamed(_) => {

@@ -10,7 +10,7 @@ use Rattle.rr_submission.specs.declared.ledger.Ledger.{Ghosts}
 use Rattle.rr_submission.specs.declared.submission.Done.{Done}
 use Rattle.rr_submission.specs.declared.submission.DeskFault.{DeskFault}
 use Rattle.rr_submission.specs.declared.submission.DeskFault.TheVariants as fault
-use Rattle.rr_submission.specs.Served.{ReadsFront}
+use Rattle.rr_submission.specs.Served.{ReadsItems}
 use Rattle.rr_submission.specs.Submissions.{Sides, Submits}
 use Rattle.rr_http.specs.declared.body.Body.{Body}
 use Rattle.rr_http.specs.BodyReaders.{body_aside, body_failed, body_missing, body_reads, body_rest, body_told}
@@ -73,7 +73,7 @@ module _ (body rest : List ℕ) (missing faults reads : ℕ) where
   reads_plain bytes Broken p = (breaks_plain bytes p.0, p.1)
   reads_plain bytes Endless p = (gives_plain bytes p.0, p.1, p.2)
 
-  front_plain : (front : List ℕ) → ReadsFront start end front → ReadsFront plain_start plain_end front
+  front_plain : (front : List ℕ) → ReadsItems start end front → ReadsItems plain_start plain_end front
   front_plain front p = record {
     left = p.left;
     gives = gives_plain (front ++ p.left) p.gives;
@@ -82,7 +82,7 @@ module _ (body rest : List ℕ) (missing faults reads : ℕ) where
     few = p.few;
   }
 
-  front_whole : (front : List ℕ) → ReadsFront start end front → EndsWhole front missing
+  front_whole : (front : List ℕ) → ReadsItems start end front → EndsWhole front missing
   front_whole front p = elim p.apart [ inl whole ↦ inl whole | inr at_end ↦ inr (none_missing at_end.1) ]
 
   -- a reading that did not come to the end ended with a failed read behind the bytes

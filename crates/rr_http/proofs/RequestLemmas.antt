@@ -10,11 +10,11 @@ use Rattle.httparse.specs.Spans.{IsHeaderWithin, header_bytes}
 use Rattle.httparse.specs.declared.spans.HeaderSpan.{HeaderSpan}
 use Rattle.rr_http.specs.Asked.{parts_of}
 use Rattle.rr_http.specs.declared.asking.Page.TheVariants as page
-use Rattle.rr_http.specs.Requests.{page_of, is_named, values_of}
+use Rattle.rr_http.specs.Requests.{page_of, is_field_of, values_of}
 
 -- a field of another name has no value of this one
 pub values_passed : (name head : List ℕ) (rest behind : List HeaderSpan) (field : HeaderSpan) → rest ≡ field ∷ behind →
-    is_named name (header_bytes head field) ≡ false → values_of name (parts_of head rest) ≡ values_of name (parts_of head behind)
+    is_field_of name (header_bytes head field) ≡ false → values_of name (parts_of head rest) ≡ values_of name (parts_of head behind)
 values_passed name head rest behind field cut other = rw cut (rw other refl)
 
 -- what holds of the spans holds of those behind the first

@@ -42,12 +42,12 @@ page_of path =
     else (if is_query_path path then Some page.Query else None))
 
 -- a field has this name, in any case of letters (RFC 9110, 5.1)
-abbrev pub is_named : List ℕ → Part → Bool
-is_named name part = is_keyword name part.0
+abbrev pub is_field_of : List ℕ → Part → Bool
+is_field_of name part = is_keyword name part.0
 
 -- the values of the fields of this name
 abbrev pub values_of : List ℕ → List Part → List (List ℕ)
-values_of name parts = map (λ (part : Part). part.1) (filter (is_named name) parts)
+values_of name parts = map (λ (part : Part). part.1) (filter (is_field_of name) parts)
 
 -- there is a field of this name
 abbrev pub has_field : List ℕ → List Part → Bool

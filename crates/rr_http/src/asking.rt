@@ -4,7 +4,7 @@ ghost use Rattle.std.specs.Prelude.{◌≡◌, ◌≤◌, ◌∷◌, [], IfOk, S
 ghost use Rattle.std.specs.Str.{bytes_eq};
 ghost use Rattle.httparse.specs.Spans.{IsHeaderWithin, header_bytes};
 ghost use Rattle.rr_http.specs.Asked.{parts_of, seen};
-ghost use Rattle.rr_http.specs.Requests.{HasSmallSize, asks_of, asks_page, is_length, is_named, method_of, page_of, path_of, size_of, sized, values_of};
+ghost use Rattle.rr_http.specs.Requests.{HasSmallSize, asks_of, asks_page, is_length, is_field_of, method_of, page_of, path_of, size_of, sized, values_of};
 
 use crate::digits::{are_digits, capped_value};
 use crate::routing::Pages;
@@ -157,7 +157,7 @@ fn find_value<'a, 'f>(
 {
     let mut rest = fields;
     'fields: while let Some((field, behind)) = rest.split_first() {
-        if is_named(head, field, name) {
+        if is_field_of(head, field, name) {
             return Some((field.value.of(head), behind));
         }
         rest = behind;
@@ -166,9 +166,9 @@ fn find_value<'a, 'f>(
 }
 
 /// Whether the field has this name, in any case of letters (RFC 9110, 5.1).
-fn is_named(head: &[u8], field: &HeaderSpan, name: &[u8]) -> bool
+fn is_field_of(head: &[u8], field: &HeaderSpan, name: &[u8]) -> bool
     requires { IsHeaderWithin (length head.now) field.now }
-    ensures { result ≡ is_named name.now (header_bytes head.now field.now) }
+    ensures { result ≡ is_field_of name.now (header_bytes head.now field.now) }
 {
     is_keyword(field.name.of(head), name)
 }

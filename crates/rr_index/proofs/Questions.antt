@@ -12,7 +12,7 @@ use Rattle.rr_auth.proofs.Covers.{closest_none, closest_there}
 use Rattle.rr_auth.proofs.Members.{found_in, none_passes, passing_one, stands_at}
 use Rattle.rr_auth.proofs.RouteSpace.{block_key, blocks_exact, blocks_nested, closest_routes_none, closest_routes_there, inetnum_key, inetnums_exact, inetnums_nested, route_key}
 use Rattle.rr_auth.specs.Closest.{block_span, closest_block, closest_inetnum, closest_routes, inetnum_span, route_prefix, route_span}
-use Rattle.rr_auth.specs.Conditions.{crosses_some as crosses_key}
+use Rattle.rr_auth.specs.Conditions.{crosses_registered as crosses_key}
 use Rattle.rr_auth.specs.Registries.{Reg, Sound, keys_cross}
 use Rattle.rr_book.proofs.Crossing.{none_crosses}
 use Rattle.rr_cover.proofs.Ordered.{crosses_found, crosses_missed}

@@ -28,7 +28,7 @@ pub record HasIndexes (r : Reg) (kept : Indexes) : Type 0 where
   pub namings : HasNamings r kept.namings.counts
 
 -- A sound registry with what is kept beside its objects (profile).
-pub record IsKept (r : Reg) (kept : Indexes) : Type 0 where
+pub record IsIndexed (r : Reg) (kept : Indexes) : Type 0 where
   pub sound : Sound r
   pub indexes : HasIndexes r kept
 

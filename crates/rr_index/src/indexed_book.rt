@@ -36,11 +36,11 @@ impl Model for IndexedBook {
 
     ghost coded = { map.code (key.the_row).coded (object.the_row).coded };
 
-    ghost use Rattle.rr_index.specs.Indexes.{IsKept};
+    ghost use Rattle.rr_index.specs.Indexes.{IsIndexed};
 
     ghost view = { λ b. b.objects };
 
-    ghost invariant = { λ b. IsKept b.objects b.indexes };
+    ghost invariant = { λ b. IsIndexed b.objects b.indexes };
 }
 
 impl IndexedBook {

@@ -7,7 +7,7 @@ ghost use Rattle.rr_cover.specs.SpanMaps.{IsClosest, NoneCovers, crosses_some};
 ghost use Rattle.rr_object.specs.Objects.{Obj};
 ghost use Rattle.rr_auth.specs.Registries.{Reg, Sound};
 ghost use Rattle.rr_auth.specs.Closest.{closest_routes};
-ghost use Rattle.rr_auth.specs.Conditions.{crosses_some as crosses_key};
+ghost use Rattle.rr_auth.specs.Conditions.{crosses_registered as crosses_key};
 ghost use Rattle.rr_index.specs.SpanIndexes.{HasSpans, IsTold, is_crossed};
 
 use rr_cover::{InsertFault, PrefixTree, SpanNest};

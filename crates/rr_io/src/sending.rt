@@ -6,13 +6,13 @@ use super::Sink;
 use std::io;
 
 /// Writes all of `bytes`. After a fault the writer has taken a front of them.
-pub fn write_all<W: Sink>(sink: &mut W, bytes: &[u8]) -> io::Result<()>
-    ensures writes { Writes (W.told sink.old) (W.told sink.new) bytes.now result }
-    ensures aside { W.aside sink.new ≡ W.aside sink.old }
+pub fn write_all<W: Sink>(writer: &mut W, bytes: &[u8]) -> io::Result<()>
+    ensures writes { Writes (W.told writer.old) (W.told writer.new) bytes.now result }
+    ensures aside { W.aside writer.new ≡ W.aside writer.old }
 {
     let mut rest = bytes;
     'rest: while !rest.is_empty() {
-        let count = sink.write(rest)?;
+        let count = writer.write(rest)?;
         let (_, after) = rest.split_at(count);
         rest = after;
     }
@@ -20,12 +20,12 @@ pub fn write_all<W: Sink>(sink: &mut W, bytes: &[u8]) -> io::Result<()>
 }
 
 /// Writes all of the pieces, one after the other. After a fault the writer has taken a front of their bytes.
-pub fn write_pieces<W: Sink>(sink: &mut W, pieces: &[&[u8]]) -> io::Result<()>
-    ensures writes { Writes (W.told sink.old) (W.told sink.new) (flat_map (λ piece. piece.now) pieces.now) result }
-    ensures aside { W.aside sink.new ≡ W.aside sink.old }
+pub fn write_pieces<W: Sink>(writer: &mut W, pieces: &[&[u8]]) -> io::Result<()>
+    ensures writes { Writes (W.told writer.old) (W.told writer.new) (flat_map (λ piece. piece.now) pieces.now) result }
+    ensures aside { W.aside writer.new ≡ W.aside writer.old }
 {
     'pieces: for piece in pieces {
-        write_all(sink, piece)?;
+        write_all(writer, piece)?;
     }
     Ok(())
 }

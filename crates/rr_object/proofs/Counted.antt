@@ -2,7 +2,7 @@
 use Rattle.std.proofs.Common.{◌≡◌, ℕ, ◌==◌, Bool, true, false, not, List, length, refl, ap, ◌∙◌}
 use Rattle.std.proofs.lemmas.List.{length-map}
 use Rattle.std.proofs.lemmas.List.Sums.{length-filter}
-use Rattle.rr_text.specs.Fields.{Field, is_named}
+use Rattle.rr_text.specs.Fields.{Field, has_name}
 use Rattle.rr_object.specs.declared.kind.Kind.TheVariants.{Auth}
 use Rattle.rr_bytes.specs.Parts.{is_filled}
 use Rattle.rr_object.specs.Items.{values_of}
@@ -11,7 +11,7 @@ use Rattle.rr_object.specs.Readings.{count_of, items_of}
 
 -- an attribute has as many values as it stands times
 values_counted : (name : List ℕ) (fields : List Field) → length (values_of name fields) ≡ count_of name fields
-values_counted name fields = length-map _ _ ∙ length-filter (is_named name) fields
+values_counted name fields = length-map _ _ ∙ length-filter (has_name name) fields
 
 twice_not : (b : Bool) → not (not b) ≡ b
 twice_not true = refl

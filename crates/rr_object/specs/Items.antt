@@ -3,12 +3,12 @@ use Rattle.std.specs.Prelude.{ℕ, Bool, ◌==◌, ◌||◌, List, [], ◌∷◌
 use Rattle.std.specs.List.{flat_map, filter_map, list_all}
 use Rattle.rr_bytes.specs.Blanks.{is_blank, is_blank_or_comma}
 use Rattle.rr_bytes.specs.Parts.{parts_at}
-use Rattle.rr_text.specs.Fields.{Field, is_named}
+use Rattle.rr_text.specs.Fields.{Field, has_name}
 use Rattle.rr_text.specs.Meanings.{value_meaning}
 
 -- what the attributes of this name say, in order (RFC 2622, 2)
 abbrev pub values_of : List ℕ → List Field → List (List ℕ)
-values_of name fields = map (λ field. value_meaning field.lines) (filter (is_named name) fields)
+values_of name fields = map (λ field. value_meaning field.lines) (filter (has_name name) fields)
 
 -- the one value, where there is one alone (RFC 2622, 2)
 abbrev pub only : {X : Type 0} → List X → Option X

@@ -1,5 +1,7 @@
 -- Objects as plain data.
-use Rattle.std.specs.Prelude.{ℕ, List, ◌++◌, map}
+use Rattle.std.specs.Prelude.{ℕ, Bool, List, ◌++◌, map}
+use Rattle.std.specs.List.{list_any}
+use Rattle.std.specs.Str.{bytes_eq}
 use Rattle.std.proofs.Common.{Bor}
 use Rattle.rr_text.specs.Fields.{Field}
 use Rattle.rr_object.specs.declared.key.Key.{Key}
@@ -23,6 +25,10 @@ pub record Obj : Type 0 where
 abbrev pub names_of : Obj → List (List ℕ)
 names_of object =
     ((object.maintainers ++ object.lower) ++ map (λ grant. grant.name) object.routes) ++ object.by_ref.names
+
+-- the object names the maintainer in one of these attributes (profile)
+abbrev pub object_names : List ℕ → Obj → Bool
+object_names name object = list_any (λ n. bytes_eq n name) (names_of object)
 
 -- the objects that references lend
 abbrev pub lent : List (Bor Obj) → List Obj

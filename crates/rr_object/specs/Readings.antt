@@ -3,7 +3,7 @@ use Rattle.std.specs.Prelude.{◌≡◌, ℕ, Bool, false, not, ◌==◌, ◌||�
 use Rattle.std.specs.List.{list_any}
 use Rattle.std.specs.Option.{option_map_or, option_and_then}
 use Rattle.std.specs.Str.{bytes_eq}
-use Rattle.rr_text.specs.Fields.{Field, is_named, with_value}
+use Rattle.rr_text.specs.Fields.{Field, has_name, with_value}
 use Rattle.rr_number.specs.Names.{name_of}
 use Rattle.rr_object.specs.declared.class.Class.{Class}
 use Rattle.rr_object.specs.declared.class.Class.TheVariants as class
@@ -61,7 +61,7 @@ items_read kind class fields = if is_read kind class then items_of kind fields e
 
 -- how many attributes have this name (RFC 2622, 2)
 abbrev pub count_of : List ℕ → List Field → ℕ
-count_of name fields = count_by (is_named name) fields
+count_of name fields = count_by (has_name name) fields
 
 -- an attribute stands more or less often than it may, or has no item where it needs one (RFC 2622, 2; profile)
 abbrev pub breaks : Occurs → Kind → List Field → Bool
@@ -98,7 +98,7 @@ source_of fields = option_and_then name_of (only (values_of (kind_name Source) f
 
 -- the names of attributes that submissions use, and no object has (profile)
 abbrev pub is_kept_out : Field → Bool
-is_kept_out field = is_named (codes "password") field || is_named (codes "delete") field
+is_kept_out field = has_name (codes "password") field || has_name (codes "delete") field
 
 -- the maintainers that an attribute of an object names (RFC 2622, 3)
 abbrev pub maintainers_of : Kind → Class → List Field → List (List ℕ)

@@ -1,7 +1,7 @@
 //! The values of a paragraph's attributes, and the items of lists.
 
 ghost use Rattle.std.specs.Prelude.{◌≡◌, IfOk, count_by, map};
-ghost use Rattle.rr_text.specs.Fields.{is_named};
+ghost use Rattle.rr_text.specs.Fields.{has_name};
 ghost use Rattle.rr_object.specs.Items.{items, joined, spaced, values_of, words};
 ghost use Rattle.rr_object.specs.Readings.{count_of};
 
@@ -17,7 +17,7 @@ pub(crate) fn count_named(paragraph: &Paragraph, name: &[u8]) -> usize
 }
 
 fn count_among(attributes: &[Attribute], name: &[u8]) -> usize
-    ensures { result ≡ count_by (is_named name.now) attributes.now }
+    ensures { result ≡ count_by (has_name name.now) attributes.now }
 {
     attributes
         .iter()

@@ -2,7 +2,7 @@
 
 ghost use Rattle.std.specs.Prelude.{◌≡◌};
 ghost use Rattle.std.specs.Iterator.{YieldsFirstRef, item_count};
-ghost use Rattle.rr_object.specs.Objects.{names_of};
+ghost use Rattle.rr_object.specs.Objects.{names_of, object_names};
 
 use crate::grant::Grant;
 use crate::object::Object;
@@ -38,6 +38,13 @@ impl Object {
             routes: self.routes(),
             referrers: self.by_ref().names(),
         }
+    }
+
+    /// Whether the object names the maintainer.
+    pub fn names(&self, name: &Name) -> bool
+        ensures { result ≡ object_names name.now self.now }
+    {
+        self.maintainers_named().any(|own| own == name)
     }
 }
 

@@ -14,7 +14,7 @@ use Rattle.rr_object.specs.declared.key.Key.{Key}
 use Rattle.rr_object.specs.declared.key.Key.TheVariants.{Mntner}
 use Rattle.rr_object.specs.Objects.{Obj, names_of}
 use Rattle.rr_object.specs.KeyOrders.{IsKeyValue, key_cmp}
-use Rattle.rr_auth.specs.Conditions.{crosses_some}
+use Rattle.rr_auth.specs.Conditions.{crosses_registered}
 use Rattle.rr_object.specs.Keys.{is_mntner_of}
 use Rattle.rr_auth.specs.Registries.{Reg, maintainer, names_nobody, keys_cross}
 use Rattle.rr_object.proofs.KeyLaws.{keys_total}
@@ -33,7 +33,7 @@ nothing : {A : Type 0} (x : A) → None ≡ Some x → ⊥
 nothing x e = cc
 
 -- one more object, whose key crosses none, leaves objects apart
-pub put_apart : (o : Obj) (os : List Obj) → IsApart os → IsKeyValue o.key → crosses_some (book_of os) o.key ≡ false → IsApart (put_in o os)
+pub put_apart : (o : Obj) (os : List Obj) → IsApart os → IsKeyValue o.key → crosses_registered (book_of os) o.key ≡ false → IsApart (put_in o os)
 put_apart o os a formed free =
     let r = book_of os in
     let same = book_put o os a.ordered in
@@ -204,7 +204,7 @@ is_overlap os n o e f =
 pub taken_in : (os : List Obj) (n : ℕ) (o : Obj) (grown : List Obj) → IsApart os → IsKeyValue o.key
     → is_key_of_some o.key os ≡ false → is_crossed_by_some o.key os ≡ false → grown ≡ put_in o os → IsTakenIn os n o grown
 taken_in os n o grown a formed new free same =
-    let apart : crosses_some (book_of os) o.key ≡ false = ap (list_any (λ x. keys_cross x.key o.key)) (values_of_book os a.ordered) ∙ free in
+    let apart : crosses_registered (book_of os) o.key ≡ false = ap (list_any (λ x. keys_cross x.key o.key)) (values_of_book os a.ordered) ∙ free in
     record {
       free =
           ap (λ b. if b then Some (Duplicate n) else (if is_crossed_by_some o.key os then Some (Overlap n) else None)) new

@@ -6,7 +6,7 @@ use Rattle.sqlite_value.specs.declared.value.Value.TheVariants.{Int, Text}
 use Rattle.sqlite_trees.proofs.ListLemmas.{IsPermutation-filter, filter-map}
 use Rattle.sqlite.specs.Effect.{Database}
 use Rattle.rr_rows.specs.Contents.{contents, is_object_of, is_named_of}
-use Rattle.rr_rows.specs.Entries.{Entry, object_row, named_rows, AreRowsOf, IsPut, IsTaken}
+use Rattle.rr_rows.specs.Entries.{Entry, object_row, named_rows, AreRowsOf, IsPut, IsTakenOut}
 
 -- an entry has this class and this key, as SQL compares them
 abbrev pub is_at : ℕ → List ℕ → Entry → Bool
@@ -45,7 +45,7 @@ module _ (class : ℕ) (key : List ℕ) where
   kept_objects : (entries : List Entry) → filter (λ row. not (is_object_of class key row)) (map object_row entries) ≡ map object_row (without_key class key entries)
   kept_objects entries = filter-map _ object_row entries
 
-  pub taken_rows : (entries : List Entry) (old new : Database) → AreRowsOf entries old → IsTaken class key old new → AreRowsOf (without_key class key entries) new
+  pub taken_rows : (entries : List Entry) (old new : Database) → AreRowsOf entries old → IsTakenOut class key old new → AreRowsOf (without_key class key entries) new
   taken_rows entries old new rows taken = record {
     tidy = taken.tidy;
     objects = subst (λ xs. IsPermutation xs (contents (new.trees 2))) (kept_objects entries) (subst (IsPermutation _) (sym taken.objects) (IsPermutation-filter _ _ _ rows.objects));

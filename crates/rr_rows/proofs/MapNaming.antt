@@ -19,7 +19,7 @@ use Rattle.rr_object.specs.Keys.{class_of}
 use Rattle.rr_object.specs.declared.key.Key.{Key}
 use Rattle.rr_object.specs.KeyOrders.{IsKeyValue, key_cmp}
 use Rattle.rr_object.specs.KeyTexts.{key_bytes}
-use Rattle.rr_object.specs.Objects.{Obj, names_of}
+use Rattle.rr_object.specs.Objects.{Obj, names_of, object_names}
 use Rattle.rr_object.proofs.KeyBounds.{has_parts}
 use Rattle.rr_object.proofs.KeyLaws.{same_key, tied_key}
 use Rattle.rr_rows.specs.Contents.{are_joined, contents, named_values, pointed}
@@ -29,10 +29,6 @@ use Rattle.rr_rows.proofs.EntryLemmas.{is_at}
 use Rattle.rr_rows.proofs.MapKeys.{is_same, texts_tie}
 use Rattle.rr_rows.proofs.MapRows.{keys_formed, same_at}
 use Rattle.rr_rows.proofs.MapLists.{IsIn, in_itself, in_order_apart, of_each, same_objects, values_are_objects, values_in_order}
-
--- an object names this maintainer
-abbrev pub names_it : List ℕ → Obj → Bool
-names_it name o = list_any (λ n. bytes_eq n name) (names_of o)
 
 abbrev pub row_of : Obj → Row
 row_of o = object_row (entry_of o)
@@ -134,23 +130,23 @@ module _ {X : Type 0} (name : List ℕ) (x : X) where
 
 module _ (name : List ℕ) (os : List Obj) (formed : AllByRecursion (λ o. IsKeyValue o.key) os) (apart : AreApart os) where
   -- the rows of one object point to it where it names the maintainer
-  points_once : (o : Obj) → IsKeyValue o.key → IsIn o os → pointed name (named_rows (entry_of o)) (map object_row (map entry_of os)) ≡ cond (names_it name o) (row_of o ∷ []) []
+  points_once : (o : Obj) → IsKeyValue o.key → IsIn o os → pointed name (named_rows (entry_of o)) (map object_row (map entry_of os)) ≡ cond (object_names name o) (row_of o ∷ []) []
   points_once o good is =
       flat_map-map (λ first. filter (are_joined name first) (map object_row (map entry_of os))) (λ n. named_values n (class_number (class_of o.key)) (key_bytes o.key)) (once (names_of o))
       ∙ (λ i. flat_map (λ n. points name os formed apart o n good is i) (once (names_of o)))
       ∙ shown_once name (row_of o) (names_of o)
 
   all_pointed : (xs : List Obj) → AllByRecursion (λ o. IsKeyValue o.key) xs → AllByRecursion (λ o. IsIn o os) xs
-      → pointed name (flat_map named_rows (map entry_of xs)) (map object_row (map entry_of os)) ≡ map row_of (filter (names_it name) xs)
+      → pointed name (flat_map named_rows (map entry_of xs)) (map object_row (map entry_of os)) ≡ map row_of (filter (object_names name) xs)
   all_pointed [] good are = refl
   all_pointed (o ∷ xs) good are =
       flat_map-append (λ first. filter (are_joined name first) (map object_row (map entry_of os))) (named_rows (entry_of o)) (flat_map named_rows (map entry_of xs))
       ∙ (λ i. points_once o good.0 are.0 i ++ all_pointed xs good.1 are.1 i)
-      ∙ (elim (names_it name o) as (λ b. cond b (row_of o ∷ []) [] ++ map row_of (filter (names_it name) xs) ≡ map row_of (cond b (o ∷ filter (names_it name) xs) (filter (names_it name) xs))) [ true ↦ refl | false ↦ refl ])
+      ∙ (elim (object_names name o) as (λ b. cond b (row_of o ∷ []) [] ++ map row_of (filter (object_names name) xs) ≡ map row_of (cond b (o ∷ filter (object_names name) xs) (filter (object_names name) xs))) [ true ↦ refl | false ↦ refl ])
 
 -- the rows to which a maintainer's point are those of the objects that name it
 pub pointed_rows : (name : List ℕ) (objects : FinMap key_cmp Obj) (db : Database) → HasRows objects db
-    → IsPermutation (map row_of (filter (names_it name) (values objects))) (pointed name (contents (db.trees 4)) (contents (db.trees 2)))
+    → IsPermutation (map row_of (filter (object_names name) (values objects))) (pointed name (contents (db.trees 4)) (contents (db.trees 2)))
 pointed_rows name objects db has =
     let os = values objects in
     let formed = keys_formed objects has.keyed in
@@ -160,8 +156,8 @@ pointed_rows name objects db has =
 
 -- objects in order that have these rows are those that name the maintainer
 pub naming_told : (name : List ℕ) (objects : FinMap key_cmp Obj) (xs : List Obj) (db : Database) → HasRows objects db → AllByRecursion IsObject xs → AreInOrder xs
-    → IsPermutation (map row_of xs) (pointed name (contents (db.trees 4)) (contents (db.trees 2))) → xs ≡ filter (names_it name) (values objects)
+    → IsPermutation (map row_of xs) (pointed name (contents (db.trees 4)) (contents (db.trees 2))) → xs ≡ filter (object_names name) (values objects)
 naming_told name objects xs db has all up same =
-    same_objects xs (filter (names_it name) (values objects)) all (all-filter IsObject (names_it name) (values objects) (values_are_objects objects has.keyed)) up
-    (ascending-filter (λ a b. key_cmp a.key b.key ≡ Less) (names_it name) (values objects) (values_in_order objects has.keyed))
+    same_objects xs (filter (object_names name) (values objects)) all (all-filter IsObject (object_names name) (values objects) (values_are_objects objects has.keyed)) up
+    (ascending-filter (λ a b. key_cmp a.key b.key ≡ Less) (object_names name) (values objects) (values_in_order objects has.keyed))
     (IsPermutation-trans _ _ _ same (IsPermutation-sym _ _ (pointed_rows name objects db has)))

@@ -16,8 +16,8 @@ use Rattle.rr_object.specs.Objects.{Obj}
 use Rattle.rr_object.proofs.KeyBounds.{has_parts}
 use Rattle.rr_object.proofs.KeyLaws.{keys_exact, keys_total, same_key}
 use Rattle.rr_rows.specs.Contents.{settings}
-use Rattle.rr_rows.specs.Entries.{Entry, AreRowsOf, IsPut, IsTaken, entry_of, object_row, named_rows}
-use Rattle.rr_rows.specs.Maps.{HasVersion, IsKeyed, IsObject, Puts, Takes}
+use Rattle.rr_rows.specs.Entries.{Entry, AreRowsOf, IsPut, IsTakenOut, entry_of, object_row, named_rows}
+use Rattle.rr_rows.specs.Maps.{HasVersion, IsKeyed, IsObject, Puts, TakesOut}
 use Rattle.rr_rows.proofs.EntryLemmas.{is_at, put_rows, taken_rows, without_key}
 use Rattle.rr_rows.proofs.MapKeys.{at_ties, ordered_as_bytes}
 use Rattle.rr_rows.proofs.MapEntries.{each_entry, entries_without, values_with}
@@ -103,7 +103,7 @@ same_version : (version : List ℕ) (old new : Database) → new.trees 0 ≡ old
 same_version version old new same is = ap settings same ∙ is
 
 -- the rows without those of a key are the rows of the map without it
-pub takes : (key : Key) → HasKeyParts key → (old new : Database) → IsTaken (class_number (class_of key)) (key_bytes key) old new → Takes key old new
+pub takes : (key : Key) → HasKeyParts key → (old new : Database) → IsTakenOut (class_number (class_of key)) (key_bytes key) old new → TakesOut key old new
 takes key formed old new taken objects has = record {
   keyed = kept_keyed objects key has.keyed;
   rows = subst (λ es. AreRowsOf es new) (entries_of_others key formed (values objects) (keys_formed objects has.keyed) ∙ ap (map entry_of) (sym (values_without objects has.keyed key)))

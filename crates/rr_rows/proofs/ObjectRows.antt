@@ -11,7 +11,7 @@ use Rattle.sqlite_trees.proofs.ListLemmas.{IsPermutation-filter, all-filter, all
 use Rattle.sqlite.specs.Effect.{Database}
 use Rattle.rr_object.specs.Objects.{Obj}
 use Rattle.rr_rows.specs.Contents.{contents, is_name_among, is_named_of, is_object_of, named_values}
-use Rattle.rr_rows.specs.Entries.{AreRowsOf, Entry, IsPut, IsTaken, entry_of, named_rows, object_row}
+use Rattle.rr_rows.specs.Entries.{AreRowsOf, Entry, IsPut, IsTakenOut, entry_of, named_rows, object_row}
 use Rattle.rr_rows.specs.Maps.{AreNamesOf, AreOfObjects, AreStored, IsFilled, IsObject, IsObjectOf}
 use Rattle.rr_rows.proofs.EntryLemmas.{is_at, put_rows, taken_rows}
 use Rattle.rr_rows.proofs.MapKeys.{is_same, texts_tie}
@@ -86,7 +86,7 @@ put_held object is old new held put =
       rows = subst (λ es. AreRowsOf (e ∷ es) new) (filter-map _ entry_of held.objects) (put_rows e (map entry_of held.objects) old new held.rows put);
     }
 
-pub taken_held : (class : ℕ) (key : List ℕ) (old new : Database) → AreOfObjects old → IsTaken class key old new → AreOfObjects new
+pub taken_held : (class : ℕ) (key : List ℕ) (old new : Database) → AreOfObjects old → IsTakenOut class key old new → AreOfObjects new
 taken_held class key old new held taken =
     let others : Obj → Bool = λ o. not (is_at class key (entry_of o)) in
     record {

@@ -12,7 +12,7 @@ use Rattle.sqlite_sql.specs.Query.{Query, Join, inner, end, matches, output, out
 use Rattle.sqlite_exec.proofs.PartitionLemmas.{IsSorted-from_map}
 use Rattle.sqlite_exec.proofs.RowsLemmas.{IsSorted-map}
 use Rattle.rr_rows.specs.Queries.{select_from}
-use Rattle.rr_rows.specs.Contents.{IsListing}
+use Rattle.rr_rows.specs.Contents.{IsInRank}
 
 flat_map-cond : {A B : Type 0} (p : A → Bool) (f : A → B) (xs : List A) → flat_map (λ x. cond (p x) (f x ∷ []) []) xs ≡ map f (filter p xs)
 flat_map-cond p f [] = refl
@@ -26,7 +26,7 @@ module _ (from : Join) (tests shown order : List Term) (params : Row) (trees : T
   query = select_from from tests shown order
 
   -- an answer is what is shown of the matches, in the order
-  pub answers : (rows : List Row) → IsSureAnswer query trees params rows → IsListing rank (map (eval_all shown) (matches trees tests from (params ∷ []))) rows
+  pub answers : (rows : List Row) → IsSureAnswer query trees params rows → IsInRank rank (map (eval_all shown) (matches trees tests from (params ∷ []))) rows
   answers rows sure =
       let a = sure Null in
       let found = matches trees tests from (params ∷ []) in

@@ -25,7 +25,7 @@ use Rattle.sqlite.proofs.Callers.{reads_as}
 use Rattle.rr_rows.specs.Tables.{Layout, Rules, laid, table_with, stands_apart, HasTables}
 use Rattle.rr_rows.specs.Texts.{insert_meta, insert_object, insert_named, delete_object, delete_name, clear_meta, clear_object, clear_named, select_meta, select_object, select_of_key, select_named, select_naming, meta_numbers, object_numbers, named_numbers}
 use Rattle.rr_rows.specs.Queries.{Means, alone, rowids_of, rows_of, object_tests, name_tests, naming_tests}
-use Rattle.rr_rows.specs.Contents.{AreKeyed, IsTidy, Alters, Adds, Removes, IsListing, columns, contents, number, meta_values, object_values, named_values, passes, is_object_of, is_name_of, are_joined, pointed, by_one, by_two, by_three}
+use Rattle.rr_rows.specs.Contents.{AreKeyed, IsTidy, Alters, Adds, Removes, IsInRank, columns, contents, number, meta_values, object_values, named_values, meets_tests, is_object_of, is_name_of, are_joined, pointed, by_one, by_two, by_three}
 use Rattle.rr_rows.proofs.TextLemmas.{insert_meta_is, insert_object_is, insert_named_is, delete_object_is, delete_name_is, clear_meta_is, clear_object_is, clear_named_is, select_meta_is, select_object_is, select_of_key_is, select_named_is, select_naming_is, meta_numbers_is, object_numbers_is, named_numbers_is}
 use Rattle.rr_rows.proofs.RowLemmas.{put_permutes, put_keyed, without_those, filter_keyed}
 use Rattle.rr_rows.proofs.ChangeLemmas.{Sets, inserted, deleted}
@@ -83,8 +83,8 @@ module _ (at tree : ℕ) (ours : IsOurs tree) (name : List ℕ) (cols : List Col
         (subst (λ row. IsPermutation (row ∷ contents (old.now.trees tree)) (contents (put_row new_row (old.now.trees tree)))) (holds_them id) (IsPermutation-map columns (new_row ∷ old.now.trees tree) (put_row new_row (old.now.trees tree)) (put_permutes new_row (old.now.trees tree) did.0)))
 
   module _ (tests : List Term) (means : (l : Layout) → Means l text (Delete at (alone (rowids_of tree tests)))) (seen : (db : Trees) → overlay db [] tree ≡ db tree)
-      (same : (row : Row) → list_all (holds (params ∷ row ∷ [])) tests ≡ passes tests params (columns row)) where
-    deletes : (count : ℕ) → Executes text params old new (Ok count) → Alters old.now new.now tree (Removes (passes tests params))
+      (same : (row : Row) → list_all (holds (params ∷ row ∷ [])) tests ≡ meets_tests tests params (columns row)) where
+    deletes : (count : ℕ) → Executes text params old new (Ok count) → Alters old.now new.now tree (Removes (meets_tests tests params))
     deletes count h =
         let l = tidy.has.layout in
         let rows = old.now.trees tree in
@@ -97,8 +97,8 @@ module _ (at tree : ℕ) (ours : IsOurs tree) (name : List ℕ) (cols : List Col
         subst (λ xs. IsPermutation xs (ids_of did.0)) (ap ids_of are ∙ map-map _ number (filter p rows)) (IsPermutation-map (λ row. id_in (rowid row)) _ _ shown.same) in
         let keyed = keyed_at tree old.now ours tidy in
         let left : without_all rows (ids_of did.0) ≡ filter (λ row. not (p row)) rows = without_those p rows (ids_of did.0) keyed ids in
-        altered l tidy.has.apart tree _ old.now new.now (Removes (passes tests params)) tidy did.2 (subst AreKeyed (sym left) (filter_keyed (λ row. not (p row)) rows keyed))
-        (ap contents left ∙ ap (λ (q : Row → Bool). contents (filter (λ row. not (q row)) rows)) (λ i row. same row i) ∙ sym (filter-map (λ row. not (passes tests params row)) columns rows))
+        altered l tidy.has.apart tree _ old.now new.now (Removes (meets_tests tests params)) tidy did.2 (subst AreKeyed (sym left) (filter_keyed (λ row. not (p row)) rows keyed))
+        (ap contents left ∙ ap (λ (q : Row → Bool). contents (filter (λ row. not (q row)) rows)) (λ i row. same row i) ∙ sym (filter-map (λ row. not (meets_tests tests params row)) columns rows))
 
   -- every row goes
   clears : (means : (l : Layout) → Means l text (Delete at (alone (rowids_of tree [])))) → (seen : (db : Trees) → overlay db [] tree ≡ db tree) → (count : ℕ) → Executes text params old new (Ok count)
@@ -162,31 +162,31 @@ filter_true (row ∷ rows) = ap (λ l. row ∷ l) (filter_true rows)
 module _ (tree : ℕ) (seen : (db : Trees) → overlay db [] tree ≡ db tree) (text : List ℕ) (names : List (List ℕ)) (shown order : List Term) (rank : Row → Row → Ordering)
     (ranks : (a b : Env) → output_cmp (rows_of tree [] shown order) (output (rows_of tree [] shown order) a) (output (rows_of tree [] shown order) b) ≡ rank (eval_all shown a) (eval_all shown b))
     (means : (l : Layout) → Means l text (Select (alone (rows_of tree [] shown order)) names)) where
-  selects : (old new : State) → HasTables old.now.schema → (rows : List Row) → Shown text [] old new rows → IsListing rank (map (λ row. eval_all shown ([] ∷ row ∷ [])) (old.now.trees tree)) rows
+  selects : (old new : State) → HasTables old.now.schema → (rows : List Row) → Shown text [] old new rows → IsInRank rank (map (λ row. eval_all shown ([] ∷ row ∷ [])) (old.now.trees tree)) rows
   selects old new has rows h =
       let l = has.layout in
       let sure = (reads_as text [] old new (laid l) has.is _ (means l).is (means l).plain (means l).unlisted rows h).answer in
       let list = answers (inner tree end) [] shown order [] (overlay old.now.trees []) rank ranks rows sure in
-      subst (λ xs. IsListing rank xs rows)
+      subst (λ xs. IsInRank rank xs rows)
       (ap (map (eval_all shown)) (matches_of tree [] [] (overlay old.now.trees []) ∙ ap (λ xs. map (λ row. [] ∷ row ∷ []) (filter (λ row. true) xs)) (seen old.now.trees) ∙ ap (map (λ row. [] ∷ row ∷ [])) (filter_true (old.now.trees tree))) ∙ map-map _ _ (old.now.trees tree))
       list
 
-pub selects_meta : (old new : State) → HasTables old.now.schema → (rows : List Row) → Shown select_meta [] old new rows → IsListing by_two (map (λ r. column r 1 ∷ column r 2 ∷ []) (old.now.trees 0)) rows
+pub selects_meta : (old new : State) → HasTables old.now.schema → (rows : List Row) → Shown select_meta [] old new rows → IsInRank by_two (map (λ r. column r 1 ∷ column r 2 ∷ []) (old.now.trees 0)) rows
 selects_meta = selects 0 (λ db. refl) select_meta (codes "name" ∷ codes "value" ∷ []) (col 1 1 ∷ col 1 2 ∷ []) (col 1 1 ∷ col 1 2 ∷ []) by_two (λ a b. refl) select_meta_is
 
-pub selects_object : (old new : State) → HasTables old.now.schema → (rows : List Row) → Shown select_object [] old new rows → IsListing by_two (contents (old.now.trees 2)) rows
+pub selects_object : (old new : State) → HasTables old.now.schema → (rows : List Row) → Shown select_object [] old new rows → IsInRank by_two (contents (old.now.trees 2)) rows
 selects_object = selects 2 (λ db. refl) select_object (codes "class" ∷ codes "okey" ∷ codes "body" ∷ []) (col 1 1 ∷ col 1 2 ∷ col 1 3 ∷ []) (col 1 1 ∷ col 1 2 ∷ []) by_two (λ a b. refl) select_object_is
 
-pub selects_named : (old new : State) → HasTables old.now.schema → (rows : List Row) → Shown select_named [] old new rows → IsListing by_three (contents (old.now.trees 4)) rows
+pub selects_named : (old new : State) → HasTables old.now.schema → (rows : List Row) → Shown select_named [] old new rows → IsInRank by_three (contents (old.now.trees 4)) rows
 selects_named = selects 4 (λ db. refl) select_named (codes "maintainer" ∷ codes "class" ∷ codes "okey" ∷ []) (col 1 1 ∷ col 1 2 ∷ col 1 3 ∷ []) (col 1 1 ∷ col 1 2 ∷ col 1 3 ∷ []) by_three (λ a b. refl) select_named_is
 
-pub numbers_meta : (old new : State) → HasTables old.now.schema → (rows : List Row) → Shown meta_numbers [] old new rows → IsListing by_one (map number (old.now.trees 0)) rows
+pub numbers_meta : (old new : State) → HasTables old.now.schema → (rows : List Row) → Shown meta_numbers [] old new rows → IsInRank by_one (map number (old.now.trees 0)) rows
 numbers_meta = selects 0 (λ db. refl) meta_numbers (codes "rowid" ∷ []) (col 1 0 ∷ []) (col 1 0 ∷ []) by_one (λ a b. refl) meta_numbers_is
 
-pub numbers_object : (old new : State) → HasTables old.now.schema → (rows : List Row) → Shown object_numbers [] old new rows → IsListing by_one (map number (old.now.trees 2)) rows
+pub numbers_object : (old new : State) → HasTables old.now.schema → (rows : List Row) → Shown object_numbers [] old new rows → IsInRank by_one (map number (old.now.trees 2)) rows
 numbers_object = selects 2 (λ db. refl) object_numbers (codes "rowid" ∷ []) (col 1 0 ∷ []) (col 1 0 ∷ []) by_one (λ a b. refl) object_numbers_is
 
-pub numbers_named : (old new : State) → HasTables old.now.schema → (rows : List Row) → Shown named_numbers [] old new rows → IsListing by_one (map number (old.now.trees 4)) rows
+pub numbers_named : (old new : State) → HasTables old.now.schema → (rows : List Row) → Shown named_numbers [] old new rows → IsInRank by_one (map number (old.now.trees 4)) rows
 numbers_named = selects 4 (λ db. refl) named_numbers (codes "rowid" ∷ []) (col 1 0 ∷ []) (col 1 0 ∷ []) by_one (λ a b. refl) named_numbers_is
 
 -- the rows of the objects of a class and a key
@@ -205,7 +205,7 @@ selects_of_key class key old new has rows h =
 
 -- the rows to which a maintainer's point
 pub selects_naming : (name : List ℕ) (old new : State) → HasTables old.now.schema → (rows : List Row) → Shown select_naming (Text name ∷ []) old new rows
-    → IsListing by_two (pointed name (contents (old.now.trees 4)) (contents (old.now.trees 2))) rows
+    → IsInRank by_two (pointed name (contents (old.now.trees 4)) (contents (old.now.trees 2))) rows
 selects_naming name old new has rows h =
     let l = has.layout in
     let means = select_naming_is l in
@@ -218,6 +218,6 @@ selects_naming name old new has rows h =
     let p : Row → Row → Bool = λ a b. list_all (holds (params ∷ a ∷ b ∷ [])) naming_tests in
     let each : (a : Row) → map (eval_all shown) (map (λ b. params ∷ a ∷ b ∷ []) (filter (p a) object)) ≡ filter (are_joined name (columns a)) (contents object) =
     λ a. map-map _ _ (filter (p a) object) ∙ sym (filter-map (are_joined name (columns a)) columns object) in
-    subst (λ xs. IsListing by_two xs rows)
+    subst (λ xs. IsInRank by_two xs rows)
     (ap (map (eval_all shown)) (matches_of_pairs 4 2 naming_tests params (overlay old.now.trees [])) ∙ map-flat_map (eval_all shown) _ named ∙ ap (λ (f : Row → List Row). flat_map f named) (λ i a. each a i) ∙ sym (flat_map-map (λ first. filter (are_joined name first) (contents object)) columns named))
     list

@@ -63,13 +63,13 @@ abbrev pub Removes : (Row → Bool) → List Row → List Row → Type 0
 Removes test old new = new ≡ filter (λ row. not (test row)) old
 
 -- a statement ran in the transaction, which goes on
-pub record IsStep (old new : State) : Type 0 where
+pub record RunsOn (old new : State) : Type 0 where
   pub is_open : IsTrue new.is_open
   pub mode : new.in_transaction ≡ old.in_transaction
   pub committed : new.committed ≡ old.committed
 
 -- these rows, in an order
-pub record IsListing (rank : Row → Row → Ordering) (rows answer : List Row) : Type 0 where
+pub record IsInRank (rank : Row → Row → Ordering) (rows answer : List Row) : Type 0 where
   pub same : IsPermutation rows answer
   pub sorted : IsSorted rank answer
 
@@ -93,21 +93,21 @@ object_values class key body = Int (pos class) ∷ Text key ∷ Blob body ∷ []
 abbrev pub named_values : List ℕ → ℕ → List ℕ → Row
 named_values name class key = Text name ∷ Int (pos class) ∷ Text key ∷ []
 
--- what a row holds passes the tests of WHERE under these parameters
-abbrev pub passes : List Term → Row → Row → Bool
-passes tests params row = list_all (holds (params ∷ (Null ∷ row) ∷ [])) tests
+-- what a row holds meets_tests the tests of WHERE under these parameters
+abbrev pub meets_tests : List Term → Row → Row → Bool
+meets_tests tests params row = list_all (holds (params ∷ (Null ∷ row) ∷ [])) tests
 
 -- a row of `object` has the class and the key, as SQL compares them
 abbrev pub is_object_of : ℕ → List ℕ → Row → Bool
-is_object_of class key = passes object_tests (Int (pos class) ∷ Text key ∷ [])
+is_object_of class key = meets_tests object_tests (Int (pos class) ∷ Text key ∷ [])
 
 -- and a row of `named`
 abbrev pub is_named_of : ℕ → List ℕ → Row → Bool
-is_named_of class key = passes named_tests (Int (pos class) ∷ Text key ∷ [])
+is_named_of class key = meets_tests named_tests (Int (pos class) ∷ Text key ∷ [])
 
 -- and one that names this maintainer
 abbrev pub is_name_of : ℕ → List ℕ → List ℕ → Row → Bool
-is_name_of class key name = passes name_tests (Text name ∷ Int (pos class) ∷ Text key ∷ [])
+is_name_of class key name = meets_tests name_tests (Text name ∷ Int (pos class) ∷ Text key ∷ [])
 
 -- and one that names one of these
 abbrev pub is_name_among : ℕ → List ℕ → List (List ℕ) → Row → Bool

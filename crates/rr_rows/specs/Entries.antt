@@ -55,7 +55,7 @@ pub record IsPut (entry : Entry) (old new : Database) : Type 0 where
   pub meta : new.trees 0 ≡ old.trees 0
 
 -- those with a class and a key are taken out
-pub record IsTaken (class : ℕ) (key : List ℕ) (old new : Database) : Type 0 where
+pub record IsTakenOut (class : ℕ) (key : List ℕ) (old new : Database) : Type 0 where
   pub tidy : IsTidy new
   pub objects : contents (new.trees 2) ≡ filter (λ row. not (is_object_of class key row)) (contents (old.trees 2))
   pub named : contents (new.trees 4) ≡ filter (λ row. not (is_named_of class key row)) (contents (old.trees 4))

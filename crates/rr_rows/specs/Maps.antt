@@ -71,8 +71,8 @@ abbrev pub Puts : Key → Obj → Database → Database → Type 0
 Puts key object old new = (objects : FinMap key_cmp Obj) → HasRows objects old → HasRows (insert objects key object) new
 
 -- and here without the object of this key
-abbrev pub Takes : Key → Database → Database → Type 0
-Takes key old new = (objects : FinMap key_cmp Obj) → HasRows objects old → HasRows (remove objects key) new
+abbrev pub TakesOut : Key → Database → Database → Type 0
+TakesOut key old new = (objects : FinMap key_cmp Obj) → HasRows objects old → HasRows (remove objects key) new
 
 -- no two objects of a list have the same key
 abbrev pub AreApart : List Obj → Type 0

@@ -18,10 +18,10 @@ use Rattle.rr_object.specs.declared.key.Key.TheVariants as key
 use Rattle.rr_object.specs.declared.member.Member.{Member}
 use Rattle.rr_object.specs.declared.member.Member.TheVariants as member
 use Rattle.rr_object.specs.declared.member.MemberSet.TheVariants.{Set}
-use Rattle.rr_sets.specs.Lists.{IsReferrer, IsRoute, ListsOnce, is_originated, lent}
+use Rattle.rr_sets.specs.Lists.{IsReferrer, IsRegisteredRoute, ListsOnce, is_originated, lent}
 use Rattle.rr_sets.specs.KeyParts.{origin_of, range_of_key}
 use Rattle.rr_sets.specs.MemberParts.{range_listed}
-use Rattle.rr_sets.specs.RouteSets.{HasRange, IsAnyRange, IsByReference, IsOriginated, IsTaken, ListsRange, registered_set}
+use Rattle.rr_sets.specs.RouteSets.{HasRange, IsAnyRange, IsByReference, IsOriginated, IsRangeTaken, ListsRange, registered_set}
 use Rattle.rr_sets.specs.SetObjects.{takes}
 use Rattle.rr_sets.proofs.Numbers.{Contains-both, Contains-filter}
 
@@ -79,11 +79,11 @@ module _ (r : Reg) (sound : Sound r) where
       (f.0, f.1, subst (λ (x : Key). get r x ≡ Some o) (sym (sound.keyed k o is) ∙ f.2) is, f.3)
 
   -- the ranges of all routes
-  pub ranges_of_all : (objects : List (Bor Obj)) → ListsOnce (IsRoute r) objects → (range : RangeParts) → Contains (filter_map (λ o. range_of_key o.now.key) objects) range ↔ ((n : ℕ) × IsOriginated r n range)
+  pub ranges_of_all : (objects : List (Bor Obj)) → ListsOnce (IsRegisteredRoute r) objects → (range : RangeParts) → Contains (filter_map (λ o. range_of_key o.now.key) objects) range ↔ ((n : ℕ) × IsOriginated r n range)
   ranges_of_all objects lists range = (
     λ has.
         let f = (Contains-filter_map (λ (o : Bor Obj). range_of_key o.now.key) objects range).0 has in
-        let found : IsRoute r f.0.now = (lists.same f.0.now).0 ((Contains-map (λ (o : Bor Obj). o.now) objects f.0.now).1 (f.0, f.1, refl)) in
+        let found : IsRegisteredRoute r f.0.now = (lists.same f.0.now).0 ((Contains-map (λ (o : Bor Obj). o.now) objects f.0.now).1 (f.0, f.1, refl)) in
         let g = route_of_range (key.Route found.0 found.1) f.0.now range found.2 f.2 in
         (g.1, (g.0, f.0.now, g.2, g.3)),
     λ (n, (p, o, is, same)).
@@ -113,23 +113,23 @@ module _ (r : Reg) (sound : Sound r) where
         (Contains-filter_map (λ (x : Bor Obj). range_of_key x.now.key) objects range).1 (b.0, b.1, ap (λ (x : Obj). range_of_key x.key) b.2 ∙ range_of_route o p n at ∙ ap Some (sym same))
 
   -- the ranges of the routes whose word is taken
-  pub ranges_that_are_taken : (by_ref : ByRefParts) (name : List ℕ) (objects : List (Bor Obj)) → ((o : Obj) → Contains (lent objects) o ↔ (IsReferrer r name o × IsTrue (takes by_ref o))) → (range : RangeParts) → Contains (filter_map (λ o. range_of_key o.now.key) objects) range ↔ IsTaken r by_ref name range
+  pub ranges_that_are_taken : (by_ref : ByRefParts) (name : List ℕ) (objects : List (Bor Obj)) → ((o : Obj) → Contains (lent objects) o ↔ (IsReferrer r name o × IsTrue (takes by_ref o))) → (range : RangeParts) → Contains (filter_map (λ o. range_of_key o.now.key) objects) range ↔ IsRangeTaken r by_ref name range
   ranges_that_are_taken by_ref name objects belong range = (on, from) where
-    on : Contains (filter_map (λ o. range_of_key o.now.key) objects) range → IsTaken r by_ref name range
+    on : Contains (filter_map (λ o. range_of_key o.now.key) objects) range → IsRangeTaken r by_ref name range
     on has =
         let f = (Contains-filter_map (λ (o : Bor Obj). range_of_key o.now.key) objects range).0 has in
         let found = (belong f.0.now).0 ((Contains-map (λ (o : Bor Obj). o.now) objects f.0.now).1 (f.0, f.1, refl)) in
         let route = route_of_range found.0.0 f.0.now range found.0.1 f.2 in
         (route.0, route.1, f.0.now, route.2, found.0.2, found.1, route.3)
 
-    from : IsTaken r by_ref name range → Contains (filter_map (λ o. range_of_key o.now.key) objects) range
+    from : IsRangeTaken r by_ref name range → Contains (filter_map (λ o. range_of_key o.now.key) objects) range
     from (p, n, o, is, member_, taken, same) =
         let b = (Contains-map (λ (x : Bor Obj). x.now) objects o).0 ((belong o).1 ((key.Route p n, is, member_), taken)) in
         (Contains-filter_map (λ (x : Bor Obj). range_of_key x.now.key) objects range).1
         (b.0, b.1, ap (λ (x : Obj). range_of_key x.key) b.2 ∙ range_of_route o p n is ∙ ap Some (sym same))
 
 -- the ranges of a registered set
-pub ranges_of_set : (r : Reg) (name : List ℕ) (set : Obj) (members : List Member) (by_ref : ByRefParts) (ranges taken : List RangeParts) → registered_set r name ≡ Some set → members ≡ set.members → by_ref ≡ set.by_ref → ((range : RangeParts) → Contains taken range ↔ IsTaken r by_ref name range) → ranges ≡ filter_map range_listed members ++ taken → (range : RangeParts) → Contains ranges range ↔ (ListsRange r name range ⊎ IsByReference r name range)
+pub ranges_of_set : (r : Reg) (name : List ℕ) (set : Obj) (members : List Member) (by_ref : ByRefParts) (ranges taken : List RangeParts) → registered_set r name ≡ Some set → members ≡ set.members → by_ref ≡ set.by_ref → ((range : RangeParts) → Contains taken range ↔ IsRangeTaken r by_ref name range) → ranges ≡ filter_map range_listed members ++ taken → (range : RangeParts) → Contains ranges range ↔ (ListsRange r name range ⊎ IsByReference r name range)
 ranges_of_set r name set members by_ref ranges taken registered is_members is_by_ref are is =
     Contains-both (filter_map range_listed members) taken ranges (ListsRange r name) (IsByReference r name) is listed belong where
       listed : (range : RangeParts) → Contains (filter_map range_listed members) range ↔ ListsRange r name range
@@ -140,8 +140,8 @@ ranges_of_set r name set members by_ref ranges taken registered is_members is_by
 
       belong : (range : RangeParts) → Contains taken range ↔ IsByReference r name range
       belong range = (
-        λ has. (set, registered, subst (λ (b : ByRefParts). IsTaken r b name range) is_by_ref ((are range).0 has)),
-        λ (o, found, is_taken). let same : o ≡ set = cc in (are range).1 (subst (λ (b : ByRefParts). IsTaken r b name range) (sym is_by_ref) (subst (λ (x : Obj). IsTaken r x.by_ref name range) same is_taken)),
+        λ has. (set, registered, subst (λ (b : ByRefParts). IsRangeTaken r b name range) is_by_ref ((are range).0 has)),
+        λ (o, found, is_taken). let same : o ≡ set = cc in (are range).1 (subst (λ (b : ByRefParts). IsRangeTaken r b name range) (sym is_by_ref) (subst (λ (x : Obj). IsRangeTaken r x.by_ref name range) same is_taken)),
       )
 
 -- no set of the name is registered, so it lists nothing and nothing belongs to it

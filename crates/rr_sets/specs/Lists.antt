@@ -22,8 +22,8 @@ abbrev pub IsAutNum : Reg → Obj → Type 0
 IsAutNum r o = (n : ℕ) × (get r (AutNum n) ≡ Some o)
 
 -- The object is a registered route.
-abbrev pub IsRoute : Reg → Obj → Type 0
-IsRoute r o = (prefix : PrefixParts) × (origin : ℕ) × (get r (Route prefix origin) ≡ Some o)
+abbrev pub IsRegisteredRoute : Reg → Obj → Type 0
+IsRegisteredRoute r o = (prefix : PrefixParts) × (origin : ℕ) × (get r (Route prefix origin) ≡ Some o)
 
 -- The object is a route of this origin (RFC 2622, 4).
 abbrev pub is_originated : ℕ → Obj → Bool

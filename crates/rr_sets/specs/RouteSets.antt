@@ -60,12 +60,12 @@ ListsRange r name range = (o : Obj) × (registered_set r name ≡ Some o) × Con
 
 -- A registered route names the set in its `member-of`, and `mbrs-by-ref` takes its word; the range is that of its
 -- prefix alone (RFC 2622, 5; that an as-set takes routes: profile).
-abbrev pub IsTaken : Reg → ByRefParts → List ℕ → RangeParts → Type 0
-IsTaken r by_ref name range = (prefix : PrefixParts) × (n : ℕ) × (route : Obj) × (get r (key.Route prefix n) ≡ Some route) × Contains route.member_of name × IsTrue (takes by_ref route) × (range ≡ bare prefix)
+abbrev pub IsRangeTaken : Reg → ByRefParts → List ℕ → RangeParts → Type 0
+IsRangeTaken r by_ref name range = (prefix : PrefixParts) × (n : ℕ) × (route : Obj) × (get r (key.Route prefix n) ≡ Some route) × Contains route.member_of name × IsTrue (takes by_ref route) × (range ≡ bare prefix)
 
 -- A route belongs to a registered set by its own word (RFC 2622, 5; that an as-set takes routes: profile).
 abbrev pub IsByReference : Reg → List ℕ → RangeParts → Type 0
-IsByReference r name range = (o : Obj) × (registered_set r name ≡ Some o) × IsTaken r o.by_ref name range
+IsByReference r name range = (o : Obj) × (registered_set r name ≡ Some o) × IsRangeTaken r o.by_ref name range
 
 -- The name is `RS-ANY`, and the range that of a route (RFC 2622, 5).
 abbrev pub IsAnyRange : Reg → List ℕ → RangeParts → Type 0

@@ -10,7 +10,7 @@ use std::alloc::{AllocError, Global};
 
 /// A registry that can be asked for the objects that speak of sets. The errors are want of memory.
 pub trait SetBook: Book {
-    ghost use Rattle.rr_sets.specs.Lists.{IsAutNum, IsReferrer, IsRoute, ListsOnce, is_originated, lent};
+    ghost use Rattle.rr_sets.specs.Lists.{IsAutNum, IsReferrer, IsRegisteredRoute, ListsOnce, is_originated, lent};
 
     /// Lists the aut-nums, each once, in any order.
     fn aut_nums(&self, alloc: Global) -> Result<Vec<&Object>, AllocError>
@@ -18,7 +18,7 @@ pub trait SetBook: Book {
 
     /// Lists the routes, each once, in any order.
     fn routes(&self, alloc: Global) -> Result<Vec<&Object>, AllocError>
-        ensures { IfOk result (λ objects. ListsOnce (IsRoute (Self.contents self.now)) objects.items) };
+        ensures { IfOk result (λ objects. ListsOnce (IsRegisteredRoute (Self.contents self.now)) objects.items) };
 
     /// Lists the routes of the origin, in the order of class and key. An expansion asks for those of each AS number that
     /// it reaches, so a book should not look at all its objects for them.

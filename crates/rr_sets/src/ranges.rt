@@ -6,7 +6,7 @@ ghost use Rattle.std.specs.Option.{option_copied};
 ghost use Rattle.rr_number.specs.Ranges.{RangeParts};
 ghost use Rattle.rr_sets.specs.KeyParts.{range_of_key};
 ghost use Rattle.rr_sets.specs.MemberParts.{range_listed};
-ghost use Rattle.rr_sets.specs.RouteSets.{HasRange, IsAnyRange, IsByReference, IsOriginated, IsTaken, ListsRange, has_set, registered_set};
+ghost use Rattle.rr_sets.specs.RouteSets.{HasRange, IsAnyRange, IsByReference, IsOriginated, IsRangeTaken, ListsRange, has_set, registered_set};
 ghost use Rattle.rr_object.specs.declared.member.MemberSet.{MemberSet};
 
 use crate::book::SetBook;
@@ -65,7 +65,7 @@ fn ranges_by_reference<B: SetBook>(
     name: &SetName,
     by_ref: &ByRef,
 ) -> Result<Vec<Range>, AllocError>
-    ensures { IfOk result (λ ranges. (range : RangeParts) → Contains ranges.items range ↔ IsTaken (B.contents book.now) by_ref.now name.now range) }
+    ensures { IfOk result (λ ranges. (range : RangeParts) → Contains ranges.items range ↔ IsRangeTaken (B.contents book.now) by_ref.now name.now range) }
 {
     book.sound();
     let objects = belonging(alloc, book, name, by_ref)?;

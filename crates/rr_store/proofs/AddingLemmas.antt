@@ -7,12 +7,12 @@ use Rattle.sqlite_trees.specs.declared.store.Store.{Ghosts}
 use Rattle.sqlite.specs.State.{State, HasCleanDisk, KeepsCommit, Survives}
 use Rattle.sqlite.specs.Held.{Held, state}
 use Rattle.sqlite.proofs.StateLemmas.{survives_then}
-use Rattle.rr_rows.specs.Contents.{IsTidy, Alters, Adds, IsStep, Removes, is_name_among, is_name_of}
+use Rattle.rr_rows.specs.Contents.{IsTidy, Alters, Adds, RunsOn, Removes, is_name_among, is_name_of}
 
 -- the rows of `named` were altered in a transaction that goes on
 pub record HasAltered {S : Type 0} (g : Ghosts S) (old new : Held S) (Change : List Row → List Row → Type 0) : Type 0 where
   pub done : HasCleanDisk (state g new) → IsTrue (state g old).is_open → Alters (state g old).now (state g new).now 4 Change
-  pub step : HasCleanDisk (state g new) → IsTrue (state g old).is_open → IsStep (state g old) (state g new)
+  pub step : HasCleanDisk (state g new) → IsTrue (state g old).is_open → RunsOn (state g old) (state g new)
   pub kept : HasCleanDisk (state g new) → KeepsCommit (state g old) (state g new)
   pub survives : Survives (state g old) (state g new) (λ _. ⊥)
 
@@ -35,7 +35,7 @@ none_altered g old Change none tidy = record {
 }
 
 altered_more : {S : Type 0} (g : Ghosts S) (old mid new : Held S) (First Second Both : List Row → List Row → Type 0) → ((a b c : List Row) → First a b → Second b c → Both a c) → HasAltered g old mid First
-    → (HasCleanDisk (state g new) → Alters (state g mid).now (state g new).now 4 Second) → (HasCleanDisk (state g new) → IsStep (state g mid) (state g new))
+    → (HasCleanDisk (state g new) → Alters (state g mid).now (state g new).now 4 Second) → (HasCleanDisk (state g new) → RunsOn (state g mid) (state g new))
     → (HasCleanDisk (state g new) → KeepsCommit (state g mid) (state g new)) → Survives (state g mid) (state g new) (λ _. ⊥) → HasAltered g old new Both
 altered_more g old mid new First Second Both joined had alters step kept survives =
     let earlier : HasCleanDisk (state g new) → HasCleanDisk (state g mid) = λ clean. omega (arith, survives.clean) in
@@ -65,7 +65,7 @@ one_more rows row before mid after first last =
     rw append_assoc (IsPermutation-trans _ _ _ (IsPermutation-middle rows row before) (IsPermutation-trans _ _ _ (IsPermutation-cons row _ _ first) last))
 
 pub added_more : {S : Type 0} (g : Ghosts S) (old mid new : Held S) (rows : List Row) (row : Row) → HasAltered g old mid (Adds rows)
-    → (HasCleanDisk (state g new) → Alters (state g mid).now (state g new).now 4 (Adds (row ∷ []))) → (HasCleanDisk (state g new) → IsStep (state g mid) (state g new))
+    → (HasCleanDisk (state g new) → Alters (state g mid).now (state g new).now 4 (Adds (row ∷ []))) → (HasCleanDisk (state g new) → RunsOn (state g mid) (state g new))
     → (HasCleanDisk (state g new) → KeepsCommit (state g mid) (state g new)) → Survives (state g mid) (state g new) (λ _. ⊥) → HasAltered g old new (Adds (rows ++ row ∷ []))
 added_more g old mid new rows row = altered_more g old mid new (Adds rows) (Adds (row ∷ [])) (Adds (rows ++ row ∷ [])) (one_more rows row)
 
@@ -106,6 +106,6 @@ module _ (class : ℕ) (key : List ℕ) where
       (λ row. list_any-append (λ n. is_name_of class key n row) names (name ∷ []) ∙ ap (λ b. is_name_among class key names row || b) (or_not (is_name_of class key name row))) before)
 
   pub removed_more : {S : Type 0} (g : Ghosts S) (old mid new : Held S) (names : List (List ℕ)) (name : List ℕ) → HasAltered g old mid (Removes (is_name_among class key names))
-      → (HasCleanDisk (state g new) → Alters (state g mid).now (state g new).now 4 (Removes (is_name_of class key name))) → (HasCleanDisk (state g new) → IsStep (state g mid) (state g new))
+      → (HasCleanDisk (state g new) → Alters (state g mid).now (state g new).now 4 (Removes (is_name_of class key name))) → (HasCleanDisk (state g new) → RunsOn (state g mid) (state g new))
       → (HasCleanDisk (state g new) → KeepsCommit (state g mid) (state g new)) → Survives (state g mid) (state g new) (λ _. ⊥) → HasAltered g old new (Removes (is_name_among class key (names ++ name ∷ [])))
   removed_more g old mid new names name = altered_more g old mid new (Removes (is_name_among class key names)) (Removes (is_name_of class key name)) (Removes (is_name_among class key (names ++ name ∷ []))) (one_less names name)

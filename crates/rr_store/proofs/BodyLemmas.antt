@@ -6,7 +6,7 @@ use Rattle.rr_rows.specs.Contents.{Alters, Adds, Removes, contents, is_name_amon
 use Rattle.sqlite_value.specs.Order.{Row}
 use Rattle.std.specs.Prelude.{codes}
 use Rattle.rr_rows.specs.Contents.{meta_values}
-use Rattle.rr_rows.specs.Entries.{Entry, IsAdded, IsPut, IsTaken, named_rows, object_row}
+use Rattle.rr_rows.specs.Entries.{Entry, IsAdded, IsPut, IsTakenOut, named_rows, object_row}
 use Rattle.rr_rows.specs.Made.{IsBare}
 use Rattle.rr_rows.specs.Maps.{AreNamesOf, AreOfObjects, IsFilled, this_version}
 use Rattle.rr_rows.proofs.AddedLemmas.{append_none, filled_by}
@@ -35,7 +35,7 @@ four_none : ◌≢◌ {A = ℕ} 4 0
 four_none h = omega arith
 
 -- the old rows of the object go, and the new ones come
-pub put_by : (entry : Entry) (a b c : Database) → IsTaken entry.class entry.key a b → IsAdded (entry ∷ []) b c → IsPut entry a c
+pub put_by : (entry : Entry) (a b c : Database) → IsTakenOut entry.class entry.key a b → IsAdded (entry ∷ []) b c → IsPut entry a c
 put_by entry a b c taken added = record {
   tidy = added.tidy;
   objects = subst (λ xs. IsPermutation (object_row entry ∷ xs) (contents (c.trees 2))) taken.objects added.objects;

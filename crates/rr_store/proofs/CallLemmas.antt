@@ -8,7 +8,7 @@ use Rattle.sqlite.specs.declared.error.Error.TheVariants.{SqliteFailure}
 use Rattle.sqlite.specs.declared.error.ErrorCode.TheVariants.{TransactionState}
 use Rattle.sqlite.specs.State.{State, IsUnchanged, KeepsCommit, Executes, ExecutesInside}
 use Rattle.sqlite.specs.Held.{Held, state}
-use Rattle.rr_rows.specs.Contents.{IsStep}
+use Rattle.rr_rows.specs.Contents.{RunsOn}
 
 unchanged_keeps : (old new : State) → IsUnchanged old new → KeepsCommit old new
 unchanged_keeps old new same = record { was_open = λ _. same.0.was_open; committed = λ _. same.0.committed_is }
@@ -39,10 +39,10 @@ module _ {S : Type 0} (g : Ghosts S) (old new : Held S) (sql : List ℕ) (params
       go (Err e) is = tt
       go (Ok count) is = let h = subst (ExecutesInside 0 sql params (state g old) (state g new)) is (runs (inside count is)) in each count h.0 h.1.was_open
 
-  pub steps : OnOk r (IsStep (state g old) (state g new))
+  pub steps : OnOk r (RunsOn (state g old) (state g new))
   steps = go r refl
     where
-      go : (q : Result ℕ Error) → r ≡ q → OnOk q (IsStep (state g old) (state g new))
+      go : (q : Result ℕ Error) → r ≡ q → OnOk q (RunsOn (state g old) (state g new))
       go (Err e) is = tt
       go (Ok count) is =
           let on = inside count is in

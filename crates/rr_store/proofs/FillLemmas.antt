@@ -4,7 +4,7 @@ use Rattle.sqlite_trees.specs.declared.store.Store.{Ghosts}
 use Rattle.sqlite.specs.State.{HasCleanDisk, KeepsCommit, Survives}
 use Rattle.sqlite.specs.Held.{Held, state}
 use Rattle.sqlite.proofs.StateLemmas.{survives_then}
-use Rattle.rr_rows.specs.Contents.{IsTidy, IsStep}
+use Rattle.rr_rows.specs.Contents.{IsTidy, RunsOn}
 use Rattle.rr_rows.specs.Entries.{Entry, IsAdded}
 use Rattle.rr_rows.proofs.AddedLemmas.{none_added, added_then}
 use Rattle.rr_store.proofs.AddingLemmas.{keeps_itself, survives_itself, keeps_then}
@@ -12,7 +12,7 @@ use Rattle.rr_store.proofs.AddingLemmas.{keeps_itself, survives_itself, keeps_th
 -- the rows of these were added in a transaction that goes on
 pub record HasFilled {S : Type 0} (g : Ghosts S) (old new : Held S) (entries : List Entry) : Type 0 where
   pub done : HasCleanDisk (state g new) → IsTrue (state g old).is_open → IsAdded entries (state g old).now (state g new).now
-  pub step : HasCleanDisk (state g new) → IsTrue (state g old).is_open → IsStep (state g old) (state g new)
+  pub step : HasCleanDisk (state g new) → IsTrue (state g old).is_open → RunsOn (state g old) (state g new)
   pub kept : HasCleanDisk (state g new) → KeepsCommit (state g old) (state g new)
   pub survives : Survives (state g old) (state g new) (λ _. ⊥)
 
@@ -25,7 +25,7 @@ none_filled g old tidy = record {
 }
 
 pub filled_more : {S : Type 0} (g : Ghosts S) (old mid new : Held S) (entries : List Entry) (entry : Entry) → HasFilled g old mid entries
-    → (HasCleanDisk (state g new) → IsAdded (entry ∷ []) (state g mid).now (state g new).now) → (HasCleanDisk (state g new) → IsStep (state g mid) (state g new))
+    → (HasCleanDisk (state g new) → IsAdded (entry ∷ []) (state g mid).now (state g new).now) → (HasCleanDisk (state g new) → RunsOn (state g mid) (state g new))
     → (HasCleanDisk (state g new) → KeepsCommit (state g mid) (state g new)) → Survives (state g mid) (state g new) (λ _. ⊥) → HasFilled g old new (entries ++ entry ∷ [])
 filled_more g old mid new entries entry had added step kept survives =
     let earlier : HasCleanDisk (state g new) → HasCleanDisk (state g mid) = λ clean. omega (arith, survives.clean) in

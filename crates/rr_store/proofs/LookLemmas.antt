@@ -11,7 +11,7 @@ use Rattle.rr_rows.specs.Tables.{Layout, HasTables}
 use Rattle.rr_rows.specs.Queries.{Means}
 use Rattle.rr_rows.specs.Entries.{TreesOf}
 use Rattle.sqlite.specs.Effect.{Database}
-use Rattle.rr_rows.specs.Contents.{IsStep}
+use Rattle.rr_rows.specs.Contents.{RunsOn}
 use Rattle.rr_store.specs.Kept.{IsLeft}
 use Rattle.rr_store.proofs.BodyLemmas.{then_ok}
 use Rattle.sqlite.specs.State.{State, HasCleanDisk, IsUnchanged, Fails, Shown, ShowsRows, FailsToQuery, FailsToShow, IsNotRun, IsTooLate, KeepsCommit, CommitsShowing, Survives}
@@ -113,7 +113,7 @@ module _ {X : Type 0} (items : X → List Row) (sql : List ℕ) (params : Row) (
   pub asked_same : OnOk r (IsUnchanged old new)
   asked_same = on_each r _ _ shown (λ x h. shown_same sql params old new (items x) (plain (shown_open sql params old new (items x) h)) h)
 
-  pub asked_step : OnOk r (IsStep old new)
+  pub asked_step : OnOk r (RunsOn old new)
   asked_step = then_ok r asked_same (λ same. record { is_open = same.0.is_open; mode = same.0.mode; committed = same.0.committed_is })
 
   pub asked_keeps : IfErr r (λ e. FailsToQuery sql params old new e ⊎ IsTooLate sql params old new e) → KeepsCommit old new

@@ -6,14 +6,13 @@ use Rattle.sqlite_value.specs.Order.{Row}
 use Rattle.sqlite_trees.proofs.ListLemmas.{all_weaker, map-map}
 use Rattle.sqlite.specs.Effect.{Database}
 use Rattle.rr_object.specs.KeyOrders.{key_cmp}
-use Rattle.rr_object.specs.Objects.{Obj}
+use Rattle.rr_object.specs.Objects.{Obj, object_names}
 use Rattle.rr_rows.specs.Contents.{contents, pointed}
 use Rattle.rr_rows.specs.Entries.{entry_of, object_row}
 use Rattle.rr_rows.specs.Maps.{HasRows, this_form}
 use Rattle.rr_rows.proofs.MapLists.{of_any, same_objects, values_are_objects, values_in_order}
 use Rattle.rr_rows.proofs.MapNaming.{naming_told}
 use Rattle.rr_store.specs.CheckParts.{HoldsObjects}
-use Rattle.rr_store.specs.Reading.{names_it}
 use Rattle.rr_store.proofs.StoredLemmas.{read_objects, read_rows}
 
 module _ (source : List ℕ) (os : List Obj) where
@@ -29,6 +28,6 @@ module _ (source : List ℕ) (os : List Obj) where
 
   -- and those to which the rows of a maintainer point are the ones that name it
   pub those_told : (name : List ℕ) (objects : FinMap key_cmp Obj) (db : Database) → HasRows objects db → HoldsObjects this_form source os (pointed name (contents (db.trees 4)) (contents (db.trees 2)))
-      → os ≡ filter (names_it name) (values objects)
+      → os ≡ filter (object_names name) (values objects)
   those_told name objects db has shown =
       naming_told name objects os db has (all_weaker _ _ (of_any source) os (read_objects this_form source shown.rows os shown.read)) shown.order (has_rows (pointed name (contents (db.trees 4)) (contents (db.trees 2))) shown)

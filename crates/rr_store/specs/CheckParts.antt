@@ -2,7 +2,7 @@
 use Rattle.std.specs.Prelude.{◌≡◌, ◌≢◌, ℕ, ◌<◌, ◌^◌, List, [], ◌∷◌, codes}
 use Rattle.sqlite_value.specs.Order.{Row}
 use Rattle.rr_object.specs.Objects.{Obj}
-use Rattle.rr_rows.specs.Contents.{IsListing, by_two, setting}
+use Rattle.rr_rows.specs.Contents.{IsInRank, by_two, setting}
 use Rattle.rr_rows.specs.Maps.{AreInOrder, KeyForm}
 use Rattle.rr_store.specs.Reading.{AreRead}
 use Rattle.rr_store.specs.Versions.{SaysVersion, version_number, version_text}
@@ -29,12 +29,12 @@ AreNone form source rows = (objects : List Obj) → AreRead form source rows obj
 -- rows, in some order of classes and keys, are those of these objects (profile)
 pub record HoldsObjects (form : KeyForm) (source : List ℕ) (objects : List Obj) (held : List Row) : Type 0 where
   pub rows : List Row
-  pub listing : IsListing by_two held rows
+  pub listing : IsInRank by_two held rows
   pub read : AreRead form source rows objects
   pub order : AreInOrder objects
 
 -- and are those of none
 pub record HoldsNone (form : KeyForm) (source : List ℕ) (held : List Row) : Type 0 where
   pub rows : List Row
-  pub listing : IsListing by_two held rows
+  pub listing : IsInRank by_two held rows
   pub none : AreNone form source rows

@@ -1,25 +1,25 @@
 -- The objects that rows are read as.
-use Rattle.std.specs.Prelude.{◌≡◌, ℕ, List, [], ◌∷◌, Option, Some, ⊤, Bool, true, bytes_eq}
-use Rattle.std.specs.List.{find, list_any}
+use Rattle.std.specs.Prelude.{◌≡◌, ℕ, List, [], ◌∷◌, Option, Some, ⊤, Bool, true}
+use Rattle.std.specs.List.{find}
 use Rattle.std.specs.Option.{option_and_then}
 use Rattle.std.specs.Ordering.{is_lt}
 use Rattle.sqlite_value.specs.Order.{Row}
 use Rattle.rr_number.specs.Names.{name_of}
 use Rattle.rr_text.specs.CanonicalText.{canonical}
-use Rattle.rr_text.specs.Fields.{Field, is_named}
+use Rattle.rr_text.specs.Fields.{Field, has_name}
 use Rattle.rr_text.specs.Meanings.{value_meaning}
 use Rattle.rr_object.specs.Classes.{class_number}
 use Rattle.rr_object.specs.declared.kind.Kind.TheVariants.{Source}
 use Rattle.rr_object.specs.Kinds.{kind_name}
 use Rattle.rr_object.specs.KeyOrders.{key_cmp}
 use Rattle.rr_object.specs.Keys.{class_of}
-use Rattle.rr_object.specs.Objects.{Obj, names_of}
+use Rattle.rr_object.specs.Objects.{Obj}
 use Rattle.rr_rows.specs.Contents.{object_values}
 use Rattle.rr_rows.specs.Maps.{IsObjectOf, KeyForm}
 
 -- the source that the first attribute `source` names (RFC 2622, 3.1)
 abbrev pub first_source : List Field → Option (List ℕ)
-first_source fields = option_and_then (λ field. name_of (value_meaning field.lines)) (find (is_named (kind_name Source)) fields)
+first_source fields = option_and_then (λ field. name_of (value_meaning field.lines)) (find (has_name (kind_name Source)) fields)
 
 -- a row is that of an object, whose key has a text in this form (profile)
 pub record IsRowOf (form : KeyForm) (object : Obj) (row : Row) : Type 0 where
@@ -38,7 +38,3 @@ AreRead form source (row ∷ rows) (object ∷ objects) = (IsObjectOf source obj
 abbrev pub is_below : Obj → List Obj → Bool
 is_below object [] = true
 is_below object (other ∷ others) = is_lt (key_cmp object.key other.key)
-
--- an object names a maintainer (RFC 2622, 3.1)
-abbrev pub names_it : List ℕ → Obj → Bool
-names_it name object = list_any (λ n. bytes_eq n name) (names_of object)

@@ -3,7 +3,7 @@
 ghost use Rattle.std.specs.Prelude.{◌≡◌, IfOk, IfSome};
 ghost use Rattle.std.specs.List.{AllByRecursion, find};
 ghost use Rattle.std.specs.Option.{option_copied};
-ghost use Rattle.rr_text.specs.Fields.{is_named};
+ghost use Rattle.rr_text.specs.Fields.{has_name};
 ghost use Rattle.rr_text.specs.CanonicalText.{canonical};
 ghost use Rattle.rr_object.specs.Kinds.{kind_name};
 ghost use Rattle.rr_object.specs.declared.kind.Kind.TheVariants.{Source};
@@ -22,9 +22,9 @@ use std::alloc::{AllocError, Global};
 
 /// The first attribute `source`.
 fn first_named(attributes: &[Attribute]) -> Option<&Attribute>
-    ensures { option_copied result ≡ find (is_named (kind_name Source)) attributes.now }
+    ensures { option_copied result ≡ find (has_name (kind_name Source)) attributes.now }
 {
-    attributes.iter().find(|attribute| attribute.is_named(Kind::Source.name().as_bytes()))
+    attributes.iter().find(|attribute| attribute.has_name(Kind::Source.name().as_bytes()))
 }
 
 /// The source that it names, if it names one.

@@ -6,7 +6,7 @@ ghost use Rattle.sqlite.specs.Held.{state};
 ghost use Rattle.sqlite.specs.Listing.{understood};
 ghost use Rattle.sqlite.specs.State.{HasCleanDisk, IsUnchanged, Shown, Survives};
 ghost use Rattle.sqlite.specs.Values.{bound};
-ghost use Rattle.rr_rows.specs.Contents.{IsListing, by_one, by_three, by_two, contents, number, pointed, settings};
+ghost use Rattle.rr_rows.specs.Contents.{IsInRank, by_one, by_three, by_two, contents, number, pointed, settings};
 ghost use Rattle.rr_rows.specs.Tables.{HasTables};
 
 use sqlite::{Alter, Connection, Error, Row};
@@ -38,7 +38,7 @@ pub(crate) fn meta_rows<S: Alter>(conn: &mut Connection<S>) -> Result<Vec<Row>, 
     requires tables { HasCleanDisk (state S.Store conn.old) → IsTrue (state S.Store conn.old).is_open → HasTables (state S.Store conn.old).now.schema }
     ensures autocommit { conn.new.in_transaction ≡ false }
     ensures was_open { HasCleanDisk (state S.Store conn.new) → OnOk result (IsTrue (state S.Store conn.old).is_open) }
-    ensures rows { HasCleanDisk (state S.Store conn.new) → IfOk result (λ rows. IsListing by_two (settings ((state S.Store conn.old).now.trees 0)) rows.items) }
+    ensures rows { HasCleanDisk (state S.Store conn.new) → IfOk result (λ rows. IsInRank by_two (settings ((state S.Store conn.old).now.trees 0)) rows.items) }
     ensures same { HasCleanDisk (state S.Store conn.new) → OnOk result (IsUnchanged (state S.Store conn.old) (state S.Store conn.new)) }
     ensures err { HasCleanDisk (state S.Store conn.new) → IsTrue (state S.Store conn.new).is_open → OnErr result ((state S.Store conn.new).now ≡ (state S.Store conn.old).now) }
     ensures crash { Survives (state S.Store conn.old) (state S.Store conn.new) (λ _. (state S.Store conn.old).is_open ≡ false) }
@@ -56,7 +56,7 @@ pub(crate) fn object_rows<S: Alter>(conn: &mut Connection<S>) -> Result<Vec<Row>
     requires tables { HasCleanDisk (state S.Store conn.old) → IsTrue (state S.Store conn.old).is_open → HasTables (state S.Store conn.old).now.schema }
     ensures autocommit { conn.new.in_transaction ≡ false }
     ensures was_open { HasCleanDisk (state S.Store conn.new) → OnOk result (IsTrue (state S.Store conn.old).is_open) }
-    ensures rows { HasCleanDisk (state S.Store conn.new) → IfOk result (λ rows. IsListing by_two (contents ((state S.Store conn.old).now.trees 2)) rows.items) }
+    ensures rows { HasCleanDisk (state S.Store conn.new) → IfOk result (λ rows. IsInRank by_two (contents ((state S.Store conn.old).now.trees 2)) rows.items) }
     ensures same { HasCleanDisk (state S.Store conn.new) → OnOk result (IsUnchanged (state S.Store conn.old) (state S.Store conn.new)) }
     ensures err { HasCleanDisk (state S.Store conn.new) → IsTrue (state S.Store conn.new).is_open → OnErr result ((state S.Store conn.new).now ≡ (state S.Store conn.old).now) }
     ensures opened { HasCleanDisk (state S.Store conn.new) → IsTrue (state S.Store conn.new).is_open → IsTrue (state S.Store conn.old).is_open }
@@ -75,7 +75,7 @@ pub(crate) fn named_rows<S: Alter>(conn: &mut Connection<S>) -> Result<Vec<Row>,
     requires tables { HasCleanDisk (state S.Store conn.old) → IsTrue (state S.Store conn.old).is_open → HasTables (state S.Store conn.old).now.schema }
     ensures autocommit { conn.new.in_transaction ≡ false }
     ensures was_open { HasCleanDisk (state S.Store conn.new) → OnOk result (IsTrue (state S.Store conn.old).is_open) }
-    ensures rows { HasCleanDisk (state S.Store conn.new) → IfOk result (λ rows. IsListing by_three (contents ((state S.Store conn.old).now.trees 4)) rows.items) }
+    ensures rows { HasCleanDisk (state S.Store conn.new) → IfOk result (λ rows. IsInRank by_three (contents ((state S.Store conn.old).now.trees 4)) rows.items) }
     ensures same { HasCleanDisk (state S.Store conn.new) → OnOk result (IsUnchanged (state S.Store conn.old) (state S.Store conn.new)) }
     ensures err { HasCleanDisk (state S.Store conn.new) → IsTrue (state S.Store conn.new).is_open → OnErr result ((state S.Store conn.new).now ≡ (state S.Store conn.old).now) }
     ensures crash { Survives (state S.Store conn.old) (state S.Store conn.new) (λ _. (state S.Store conn.old).is_open ≡ false) }
@@ -96,7 +96,7 @@ pub(crate) fn naming_rows<S: Alter>(
     requires tables { HasCleanDisk (state S.Store conn.old) → IsTrue (state S.Store conn.old).is_open → HasTables (state S.Store conn.old).now.schema }
     ensures autocommit { conn.new.in_transaction ≡ false }
     ensures was_open { HasCleanDisk (state S.Store conn.new) → OnOk result (IsTrue (state S.Store conn.old).is_open) }
-    ensures rows { HasCleanDisk (state S.Store conn.new) → IfOk result (λ rows. IsListing by_two (pointed name.now (contents ((state S.Store conn.old).now.trees 4)) (contents ((state S.Store conn.old).now.trees 2))) rows.items) }
+    ensures rows { HasCleanDisk (state S.Store conn.new) → IfOk result (λ rows. IsInRank by_two (pointed name.now (contents ((state S.Store conn.old).now.trees 4)) (contents ((state S.Store conn.old).now.trees 2))) rows.items) }
     ensures same { HasCleanDisk (state S.Store conn.new) → OnOk result (IsUnchanged (state S.Store conn.old) (state S.Store conn.new)) }
     ensures err { HasCleanDisk (state S.Store conn.new) → IsTrue (state S.Store conn.new).is_open → OnErr result ((state S.Store conn.new).now ≡ (state S.Store conn.old).now) }
     ensures opened { HasCleanDisk (state S.Store conn.new) → IsTrue (state S.Store conn.new).is_open → IsTrue (state S.Store conn.old).is_open }
@@ -115,7 +115,7 @@ pub(crate) fn meta_numbers<S: Alter>(conn: &mut Connection<S>) -> Result<Vec<Row
     requires tables { HasCleanDisk (state S.Store conn.old) → IsTrue (state S.Store conn.old).is_open → HasTables (state S.Store conn.old).now.schema }
     ensures autocommit { conn.new.in_transaction ≡ false }
     ensures was_open { HasCleanDisk (state S.Store conn.new) → OnOk result (IsTrue (state S.Store conn.old).is_open) }
-    ensures rows { HasCleanDisk (state S.Store conn.new) → IfOk result (λ rows. IsListing by_one (map number ((state S.Store conn.old).now.trees 0)) rows.items) }
+    ensures rows { HasCleanDisk (state S.Store conn.new) → IfOk result (λ rows. IsInRank by_one (map number ((state S.Store conn.old).now.trees 0)) rows.items) }
     ensures same { HasCleanDisk (state S.Store conn.new) → OnOk result (IsUnchanged (state S.Store conn.old) (state S.Store conn.new)) }
     ensures err { HasCleanDisk (state S.Store conn.new) → IsTrue (state S.Store conn.new).is_open → OnErr result ((state S.Store conn.new).now ≡ (state S.Store conn.old).now) }
     ensures crash { Survives (state S.Store conn.old) (state S.Store conn.new) (λ _. (state S.Store conn.old).is_open ≡ false) }
@@ -129,7 +129,7 @@ pub(crate) fn object_numbers<S: Alter>(conn: &mut Connection<S>) -> Result<Vec<R
     requires tables { HasCleanDisk (state S.Store conn.old) → IsTrue (state S.Store conn.old).is_open → HasTables (state S.Store conn.old).now.schema }
     ensures autocommit { conn.new.in_transaction ≡ false }
     ensures was_open { HasCleanDisk (state S.Store conn.new) → OnOk result (IsTrue (state S.Store conn.old).is_open) }
-    ensures rows { HasCleanDisk (state S.Store conn.new) → IfOk result (λ rows. IsListing by_one (map number ((state S.Store conn.old).now.trees 2)) rows.items) }
+    ensures rows { HasCleanDisk (state S.Store conn.new) → IfOk result (λ rows. IsInRank by_one (map number ((state S.Store conn.old).now.trees 2)) rows.items) }
     ensures same { HasCleanDisk (state S.Store conn.new) → OnOk result (IsUnchanged (state S.Store conn.old) (state S.Store conn.new)) }
     ensures err { HasCleanDisk (state S.Store conn.new) → IsTrue (state S.Store conn.new).is_open → OnErr result ((state S.Store conn.new).now ≡ (state S.Store conn.old).now) }
     ensures crash { Survives (state S.Store conn.old) (state S.Store conn.new) (λ _. (state S.Store conn.old).is_open ≡ false) }
@@ -143,7 +143,7 @@ pub(crate) fn named_numbers<S: Alter>(conn: &mut Connection<S>) -> Result<Vec<Ro
     requires tables { HasCleanDisk (state S.Store conn.old) → IsTrue (state S.Store conn.old).is_open → HasTables (state S.Store conn.old).now.schema }
     ensures autocommit { conn.new.in_transaction ≡ false }
     ensures was_open { HasCleanDisk (state S.Store conn.new) → OnOk result (IsTrue (state S.Store conn.old).is_open) }
-    ensures rows { HasCleanDisk (state S.Store conn.new) → IfOk result (λ rows. IsListing by_one (map number ((state S.Store conn.old).now.trees 4)) rows.items) }
+    ensures rows { HasCleanDisk (state S.Store conn.new) → IfOk result (λ rows. IsInRank by_one (map number ((state S.Store conn.old).now.trees 4)) rows.items) }
     ensures same { HasCleanDisk (state S.Store conn.new) → OnOk result (IsUnchanged (state S.Store conn.old) (state S.Store conn.new)) }
     ensures err { HasCleanDisk (state S.Store conn.new) → IsTrue (state S.Store conn.new).is_open → OnErr result ((state S.Store conn.new).now ≡ (state S.Store conn.old).now) }
     ensures crash { Survives (state S.Store conn.old) (state S.Store conn.new) (λ _. (state S.Store conn.old).is_open ≡ false) }

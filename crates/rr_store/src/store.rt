@@ -10,17 +10,16 @@ ghost use Rattle.std.specs.List.{AllByRecursion};
 ghost use Rattle.rr_object.specs.KeyOrders.{key_cmp};
 ghost use Rattle.rr_object.specs.Keys.{class_of};
 ghost use Rattle.rr_object.specs.KeyTexts.{key_bytes};
-ghost use Rattle.rr_rows.specs.Entries.{IsAdded, IsPut, IsTaken, TreesOf, entry_of};
+ghost use Rattle.rr_rows.specs.Entries.{IsAdded, IsPut, IsTakenOut, TreesOf, entry_of};
 ghost use Rattle.rr_rows.specs.Made.{HasRow, IsVacant};
-ghost use Rattle.rr_object.specs.Objects.{Obj};
-ghost use Rattle.rr_rows.specs.Maps.{AreInOrder, AreOldStored, AreStored, HasRows, IsFilled, IsObjectOf, Puts, Takes};
+ghost use Rattle.rr_object.specs.Objects.{Obj, object_names};
+ghost use Rattle.rr_rows.specs.Maps.{AreInOrder, AreOldStored, AreStored, HasRows, IsFilled, IsObjectOf, Puts, TakesOut};
 ghost use Rattle.rr_rows.specs.Tables.{HasTables};
 ghost use Rattle.rr_store.specs.Adding.{AddsTo};
 ghost use Rattle.rr_store.specs.Kept.{IsLeft};
 ghost use Rattle.rr_store.specs.Lent.{lent};
 ghost use Rattle.rr_store.specs.Migrating.{HasNoRoot, IsMigrated, IsOfOldRows};
 ghost use Rattle.rr_store.specs.Opening.{IsNotOld, IsOfNoOther, IsOfNoneButOld, IsOfRows, IsOtherVersion, IsReadable, IsUnreadable};
-ghost use Rattle.rr_store.specs.Reading.{names_it};
 ghost use Rattle.rr_store.specs.declared.fault.CreateFault.TheVariants.{NotEmpty};
 ghost use Rattle.rr_store.specs.declared.fault.MigrateFault.TheVariants.{BadRow as UnreadRow, NoRoot, WrongVersion as NotOld};
 ghost use Rattle.rr_store.specs.declared.fault.OpenFault.TheVariants.{BadRow, WrongVersion};
@@ -253,22 +252,22 @@ impl<S: Alter> Store<S> {
 
     /// Takes out the rows of the object with this key, if there is one. After a fault the rows are as they were.
     pub fn remove(&mut self, alloc: Global, key: &Key) -> Result<(), StoreFault>
-        ensures ok { HasCleanDisk (state S.Store self.new) → OnOk result (IsTaken (class_number (class_of key.now)) (key_bytes key.now) (state S.Store self.old).now (state S.Store self.new).now) }
-        ensures takes { HasCleanDisk (state S.Store self.new) → OnOk result (Takes key.now (state S.Store self.old).now (state S.Store self.new).now) }
+        ensures ok { HasCleanDisk (state S.Store self.new) → OnOk result (IsTakenOut (class_number (class_of key.now)) (key_bytes key.now) (state S.Store self.old).now (state S.Store self.new).now) }
+        ensures takes { HasCleanDisk (state S.Store self.new) → OnOk result (TakesOut key.now (state S.Store self.old).now (state S.Store self.new).now) }
         ensures is_open { HasCleanDisk (state S.Store self.new) → OnOk result (IsTrue (state S.Store self.new).is_open) }
         ensures err { HasCleanDisk (state S.Store self.new) → IsTrue (state S.Store self.new).is_open → OnErr result ((state S.Store self.new).now ≡ (state S.Store self.old).now) }
-        ensures crash { Survives (state S.Store self.old) (state S.Store self.new) (TreesOf (IsTaken (class_number (class_of key.now)) (key_bytes key.now) (state S.Store self.old).now)) }
-        ensures crash_takes { Survives (state S.Store self.old) (state S.Store self.new) (TreesOf (Takes key.now (state S.Store self.old).now)) }
+        ensures crash { Survives (state S.Store self.old) (state S.Store self.new) (TreesOf (IsTakenOut (class_number (class_of key.now)) (key_bytes key.now) (state S.Store self.old).now)) }
+        ensures crash_takes { Survives (state S.Store self.old) (state S.Store self.new) (TreesOf (TakesOut key.now (state S.Store self.old).now)) }
     {
         key.is_within_bounds();
         self.remove_rows_of(alloc, key)
     }
 
     fn remove_rows_of(&mut self, alloc: Global, key: &Key) -> Result<(), StoreFault>
-        ensures ok { HasCleanDisk (state S.Store self.new) → OnOk result (IsTaken (class_number (class_of key.now)) (key_bytes key.now) (state S.Store self.old).now (state S.Store self.new).now) }
+        ensures ok { HasCleanDisk (state S.Store self.new) → OnOk result (IsTakenOut (class_number (class_of key.now)) (key_bytes key.now) (state S.Store self.old).now (state S.Store self.new).now) }
         ensures is_open { HasCleanDisk (state S.Store self.new) → OnOk result (IsTrue (state S.Store self.new).is_open) }
         ensures err { HasCleanDisk (state S.Store self.new) → IsTrue (state S.Store self.new).is_open → OnErr result ((state S.Store self.new).now ≡ (state S.Store self.old).now) }
-        ensures crash { Survives (state S.Store self.old) (state S.Store self.new) (TreesOf (IsTaken (class_number (class_of key.now)) (key_bytes key.now) (state S.Store self.old).now)) }
+        ensures crash { Survives (state S.Store self.old) (state S.Store self.new) (TreesOf (IsTakenOut (class_number (class_of key.now)) (key_bytes key.now) (state S.Store self.old).now)) }
     {
         let class = key.class().number();
         let bytes = key.bytes(alloc)?;
@@ -297,7 +296,7 @@ impl<S: Alter> Store<S> {
         source: &Name,
         name: &Name,
     ) -> Result<Vec<Object>, StoreFault>
-        ensures ok { HasCleanDisk (state S.Store self.new) → IfOk result (λ those. (objects : FinMap key_cmp Obj) → HasRows objects (state S.Store self.old).now → those.items ≡ filter (names_it name.now) (values objects)) }
+        ensures ok { HasCleanDisk (state S.Store self.new) → IfOk result (λ those. (objects : FinMap key_cmp Obj) → HasRows objects (state S.Store self.old).now → those.items ≡ filter (object_names name.now) (values objects)) }
         ensures same { HasCleanDisk (state S.Store self.new) → OnOk result (IsUnchanged (state S.Store self.old) (state S.Store self.new)) }
         ensures memory { HasCleanDisk (state S.Store self.new) → IfErr result (λ fault. fault ≡ Memory → IsUnchanged (state S.Store self.old) (state S.Store self.new)) }
         ensures err { HasCleanDisk (state S.Store self.new) → IsTrue (state S.Store self.new).is_open → OnErr result ((state S.Store self.new).now ≡ (state S.Store self.old).now) }

@@ -4,7 +4,7 @@ ghost use Rattle.std.specs.Prelude.{◌≡◌, [], ◌∷◌, false, IsTrue, OnE
 ghost use Rattle.sqlite.specs.State.{HasCleanDisk, Survives};
 ghost use Rattle.sqlite.specs.Held.{state};
 ghost use Rattle.rr_rows.specs.Contents.{IsTidy};
-ghost use Rattle.rr_rows.specs.Entries.{IsAdded, IsPut, IsTaken, TreesOf};
+ghost use Rattle.rr_rows.specs.Entries.{IsAdded, IsPut, IsTakenOut, TreesOf};
 ghost use Rattle.rr_rows.specs.Maps.{AreOfObjects};
 
 use crate::bodies::{add_rows, put_rows, remove_rows};
@@ -74,11 +74,11 @@ pub(crate) fn remove_entry<S: Alter>(
     requires autocommit { conn.old.in_transaction ≡ false }
     requires held { HasCleanDisk (state S.Store conn.old) → IsTrue (state S.Store conn.old).is_open → AreOfObjects (state S.Store conn.old).now }
     ensures autocommit { conn.new.in_transaction ≡ false }
-    ensures ok { HasCleanDisk (state S.Store conn.new) → OnOk result (IsTaken class key.now (state S.Store conn.old).now (state S.Store conn.new).now) }
+    ensures ok { HasCleanDisk (state S.Store conn.new) → OnOk result (IsTakenOut class key.now (state S.Store conn.old).now (state S.Store conn.new).now) }
     ensures is_open { HasCleanDisk (state S.Store conn.new) → OnOk result (IsTrue (state S.Store conn.new).is_open) }
     ensures was_open { HasCleanDisk (state S.Store conn.new) → OnOk result (IsTrue (state S.Store conn.old).is_open) }
     ensures err { HasCleanDisk (state S.Store conn.new) → IsTrue (state S.Store conn.new).is_open → OnErr result (((state S.Store conn.new).now ≡ (state S.Store conn.old).now) × IsTrue (state S.Store conn.old).is_open) }
-    ensures crash { Survives (state S.Store conn.old) (state S.Store conn.new) (TreesOf (IsTaken class key.now (state S.Store conn.old).now)) }
+    ensures crash { Survives (state S.Store conn.old) (state S.Store conn.new) (TreesOf (IsTakenOut class key.now (state S.Store conn.old).now)) }
 {
     let _settled = conn.is_autocommit();
     let mut tx = conn.transaction();

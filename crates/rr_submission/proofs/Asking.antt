@@ -22,7 +22,7 @@ use Rattle.rr_registry.specs.RunLaws.{AreReadIn}
 use Rattle.rr_submission.specs.declared.request.Request.{Request}
 use Rattle.rr_submission.specs.SubmissionItems.{AreItems, Asked, submitted}
 use Rattle.rr_submission.specs.SubmissionItems.AreItems.{at_end, secrets_alone, asked, faulty, unread_for_memory}
-use Rattle.rr_submission.specs.Requests.{IsRequest, IsTied, action_of, request_of, request_of_key, submission, unread}
+use Rattle.rr_submission.specs.Requests.{IsRequest, IsTied, action_of, request_of, request_of_key, submitted_object, unread}
 
 -- with a key that was read
 pub IsRequest-at_key : (source : List ℕ) (fields own : List Field) (key : Key) (action : Result Item Code) → own ≡ own_fields fields → key_of own ≡ Ok key →
@@ -76,7 +76,7 @@ read_object source own key object k e =
     )
 
 tied_object : (source : List ℕ) (own : List Field) (key : Key) (read : Result Obj ObjectFault) → key_of own ≡ Ok key → object_of own source ≡ read →
-    IsTied source (record { key = Some key; action = submission read })
+    IsTied source (record { key = Some key; action = submitted_object read })
 tied_object source own key (Ok object) k e = read_object source own key object k e
 tied_object source own key (Err fault) k e = tt
 

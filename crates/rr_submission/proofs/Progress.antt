@@ -31,8 +31,8 @@ use Rattle.rr_submission.specs.SubmissionItems.{AreItems, Asked, submitted}
 use Rattle.rr_submission.specs.SubmissionItems.AreItems.{at_end, secrets_alone, asked, faulty}
 use Rattle.rr_submission.specs.Refusals.{is_refusal, refusals}
 use Rattle.rr_submission.specs.Reports.{item_line, lines_from, stop_lines}
-use Rattle.rr_submission.specs.Served.{HaltsAt, ReadsFront, ServesHalted, ServesSome, ServesStopped, ServesUnwritten}
-use Rattle.rr_submission.specs.ServedParts.{Serves, ServesAll, ServesOne, ServesRead}
+use Rattle.rr_submission.specs.Served.{HaltsAt, ReadsItems, ServesHalted, ServesSome, ServesStopped, ServesUnwritten}
+use Rattle.rr_submission.specs.ServedParts.{ServesItems, ServesAll, ServesOne, ServesRead}
 
 -- one item more is decided
 pub Run-more : (old between new : Reg) (items : List Asked) (outcomes : List Outcome) (item : Asked) (outcome : Outcome) →
@@ -145,7 +145,7 @@ apart_by Broken now front left keeps = absurd keeps
 apart_by Endless now front left keeps = absurd keeps
 
 -- the front that was given
-pub front_read : (start now : Told) (p : Paragraphs) (given : List Entry) (has : HasGiven start now p given) → ReadsFront start now has.front
+pub front_read : (start now : Told) (p : Paragraphs) (given : List Entry) (has : HasGiven start now p given) → ReadsItems start now has.front
 front_read start now p given has = record {
   left = held p;
   gives = rw (← has.cut) has.gives;
@@ -222,7 +222,7 @@ ServesHalted-cut g {source} old between new {before} {middle} start now p after 
 pub Serves-cut : {L : Type 0} (g : Ghosts L) {source : List ℕ} {given : List Entry} (old between new : L) {before middle : Told} {secrets : List (List ℕ)} {done : Done}
     (start now : Told) (p : Paragraphs) (after : Told) (then_secrets : List (List ℕ)) (request : Request) (stop : Stop) →
     ComesTo source given (g.registry old) (g.registry between) before middle secrets done → g.Ready between → FindsItem source start now p given secrets then_secrets request →
-    ServesOne g then_secrets request done between new middle after (Err stop) → Serves g source start now old new before after (Err stop)
+    ServesOne g then_secrets request done between new middle after (Err stop) → ServesItems g source start now old new before after (Err stop)
 Serves-cut g old between new start now p after then_secrets request (Unwritten count) so ready found one =
     ServesSome-cut start now p _ after then_secrets count request one.outcome so found one.decides one.items one.writes
 Serves-cut g old between new start now p after then_secrets request (Halted count) so ready found one =

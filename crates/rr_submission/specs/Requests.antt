@@ -1,4 +1,4 @@
--- What a paragraph of a submission asks (profile).
+-- What a paragraph of a submitted_object asks (profile).
 use Rattle.std.specs.Prelude.{◌≡◌, ℕ, Bool, true, false, List, Some, None, Result, Ok, Err, IfOk, IfSome, ◌⊎◌}
 use Rattle.rr_text.specs.Fields.{Field}
 use Rattle.rr_text.specs.declared.fault.TextFault.{TextFault}
@@ -34,14 +34,14 @@ abbrev pub unread : Code → Request
 unread code = record { key = None; action = Err code }
 
 -- an object is submitted, or refused with the code of its first fault
-abbrev pub submission : Result Obj ObjectFault → Result Item Code
-submission (Ok object) = Ok (Submit object)
-submission (Err fault) = Err (code_of fault)
+abbrev pub submitted_object : Result Obj ObjectFault → Result Item Code
+submitted_object (Ok object) = Ok (Submit object)
+submitted_object (Err fault) = Err (code_of fault)
 
 -- what is asked about the object of a key: its deletion, or that it be as the paragraph says
 abbrev pub action_of : List ℕ → List Field → Key → Bool → Result Item Code
 action_of source own key true = Ok (Delete key)
-action_of source own key false = submission (object_of own source)
+action_of source own key false = submitted_object (object_of own source)
 
 -- what is asked where the key was read or not
 abbrev pub request_of_key : List ℕ → List Field → Bool → Result Key ObjectFault → Request

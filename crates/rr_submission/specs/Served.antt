@@ -53,7 +53,7 @@ pub record ServesHalted {L : Type 0} (g : Ghosts L) (source : List ℕ) (entries
 
 -- a front of the text was read, and at most one block behind it, whose bytes are passed unread: the front ends with a
 -- blank line, so that its entries are the first of the text whatever follows, or with the text (profile)
-pub record ReadsFront (start now : Told) (front : List ℕ) : Type 0 where
+pub record ReadsItems (start now : Told) (front : List ℕ) : Type 0 where
   pub left : List ℕ
   pub gives : Gives start now (front ++ left)
   pub short : length left ≤ 4096
@@ -63,11 +63,11 @@ pub record ReadsFront (start now : Told) (front : List ℕ) : Type 0 where
 -- a front of the text was read, up to the item whose line could not be written
 pub record ServesUnwritten (source : List ℕ) (start now : Told) (old new : Reg) (before after : Told) (count : ℕ) : Type 0 where
   pub front : List ℕ
-  pub reads : ReadsFront start now front
+  pub reads : ReadsItems start now front
   pub serves : ServesSome source (entries front) old new before after count
 
 -- a front of the text was read, up to the item at which the ledger came to a halt
 pub record ServesStopped {L : Type 0} (g : Ghosts L) (source : List ℕ) (start now : Told) (old new : L) (before after : Told) (count : ℕ) : Type 0 where
   pub front : List ℕ
-  pub reads : ReadsFront start now front
+  pub reads : ReadsItems start now front
   pub serves : ServesHalted g source (entries front) old new before after count

@@ -38,10 +38,10 @@ pub record ServesRead (source : List ℕ) (start now : Told) (end : ReadEnd) (ol
 
 -- all of the items, with what is counted; those up to the one whose line could not be written, with their number; or
 -- those before the one at which the ledger came to a halt
-abbrev pub Serves : {L : Type 0} → Ghosts L → List ℕ → Told → Told → L → L → Told → Told → Result (Done × ReadEnd) Stop → Type 0
-Serves g source start now old new before after (Ok served) = ServesRead source start now served.1 (g.registry old) (g.registry new) before after served.0
-Serves g source start now old new before after (Err (Unwritten count)) = ServesUnwritten source start now (g.registry old) (g.registry new) before after count
-Serves g source start now old new before after (Err (Halted count)) = ServesStopped g source start now old new before after count
+abbrev pub ServesItems : {L : Type 0} → Ghosts L → List ℕ → Told → Told → L → L → Told → Told → Result (Done × ReadEnd) Stop → Type 0
+ServesItems g source start now old new before after (Ok served) = ServesRead source start now served.1 (g.registry old) (g.registry new) before after served.0
+ServesItems g source start now old new before after (Err (Unwritten count)) = ServesUnwritten source start now (g.registry old) (g.registry new) before after count
+ServesItems g source start now old new before after (Err (Halted count)) = ServesStopped g source start now old new before after count
 
 -- a fact that holds unless the ledger came to a halt
 abbrev pub UnlessHalted : {T : Type 0} → Result T Stop → Type 0 → Type 0
@@ -50,7 +50,7 @@ UnlessHalted (Err (Unwritten count)) fact = fact
 UnlessHalted (Err (Halted count)) fact = Unit {0}
 
 -- an item was decided and counted, and its line was written
-pub record IsServed (secrets : List (List ℕ)) (request : Request) (done : Done) (old new : Reg) (before after : Told) (counted : Done) : Type 0 where
+pub record IsCounted (secrets : List (List ℕ)) (request : Request) (done : Done) (old new : Reg) (before after : Told) (counted : Done) : Type 0 where
   pub outcome : Outcome
   pub decides : Decides old secrets request.action outcome new
   pub items : counted.items ≡ done.items + 1
@@ -72,6 +72,6 @@ pub record HasHalted {L : Type 0} (g : Ghosts L) (secrets : List (List ℕ)) (re
 
 -- an item was decided, and its line was written or not, or the ledger came to a halt
 abbrev pub ServesOne : {L : Type 0} → Ghosts L → List (List ℕ) → Request → Done → L → L → Told → Told → Result Done Stop → Type 0
-ServesOne g secrets request done old new before after (Ok counted) = IsServed secrets request done (g.registry old) (g.registry new) before after counted
+ServesOne g secrets request done old new before after (Ok counted) = IsCounted secrets request done (g.registry old) (g.registry new) before after counted
 ServesOne g secrets request done old new before after (Err (Unwritten count)) = IsUntold secrets request done (g.registry old) (g.registry new) before after count
 ServesOne g secrets request done old new before after (Err (Halted count)) = HasHalted g secrets request done old new before after count

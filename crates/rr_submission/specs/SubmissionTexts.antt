@@ -1,15 +1,15 @@
 -- What the paragraph of a submission holds beside an object (profile).
 use Rattle.std.specs.Prelude.{ℕ, Bool, not, List, codes, filter, map}
 use Rattle.std.specs.List.{list_all, list_any, join_with_byte}
-use Rattle.rr_text.specs.Fields.{Field, is_named}
+use Rattle.rr_text.specs.Fields.{Field, has_name}
 
 -- `password` gives a secret
 abbrev pub is_password : Field → Bool
-is_password field = is_named (codes "password") field
+is_password field = has_name (codes "password") field
 
 -- `delete` asks for the deletion of the object; its value says nothing
 abbrev pub is_delete : Field → Bool
-is_delete field = is_named (codes "delete") field
+is_delete field = has_name (codes "delete") field
 
 -- the paragraph of the object: all but the attributes `password` and `delete`
 abbrev pub own_fields : List Field → List Field

@@ -7,7 +7,7 @@ ghost use Rattle.rr_registry.specs.Runs.{Decides};
 ghost use Rattle.rr_submission.specs.Refusals.{is_refusal};
 ghost use Rattle.rr_submission.specs.Reports.{stop_lines};
 ghost use Rattle.rr_submission.specs.Served.{HaltsAt};
-ghost use Rattle.rr_submission.specs.ServedParts.{Serves, ServesOne, UnlessHalted};
+ghost use Rattle.rr_submission.specs.ServedParts.{ServesItems, ServesOne, UnlessHalted};
 ghost use Rattle.rr_submission.specs.SubmissionLaws.{ConfinesTexts};
 ghost use Rattle.rr_submission.specs.Submissions.{Submits, UnlessStoreFault};
 
@@ -114,7 +114,7 @@ fn serve_all<L: Ledger, R: Source, W: Sink>(
 ) -> Result<(Done, ReadEnd), Stop>
     requires ready { L.Ready ledger.old }
     requires unread { HasGiven (R.told reader.old) (R.told reader.old) paragraphs.old [] }
-    ensures serves { Serves L.Ledger source.now (R.told reader.old) (R.told reader.new) ledger.old ledger.new (W.told writer.old) (W.told writer.new) result }
+    ensures serves { ServesItems L.Ledger source.now (R.told reader.old) (R.told reader.new) ledger.old ledger.new (W.told writer.old) (W.told writer.new) result }
     ensures ready { UnlessHalted result (L.Ready ledger.new) }
     ensures reader_aside { R.aside reader.new ≡ R.aside reader.old }
     ensures writer_aside { W.aside writer.new ≡ W.aside writer.old }

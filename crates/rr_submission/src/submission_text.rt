@@ -10,13 +10,13 @@ use rr_text::{Attribute, Paragraph};
 pub fn is_password(attribute: &Attribute) -> bool
     ensures { result ≡ is_password attribute.now }
 {
-    attribute.is_named(b"password")
+    attribute.has_name(b"password")
 }
 
 fn is_delete(attribute: &Attribute) -> bool
     ensures { result ≡ is_delete attribute.now }
 {
-    attribute.is_named(b"delete")
+    attribute.has_name(b"delete")
 }
 
 /// Whether a paragraph gives secrets and is no item.

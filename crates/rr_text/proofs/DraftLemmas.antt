@@ -10,7 +10,7 @@ use Rattle.rr_text.specs.declared.line_so_far.LineSoFar.TheVariants.{Nothing}
 use Rattle.rr_text.specs.declared.line_so_far.LineEnd.{LineEnd}
 use Rattle.rr_text.specs.declared.line_so_far.LineEnd.TheVariants.{Passed, Taken, Closed}
 use Rattle.rr_text.specs.LineParts.{line_so_far, line_with, line_end}
-use Rattle.rr_text.specs.DraftParts.{IsCutSo, IsKept, IsBegun, HasEntry, IsClosed, Gathers, Finishes, IsFresh, KeepsPiece, TakesLine, EndsLine}
+use Rattle.rr_text.specs.DraftParts.{IsCutSo, KeepsBlock, IsBegun, HasEntry, IsClosed, GathersLines, Finishes, IsFresh, KeepsPiece, TakesLine, EndsLine}
 use Rattle.rr_bytes.specs.Blanks.{is_line_feed}
 use Rattle.rr_text.specs.Lines.{text_lines, are_whole_lines, IsWholeLine, is_blank_line, is_skipped_line, is_paragraph_line}
 use Rattle.rr_text.specs.Blocks.{blocks, from_blank, starts_block}
@@ -181,8 +181,8 @@ large_by false block line piece kept all large (inr long) =
     omega (arith, long, ap length is, length-append block line, length-append block (line ++ piece), length-append line piece)
 
 -- what is kept with a piece more
-pub kept_more : (old new : Draft) (piece block line : List ℕ) → IsKept block line old.kept.items old.over old.whole → KeepsPiece old new piece
-    → IsKept block (line ++ piece) new.kept.items new.over new.whole
+pub kept_more : (old new : Draft) (piece block line : List ℕ) → KeepsBlock block line old.kept.items old.over old.whole → KeepsPiece old new piece
+    → KeepsBlock block (line ++ piece) new.kept.items new.over new.whole
 kept_more old new piece block line kept keeps = record {
   all = λ e. let fits = keeps.fits e in fits.1 ∙ (ap (λ r. r ++ piece) (kept.all fits.0) ∙ append_assoc block line piece);
   large = λ e. large_by old.over block line piece old.kept.items kept.all kept.large (keeps.over e).1;
@@ -202,8 +202,8 @@ taken_large true whole kept block most is large past = large refl
 taken_large false whole kept block most is large past = absurd (omega (arith, is, most, past))
 
 -- what is kept where the line that has begun is one of the block
-pub kept_taken : (old new : Draft) (block line : List ℕ) → length old.kept.items ≤ size_limit → IsKept block line old.kept.items old.over old.whole → TakesLine old new
-    → IsKept (block ++ line) [] new.kept.items new.over new.whole
+pub kept_taken : (old new : Draft) (block line : List ℕ) → length old.kept.items ≤ size_limit → KeepsBlock block line old.kept.items old.over old.whole → TakesLine old new
+    → KeepsBlock (block ++ line) [] new.kept.items new.over new.whole
 kept_taken old new block line most kept takes =
     let items : new.kept.items ≡ old.kept.items = takes.kept in
     let over : new.over ≡ old.over = takes.over in
@@ -215,7 +215,7 @@ kept_taken old new block line most kept takes =
       too_large = λ past. taken_large old.over new.whole old.kept.items (block ++ line) most takes.whole kept.large past;
     }
 
-kept_fresh : (draft : Draft) → IsFresh draft → IsKept [] [] draft.kept.items draft.over draft.whole
+kept_fresh : (draft : Draft) → IsFresh draft → KeepsBlock [] [] draft.kept.items draft.over draft.whole
 kept_fresh draft fresh = record {
   all = λ _. fresh.kept;
   large = λ e. let over = fresh.over in cc;
@@ -299,7 +299,7 @@ fed_passed text piece block line new at h fresh =
     in begun_with (text ++ piece) new fresh (cut_none (text ++ piece) (at.cut.passed ++ (line ++ piece) ∷ []) lines idle)
 
 fed_taken : (text piece block line : List ℕ) (started : Bool) (mid new : Draft) → IsAtFeed text piece started block line → is_blank_line (line ++ piece) ≡ false
-    → (started || is_paragraph_line (line ++ piece)) ≡ true → length mid.kept.items ≤ size_limit → IsKept block (line ++ piece) mid.kept.items mid.over mid.whole → TakesLine mid new
+    → (started || is_paragraph_line (line ++ piece)) ≡ true → length mid.kept.items ≤ size_limit → KeepsBlock block (line ++ piece) mid.kept.items mid.over mid.whole → TakesLine mid new
     → IsBegun (text ++ piece) new
 fed_taken text piece block line started mid new at h begins most kept takes =
     let more : IsLonger block (line ++ piece) = longer (text ++ piece) block (line ++ piece) started at.at h begins in
@@ -329,7 +329,7 @@ entry_of : (text block : List ℕ) (draft : Draft) → starts_block (text_lines 
 entry_of text block draft starts front too_large one = record { block = block; starts = starts; front = front; too_large = too_large; one = entries_are text (text_lines block ∷ []) one }
 
 fed_closed : (text piece block line : List ℕ) (mid : Draft) → IsAtFeed text piece true block line → is_blank_line (line ++ piece) ≡ true
-    → IsKept block (line ++ piece) mid.kept.items mid.over mid.whole → IsClosed (text ++ piece) mid
+    → KeepsBlock block (line ++ piece) mid.kept.items mid.over mid.whole → IsClosed (text ++ piece) mid
 fed_closed text piece block line mid at h kept =
     let closing : closes (line ++ piece) ≡ true = both_true (is_blank_line (line ++ piece)) (list_any is_line_feed (line ++ piece)) h (feed_in (line ++ piece) at.some at.whole.ended) in
     let lines : text_lines (text ++ piece) ≡ (at.at.passed ++ text_lines block) ++ (line ++ piece) ∷ [] =
@@ -340,8 +340,8 @@ fed_closed text piece block line mid at h kept =
     }
 
 fed_by : (end : LineEnd) (text piece block line : List ℕ) (started closes : Bool) (mid new : Draft) → IsAtFeed text piece started block line
-    → length mid.kept.items ≤ size_limit → IsKept block (line ++ piece) mid.kept.items mid.over mid.whole
-    → EndsSo started (line ++ piece) end → EndsLine end mid new closes → Gathers closes (text ++ piece) new
+    → length mid.kept.items ≤ size_limit → KeepsBlock block (line ++ piece) mid.kept.items mid.over mid.whole
+    → EndsSo started (line ++ piece) end → EndsLine end mid new closes → GathersLines closes (text ++ piece) new
 fed_by Passed text piece block line started closes mid new at most kept so ends =
     let is : closes ≡ false = ends.1 in
     let was : started ≡ false = so.0 in
@@ -357,7 +357,7 @@ fed_by Closed text piece block line started closes mid new at most kept so ends 
 
 -- a piece with its LF, behind which the line is at its end
 pub begun_fed : (text piece : List ℕ) (old mid new : Draft) (closing : Bool) → IsBegun text old → KeepsPiece old mid piece
-    → EndsLine (line_end mid.started mid.line) mid new closing → 0 < length piece → text_lines piece ≡ piece ∷ [] → are_whole_lines piece ≡ true → Gathers closing (text ++ piece) new
+    → EndsLine (line_end mid.started mid.line) mid new closing → 0 < length piece → text_lines piece ≡ piece ∷ [] → are_whole_lines piece ≡ true → GathersLines closing (text ++ piece) new
 begun_fed text piece old mid new closing begun keeps ends some single h =
     let started : mid.started ≡ old.started = keeps.started in
     let known : mid.line ≡ line_so_far (begun.line ++ piece) = keeps.line ∙ (ap (λ kind. line_with kind piece) begun.known ∙ line_with-append begun.line piece) in
@@ -400,7 +400,7 @@ finishes_none : (started : Bool) (text : List ℕ) (draft : Draft) → started �
 finishes_none true text draft e none = cc
 finishes_none false text draft e none = none
 
-bare_by : (started closing : Bool) (text block : List ℕ) (old new : Draft) → IsCutSo text started block [] → IsKept block [] old.kept.items old.over old.whole → old.started ≡ started
+bare_by : (started closing : Bool) (text block : List ℕ) (old new : Draft) → IsCutSo text started block [] → KeepsBlock block [] old.kept.items old.over old.whole → old.started ≡ started
     → EndsLine (line_end started Nothing) old new closing → Finishes new.started text new
 bare_by true closing text block old new cut kept was ends =
     let same : new ≡ old = ends.0 in
@@ -410,13 +410,13 @@ bare_by false closing text block old new cut kept was ends =
     finishes_none new.started text new ends.0.started (entries_are text [] (bare_end text block false cut ∙ (ap (λ b. blocks (text_lines b)) (cut.none refl) ∙ (ap blocks no_text_lines ∙ no_blocks))))
 
 ended_by : (end : LineEnd) (text block line : List ℕ) (started closing : Bool) (old new : Draft) → IsAtLineEnd text started block line
-    → IsKept block line old.kept.items old.over old.whole → old.started ≡ started → EndsSo started line end → EndsLine end old new closing → Finishes new.started text new
+    → KeepsBlock block line old.kept.items old.over old.whole → old.started ≡ started → EndsSo started line end → EndsLine end old new closing → Finishes new.started text new
 ended_by Passed text block line started closing old new at kept was so ends =
     let none : started ≡ false = so.0 in
     finishes_none new.started text new ends.0.started (entries_are text [] (passed_end text block line (rw none at at) so.1))
 ended_by Taken text block line started closing old new at kept was so ends =
     let more : IsLonger block line = longer text block line started at so.0 so.1 in
-    let all : IsKept (block ++ line) [] new.kept.items new.over new.whole = kept_taken old new block line old.most kept ends.0 in
+    let all : KeepsBlock (block ++ line) [] new.kept.items new.over new.whole = kept_taken old new block line old.most kept ends.0 in
     finishes_one new.started text new ends.0.started (entry_of text (block ++ line) new more.starts all.front all.too_large (taken_end text block line started at more))
 ended_by Closed text block line started closing old new at kept was so ends =
     let same : new ≡ old = ends.0 in
@@ -432,7 +432,7 @@ begun_ended text old new closing begun ends =
       | inl none ↦
           let known : old.line ≡ Nothing = begun.known ∙ ap line_so_far none in
           let cut : IsCutSo text old.started begun.block [] = rw none at begun.cut in
-          let kept : IsKept begun.block [] old.kept.items old.over old.whole = rw none at begun.kept in
+          let kept : KeepsBlock begun.block [] old.kept.items old.over old.whole = rw none at begun.kept in
           let so : EndsLine (line_end old.started Nothing) old new closing = subst (λ (kind : LineSoFar). EndsLine (line_end old.started kind) old new closing) known ends in
           bare_by old.started closing text begun.block old new cut kept refl so
       | inr single ↦

@@ -27,7 +27,7 @@ pub record IsCutSo (text : List ℕ) (started : Bool) (block line : List ℕ) : 
   pub begun : list_any is_line_feed line ≡ false
 
 -- what is kept of a block and of the line behind it, and how many bytes of it are the block's
-pub record IsKept (block line kept : List ℕ) (over : Bool) (whole : ℕ) : Type 0 where
+pub record KeepsBlock (block line kept : List ℕ) (over : Bool) (whole : ℕ) : Type 0 where
   pub all : over ≡ false → kept ≡ block ++ line
   pub large : over ≡ true → size_limit < length (block ++ line)
   pub front : whole ≤ size_limit → (whole ≤ length kept) × (take whole kept ≡ block)
@@ -38,7 +38,7 @@ pub record IsBegun (text : List ℕ) (draft : Draft) : Type 0 where
   pub block : List ℕ
   pub line : List ℕ
   pub cut : IsCutSo text draft.started block line
-  pub kept : IsKept block line draft.kept.items draft.over draft.whole
+  pub kept : KeepsBlock block line draft.kept.items draft.over draft.whole
   pub known : draft.line ≡ line_so_far line
 
 -- the draft of a text with one block, which is whole
@@ -55,9 +55,9 @@ pub record IsClosed (text : List ℕ) (draft : Draft) : Type 0 where
   pub apart : whole_part text ≡ text
 
 -- whether a text is closed
-abbrev pub Gathers : Bool → List ℕ → Draft → Type 0
-Gathers true text draft = IsClosed text draft
-Gathers false text draft = IsBegun text draft
+abbrev pub GathersLines : Bool → List ℕ → Draft → Type 0
+GathersLines true text draft = IsClosed text draft
+GathersLines false text draft = IsBegun text draft
 
 -- the lines of a text are added up to the one that closes: so many bytes, or all of them
 abbrev pub AddsLines : List ℕ → List ℕ → Option ℕ → Draft → Type 0

@@ -32,13 +32,13 @@ abbrev pub AreFields : List Field → Type 0
 AreFields fields = AllByRecursion IsField fields
 
 -- an attribute has this name, in lower case
-abbrev pub is_named : List ℕ → Field → Bool
-is_named name field = bytes_eq field.name name
+abbrev pub has_name : List ℕ → Field → Bool
+has_name name field = bytes_eq field.name name
 
 -- attributes of this name get this line as their value
 abbrev pub with_value : List ℕ → List ℕ → Field → Field
 with_value name line field =
-    if is_named name field then record { name = field.name; lines = line ∷ [] } else field
+    if has_name name field then record { name = field.name; lines = line ∷ [] } else field
 
 -- whether two attributes are equal
 abbrev pub field_eq : Field → Field → Bool

@@ -23,7 +23,7 @@ impl Model for Attribute {
 }
 
 impl Attribute {
-    ghost use Rattle.rr_text.specs.Fields.{is_named};
+    ghost use Rattle.rr_text.specs.Fields.{has_name};
 
     /// The attribute of this name and these lines, which are taken as they are.
     pub fn new(name: Text, lines: Vec<Text>) -> Attribute
@@ -48,8 +48,8 @@ impl Attribute {
     }
 
     /// Whether the name has these bytes; inside a `Paragraph` it is in lower case.
-    pub fn is_named(&self, name: &[u8]) -> bool
-        ensures { result ≡ is_named name.now self.now }
+    pub fn has_name(&self, name: &[u8]) -> bool
+        ensures { result ≡ has_name name.now self.now }
     {
         self.name() == name
     }

@@ -1,7 +1,7 @@
 //! Paragraphs: attributes in order.
 
 ghost use Rattle.std.specs.Prelude.{◌≡◌, ◌↔◌, IsTrue, IfOk, not, map, filter};
-ghost use Rattle.rr_text.specs.Fields.{AreFields, IsLine, is_named};
+ghost use Rattle.rr_text.specs.Fields.{AreFields, IsLine, has_name};
 ghost use Rattle.rr_text.specs.Fields as fields;
 
 use crate::attribute::Attribute;
@@ -52,10 +52,10 @@ impl Paragraph {
 
     /// The paragraph less its attributes of this name, which is given in lower case.
     pub fn without(self, name: &[u8]) -> Paragraph
-        ensures { result ≡ filter (λ field. not (is_named name.now field)) self }
+        ensures { result ≡ filter (λ field. not (has_name name.now field)) self }
     {
         let mut attributes = self.attributes;
-        attributes.retain(|attribute| !attribute.is_named(name));
+        attributes.retain(|attribute| !attribute.has_name(name));
         Paragraph { attributes }
     }
 
@@ -111,7 +111,7 @@ fn with_value(
 ) -> Result<Attribute, AllocError>
     ensures { IfOk result (λ made. made ≡ fields.with_value name.now line.now attribute.now) }
 {
-    if attribute.is_named(name) {
+    if attribute.has_name(name) {
         attribute.with_line(alloc, line)
     } else {
         attribute.copy(alloc)

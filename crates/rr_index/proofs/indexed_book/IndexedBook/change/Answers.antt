@@ -8,7 +8,7 @@ use Rattle.std.specs.Ordering.{nat_cmp}
 use Rattle.std.proofs.lemmas.Bool.{true≢false}
 use Rattle.rr_auth.specs.Registries.{Reg, Sound}
 use Rattle.rr_book.specs.SetLists.{names_set}
-use Rattle.rr_index.specs.Indexes.{IsKept}
+use Rattle.rr_index.specs.Indexes.{IsIndexed}
 use Rattle.rr_index.proofs.Changes.{keys_stay, names_stay, spans_stay}
 use Rattle.rr_index.proofs.Namings.{namings_changed, namings_same}
 use Rattle.rr_index.proofs.Originated.{origins_stay}
@@ -62,7 +62,7 @@ invariant_of-self-in-Ok c =
     let x = c.in-Ok.old in
     let stood : get r o.key ≡ Some x = c.in-Ok.ensures.old in
     let found = rw c.key.ensures at c.get.ensures in
-    subst (λ (s : Reg). IsKept s (record { spans = c.self.inside.indexes.spans; origins = c.self.inside.indexes.origins; names = c.self.inside.indexes.names; referrers = c.take-in-Ok.new.self; namings = c.take-in-Ok-2.new.self })) (sym c.in-Ok.ensures.ok) (record {
+    subst (λ (s : Reg). IsIndexed s (record { spans = c.self.inside.indexes.spans; origins = c.self.inside.indexes.origins; names = c.self.inside.indexes.names; referrers = c.take-in-Ok.new.self; namings = c.take-in-Ok-2.new.self })) (sym c.in-Ok.ensures.ok) (record {
       sound = subst (λ (s : Reg). Sound (insert s o.key o)) (sym c.self.view_is) c.requires.sound;
       indexes = record {
         keys = record {

@@ -1,6 +1,6 @@
 use Rattle.std.proofs.Common.{sym, ap, ◌∙◌}
 use Rattle.rr_object.specs.declared.key.Key.TheVariants.{AsBlock}
-use Rattle.rr_auth.specs.Conditions.{crosses_some as crosses_key}
+use Rattle.rr_auth.specs.Conditions.{crosses_registered as crosses_key}
 use Rattle.rr_index.proofs.Questions.{blocks_cross, inetnums_cross, rest_cross}
 use Rattle.rr_index.proofs.span_index.SpanIndex.crosses.Goals as goal
 

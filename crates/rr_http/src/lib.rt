@@ -15,7 +15,6 @@ mod registrar;
 mod replying;
 mod routing;
 mod serving;
-mod short_reply;
 mod wanting;
 
 pub use asking::{Asked, BODY_SIZE, Page, Refusal, read_request};

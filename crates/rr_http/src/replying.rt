@@ -5,9 +5,9 @@ ghost use Rattle.rr_io.specs.Sending.{Writes};
 ghost use Rattle.rr_http.specs.Replies.{allow_line, given_head, reason_of, refusal_fields, refusal_reply, status_of, status_words};
 
 use crate::asking::{Page, Refusal};
-use crate::short_reply::ShortReply;
 use http::StatusCode;
 use rr_io::{Sink, write_all};
+use rr_submission::ShortText;
 use std::io;
 
 /// Writes the reply to a request that is refused, whole in the first call of the writer. After a fault the writer has
@@ -34,10 +34,10 @@ pub fn write_given_head<W: Sink>(writer: &mut W) -> io::Result<()>
 
 /// The reply to a request that is refused.
 #[tactic(auto, unfolding(crate::specs::Replies::refusal_reply))]
-fn refusal_reply(refusal: Refusal) -> ShortReply
+fn refusal_reply(refusal: Refusal) -> ShortText
     ensures { result ≡ refusal_reply refusal }
 {
-    let mut reply = ShortReply::new();
+    let mut reply = ShortText::new();
     reply.push(b"HTTP/1.1 ");
     push_words(&mut reply, refusal);
     push_fields(&mut reply, refusal);
@@ -48,13 +48,13 @@ fn refusal_reply(refusal: Refusal) -> ShortReply
 
 /// Appends the fields of a refusal, and the empty line behind them.
 #[tactic(auto, using(crate::proofs::ReplyLemmas::allow_short))]
-fn push_fields(reply: &mut ShortReply, refusal: Refusal)
+fn push_fields(reply: &mut ShortText, refusal: Refusal)
     requires { length reply.old ≤ 48 }
     ensures value { reply.new ≡ reply.old ++ refusal_fields refusal }
     ensures short { length reply.new ≤ length reply.old + 100 }
 {
     reply.push(b"\r\nContent-Type: text/plain\r\nContent-Length: ");
-    reply.push_number(body_length(refusal));
+    reply.push_number(body_length(refusal) as u64);
     reply.push(b"\r\nConnection: close\r\n");
     reply.push(allow_line(refusal).as_bytes());
     reply.push(b"\r\n");
@@ -62,7 +62,7 @@ fn push_fields(reply: &mut ShortReply, refusal: Refusal)
 
 /// Appends the status code and its reason words.
 #[tactic(auto, using(crate::proofs::ReplyLemmas::reason_short), unfolding(crate::specs::Replies::status_words))]
-fn push_words(reply: &mut ShortReply, refusal: Refusal)
+fn push_words(reply: &mut ShortText, refusal: Refusal)
     requires { length reply.old ≤ 200 }
     ensures value { reply.new ≡ reply.old ++ status_words refusal }
     ensures short { length reply.new ≤ length reply.old + 35 }

@@ -93,7 +93,7 @@ object_values class key body = Int (pos class) ∷ Text key ∷ Blob body ∷ []
 abbrev pub named_values : List ℕ → ℕ → List ℕ → Row
 named_values name class key = Text name ∷ Int (pos class) ∷ Text key ∷ []
 
--- what a row holds meets_tests the tests of WHERE under these parameters
+-- what a row passes the tests of WHERE under these parameters
 abbrev pub meets_tests : List Term → Row → Row → Bool
 meets_tests tests params row = list_all (holds (params ∷ (Null ∷ row) ∷ [])) tests
 

@@ -1,4 +1,4 @@
--- What a paragraph of a submitted_object asks (profile).
+-- What a paragraph of a submission asks (profile).
 use Rattle.std.specs.Prelude.{◌≡◌, ℕ, Bool, true, false, List, Some, None, Result, Ok, Err, IfOk, IfSome, ◌⊎◌}
 use Rattle.rr_text.specs.Fields.{Field}
 use Rattle.rr_text.specs.declared.fault.TextFault.{TextFault}

@@ -4,7 +4,7 @@ ghost use Rattle.std.specs.Prelude.{◌≡◌};
 ghost use Rattle.rr_io.specs.Sending.{Writes};
 ghost use Rattle.rr_submission.specs.Endings.{before_count, behind_count, last_line};
 
-use crate::report_line::ReportLine;
+use crate::short_text::ShortText;
 use rr_io::{Sink, write_all};
 use std::io;
 
@@ -54,10 +54,10 @@ pub fn write_last_line<W: Sink>(writer: &mut W, ending: Ending, items: u64) -> i
 
 /// The last line.
 #[tactic(auto, unfolding(crate::specs::Endings::last_line), using(crate::proofs::LineSizes::before_count_short, crate::proofs::LineSizes::behind_count_short))]
-fn last_line(ending: Ending, items: u64) -> ReportLine
+fn last_line(ending: Ending, items: u64) -> ShortText
     ensures { result ≡ last_line ending items }
 {
-    let mut line = ReportLine::new();
+    let mut line = ShortText::new();
     line.push(ending.before_count().as_bytes());
     line.push_number(items);
     line.push(ending.behind_count().as_bytes());

@@ -6,7 +6,7 @@ ghost use Rattle.rr_object.specs.Keys.{class_of};
 ghost use Rattle.rr_object.specs.KeyTexts.{key_text};
 ghost use Rattle.rr_submission.specs.Reports.{class_part, item_line, number_part, outcome_part, outcome_word, refusal_code, subject};
 
-use crate::report_line::ReportLine;
+use crate::short_text::ShortText;
 use rr_io::{Sink, write_all};
 use rr_object::{Class, Key};
 use rr_registry::Outcome;
@@ -26,17 +26,17 @@ pub fn write_item_line<W: Sink>(
 }
 
 /// The line of an item.
-fn item_line(number: u64, key: &Option<Key>, outcome: Outcome) -> ReportLine
+fn item_line(number: u64, key: &Option<Key>, outcome: Outcome) -> ShortText
     ensures { result ≡ item_line number key.now outcome }
 {
-    let mut line = ReportLine::new();
+    let mut line = ShortText::new();
     push_item_number(&mut line, number);
     push_subject(&mut line, key);
     push_outcome(&mut line, outcome);
     line
 }
 
-fn push_item_number(line: &mut ReportLine, number: u64)
+fn push_item_number(line: &mut ShortText, number: u64)
     requires { length line.old ≤ 0 }
     ensures value { line.new ≡ line.old ++ number_part number }
     ensures short { length line.new ≤ 21 }
@@ -46,7 +46,7 @@ fn push_item_number(line: &mut ReportLine, number: u64)
 }
 
 /// The class and the key, or `-`.
-fn push_subject(line: &mut ReportLine, key: &Option<Key>)
+fn push_subject(line: &mut ShortText, key: &Option<Key>)
     requires { length line.old ≤ 21 }
     ensures value { line.new ≡ line.old ++ subject key.now }
     ensures short { length line.new ≤ 286 }
@@ -61,7 +61,7 @@ fn push_subject(line: &mut ReportLine, key: &Option<Key>)
 }
 
 #[tactic(auto, using(crate::proofs::LineSizes::class_name_short))]
-fn push_class(line: &mut ReportLine, class: Class)
+fn push_class(line: &mut ShortText, class: Class)
     requires { length line.old ≤ 21 }
     ensures value { line.new ≡ line.old ++ class_part class }
     ensures short { length line.new ≤ 31 }
@@ -72,7 +72,7 @@ fn push_class(line: &mut ReportLine, class: Class)
 
 /// What stands behind the subject.
 #[tactic(auto, using(crate::proofs::LineSizes::outcome_word_short, crate::proofs::LineSizes::refusal_code_short))]
-fn push_outcome(line: &mut ReportLine, outcome: Outcome)
+fn push_outcome(line: &mut ShortText, outcome: Outcome)
     requires { length line.old ≤ 286 }
     ensures { line.new ≡ line.old ++ outcome_part outcome }
 {

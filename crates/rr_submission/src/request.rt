@@ -1,6 +1,6 @@
 //! What paragraphs of a submission ask.
 
-ghost use Rattle.std.specs.Prelude.{◌≡◌, ◌⊎◌, Err, Ok, Some};
+ghost use Rattle.std.specs.Prelude.{◌≡◌, ◌⊎◌, Err, None, Ok, Some};
 ghost use Rattle.rr_object.specs.KeySpellings.{key_of};
 
 use crate::submission_text::{asks_deletion, own_paragraph};
@@ -20,6 +20,7 @@ pub struct Request {
 }
 
 impl Request {
+    ghost use Rattle.rr_submission.specs.ItemReaders.{end_of};
     ghost use Rattle.rr_submission.specs.Requests.{IsRequest, IsTied, action_of, text_code, unread};
 
     /// The request of a paragraph that was refused before its class and key were read.
@@ -32,8 +33,9 @@ impl Request {
         }
     }
 
-    /// The request of a paragraph that could not be read as text.
+    /// The request of a paragraph that could not be read as text: the fault is one of it, and not of the reading.
     pub fn unread_text(fault: TextFault) -> Request
+        requires { end_of fault ≡ None }
         ensures { result ≡ unread (text_code fault) }
     {
         Request::unread(match fault {
@@ -41,10 +43,9 @@ impl Request {
             TextFault::BadByte
             | TextFault::FirstContinues
             | TextFault::NoColon
-            | TextFault::BadName
-            | TextFault::Read
-            | TextFault::Endless => Code::E01,
+            | TextFault::BadName => Code::E01,
             TextFault::Memory => Code::E90,
+            TextFault::Read | TextFault::Endless => unreachable!(),
         })
     }
 

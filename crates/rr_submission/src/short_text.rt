@@ -1,4 +1,4 @@
-//! A reply while it is put together, on the stack.
+//! A short text while it is put together, on the stack.
 
 ghost use Rattle.std.specs.Prelude.{◌≡◌, ◌+◌, ◌≤◌, [], ◌++◌, decimal, length};
 
@@ -6,34 +6,35 @@ use arrayvec::ArrayVec;
 use itoa::Buffer;
 use std::marker::Model;
 
-/// The most bytes of a reply without an answer: 180 at most are needed.
-const REPLY_SIZE: usize = 256;
+/// The most bytes of a short text: a line of a report, whose number, class, key and outcome have fewer together, or a reply
+/// without an answer.
+pub const SHORT_SIZE: usize = 320;
 
-/// The bytes of a reply so far, which take no memory beside the value itself; contracts see the list of them.
+/// The bytes of a short text so far, which take no memory beside the value itself; contracts see the list of them.
 #[derive(Drop)]
-pub struct ShortReply {
-    bytes: ArrayVec<u8, REPLY_SIZE>,
+pub struct ShortText {
+    bytes: ArrayVec<u8, SHORT_SIZE>,
 }
 
-impl Model for ShortReply {
+impl Model for ShortText {
     ghost use Rattle.std.specs.Prelude.{List, ℕ};
 
     ghost Value = { List ℕ };
 
-    ghost view = { λ reply. reply.bytes.items };
+    ghost view = { λ text. text.bytes.items };
 }
 
-impl ShortReply {
-    /// A reply of no bytes.
-    pub fn new() -> ShortReply
+impl ShortText {
+    /// A text of no bytes.
+    pub fn new() -> ShortText
         ensures { result ≡ [] }
     {
-        ShortReply {
+        ShortText {
             bytes: ArrayVec::new(),
         }
     }
 
-    /// The bytes of the reply.
+    /// The bytes of the text.
     pub fn as_bytes(&self) -> &[u8]
         ensures { result.now ≡ self.now }
     {
@@ -42,7 +43,7 @@ impl ShortReply {
 
     /// Appends a piece.
     pub fn push(&mut self, piece: &[u8])
-        requires { length self.old + length piece.now ≤ REPLY_SIZE }
+        requires { length self.old + length piece.now ≤ SHORT_SIZE }
         ensures value { self.new ≡ self.old ++ piece.now }
         ensures longer { length self.new ≡ length self.old + length piece.now }
     {
@@ -53,8 +54,8 @@ impl ShortReply {
     }
 
     /// Appends a number in decimal digits, at most 20.
-    pub fn push_number(&mut self, number: usize)
-        requires { length self.old + 20 ≤ REPLY_SIZE }
+    pub fn push_number(&mut self, number: u64)
+        requires { length self.old + 20 ≤ SHORT_SIZE }
         ensures value { self.new ≡ self.old ++ decimal number }
         ensures short { length self.new ≤ length self.old + 20 }
     {

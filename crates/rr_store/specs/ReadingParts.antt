@@ -1,0 +1,40 @@
+-- What private functions that read the objects of rows promise each other. No public clause cites these.
+use Rattle.std.specs.Prelude.{◌≡◌, ℕ, List, [], ◌∷◌, Option, Some, ⊤, Bool, true}
+use Rattle.std.specs.List.{find}
+use Rattle.std.specs.Option.{option_and_then}
+use Rattle.std.specs.Ordering.{is_lt}
+use Rattle.sqlite_value.specs.Order.{Row}
+use Rattle.rr_number.specs.Names.{name_of}
+use Rattle.rr_text.specs.CanonicalText.{canonical}
+use Rattle.rr_text.specs.Fields.{Field, has_name}
+use Rattle.rr_text.specs.Meanings.{value_meaning}
+use Rattle.rr_object.specs.Classes.{class_number}
+use Rattle.rr_object.specs.declared.kind.Kind.TheVariants.{Source}
+use Rattle.rr_object.specs.Kinds.{kind_name}
+use Rattle.rr_object.specs.KeyOrders.{key_cmp}
+use Rattle.rr_object.specs.Keys.{class_of}
+use Rattle.rr_object.specs.Objects.{Obj}
+use Rattle.rr_rows.specs.Contents.{object_values}
+use Rattle.rr_rows.specs.Maps.{IsObjectOf, KeyForm}
+
+-- the source that the first attribute `source` names (RFC 2622, 3.1)
+abbrev pub first_source : List Field → Option (List ℕ)
+first_source fields = option_and_then (λ field. name_of (value_meaning field.lines)) (find (has_name (kind_name Source)) fields)
+
+-- a row is that of an object, whose key has a text in this form (profile)
+pub record IsRowOf (form : KeyForm) (object : Obj) (row : Row) : Type 0 where
+  pub key : List ℕ
+  pub formed : form object.key ≡ Some key
+  pub is : row ≡ object_values (class_number (class_of object.key)) key (canonical object.paragraph)
+
+-- rows are those of objects of a source, in turn (profile)
+abbrev pub AreRead : KeyForm → List ℕ → List Row → List Obj → Type 0
+AreRead form source [] [] = ⊤
+AreRead form source (row ∷ rows) [] = ⊥
+AreRead form source [] (object ∷ objects) = ⊥
+AreRead form source (row ∷ rows) (object ∷ objects) = (IsObjectOf source object × IsRowOf form object row) × AreRead form source rows objects
+
+-- the key of an object is below that of the first of others, if there is one
+abbrev pub is_below : Obj → List Obj → Bool
+is_below object [] = true
+is_below object (other ∷ others) = is_lt (key_cmp object.key other.key)

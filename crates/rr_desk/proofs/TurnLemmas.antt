@@ -7,7 +7,8 @@ use Rattle.sqlite_trees.specs.declared.store.Store.{Ghosts}
 use Rattle.rr_desk.specs.declared.desk.Desk.{Desk}
 use Rattle.std.specs.Prelude.{is_ok}
 use Rattle.rr_io.specs.Told.{Told}
-use Rattle.rr_desk.specs.Turns.{Answer, CountsTurn, Does, DoesAll, IsAccepted, Serving, TakesTurn, TakesTurns, Turn, Visit, closed, is_served, turn_of, unaccepted, with_turn}
+use Rattle.rr_desk.specs.TurnParts.{TakesTurn}
+use Rattle.rr_desk.specs.Turns.{Answer, CountsTurn, Does, DoesAll, IsAccepted, Serving, TakesTurns, Turn, Visit, closed, is_served, turn_of, unaccepted, with_turn}
 
 mapped_more : (visits : List (Option Visit)) (visit : Option Visit) → map turn_of (visits ++ visit ∷ []) ≡ map turn_of visits ++ turn_of visit ∷ []
 mapped_more [] visit = refl

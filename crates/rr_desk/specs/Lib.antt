@@ -6,6 +6,7 @@ pub mod Private
 pub mod Settings
 pub mod Opened
 pub mod Turns
+pub mod TurnParts
 pub mod MemoryTurns
 pub mod MemoryTold
 pub mod Answering

@@ -1,5 +1,5 @@
 -- The turns of a listener, and what serving the connections of them does (profile).
-use Rattle.std.specs.Prelude.{◌≡◌, ℕ, ◌+◌, Bool, true, false, not, is_ok, List, [], ◌∷◌, ◌++◌, length, map, count_by, Option, None, Some, Result}
+use Rattle.std.specs.Prelude.{◌≡◌, ℕ, ◌+◌, Bool, false, not, is_ok, List, [], ◌∷◌, ◌++◌, length, map, count_by, Option, None, Some, Result}
 use Rattle.std.specs.Option.{option_map}
 use Rattle.sqlite_trees.specs.declared.store.Store.{Ghosts}
 use Rattle.rr_io.specs.Told.{Told}
@@ -73,13 +73,6 @@ abbrev pub DoesAll : (S : Type 0) → Ghosts S → Serving → List (Option Visi
 DoesAll S g serves [] before after = after ≡ before
 DoesAll S g serves (visit ∷ visits) before after =
     (between : Desk S) × Does S g serves visit before between × DoesAll S g serves visits between after
-
--- a turn was taken: what it did, that it is counted and, where turns are told, told, and whether it was served
-pub record TakesTurn {S : Type 0} (g : Ghosts S) (serves : Serving) (before after : Desk S) (counted_before counted_after : ℕ) (told_before told_after : Option (List Turn)) (served : Bool) : Type 0 where
-  pub visit : Option Visit
-  pub does : Does S g serves visit before after
-  pub taken : CountsTurn (turn_of visit) counted_before counted_after told_before told_after
-  pub answer : served ≡ is_served visit
 
 -- so many turns were taken, in order: what each did, that each is counted and, where turns are told, told, and how many were served
 -- and how many not

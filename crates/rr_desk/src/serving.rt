@@ -4,7 +4,8 @@ ghost use Rattle.std.specs.Prelude.{◌≡◌, ◌+◌, ◌<◌, ◌^◌, false}
 ghost use Rattle.sqlite.specs.Held.{state};
 ghost use Rattle.sqlite.specs.State.{HasCleanDisk};
 ghost use Rattle.rr_desk.specs.Rows.{Holds};
-ghost use Rattle.rr_desk.specs.Turns.{TakesTurn, TakesTurns};
+ghost use Rattle.rr_desk.specs.TurnParts.{TakesTurn};
+ghost use Rattle.rr_desk.specs.Turns.{TakesTurns};
 
 use crate::desk::Desk;
 use crate::peers::{AcceptFault, Peers};

@@ -11,7 +11,8 @@ use Rattle.httparse.specs.declared.spans.HeaderSpan.{HeaderSpan}
 use Rattle.httparse.specs.declared.spans.RequestSpans.{RequestSpans}
 use Rattle.rr_http.specs.declared.fronts.Goal.TheVariants.{Line, Head}
 use Rattle.rr_http.specs.Asked.{parts_of}
-use Rattle.rr_http.specs.Fronts.{BreaksOn, IsUnfinished, ReadsOn, head_length, is_reached}
+use Rattle.rr_http.specs.Fronts.{IsUnfinished, head_length, is_reached}
+use Rattle.rr_http.specs.FrontParts.{BreaksOn, ReadsOn}
 use Rattle.rr_http.specs.FrontLines.{speaks_http}
 use Rattle.rr_http.specs.Requests.{Asks, asks_of}
 use Rattle.rr_http.specs.Wants.{BreaksFront, IsParsed, IsSettled, IsUndecided, ReadsFront, head_asks}

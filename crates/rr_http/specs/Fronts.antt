@@ -1,11 +1,9 @@
 -- What is read at the front of a connection: its first line, and the head of a request.
-use Rattle.std.specs.Prelude.{◌≡◌, ℕ, ◌+◌, ◌<◌, Bool, false, ◌==◌, ◌&&◌, nat_lt, IsTrue, ◌⊎◌, List, [], ◌∷◌, ◌++◌, length, Option, None, Some, is_some, if◌then◌else◌}
+use Rattle.std.specs.Prelude.{◌≡◌, ℕ, ◌+◌, ◌<◌, Bool, false, ◌==◌, ◌&&◌, nat_lt, List, [], ◌∷◌, length, Option, None, Some, is_some, if◌then◌else◌}
 use Rattle.std.specs.List.{list_any}
 use Rattle.std.specs.Option.{option_map}
 use Rattle.rr_bytes.specs.Blanks.{is_line_feed}
 use Rattle.rr_bytes.specs.NameBytes.{begins}
-use Rattle.rr_io.specs.Told.{Told}
-use Rattle.rr_io.specs.Receiving.{BreaksOff, Gives, IsSpent}
 use Rattle.rr_http.specs.declared.fronts.Goal.{Goal}
 use Rattle.rr_http.specs.declared.fronts.Goal.TheVariants.{Line, Head}
 
@@ -33,15 +31,3 @@ is_reached Head front = is_some (head_length front)
 pub record IsUnfinished (goal : Goal) (room : ℕ) (front : List ℕ) : Type 0 where
   pub unreached : is_reached goal front ≡ false
   pub room_left : length front < room
-
--- a read failed while a front was read on, which was not finished then (profile)
-abbrev pub BreaksOn : Goal → ℕ → Told → Told → List ℕ → Type 0
-BreaksOn goal room old new before = (more : List ℕ) × BreaksOff old new more × IsUnfinished goal room (before ++ more)
-
--- a front was read on until it has what it is read for, fills its room, or ended with the input (profile)
-pub record ReadsOn (goal : Goal) (room : ℕ) (old new : Told) (before after : List ℕ) (ended : Bool) : Type 0 where
-  pub more : List ℕ
-  pub gives : Gives old new more
-  pub joined : after ≡ before ++ more
-  pub enough : IsTrue (is_reached goal after) ⊎ ((length after ≡ room) ⊎ IsTrue ended)
-  pub spent : IsTrue ended → IsSpent new

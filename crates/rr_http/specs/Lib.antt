@@ -1,6 +1,7 @@
 pub mod Asked
 pub mod Fronts
 pub mod FrontLines
+pub mod FrontParts
 pub mod Digits
 pub mod Requests
 pub mod Routes

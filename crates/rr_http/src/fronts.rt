@@ -1,7 +1,8 @@
 //! The front of a connection: the bytes by which it says what it asks.
 
 ghost use Rattle.std.specs.Prelude.{◌≡◌, ◌≤◌, false, length, take, IfOk, IfSome, OnErr};
-ghost use Rattle.rr_http.specs.Fronts.{BreaksOn, ReadsOn, head_length, is_reached, line_end};
+ghost use Rattle.rr_http.specs.FrontParts.{BreaksOn, ReadsOn};
+ghost use Rattle.rr_http.specs.Fronts.{head_length, is_reached, line_end};
 
 use rr_io::Source;
 use std::io;

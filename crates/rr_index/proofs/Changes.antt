@@ -13,8 +13,8 @@ use Rattle.rr_auth.specs.Registries.{Reg, Sound, keys_cross}
 use Rattle.rr_cover.specs.SpanMaps.{SpanMap}
 use Rattle.rr_index.proofs.Referrers.{put_there}
 use Rattle.rr_index.proofs.Spans.{keys_in}
-use Rattle.rr_index.specs.Indexes.{IsApart}
 use Rattle.rr_index.specs.NameIndexes.{HasNames}
+use Rattle.rr_index.specs.Private.{IsApart}
 use Rattle.rr_index.specs.SpanIndexes.{HasSpans}
 
 -- the keys stay

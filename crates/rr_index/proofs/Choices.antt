@@ -27,8 +27,8 @@ use Rattle.rr_index.proofs.Kept.{one_order}
 use Rattle.rr_index.proofs.Ranges.{origins_between, same_picked, values_between}
 use Rattle.rr_index.proofs.Routed.{itself, same_parts}
 use Rattle.rr_index.proofs.Spans.{inetnums_tie}
-use Rattle.rr_index.specs.ChosenKeys.{is_among, is_chosen}
-use Rattle.rr_index.specs.KeyRanges.{lies_between}
+use Rattle.rr_index.specs.ChosenKeyParts.{is_among, is_chosen}
+use Rattle.rr_index.specs.KeyRangeParts.{lies_between}
 use Rattle.rr_index.specs.SpanIndexes.{HasSpans}
 use Rattle.rr_number.proofs.PrefixSpans.{spans_tell}
 use Rattle.rr_number.specs.AsNumbers.{greatest_as_number}

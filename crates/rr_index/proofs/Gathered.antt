@@ -9,7 +9,7 @@ use Rattle.std.specs.declared.cmp.Ordering.TheVariants.{Less, Equal, Greater}
 use Rattle.rr_object.proofs.KeyLaws.{keys_exact, keys_total, tied_key}
 use Rattle.rr_auth.specs.Registries.{Sound}
 use Rattle.rr_book.specs.Books.{book_of, entry, is_in_order}
-use Rattle.rr_index.specs.Indexes.{IsApart}
+use Rattle.rr_index.specs.Private.{IsApart}
 use Rattle.rr_object.specs.declared.key.Key.{Key}
 use Rattle.rr_object.specs.KeyOrders.{key_cmp}
 use Rattle.rr_object.specs.Objects.{Obj}

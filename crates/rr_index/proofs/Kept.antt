@@ -21,7 +21,7 @@ use Rattle.rr_object.specs.declared.key.Key.{Key}
 use Rattle.rr_object.specs.KeyOrders.{key_cmp}
 use Rattle.rr_object.specs.Objects.{Obj}
 use Rattle.rr_sets.specs.Lists.{lent}
-use Rattle.rr_index.specs.KeyRanges.{lies_between}
+use Rattle.rr_index.specs.KeyRangeParts.{lies_between}
 use Rattle.rr_index.specs.ObjectMaps.{registry_of, IsRising}
 
 -- the derived order of keys is their order

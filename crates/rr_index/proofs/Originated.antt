@@ -27,7 +27,8 @@ use Rattle.rr_index.proofs.Choices.{any_mapped, eq_swap, led_to}
 use Rattle.rr_index.proofs.Kept.{one_order}
 use Rattle.rr_index.proofs.Ranges.{both_so, greatest, least, tied, within}
 use Rattle.rr_index.proofs.Spans.{keys_in, keys_out}
-use Rattle.rr_index.specs.OriginIndexes.{HasOrigins, is_from, origin_cmp}
+use Rattle.rr_index.specs.OriginIndexes.{HasOrigins, origin_cmp}
+use Rattle.rr_index.specs.Private.{is_from}
 
 -- a route as origin and prefix
 abbrev pub RouteParts : Type 0

@@ -17,8 +17,8 @@ use Rattle.rr_auth.specs.Registries.{Reg, Sound, keys_cross}
 use Rattle.rr_book.proofs.Crossing.{none_crosses}
 use Rattle.rr_cover.proofs.Ordered.{crosses_found, crosses_missed}
 use Rattle.rr_cover.specs.SpanMaps.{IsClosest, NoneCovers, SpanMap, crosses_some}
-use Rattle.rr_index.specs.Indexes.{IsApart}
-use Rattle.rr_index.specs.SpanIndexes.{HasSpans, is_crossed}
+use Rattle.rr_index.specs.Private.{IsApart, is_crossed}
+use Rattle.rr_index.specs.SpanIndexes.{HasSpans}
 
 there_is : {A : Type 0} (v : Option A) → is_some v ≡ true → (x : A) × (v ≡ Some x)
 there_is None e = cc

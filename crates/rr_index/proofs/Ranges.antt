@@ -24,7 +24,7 @@ use Rattle.rr_auth.specs.Registries.{Reg, Sound}
 use Rattle.rr_book.specs.Books.{entry}
 use Rattle.rr_book.specs.SetLists.{is_of_class}
 use Rattle.rr_index.proofs.Listed.{whole}
-use Rattle.rr_index.specs.KeyRanges.{lies_between}
+use Rattle.rr_index.specs.KeyRangeParts.{lies_between}
 
 -- a part of a key that is not above another's lets the later parts decide
 pub least : (a : ℕ) (r : Ordering) → is_le r ≡ true → is_le (ordering_then (nat_cmp 0 a) r) ≡ true

@@ -10,7 +10,7 @@ use Rattle.rr_object.specs.declared.key.Key.TheVariants.{AsBlock, AsSet, AutNum,
 use Rattle.rr_auth.proofs.Members.{found_in, none_passes, passing_one, stands_at}
 use Rattle.rr_auth.specs.Closest.{origin_at, same_prefix}
 use Rattle.rr_auth.specs.Registries.{Reg, Sound}
-use Rattle.rr_index.specs.SpanIndexes.{IsTold}
+use Rattle.rr_index.specs.Private.{IsTold}
 
 pub same_parts : (p q : PrefixParts) → same_prefix p q ≡ true → p ≡ q
 same_parts p q e =

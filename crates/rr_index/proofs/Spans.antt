@@ -18,7 +18,8 @@ use Rattle.rr_object.proofs.KeyLaws.{keys_total, same_key, tied_key}
 use Rattle.rr_auth.specs.Registries.{Reg}
 use Rattle.rr_cover.proofs.Among.{same_tied, tied_same}
 use Rattle.rr_cover.specs.SpanMaps.{SpanMap}
-use Rattle.rr_index.specs.SpanIndexes.{HasSpans, IsRouted, IsTold}
+use Rattle.rr_index.specs.Private.{IsTold}
+use Rattle.rr_index.specs.SpanIndexes.{HasSpans, IsRouted}
 
 some_or : {A : Type 0} (b : Bool) (x : A) (v : Option A) → is_some (cond b (Some x) v) ≡ (b || is_some v)
 some_or true x v = refl

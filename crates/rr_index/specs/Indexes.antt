@@ -1,11 +1,7 @@
 -- What is kept beside the objects of a registry.
-use Rattle.std.specs.Prelude.{◌≡◌, false, Some}
-use Rattle.std.specs.FinMap.{get}
-use Rattle.rr_auth.specs.Registries.{Reg, Sound, keys_cross}
+use Rattle.rr_auth.specs.Registries.{Reg, Sound}
 use Rattle.rr_book.specs.SetIndexes.{HasReferrers}
 use Rattle.rr_book.specs.declared.set_index.SetIndex.{SetIndex}
-use Rattle.rr_object.specs.declared.key.Key.{Key}
-use Rattle.rr_object.specs.Objects.{Obj}
 use Rattle.rr_index.specs.NameIndexes.{HasNames}
 use Rattle.rr_index.specs.NamingIndexes.{HasNamings}
 use Rattle.rr_index.specs.OriginIndexes.{HasOrigins}
@@ -31,7 +27,3 @@ pub record HasIndexes (r : Reg) (kept : Indexes) : Type 0 where
 pub record IsIndexed (r : Reg) (kept : Indexes) : Type 0 where
   pub sound : Sound r
   pub indexes : HasIndexes r kept
-
--- No registered inetnum or as-block crosses the key (profile).
-pub record IsApart (r : Reg) (k : Key) : Type 0 where
-  pub apart : (l : Key) (x : Obj) → get r l ≡ Some x → keys_cross l k ≡ false

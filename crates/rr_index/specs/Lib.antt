@@ -1,8 +1,9 @@
-pub mod ChosenKeys
+pub mod ChosenKeyParts
 pub mod Indexes
-pub mod KeyRanges
+pub mod KeyRangeParts
 pub mod NameIndexes
 pub mod NamingIndexes
 pub mod ObjectMaps
 pub mod OriginIndexes
+pub mod Private
 pub mod SpanIndexes

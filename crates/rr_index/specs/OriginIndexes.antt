@@ -1,20 +1,16 @@
 -- The routes of a registry, by origin.
-use Rattle.std.specs.Prelude.{◌≡◌, ℕ, Bool, not, ◌&&◌}
+use Rattle.std.specs.Prelude.{◌≡◌, ℕ}
 use Rattle.std.specs.BTreeSet.{BTreeSet, contains}
 use Rattle.std.specs.FinMap.{contains_key}
 use Rattle.std.specs.declared.cmp.Ordering.{Ordering}
-use Rattle.std.specs.Ordering.{is_le, is_lt, nat_cmp, ordering_then}
-use Rattle.rr_number.specs.Prefixes.{PrefixParts, masked, prefix_cmp}
+use Rattle.std.specs.Ordering.{nat_cmp, ordering_then}
+use Rattle.rr_number.specs.Prefixes.{PrefixParts, prefix_cmp}
 use Rattle.rr_object.specs.declared.key.Key.TheVariants.{Route}
 use Rattle.rr_auth.specs.Registries.{Reg}
 
 -- Routes as origin and prefix are ordered by origin, then by prefix (profile).
 abbrev pub origin_cmp : ℕ × PrefixParts → ℕ × PrefixParts → Ordering
 origin_cmp a b = ordering_then (nat_cmp a.0 b.0) (prefix_cmp a.1 b.1)
-
--- The route lies from the least prefix of the origin to its greatest (profile).
-abbrev pub is_from : ℕ → ℕ × PrefixParts → Bool
-is_from origin route = is_le (origin_cmp (origin, masked 0 0) route) && not (is_lt (origin_cmp (origin, masked 4294967295 32) route))
 
 -- Exactly the registered routes stand there (profile).
 abbrev pub HasOrigins : Reg → BTreeSet (ℕ × PrefixParts) → Type 0

@@ -3,10 +3,11 @@
 ghost use Rattle.std.specs.Prelude.{◌≡◌, None, Some, OnErr, OnOk, false};
 ghost use Rattle.std.specs.FinMap.{empty, get, insert, remove};
 ghost use Rattle.rr_auth.specs.Registries.{Reg, Sound};
-ghost use Rattle.rr_index.specs.Indexes.{HasIndexes, HasKeys, IsApart};
+ghost use Rattle.rr_index.specs.Indexes.{HasIndexes, HasKeys};
 ghost use Rattle.rr_index.specs.NameIndexes.{HasNames};
 ghost use Rattle.rr_index.specs.OriginIndexes.{HasOrigins};
-ghost use Rattle.rr_index.specs.SpanIndexes.{HasSpans, is_crossed};
+ghost use Rattle.rr_index.specs.Private.{IsApart, is_crossed};
+ghost use Rattle.rr_index.specs.SpanIndexes.{HasSpans};
 
 use crate::name_index::NameIndex;
 use crate::naming_index::NamingIndex;

@@ -18,10 +18,10 @@ ghost use Rattle.rr_auth.specs.Closest.{origin_at, origins_among};
 ghost use Rattle.rr_auth.specs.Registries.{Reg, Sound};
 ghost use Rattle.rr_book.specs.SetLists.{is_of_class};
 ghost use Rattle.rr_sets.specs.Lists.{lent};
-ghost use Rattle.rr_index.specs.ChosenKeys.{is_chosen};
-ghost use Rattle.rr_index.specs.KeyRanges.{lies_between};
-ghost use Rattle.rr_index.specs.OriginIndexes.{is_from, origin_cmp};
-ghost use Rattle.rr_index.specs.SpanIndexes.{IsTold};
+ghost use Rattle.rr_index.specs.ChosenKeyParts.{is_chosen};
+ghost use Rattle.rr_index.specs.KeyRangeParts.{lies_between};
+ghost use Rattle.rr_index.specs.OriginIndexes.{origin_cmp};
+ghost use Rattle.rr_index.specs.Private.{is_from, IsTold};
 
 use crate::origin_index::OriginIndex;
 use rr_book::lists::origin_at;

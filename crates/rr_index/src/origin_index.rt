@@ -5,7 +5,8 @@ ghost use Rattle.std.specs.FinMap.{empty, insert, remove};
 ghost use Rattle.std.specs.List.Sorted.{IsStrictlySortedBy};
 ghost use Rattle.rr_object.specs.Objects.{Obj};
 ghost use Rattle.rr_auth.specs.Registries.{Reg};
-ghost use Rattle.rr_index.specs.OriginIndexes.{HasOrigins, is_from, origin_cmp};
+ghost use Rattle.rr_index.specs.OriginIndexes.{HasOrigins, origin_cmp};
+ghost use Rattle.rr_index.specs.Private.{is_from};
 
 use rr_number::{Address, AsNumber, Prefix};
 use rr_object::Key;

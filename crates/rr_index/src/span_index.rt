@@ -8,7 +8,8 @@ ghost use Rattle.rr_object.specs.Objects.{Obj};
 ghost use Rattle.rr_auth.specs.Registries.{Reg, Sound};
 ghost use Rattle.rr_auth.specs.Closest.{closest_routes};
 ghost use Rattle.rr_auth.specs.Conditions.{crosses_registered as crosses_key};
-ghost use Rattle.rr_index.specs.SpanIndexes.{HasSpans, IsTold, is_crossed};
+ghost use Rattle.rr_index.specs.Private.{IsTold, is_crossed};
+ghost use Rattle.rr_index.specs.SpanIndexes.{HasSpans};
 
 use rr_cover::{InsertFault, PrefixTree, SpanNest};
 use rr_number::{Prefix, Span};

@@ -11,7 +11,8 @@ use Rattle.rr_rows.specs.Entries.{TreesOf}
 use Rattle.rr_rows.specs.Made.{IsBare}
 use Rattle.rr_rows.specs.Maps.{AreOldStored}
 use Rattle.rr_store.specs.Kept.{IsLeft}
-use Rattle.rr_store.specs.Migrating.{IsMigrated, IsRewritten, has_mntner}
+use Rattle.rr_store.specs.Migrating.{IsMigrated, has_mntner}
+use Rattle.rr_store.specs.MigratingParts.{IsRewritten}
 use Rattle.rr_store.proofs.MigratedLemmas.{migrated}
 use Rattle.rr_store.proofs.BodyLemmas.{none_two, none_four, two_four}
 

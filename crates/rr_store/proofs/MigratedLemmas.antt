@@ -23,7 +23,8 @@ use Rattle.rr_object.specs.OldKeys.{old_key_bytes}
 use Rattle.rr_object.specs.Readings.{object_of}
 use Rattle.rr_object.proofs.Parsed.{kept_its_key, of_any_source}
 use Rattle.rr_rows.specs.Maps.{AreOldStored, AreStored, IsObjectOf, this_form}
-use Rattle.rr_store.specs.Migrating.{IsMigrated, IsRewritten, has_mntner, upper_block}
+use Rattle.rr_store.specs.Migrating.{IsMigrated, has_mntner, upper_block}
+use Rattle.rr_store.specs.MigratingParts.{IsRewritten}
 
 upper : Ends
 upper = record { first = 65536; last = 4294967295 }

@@ -14,7 +14,7 @@ use Rattle.rr_object.proofs.Parsed.{of_any_source, kept_its_key, kept_paragraph}
 use Rattle.rr_rows.specs.Entries.{entry_of, object_row, once}
 use Rattle.rr_rows.specs.Maps.{IsObject, IsObjectOf, KeyForm}
 use Rattle.rr_rows.proofs.MapLists.{of_any}
-use Rattle.rr_store.specs.Reading.{AreRead, IsRowOf}
+use Rattle.rr_store.specs.ReadingParts.{AreRead, IsRowOf}
 
 module _ (form : KeyForm) (source : List ℕ) where
   pub read_more : (rows : List Row) (objects : List Obj) (row : Row) (object : Obj) → AreRead form source rows objects → IsObjectOf source object → IsRowOf form object row

@@ -8,7 +8,7 @@ use Rattle.rr_object.specs.Objects.{Obj}
 use Rattle.rr_object.specs.KeyOrders.{key_cmp}
 use Rattle.rr_object.proofs.KeyLaws.{keys_total}
 use Rattle.rr_rows.specs.Maps.{AreInOrder}
-use Rattle.rr_store.specs.Reading.{is_below}
+use Rattle.rr_store.specs.ReadingParts.{is_below}
 
 less : (o : Ordering) → IsTrue (is_lt o) → o ≡ Less
 less Less h = refl

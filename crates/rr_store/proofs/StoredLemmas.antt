@@ -27,7 +27,7 @@ use Rattle.rr_rows.proofs.MapKeys.{KeepsOrder, keys_exact, old_form_keeps_order,
 use Rattle.rr_rows.proofs.MapLists.{formed_key, in_order_apart, of_any}
 use Rattle.rr_store.specs.CheckParts.{HoldsNone, HoldsObjects, IsVersionFault}
 use Rattle.rr_store.specs.Opening.{HoldNone, SaysNoOther, SaysOther}
-use Rattle.rr_store.specs.Reading.{AreRead}
+use Rattle.rr_store.specs.ReadingParts.{AreRead}
 use Rattle.rr_store.specs.Versions.{SaysVersion, form_of, version_number, version_text}
 use Rattle.rr_store.specs.declared.fault.OpenFault.{OpenFault}
 use Rattle.rr_store.specs.declared.fault.OpenFault.TheVariants.{WrongVersion, BadRow, Store, Memory}

@@ -4,7 +4,7 @@ use Rattle.sqlite_value.specs.Order.{Row}
 use Rattle.rr_object.specs.Objects.{Obj}
 use Rattle.rr_rows.specs.Contents.{IsInRank, by_two, setting}
 use Rattle.rr_rows.specs.Maps.{AreInOrder, KeyForm}
-use Rattle.rr_store.specs.Reading.{AreRead}
+use Rattle.rr_store.specs.ReadingParts.{AreRead}
 use Rattle.rr_store.specs.Versions.{SaysVersion, version_number, version_text}
 use Rattle.rr_store.specs.declared.version.Version.{Version}
 use Rattle.rr_store.specs.declared.fault.OpenFault.{OpenFault}

@@ -5,7 +5,8 @@ pub mod Faults
 pub mod Kept
 pub mod Lent
 pub mod Migrating
+pub mod MigratingParts
 pub mod NamingParts
 pub mod Opening
-pub mod Reading
+pub mod ReadingParts
 pub mod Versions

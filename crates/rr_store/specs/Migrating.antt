@@ -1,12 +1,11 @@
 -- What migration makes of tables of version 1.
-use Rattle.std.specs.Prelude.{◌≡◌, ℕ, Bool, true, false, List, [], ◌∷◌, ◌++◌, codes, map}
+use Rattle.std.specs.Prelude.{◌≡◌, ℕ, Bool, true, false, List, [], ◌∷◌, ◌++◌, codes}
 use Rattle.std.specs.List.{list_any}
 use Rattle.sqlite.specs.Effect.{Database}
 use Rattle.rr_text.specs.Fields.{Field}
 pub use Rattle.rr_object.specs.Keys.{is_mntner_of}
 use Rattle.rr_object.specs.Objects.{Obj}
-use Rattle.rr_rows.specs.Entries.{entry_of}
-use Rattle.rr_rows.specs.Maps.{AreOldStored, AreStored, IsFilled, IsObjectOf}
+use Rattle.rr_rows.specs.Maps.{AreOldStored, AreStored}
 use Rattle.rr_object.specs.Readings.{ReadsAs}
 use Rattle.rr_store.specs.declared.fault.MigrateFault.{MigrateFault}
 use Rattle.rr_store.specs.declared.fault.MigrateFault.TheVariants.{WrongVersion, BadRow, NoRoot, Store, Memory}
@@ -23,13 +22,6 @@ upper_block root source =
 -- one of the objects is the mntner of a name
 abbrev pub has_mntner : List ℕ → List Obj → Bool
 has_mntner name objects = list_any (λ object. is_mntner_of name object.key) objects
-
--- the tables are of version 2 and hold the rows of the objects and of that block (profile)
-pub record IsRewritten (root source : List ℕ) (objects : List Obj) (db : Database) : Type 0 where
-  pub block : Obj
-  pub of_source : IsObjectOf source block
-  pub read : ReadsAs source (upper_block root source) block
-  pub filled : IsFilled (map entry_of (objects ++ block ∷ [])) db
 
 -- tables of version 1 held objects of the source, the root's mntner among them; those of version 2 hold the same objects and
 -- that block (profile)

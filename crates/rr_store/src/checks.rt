@@ -9,7 +9,7 @@ ghost use Rattle.rr_rows.specs.Entries.{named_rows};
 ghost use Rattle.rr_rows.specs.Maps.{AreInOrder, IsObjectOf, entry_in, this_form};
 ghost use Rattle.rr_rows.specs.Tables.{HasTables};
 ghost use Rattle.rr_store.specs.CheckParts.{AreNone, HoldsNone, HoldsObjects, IsVersionFault};
-ghost use Rattle.rr_store.specs.Reading.{AreRead};
+ghost use Rattle.rr_store.specs.ReadingParts.{AreRead};
 ghost use Rattle.rr_store.specs.Versions.{form_of, version_text};
 ghost use Rattle.rr_store.specs.declared.fault.OpenFault.TheVariants.{BadRow, Memory, WrongVersion};
 

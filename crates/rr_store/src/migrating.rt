@@ -11,7 +11,8 @@ ghost use Rattle.rr_rows.specs.Maps.{AreOldStored, IsFilled};
 ghost use Rattle.rr_rows.specs.Tables.{HasTables};
 ghost use Rattle.rr_store.specs.Kept.{IsLeft};
 ghost use Rattle.rr_store.specs.Lent.{lent};
-ghost use Rattle.rr_store.specs.Migrating.{HasNoRoot, IsMigrated, IsOfOldRows, IsRewritten, has_mntner};
+ghost use Rattle.rr_store.specs.Migrating.{HasNoRoot, IsMigrated, IsOfOldRows, has_mntner};
+ghost use Rattle.rr_store.specs.MigratingParts.{IsRewritten};
 ghost use Rattle.rr_store.specs.Opening.{IsNotOld, IsOfNoneButOld};
 ghost use Rattle.rr_store.specs.declared.fault.MigrateFault.TheVariants.{BadRow, NoRoot, WrongVersion};
 

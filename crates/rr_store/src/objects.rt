@@ -9,7 +9,7 @@ ghost use Rattle.rr_object.specs.Readings.{ReadsAs};
 ghost use Rattle.rr_rows.specs.Contents.{object_values};
 ghost use Rattle.rr_rows.specs.Maps.{AreInOrder, IsObject, IsObjectOf};
 ghost use Rattle.rr_store.specs.Lent.{lent};
-ghost use Rattle.rr_store.specs.Reading.{AreRead, IsRowOf, is_below};
+ghost use Rattle.rr_store.specs.ReadingParts.{AreRead, IsRowOf, is_below};
 ghost use Rattle.rr_store.specs.Versions.{form_of};
 
 use crate::columns::{is_object_row, third_bytes};

@@ -8,7 +8,7 @@ ghost use Rattle.rr_text.specs.CanonicalText.{canonical};
 ghost use Rattle.rr_object.specs.Kinds.{kind_name};
 ghost use Rattle.rr_object.specs.declared.kind.Kind.TheVariants.{Source};
 ghost use Rattle.rr_rows.specs.Maps.{AreNamesOf, IsObject};
-ghost use Rattle.rr_store.specs.Reading.{first_source};
+ghost use Rattle.rr_store.specs.ReadingParts.{first_source};
 
 use crate::columns::third_bytes;
 use crate::fault::StoreFault;

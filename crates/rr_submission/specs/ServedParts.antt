@@ -14,6 +14,8 @@ use Rattle.rr_submission.specs.declared.ledger.Ledger.{Ghosts}
 use Rattle.rr_submission.specs.declared.stop.Stop.{Stop}
 use Rattle.rr_submission.specs.declared.stop.Stop.TheVariants.{Unwritten, Halted}
 use Rattle.rr_submission.specs.declared.submission.Done.{Done}
+use Rattle.rr_submission.specs.declared.submission.DeskFault.{DeskFault}
+use Rattle.rr_submission.specs.declared.submission.DeskFault.TheVariants as fault
 use Rattle.rr_submission.specs.SubmissionItems.{AreItems, Asked, submitted}
 use Rattle.rr_submission.specs.Refusals.{is_refusal, refusals}
 use Rattle.rr_submission.specs.Reports.{item_line, lines_from, stop_lines}
@@ -75,3 +77,8 @@ abbrev pub ServesOne : {L : Type 0} → Ghosts L → List (List ℕ) → Request
 ServesOne g secrets request done old new before after (Ok counted) = IsCounted secrets request done (g.registry old) (g.registry new) before after counted
 ServesOne g secrets request done old new before after (Err (Unwritten count)) = IsUntold secrets request done (g.registry old) (g.registry new) before after count
 ServesOne g secrets request done old new before after (Err (Halted count)) = HasHalted g secrets request done old new before after count
+
+-- the fault of a submission whose items could not all be served
+abbrev pub fault_of : Stop → DeskFault
+fault_of (Unwritten items) = fault.WriteFault items
+fault_of (Halted items) = fault.StoreFault items

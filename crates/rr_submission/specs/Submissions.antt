@@ -15,8 +15,6 @@ use Rattle.rr_submission.specs.declared.submission.Done.{Done}
 use Rattle.rr_submission.specs.declared.submission.DeskFault.{DeskFault}
 use Rattle.rr_submission.specs.declared.submission.DeskFault.TheVariants as fault
 use Rattle.rr_submission.specs.declared.ledger.Ledger.{Ghosts}
-use Rattle.rr_submission.specs.declared.stop.Stop.{Stop}
-use Rattle.rr_submission.specs.declared.stop.Stop.TheVariants.{Unwritten, Halted}
 use Rattle.rr_submission.specs.SubmissionItems.{AreItems, Asked, submitted}
 use Rattle.rr_submission.specs.Refusals.{refusals}
 use Rattle.rr_submission.specs.Endings.{last_line}
@@ -114,8 +112,3 @@ UnlessStoreFault (Err (fault.WriteFault items)) fact = fact
 UnlessStoreFault (Err (fault.StoreFault items)) fact = Unit {0}
 UnlessStoreFault (Err fault.Memory) fact = fact
 UnlessStoreFault (Err fault.Stopped) fact = fact
-
--- the fault of a submission whose items could not all be served
-abbrev pub fault_of : Stop → DeskFault
-fault_of (Unwritten items) = fault.WriteFault items
-fault_of (Halted items) = fault.StoreFault items

@@ -1,7 +1,7 @@
 //! What keeps items from being served.
 
 ghost use Rattle.std.specs.Prelude.{◌≡◌};
-ghost use Rattle.rr_submission.specs.Submissions.{fault_of};
+ghost use Rattle.rr_submission.specs.ServedParts.{fault_of};
 
 use crate::submission::DeskFault;
 

@@ -3,7 +3,7 @@ use Rattle.sqlite.specs.Held.{state}
 use Rattle.rr_rows.specs.Entries.{entry_of}
 use Rattle.rr_rows.specs.Maps.{IsFilled}
 use Rattle.rr_store.specs.Lent.{lent}
-use Rattle.rr_store.specs.Migrating.{IsRewritten}
+use Rattle.rr_store.specs.MigratingParts.{IsRewritten}
 use Rattle.rr_store.proofs.BodyLemmas.{then_ok}
 use Rattle.rr_store.proofs.CommitLemmas.{survives_as}
 use Rattle.rr_store.proofs.migrating.rewrite.Goals as goal

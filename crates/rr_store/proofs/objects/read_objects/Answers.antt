@@ -1,6 +1,6 @@
 use Rattle.std.proofs.Common.{◌≡◌, ◌+◌, ◌<◌, ◌++◌, ◌∷◌, [], length, take, sym, ap, subst, subst₂, ◌∙◌, arith}
 use Rattle.std.proofs.lemmas.List.{take_more}
-use Rattle.rr_store.specs.Reading.{AreRead, IsRowOf}
+use Rattle.rr_store.specs.ReadingParts.{AreRead, IsRowOf}
 use Rattle.rr_store.specs.Versions.{form_of}
 use Rattle.rr_store.proofs.ObjectLemmas.{read_more, read_at}
 use Rattle.rr_store.proofs.objects.read_objects.Goals as goal

@@ -1,5 +1,5 @@
 use Rattle.std.proofs.Common.{take}
-use Rattle.rr_store.specs.Reading.{AreRead}
+use Rattle.rr_store.specs.ReadingParts.{AreRead}
 use Rattle.rr_store.specs.Versions.{form_of}
 use Rattle.rr_store.proofs.objects.read_objects.Given as goal
 

@@ -3,7 +3,8 @@ use Rattle.std.specs.FinMap.{get, insert}
 use Rattle.std.specs.Vec.Iter.{into_iter_items}
 use Rattle.rr_auth.specs.Registries.{Reg}
 use Rattle.rr_book.proofs.Order.{empty_book}
-use Rattle.rr_index.specs.Indexes.{HasIndexes, IsApart}
+use Rattle.rr_index.specs.Indexes.{HasIndexes}
+use Rattle.rr_index.specs.Private.{IsApart}
 use Rattle.rr_index.proofs.Gathered.{next_apart, next_book, next_free, next_whole}
 use Rattle.rr_index.proofs.indexed_book.IndexedBookKeeper.of.Goals as goal
 

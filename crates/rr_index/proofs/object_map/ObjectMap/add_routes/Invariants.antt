@@ -4,7 +4,7 @@ use Rattle.std.specs.FinMap.{contains_key}
 use Rattle.rr_number.specs.Prefixes.{span_of}
 use Rattle.rr_object.specs.declared.key.Key.{Key}
 use Rattle.rr_object.specs.KeyOrders.{key_cmp}
-use Rattle.rr_index.specs.ChosenKeys.{is_chosen}
+use Rattle.rr_index.specs.ChosenKeyParts.{is_chosen}
 use Rattle.rr_index.proofs.object_map.ObjectMap.add_routes.Given as goal
 
 abbrev pub invariant-loop-prefix : goal.invariant-loop-prefix

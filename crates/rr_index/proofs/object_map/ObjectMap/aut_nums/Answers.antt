@@ -7,7 +7,7 @@ use Rattle.std.proofs.lemmas.Result.{IfOk-weaker}
 use Rattle.rr_object.specs.declared.key.Key.TheVariants.{AutNum}
 use Rattle.rr_object.specs.KeyOrders.{key_cmp}
 use Rattle.rr_index.proofs.Ranges.{aut_nums_forward, listed_aut_nums}
-use Rattle.rr_index.specs.KeyRanges.{lies_between}
+use Rattle.rr_index.specs.KeyRangeParts.{lies_between}
 use Rattle.rr_index.proofs.object_map.ObjectMap.aut_nums.Goals as goal
 
 pub listed-requires : goal.listed-requires

@@ -2,7 +2,7 @@ use Rattle.std.proofs.Common.{map, ◌∙◌}
 use Rattle.std.proofs.lemmas.Result.{IfOk-weaker}
 use Rattle.rr_number.specs.Prefixes.{span_of}
 use Rattle.rr_index.proofs.Choices.{chosen_both, led_to}
-use Rattle.rr_index.specs.ChosenKeys.{is_chosen}
+use Rattle.rr_index.specs.ChosenKeyParts.{is_chosen}
 use Rattle.rr_index.proofs.object_map.ObjectMap.chosen.Goals as goal
 
 pub returns : goal.returns

@@ -3,7 +3,7 @@ use Rattle.std.specs.FinMap.{entries}
 use Rattle.std.specs.List.{filter}
 use Rattle.std.specs.Map.{values_of}
 use Rattle.rr_sets.specs.Lists.{lent}
-use Rattle.rr_index.specs.KeyRanges.{lies_between}
+use Rattle.rr_index.specs.KeyRangeParts.{lies_between}
 use Rattle.rr_index.proofs.object_map.ObjectMap.listed.Given as goal
 
 -- the objects found and those to come are all between the keys

@@ -9,7 +9,7 @@ use Rattle.rr_number.specs.Prefixes.{masked}
 use Rattle.rr_object.specs.declared.key.Key.TheVariants.{Route}
 use Rattle.rr_object.specs.KeyOrders.{key_cmp}
 use Rattle.rr_index.proofs.Ranges.{listed_routes, routes_forward}
-use Rattle.rr_index.specs.KeyRanges.{lies_between}
+use Rattle.rr_index.specs.KeyRangeParts.{lies_between}
 use Rattle.rr_index.proofs.object_map.ObjectMap.routes.Goals as goal
 
 pub listed-requires : goal.listed-requires

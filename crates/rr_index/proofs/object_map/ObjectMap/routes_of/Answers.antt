@@ -3,7 +3,7 @@ use Rattle.std.specs.FinMap.{get}
 use Rattle.std.specs.List.{filter}
 use Rattle.rr_object.specs.declared.key.Key.TheVariants.{Route}
 use Rattle.rr_book.proofs.IndexedObjects.{found_more, found_no_more}
-use Rattle.rr_index.specs.OriginIndexes.{is_from}
+use Rattle.rr_index.specs.Private.{is_from}
 use Rattle.rr_index.proofs.object_map.ObjectMap.routes_of.Goals as goal
 
 pub loop-route-preserved-in_ok-push : goal.loop-route-preserved-in_ok-push

@@ -3,7 +3,7 @@ use Rattle.std.specs.FinMap.{get}
 use Rattle.std.specs.List.{filter, filter_map}
 use Rattle.rr_object.specs.declared.key.Key.TheVariants.{Route}
 use Rattle.rr_sets.specs.Lists.{lent}
-use Rattle.rr_index.specs.OriginIndexes.{is_from}
+use Rattle.rr_index.specs.Private.{is_from}
 use Rattle.rr_index.proofs.object_map.ObjectMap.routes_of.Given as goal
 
 -- the objects found and those that the routes to come lead to are all

@@ -5,7 +5,8 @@ use Rattle.rr_object.specs.declared.key.Key.{Key}
 use Rattle.rr_object.specs.declared.key.Key.TheVariants.{AsBlock, Inetnum, Route}
 use Rattle.rr_cover.specs.SpanMaps.{SpanMap}
 use Rattle.rr_index.proofs.Spans.{added_block, added_inetnum, added_rest, added_route}
-use Rattle.rr_index.specs.SpanIndexes.{HasSpans, is_crossed}
+use Rattle.rr_index.specs.Private.{is_crossed}
+use Rattle.rr_index.specs.SpanIndexes.{HasSpans}
 use Rattle.rr_index.proofs.span_index.SpanIndex.add.Goals as goal
 
 pub hold-requires : goal.hold-requires

@@ -1,4 +1,4 @@
--- The objects that rows are read as.
+-- What private functions that read the objects of rows promise each other. No public clause cites these.
 use Rattle.std.specs.Prelude.{◌≡◌, ℕ, List, [], ◌∷◌, Option, Some, ⊤, Bool, true}
 use Rattle.std.specs.List.{find}
 use Rattle.std.specs.Option.{option_and_then}

@@ -1,4 +1,4 @@
--- Keys that lie between two others.
+-- What private functions that look for the keys between two others promise each other. No public clause cites these.
 use Rattle.std.specs.Prelude.{Bool, not, ◌&&◌}
 use Rattle.std.specs.Ordering.{is_le, is_lt}
 use Rattle.rr_object.specs.declared.key.Key.{Key}

@@ -24,12 +24,12 @@ cause_of _ = cause.Other
 -- a cause in words (profile)
 abbrev pub cause_text : Cause → List ℕ
 cause_text cause.Missing = codes "there is none of that name: correct the path"
-cause_text cause.Denied = codes "permission is denied"
+cause_text cause.Denied = codes "permission is denied: ask for it, or take another file or port"
 cause_text cause.Folder = codes "it is a folder: name a file"
 cause_text cause.NoFolder = codes "a part of the path is no folder: correct the path"
 cause_text cause.Taken = codes "the address is in use: take another port"
-cause_text cause.Memory = codes "out of memory"
-cause_text cause.Other = codes "the system refuses"
+cause_text cause.Memory = codes "out of memory: give the program more"
+cause_text cause.Other = codes "the system refuses: look at its log"
 
 -- the cause of a failure of the database, by its code (profile)
 abbrev pub code_cause : ErrorCode → DatabaseCause
@@ -53,5 +53,5 @@ database_text database.Unopened = codes "it cannot be opened or made: look at it
 database_text database.Busy = codes "another process has it open: stop that, or ask over its port"
 database_text database.Damaged = codes "it is no database of a registry, or it is damaged: name another file, or restore a backup"
 database_text database.Full = codes "the disk is full: make room"
-database_text database.Memory = codes "out of memory"
-database_text database.Other = codes "the system refuses to read or write it"
+database_text database.Memory = codes "out of memory: give the program more"
+database_text database.Other = codes "the system refuses to read or write it: look at the system's log"

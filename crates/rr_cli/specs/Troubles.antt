@@ -76,10 +76,10 @@ abbrev pub before_number : Trouble → List ℕ
 before_number BadWords = codes "`irrdesk --help` lists the commands"
 before_number BadPort = codes "a port is a number from 1 to 65535"
 before_number BadCount = codes "a count is a number from 1 to 1000000"
-before_number WordsNotText = codes "an argument is no UTF-8 text"
+before_number WordsNotText = codes "an argument is no UTF-8 text: write it as such"
 before_number (SettingsUnread cause) = codes "the settings cannot be read: "
-before_number SettingsNotText = codes "the settings are no UTF-8 text"
-before_number SettingsTooLong = codes "the settings are longer than 1048576 bytes"
+before_number SettingsNotText = codes "the settings are no UTF-8 text: save them as such"
+before_number SettingsTooLong = codes "the settings are longer than 1048576 bytes: shorten them"
 before_number (SettingsNotToml line) = codes "the settings are no TOML: see line "
 before_number (SettingBad key.Source) = codes "`source` is missing or bad: it names the registry, as \"TEST\""
 before_number (SettingBad key.Root) = codes "`root` is missing or bad: it names a maintainer, as \"ROOT-MNT\""
@@ -89,39 +89,39 @@ before_number (SettingBad key.Store) = codes "`store` is missing or bad: it is t
 before_number (Database cause) = codes "the database cannot be used: "
 before_number (Creating creating.NotEmpty) = codes "the database has a registry already: take a new one"
 before_number (Creating creating.Store) = codes "the database refuses the tables of a registry: take a new one, on a disk with room"
-before_number (Creating creating.Memory) = codes "out of memory"
+before_number (Creating creating.Memory) = codes "out of memory: give the program more"
 before_number (Opening (opening.WrongVersion version)) = codes "the tables of the database are of version "
 before_number (Opening opening.BadRow) = codes "the rows of the database are no registry of the settings' source: correct `source`, or restore a backup"
-before_number (Opening opening.Store) = codes "the database has no registry that can be read: `irrdesk init` or `irrdesk load` makes one"
-before_number (Opening opening.Memory) = codes "out of memory"
+before_number (Opening opening.Store) = codes "the database has no registry that can be read: restore a backup, or make one by `irrdesk init` or `irrdesk load`"
+before_number (Opening opening.Memory) = codes "out of memory: give the program more"
 before_number (FileUnopened cause) = codes "the file cannot be opened: "
 before_number (Submission (desk.ReadFault items)) = codes "the submission could not be read to its end: submit all of it again; items decided before that: "
 before_number (Submission (desk.WriteFault items)) = codes "the report could not be written: submit the whole text again; items decided before that: "
 before_number (Submission (desk.StoreFault items)) = codes "the database failed: look at its disk, and submit the whole text again; items decided before that: "
-before_number (Submission desk.Memory) = codes "out of memory"
+before_number (Submission desk.Memory) = codes "out of memory: give the program more"
 before_number (Submission desk.Stopped) = codes "the database failed before: run the command again"
 before_number (Dumping dumping.Write) = codes "the dump could not be written whole: make room for it, and dump again"
-before_number (Dumping dumping.Memory) = codes "out of memory: the dump is not whole"
+before_number (Dumping dumping.Memory) = codes "out of memory, and the dump is not whole: give the program more, and dump again"
 before_number (Dumping dumping.Stopped) = codes "the database failed before: run the command again"
 before_number (Loading loading.NotEmpty) = codes "the database has a registry already: take a new one"
 before_number (Loading loading.Read) = codes "the dump could not be read to its end, and nothing is loaded: look at its file"
-before_number (Loading loading.Endless) = codes "the dump has no end within 16777216 reads"
+before_number (Loading loading.Endless) = codes "the dump has no end within 16777216 reads: name a whole dump"
 before_number (Loading (loading.Text number)) = codes "nothing is loaded, since paragraph "
 before_number (Loading (loading.Object number code)) = codes "nothing is loaded, since paragraph "
 before_number (Loading (loading.Duplicate number)) = codes "nothing is loaded, since paragraph "
 before_number (Loading (loading.Overlap number)) = codes "nothing is loaded, since paragraph "
 before_number (Loading (loading.Unnamed number)) = codes "nothing is loaded, since paragraph "
 before_number (Loading loading.Store) = codes "the database refuses the tables of a registry: take a new one, on a disk with room"
-before_number (Loading loading.Memory) = codes "out of memory"
+before_number (Loading loading.Memory) = codes "out of memory: give the program more"
 before_number (Migrating (migrating.WrongVersion version)) = codes "the tables of the database are of version "
 before_number (Migrating migrating.BadRow) = codes "the rows of the database are no registry of version 1 of the settings' source: correct `source`, or restore a backup"
 before_number (Migrating migrating.NoRoot) = codes "the root of the settings is no maintainer of the registry: let `root` name one that is"
-before_number (Migrating migrating.Store) = codes "the database has no registry that can be read: let `store` name another one"
-before_number (Migrating migrating.Memory) = codes "out of memory"
+before_number (Migrating migrating.Store) = codes "the database failed, or has no tables of version 1: look at its disk, and at `store`"
+before_number (Migrating migrating.Memory) = codes "out of memory: give the program more"
 before_number (ListenerUnopened cause) = codes "no connection can be listened for: "
 before_number (ProbeFailed cause) = codes "the program's own listener cannot be asked: "
-before_number Unwritten = codes "it could not be written"
-before_number Memory = codes "out of memory"
+before_number Unwritten = codes "it could not be written: see where it goes to"
+before_number Memory = codes "out of memory: give the program more"
 
 -- the paragraph of a dump, from 1, that is the matter (profile)
 abbrev pub paragraph_of : DeskLoadFault → Option ℕ
@@ -134,11 +134,11 @@ paragraph_of _ = None
 
 -- why a paragraph of a dump is no object: the code of its refusal, with what an object alone can have (profile)
 abbrev pub reason : Code → List ℕ
-reason E02 = codes "E02, its class is unknown"
-reason E03 = codes "E03, its key is bad"
-reason E04 = codes "E04, an attribute that it needs is missing, empty or repeated"
-reason E05 = codes "E05, an attribute has a bad value, as `auth` in a dump that is not full"
-reason E06 = codes "E06, its `source` is not that of the settings"
+reason E02 = codes "E02, its class is unknown: take it out"
+reason E03 = codes "E03, its key is bad: mend it"
+reason E04 = codes "E04, an attribute that it needs is missing, empty or repeated: mend it"
+reason E05 = codes "E05, an attribute has a bad value, as `auth` in a dump that is not full: load a full one, or mend it"
+reason E06 = codes "E06, its `source` is not that of the settings: let both be the same"
 reason code = code_name code
 
 -- the number that is told: a line, a version, a paragraph, or how many items were decided (profile)
@@ -171,11 +171,11 @@ behind_migrated version =
 abbrev pub behind_number : Trouble → List ℕ
 behind_number (Opening (opening.WrongVersion version)) = behind_opened version
 behind_number (Migrating (migrating.WrongVersion version)) = behind_migrated version
-behind_number (Loading (loading.Text number)) = codes " is no RPSL, or over 65536 bytes"
+behind_number (Loading (loading.Text number)) = codes " is no RPSL, or over 65536 bytes: mend it"
 behind_number (Loading (loading.Object number code)) = codes " is no object: "
-behind_number (Loading (loading.Duplicate number)) = codes " has the key of one before it"
-behind_number (Loading (loading.Overlap number)) = codes " has a span that crosses one before it"
-behind_number (Loading (loading.Unnamed number)) = codes " names a maintainer who is not in the dump"
+behind_number (Loading (loading.Duplicate number)) = codes " has the key of one before it: take one of the two out"
+behind_number (Loading (loading.Overlap number)) = codes " has a span that crosses one before it: mend one of the two"
+behind_number (Loading (loading.Unnamed number)) = codes " names a maintainer who is not in the dump: add its mntner, or take the name out"
 behind_number _ = []
 
 -- the last words: the cause (profile)

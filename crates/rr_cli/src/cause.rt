@@ -49,12 +49,12 @@ impl Cause {
     {
         match self {
             Cause::Missing => "there is none of that name: correct the path",
-            Cause::Denied => "permission is denied",
+            Cause::Denied => "permission is denied: ask for it, or take another file or port",
             Cause::Folder => "it is a folder: name a file",
             Cause::NoFolder => "a part of the path is no folder: correct the path",
             Cause::Taken => "the address is in use: take another port",
-            Cause::Memory => "out of memory",
-            Cause::Other => "the system refuses",
+            Cause::Memory => "out of memory: give the program more",
+            Cause::Other => "the system refuses: look at its log",
         }
     }
 }
@@ -115,8 +115,9 @@ impl DatabaseCause {
             DatabaseCause::Damaged =>
                 "it is no database of a registry, or it is damaged: name another file, or restore a backup",
             DatabaseCause::Full => "the disk is full: make room",
-            DatabaseCause::Memory => "out of memory",
-            DatabaseCause::Other => "the system refuses to read or write it",
+            DatabaseCause::Memory => "out of memory: give the program more",
+            DatabaseCause::Other =>
+                "the system refuses to read or write it: look at the system's log",
         }
     }
 }

@@ -22,7 +22,7 @@ most names that an expansion of a set may reach, and the path of the database:
 This prints the value of `auth` for the salt `salt` and the secret `secret`:
   printf 'SHA256-PW salt:%.64s\\n' \"$(printf %s saltsecret | sha256sum)\"
 
-Status: 0 done, 1 an item was refused or an answer is an error, 2 wrong words, 3 the settings,
+Status: 0 done, 1 an item was refused or an answer is an error, 2 wrong arguments, 3 the settings,
 4 the database, 5 a file, a stream, a socket, memory, or a dump that is not loaded.";
 
 /// What `init` does.
@@ -63,9 +63,10 @@ pub const QUERY_EXAMPLE: &str = "Examples:
   irrdesk query irr.toml object route 10.0.0.0/8 AS1
   irrdesk query irr.toml inverse mnt A-MNT      what names a maintainer; inverse origin AS1: the routes
   irrdesk query irr.toml expand AS-X            the members of a set; prefixes AS-X: their prefixes
-No error are `% no entries`, where nothing was found, `% empty`, where a set has no members, and
-`% missing NAME`, where that set is not registered. An error is one line `% error n` with status 1: 1 is a bad
-query, 2 one over 1024 bytes, 3 an expansion over the limit, 4 memory, 5 the database, 6 one that failed before.";
+These are no errors: `% no entries`, where nothing was found; `% empty`, where a set that is registered gives
+nothing; and `% missing NAME`, where a set that is named on the way is not registered.
+An error is one line `% error n` with status 1: 1 is a bad query, 2 one over 1024 bytes, 3 an expansion over the
+limit, 4 memory, 5 the database, 6 one that failed before.";
 
 /// What `dump` does.
 pub const DUMP: &str = "Prints all objects, by class and key, and their number";

@@ -112,10 +112,10 @@ impl Trouble {
             Trouble::BadWords => "`irrdesk --help` lists the commands",
             Trouble::BadPort => "a port is a number from 1 to 65535",
             Trouble::BadCount => "a count is a number from 1 to 1000000",
-            Trouble::WordsNotText => "an argument is no UTF-8 text",
+            Trouble::WordsNotText => "an argument is no UTF-8 text: write it as such",
             Trouble::SettingsUnread(_) => "the settings cannot be read: ",
-            Trouble::SettingsNotText => "the settings are no UTF-8 text",
-            Trouble::SettingsTooLong => "the settings are longer than 1048576 bytes",
+            Trouble::SettingsNotText => "the settings are no UTF-8 text: save them as such",
+            Trouble::SettingsTooLong => "the settings are longer than 1048576 bytes: shorten them",
             Trouble::SettingsNotToml(_) => "the settings are no TOML: see line ",
             Trouble::SettingBad(key) => setting_words(key),
             Trouble::Database(_) => "the database cannot be used: ",
@@ -128,8 +128,8 @@ impl Trouble {
             Trouble::Migrating(fault) => migrating_words(fault),
             Trouble::ListenerUnopened(_) => "no connection can be listened for: ",
             Trouble::ProbeFailed(_) => "the program's own listener cannot be asked: ",
-            Trouble::Unwritten => "it could not be written",
-            Trouble::Memory => "out of memory",
+            Trouble::Unwritten => "it could not be written: see where it goes to",
+            Trouble::Memory => "out of memory: give the program more",
         }
     }
 
@@ -264,7 +264,7 @@ fn creating_words(fault: CreateFault) -> &'static str
         CreateFault::NotEmpty => "the database has a registry already: take a new one",
         CreateFault::Store =>
             "the database refuses the tables of a registry: take a new one, on a disk with room",
-        CreateFault::Memory => "out of memory",
+        CreateFault::Memory => "out of memory: give the program more",
     }
 }
 
@@ -276,8 +276,8 @@ fn opening_words(fault: OpenFault) -> &'static str
         OpenFault::BadRow =>
             "the rows of the database are no registry of the settings' source: correct `source`, or restore a backup",
         OpenFault::Store =>
-            "the database has no registry that can be read: `irrdesk init` or `irrdesk load` makes one",
-        OpenFault::Memory => "out of memory",
+            "the database has no registry that can be read: restore a backup, or make one by `irrdesk init` or `irrdesk load`",
+        OpenFault::Memory => "out of memory: give the program more",
     }
 }
 
@@ -293,7 +293,7 @@ fn submission_words(fault: DeskFault) -> &'static str
         }
         DeskFault::StoreFault { .. } =>
             "the database failed: look at its disk, and submit the whole text again; items decided before that: ",
-        DeskFault::Memory => "out of memory",
+        DeskFault::Memory => "out of memory: give the program more",
         DeskFault::Stopped => "the database failed before: run the command again",
     }
 }
@@ -303,7 +303,8 @@ fn dumping_words(fault: DumpFault) -> &'static str
 {
     match fault {
         DumpFault::Write => "the dump could not be written whole: make room for it, and dump again",
-        DumpFault::Memory => "out of memory: the dump is not whole",
+        DumpFault::Memory =>
+            "out of memory, and the dump is not whole: give the program more, and dump again",
         DumpFault::Stopped => "the database failed before: run the command again",
     }
 }
@@ -315,7 +316,7 @@ fn loading_words(fault: DeskLoadFault) -> &'static str
         DeskLoadFault::NotEmpty => "the database has a registry already: take a new one",
         DeskLoadFault::Read =>
             "the dump could not be read to its end, and nothing is loaded: look at its file",
-        DeskLoadFault::Endless => "the dump has no end within 16777216 reads",
+        DeskLoadFault::Endless => "the dump has no end within 16777216 reads: name a whole dump",
         DeskLoadFault::Text(_)
         | DeskLoadFault::Object(_, _)
         | DeskLoadFault::Duplicate(_)
@@ -323,7 +324,7 @@ fn loading_words(fault: DeskLoadFault) -> &'static str
         | DeskLoadFault::Unnamed(_) => "nothing is loaded, since paragraph ",
         DeskLoadFault::Store =>
             "the database refuses the tables of a registry: take a new one, on a disk with room",
-        DeskLoadFault::Memory => "out of memory",
+        DeskLoadFault::Memory => "out of memory: give the program more",
     }
 }
 
@@ -372,11 +373,12 @@ fn behind_paragraph(fault: DeskLoadFault) -> &'static str
     ensures { result.now ≡ behind_number (Trouble.Loading fault) }
 {
     match fault {
-        DeskLoadFault::Text(_) => " is no RPSL, or over 65536 bytes",
+        DeskLoadFault::Text(_) => " is no RPSL, or over 65536 bytes: mend it",
         DeskLoadFault::Object(_, _) => " is no object: ",
-        DeskLoadFault::Duplicate(_) => " has the key of one before it",
-        DeskLoadFault::Overlap(_) => " has a span that crosses one before it",
-        DeskLoadFault::Unnamed(_) => " names a maintainer who is not in the dump",
+        DeskLoadFault::Duplicate(_) => " has the key of one before it: take one of the two out",
+        DeskLoadFault::Overlap(_) => " has a span that crosses one before it: mend one of the two",
+        DeskLoadFault::Unnamed(_) =>
+            " names a maintainer who is not in the dump: add its mntner, or take the name out",
         DeskLoadFault::NotEmpty
         | DeskLoadFault::Read
         | DeskLoadFault::Endless
@@ -390,11 +392,12 @@ fn reason(code: Code) -> &'static str
     ensures { result.now ≡ reason code }
 {
     match code {
-        Code::E02 => "E02, its class is unknown",
-        Code::E03 => "E03, its key is bad",
-        Code::E04 => "E04, an attribute that it needs is missing, empty or repeated",
-        Code::E05 => "E05, an attribute has a bad value, as `auth` in a dump that is not full",
-        Code::E06 => "E06, its `source` is not that of the settings",
+        Code::E02 => "E02, its class is unknown: take it out",
+        Code::E03 => "E03, its key is bad: mend it",
+        Code::E04 => "E04, an attribute that it needs is missing, empty or repeated: mend it",
+        Code::E05 =>
+            "E05, an attribute has a bad value, as `auth` in a dump that is not full: load a full one, or mend it",
+        Code::E06 => "E06, its `source` is not that of the settings: let both be the same",
         _ => code.name(),
     }
 }
@@ -410,7 +413,7 @@ fn migrating_words(fault: MigrateFault) -> &'static str
         MigrateFault::NoRoot =>
             "the root of the settings is no maintainer of the registry: let `root` name one that is",
         MigrateFault::Store =>
-            "the database has no registry that can be read: let `store` name another one",
-        MigrateFault::Memory => "out of memory",
+            "the database failed, or has no tables of version 1: look at its disk, and at `store`",
+        MigrateFault::Memory => "out of memory: give the program more",
     }
 }

@@ -220,6 +220,6 @@ def reads(script):
     folder = script.place("reads")
     write_settings(folder)
     ran = run_in_pieces([script.program, "load", "s.toml", "/dev/stdin"], folder, b"\n" * MOST_READS, [1], timeout=600)
-    said = b"irrdesk: /dev/stdin: the dump has no end within 16777216 reads\n"
+    said = b"irrdesk: /dev/stdin: the dump has no end within 16777216 reads: name a whole dump\n"
     expect((ran.status, ran.said), (5, said), "a dump in too many pieces")
     return f"submissions of {MOST_READS - 1} and {MOST_READS} pieces, and a dump"

@@ -60,7 +60,7 @@ impl Draft {
     pub(crate) fn add(&mut self, piece: &[u8]) -> bool
         requires some { 0 < length piece.now }
         requires single { text_lines piece.now ≡ piece.now ∷ [] }
-        ensures { (text : List ℕ) → parts.IsBegun text self.old → parts.Gathers result (text ++ piece.now) self.new }
+        ensures { (text : List ℕ) → parts.IsBegun text self.old → parts.GathersLines result (text ++ piece.now) self.new }
     {
         self.keep(piece);
         if ends_line(piece) {

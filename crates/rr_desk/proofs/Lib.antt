@@ -16,3 +16,4 @@ pub mod Grown
 pub mod Migrated
 pub mod Sources
 pub mod DeskLaws
+pub mod DeskSecrets

@@ -1,7 +1,8 @@
--- What is true of dumps that desks load.
-use Rattle.std.specs.Prelude.{◌≡◌, ℕ, ◌≤◌, true, List, Some, length}
+-- What is true of dumps that desks load, and of what they answer.
+use Rattle.std.specs.Prelude.{◌≡◌, ◌≢◌, ℕ, ◌≤◌, Bool, true, List, Some, Result, Err, length}
 use Rattle.std.specs.FinMap.{get}
 use Rattle.sqlite.specs.Effect.{Database}
+use Rattle.sqlite_trees.specs.View.{doubt}
 use Rattle.rr_io.specs.Told.{Told}
 use Rattle.rr_text.specs.CanonicalText.{canonical}
 use Rattle.rr_text.specs.Entries.{size_limit}
@@ -11,9 +12,13 @@ use Rattle.rr_auth.specs.Registries.{Reg}
 use Rattle.rr_auth.specs.Sources.{IsRegistryOf}
 use Rattle.rr_rows.specs.Maps.{HasRows}
 use Rattle.rr_answer.specs.Dumps.{dump}
+use Rattle.rr_answer.specs.Secrecy.{IsRead, LookAlike}
+use Rattle.rr_answer.specs.declared.fault.QueryFault.{QueryFault}
+use Rattle.rr_answer.specs.declared.fault.QueryFault.TheVariants as wanting
 use Rattle.rr_load.specs.Laws.{IsDumpable}
 use Rattle.rr_desk.specs.declared.loading.DeskLoadFault.{DeskLoadFault}
 use Rattle.rr_desk.specs.declared.loading.DeskLoadFault.TheVariants.{NotEmpty, Read, Endless, Text, Object, Duplicate, Overlap, Unnamed, Store, Memory}
+use Rattle.rr_desk.specs.Answering.{IsAnswered}
 use Rattle.rr_desk.specs.Loaded.{FailsToLoad, IsLoaded}
 
 -- a fault is of the reader, of the tables or of memory, and not of the text (profile)
@@ -47,3 +52,21 @@ abbrev pub RowsAreDumpable : Type 0
 RowsAreDumpable =
     (source : List ℕ) (registry : Reg) (db : Database) → IsRegistryOf source registry → HasRows registry db
     → ((k : Key) (o : Obj) → get registry k ≡ Some o → length (canonical o.paragraph) ≤ size_limit) → IsDumpable source registry
+
+-- neither want of memory nor a fault of the store kept the answer back (profile)
+pub record IsUnhindered (answer : Result (List ℕ) QueryFault) : Type 0 where
+  pub no_want : answer ≢ Err wanting.Memory
+  pub no_fault : answer ≢ Err wanting.Store
+
+-- the disk gives back what was written, in the words that the state of a store has for it (profile)
+abbrev pub IsCleanDisk : Bool → Type 0
+IsCleanDisk clean = doubt clean ≡ 0
+
+-- desks that are both stopped or both not, over such disks, whose registries look alike, answer each query alike under the same
+-- limit, if nothing keeps back either answer (profile)
+abbrev pub DesksKeepSecrets : Type 0
+DesksKeepSecrets =
+    (r s : Reg) → IsRead r → IsRead s → LookAlike r s → (clean other_clean : Bool) → IsCleanDisk clean → IsCleanDisk other_clean
+    → (limit : ℕ) (text : List ℕ) (stopped after other_after : Bool) (answer other : Result (List ℕ) QueryFault)
+    → IsAnswered (IsCleanDisk clean) r limit text stopped after answer → IsAnswered (IsCleanDisk other_clean) s limit text stopped other_after other
+    → IsUnhindered answer → IsUnhindered other → answer ≡ other

@@ -1,6 +1,11 @@
 -- What connections over memory tell (profile).
-use Rattle.std.specs.Prelude.{ℕ, ◌+◌, Bool, List, ◌++◌, drop, length, map, replicate, is_some, Option, Some}
+use Rattle.std.specs.Prelude.{◌≡◌, ℕ, ◌+◌, Bool, List, ◌∷◌, ◌++◌, drop, length, map, max, replicate, is_some, Option, Some}
 use Rattle.std.specs.Option.{option_map}
+use Rattle.rr_io.specs.declared.cutting.Cut.{Cut}
+use Rattle.rr_io.specs.declared.joining.Joined.{Joined}
+use Rattle.rr_io.specs.Cut.{cut_left, cut_step}
+use Rattle.rr_io.specs.Joined.{joined_reader, joined_writer}
+use Rattle.rr_io.specs.Told.{Told}
 use Rattle.rr_desk.specs.declared.memory_peers.MemoryInput.{MemoryInput}
 use Rattle.rr_desk.specs.declared.memory_peers.MemoryTurn.{MemoryTurn}
 use Rattle.rr_desk.specs.declared.memory_peers.MemoryPeers.{MemoryPeers}
@@ -9,6 +14,23 @@ use Rattle.rr_desk.specs.Turns.{Turn, closed, unaccepted}
 -- the connections that are still to come
 abbrev pub inputs_left : MemoryPeers → List MemoryInput
 inputs_left peers = drop peers.next peers.inputs.now
+
+-- a reader or a writer passes at most `many` bytes in a call, one where that is none, and fails in each call once `end` bytes passed
+pub record IsCutAt (many end : ℕ) {T : Type 0} (cut : Cut T) : Type 0 where
+  pub step : cut_step cut ≡ max many 1
+  pub left : cut_left cut ≡ end
+
+-- a connection is what an input says: its reader has the bytes of the input, and both of its sides are cut as the input has it
+pub record IsOfInput (input : MemoryInput) {R W : Type 0} (conn : Joined (Cut R) (Cut W)) (reader : Told) : Type 0 where
+  pub bytes : reader.bytes ≡ Some input.bytes.now
+  pub reads : IsCutAt input.step input.reads (joined_reader conn)
+  pub writes : IsCutAt input.step input.writes (joined_writer conn)
+
+-- the first of the inputs that were left was accepted, and the others are left
+pub record AcceptsNext (before after : List MemoryInput) {R W : Type 0} (conn : Joined (Cut R) (Cut W)) (reader : Told) : Type 0 where
+  pub input : MemoryInput
+  pub is_next : before ≡ input ∷ after
+  pub is_of_it : IsOfInput input conn reader
 
 -- those that are closed
 abbrev pub turns_closed : MemoryPeers → List MemoryTurn

@@ -1,7 +1,7 @@
 //! Connections over memory.
 
 ghost use Rattle.std.specs.Prelude.{◌≡◌, ◌+◌, ◌-◌, ◌<◌, ◌≤◌, ◌^◌, false, is_some, if◌then◌else◌, length, vec_len, vec_capacity};
-ghost use Rattle.rr_desk.specs.Turns.{IsFresh};
+ghost use Rattle.rr_desk.specs.Turns.{CountsTurn, IsAccepted, IsFresh, unaccepted};
 
 use crate::peers::{AcceptFault, Peers};
 use rr_io::{Counted, Cut, Joined, Sink, Source};
@@ -21,9 +21,14 @@ pub struct MemoryInput<'a> {
 }
 
 impl<'a> MemoryInput<'a> {
+    ghost use Rattle.rr_desk.specs.MemoryTurns.{IsOfInput};
+
     /// A connection that gives these bytes, and of which no call fails for want of bytes that may pass.
     pub fn whole(bytes: &'a [u8]) -> MemoryInput<'a>
-        ensures { result.bytes.now ≡ bytes.now }
+        ensures bytes { result.bytes.now ≡ bytes.now }
+        ensures step { result.step ≡ usize.MAX }
+        ensures reads { result.reads ≡ usize.MAX }
+        ensures writes { result.writes ≡ usize.MAX }
     {
         MemoryInput {
             bytes,
@@ -31,6 +36,17 @@ impl<'a> MemoryInput<'a> {
             reads: usize::MAX,
             writes: usize::MAX,
         }
+    }
+
+    /// The connection that it is.
+    fn connection(self, alloc: Global) -> MemoryConnection<'a>
+        ensures fresh { IsFresh (⟦<MemoryConnection<'static> as Source>⟧.told result) (⟦<MemoryConnection<'static> as Sink>⟧.told result) }
+        ensures is_of_it { IsOfInput self.entry result (⟦<MemoryConnection<'static> as Source>⟧.told result) }
+    {
+        let step = self.step.max(1);
+        let reader = Cut::new(Counted::new(self.bytes), step, self.reads);
+        let writer = Cut::new(Counted::new(Vec::new(alloc)), step, self.writes);
+        Joined::new(reader, writer)
     }
 }
 
@@ -90,8 +106,8 @@ impl<'a> MemoryPeers<'a> {
 }
 
 impl<'a> Peers for MemoryPeers<'a> {
-    ghost use Rattle.std.specs.Prelude.{◌≡◌, true};
-    ghost use Rattle.rr_desk.specs.MemoryTurns.{is_open, memory_told, open_bytes, turns_counted};
+    ghost use Rattle.std.specs.Prelude.{◌≡◌, [], true, IfOk, OnErr};
+    ghost use Rattle.rr_desk.specs.MemoryTurns.{AcceptsNext, inputs_left, is_open, memory_told, open_bytes, turns_counted};
     ghost use Rattle.rr_desk.specs.MemoryTold.{told_in_all};
 
     type Conn = MemoryConnection<'a>;
@@ -104,13 +120,22 @@ impl<'a> Peers for MemoryPeers<'a> {
 
     ghost asked = { open_bytes };
 
+    /// The connection that the next input is; an error once there is none.
     #[tactic(auto, using(crate::proofs::MemoryLemmas::failed_told))]
-    fn accept(&mut self, alloc: Global) -> Result<MemoryConnection<'a>, AcceptFault> {
+    fn accept(&mut self, alloc: Global) -> Result<MemoryConnection<'a>, AcceptFault>
+        requires { turns_counted self.old + 1 < 2 ^ 64 }
+        ensures accepted { IfOk result (λ conn. IsAccepted (turns_counted self.old) (turns_counted self.new) (memory_told self.old) (memory_told self.new) (open_bytes self.new)
+            (⟦<MemoryConnection<'static> as Source>⟧.told conn) (⟦<MemoryConnection<'static> as Sink>⟧.told conn)) }
+        ensures open { IfOk result (λ conn. is_open self.new ≡ true) }
+        ensures refused { OnErr result (CountsTurn unaccepted (turns_counted self.old) (turns_counted self.new) (memory_told self.old) (memory_told self.new)) }
+        ensures next { IfOk result (λ conn. AcceptsNext (inputs_left self.old) (inputs_left self.new) conn (⟦<MemoryConnection<'static> as Source>⟧.told conn)) }
+        ensures past { OnErr result ((inputs_left self.old ≡ []) × (inputs_left self.new ≡ [])) }
+    {
         if self.next < self.inputs.len() {
             let input = self.inputs[self.next];
             self.next += 1;
             self.asked = Some(input.bytes);
-            return Ok(connection(alloc, input));
+            return Ok(input.connection(alloc));
         }
         self.asked = None;
         self.past += 1;
@@ -131,18 +156,4 @@ impl<'a> Peers for MemoryPeers<'a> {
     }
 
     ghost all_told = { λ peers turns is. told_in_all peers.turns.items peers.past turns is };
-}
-
-/// The connection that an input is.
-fn connection(alloc: Global, input: MemoryInput<'_>) -> MemoryConnection<'_>
-    ensures fresh { IsFresh (⟦<MemoryConnection<'static> as Source>⟧.told result) (⟦<MemoryConnection<'static> as Sink>⟧.told result) }
-    ensures bytes { (⟦<MemoryConnection<'static> as Source>⟧.told result).bytes ≡ Some input.entry.bytes.now }
-{
-    let reader = Cut::new(Counted::new(input.bytes), input.step.max(1), input.reads);
-    let writer = Cut::new(
-        Counted::new(Vec::new(alloc)),
-        input.step.max(1),
-        input.writes,
-    );
-    Joined::new(reader, writer)
 }

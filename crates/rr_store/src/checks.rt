@@ -162,6 +162,7 @@ pub(crate) fn naming_objects<S: Alter>(
     requires tables { HasCleanDisk (state S.Store conn.old) → IsTrue (state S.Store conn.old).is_open → HasTables (state S.Store conn.old).now.schema }
     ensures autocommit { conn.new.in_transaction ≡ false }
     ensures ok { HasCleanDisk (state S.Store conn.new) → IfOk result (λ objects. HoldsObjects this_form source.now objects.items (pointed name.now (contents ((state S.Store conn.old).now.trees 4)) (contents ((state S.Store conn.old).now.trees 2)))) }
+    ensures of_source { IfOk result (λ objects. AllByRecursion (IsObjectOf source.now) objects.items) }
     ensures same { HasCleanDisk (state S.Store conn.new) → OnOk result (IsUnchanged (state S.Store conn.old) (state S.Store conn.new)) }
     ensures memory { HasCleanDisk (state S.Store conn.new) → IfErr result (λ fault. fault ≡ Memory → IsUnchanged (state S.Store conn.old) (state S.Store conn.new)) }
     ensures err { HasCleanDisk (state S.Store conn.new) → IsTrue (state S.Store conn.new).is_open → OnErr result ((state S.Store conn.new).now ≡ (state S.Store conn.old).now) }

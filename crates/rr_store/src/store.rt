@@ -278,6 +278,7 @@ impl<S: Alter> Store<S> {
     /// the store. Nothing changes.
     pub fn all(&mut self, alloc: Global, source: &Name) -> Result<Vec<Object>, StoreFault>
         ensures ok { HasCleanDisk (state S.Store self.new) → IfOk result (λ all. (objects : FinMap key_cmp Obj) → HasRows objects (state S.Store self.old).now → all.items ≡ values objects) }
+        ensures of_source { IfOk result (λ all. AllByRecursion (IsObjectOf source.now) all.items) }
         ensures same { HasCleanDisk (state S.Store self.new) → OnOk result (IsUnchanged (state S.Store self.old) (state S.Store self.new)) }
         ensures err { HasCleanDisk (state S.Store self.new) → IsTrue (state S.Store self.new).is_open → OnErr result ((state S.Store self.new).now ≡ (state S.Store self.old).now) }
         ensures crash { Survives (state S.Store self.old) (state S.Store self.new) (λ _. (state S.Store self.old).is_open ≡ false) }
@@ -297,6 +298,7 @@ impl<S: Alter> Store<S> {
         name: &Name,
     ) -> Result<Vec<Object>, StoreFault>
         ensures ok { HasCleanDisk (state S.Store self.new) → IfOk result (λ those. (objects : FinMap key_cmp Obj) → HasRows objects (state S.Store self.old).now → those.items ≡ filter (object_names name.now) (values objects)) }
+        ensures of_source { IfOk result (λ those. AllByRecursion (IsObjectOf source.now) those.items) }
         ensures same { HasCleanDisk (state S.Store self.new) → OnOk result (IsUnchanged (state S.Store self.old) (state S.Store self.new)) }
         ensures memory { HasCleanDisk (state S.Store self.new) → IfErr result (λ fault. fault ≡ Memory → IsUnchanged (state S.Store self.old) (state S.Store self.new)) }
         ensures err { HasCleanDisk (state S.Store self.new) → IsTrue (state S.Store self.new).is_open → OnErr result ((state S.Store self.new).now ≡ (state S.Store self.old).now) }

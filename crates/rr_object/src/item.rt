@@ -31,7 +31,7 @@ pub(crate) fn read_items<R: ReadItem>(
     ensures bad { IfErr result (λ fault. fault ≢ Memory
         → (fault ≡ BadValue) × (are_good R.item_of (map (λ item. item.now) listed.now) ≡ false)) }
 {
-    let mut read = Vec::new(alloc);
+    let mut read = Vec::with_capacity(alloc, listed.len())?;
     'items: for item in listed {
         if let Some(value) = R::read_item(alloc, item)? {
             read.push(value).map_err(AllocError::from)?;

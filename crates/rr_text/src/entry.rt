@@ -66,7 +66,7 @@ fn value_lines<'t>(
     ensures rest { IfOk result (λ read. entries.block_fields (text_lines read.1.now) ≡ entries.block_fields (text_lines text.now)) }
     ensures shorter { IfOk result (λ read. length read.1.now ≤ length text.now) }
 {
-    let mut lines = Vec::new(alloc);
+    let mut lines = Vec::with_capacity(alloc, 1)?;
     lines.push(first)?;
     let mut rest = text;
     'lines: while !rest.is_empty() {

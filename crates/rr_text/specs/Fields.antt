@@ -14,6 +14,10 @@ pub record Field : Type 0 where
   pub name : List ℕ
   pub lines : List (List ℕ)
 
+-- an attribute with a value of one line
+abbrev pub one_line : List ℕ → List ℕ → Field
+one_line name line = record { name = name; lines = line ∷ [] }
+
 -- a line of a value has no blanks round it, no LF and no refused byte
 pub record IsLine (line : List ℕ) : Type 0 where
   pub trimmed : trim is_blank_or_line_feed line ≡ line

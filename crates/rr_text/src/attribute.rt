@@ -1,6 +1,6 @@
 //! Attributes: a name, and a value of one line or more.
 
-ghost use Rattle.std.specs.Prelude.{◌≡◌, [], ◌∷◌, IfOk};
+ghost use Rattle.std.specs.Prelude.{◌≡◌, IfOk};
 
 use crate::text::Text;
 use std::alloc::{AllocError, Global};
@@ -23,7 +23,7 @@ impl Model for Attribute {
 }
 
 impl Attribute {
-    ghost use Rattle.rr_text.specs.Fields.{has_name};
+    ghost use Rattle.rr_text.specs.Fields.{has_name, one_line};
 
     /// The attribute of this name and these lines, which are taken as they are.
     pub fn new(name: Text, lines: Vec<Text>) -> Attribute
@@ -31,6 +31,16 @@ impl Attribute {
         ensures lines { result.lines ≡ lines.items }
     {
         Attribute { name, lines }
+    }
+
+    /// The attribute of this name whose value is this line, which are taken as they are; the error is want of memory.
+    pub fn of_line(alloc: Global, name: &[u8], line: &[u8]) -> Result<Attribute, AllocError>
+        ensures { IfOk result (λ made. made ≡ one_line name.now line.now) }
+    {
+        let name = Text::from_slice(alloc, name)?;
+        let mut lines = Vec::with_capacity(alloc, 1)?;
+        lines.push(Text::from_slice(alloc, line)?)?;
+        Ok(Attribute { name, lines })
     }
 
     /// The name, which is in lower case inside a `Paragraph`.
@@ -65,12 +75,9 @@ impl Attribute {
 
     /// A copy with this one line as its value; the error is want of memory.
     pub fn with_line(&self, alloc: Global, line: &[u8]) -> Result<Attribute, AllocError>
-        ensures { IfOk result (λ made. made ≡ record { name = self.now.name; lines = line.now ∷ [] }) }
+        ensures { IfOk result (λ made. made ≡ one_line self.now.name line.now) }
     {
-        let name = self.name.copy(alloc)?;
-        let mut lines = Vec::with_capacity(alloc, 1)?;
-        lines.push(Text::from_slice(alloc, line)?)?;
-        Ok(Attribute { name, lines })
+        Attribute::of_line(alloc, self.name(), line)
     }
 }
 

@@ -2,17 +2,13 @@
 use Rattle.std.specs.Prelude.{◌≡◌, ℕ, Bool, true, false, List, [], ◌∷◌, ◌++◌, codes}
 use Rattle.std.specs.List.{list_any}
 use Rattle.sqlite.specs.Effect.{Database}
-use Rattle.rr_text.specs.Fields.{Field}
+use Rattle.rr_text.specs.Fields.{Field, one_line}
 pub use Rattle.rr_object.specs.Keys.{is_mntner_of}
 use Rattle.rr_object.specs.Objects.{Obj}
 use Rattle.rr_rows.specs.Maps.{AreOldStored, AreStored}
 use Rattle.rr_object.specs.Readings.{ReadsAs}
 use Rattle.rr_store.specs.declared.fault.MigrateFault.{MigrateFault}
 use Rattle.rr_store.specs.declared.fault.MigrateFault.TheVariants.{WrongVersion, BadRow, NoRoot, Store, Memory}
-
--- an attribute with a value of one line (RFC 2622, 2)
-abbrev pub one_line : List ℕ → List ℕ → Field
-one_line name line = record { name = name; lines = line ∷ [] }
 
 -- the block of the AS numbers of more than two octets (RFC 6793), which the root maintains (profile)
 abbrev pub upper_block : List ℕ → List ℕ → List Field

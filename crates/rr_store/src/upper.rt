@@ -4,35 +4,25 @@ ghost use Rattle.std.specs.Prelude.{◌≡◌, IfErr, IfOk};
 ghost use Rattle.rr_rows.specs.Maps.{IsObjectOf};
 ghost use Rattle.rr_object.specs.Objects.{Obj};
 ghost use Rattle.rr_object.specs.Readings.{ReadsAs};
-ghost use Rattle.rr_store.specs.Migrating.{one_line, upper_block};
+ghost use Rattle.rr_store.specs.Migrating.{upper_block};
 ghost use Rattle.rr_store.specs.declared.fault.StoreFault.TheVariants.{Store};
 
 use crate::fault::StoreFault;
 use rr_number::Name;
 use rr_object::{Object, ObjectFault};
-use rr_text::{Attribute, Paragraph, Text};
+use rr_text::{Attribute, Paragraph};
 use std::alloc::{AllocError, Global};
 
 /// The AS numbers of more than two octets (RFC 6793).
 const UPPER: &[u8] = b"AS65536 - AS4294967295";
 
-/// An attribute with a value of one line.
-fn attribute(alloc: Global, name: &[u8], line: &[u8]) -> Result<Attribute, AllocError>
-    ensures { IfOk result (λ attribute. attribute ≡ one_line name.now line.now) }
-{
-    let name = Text::from_slice(alloc, name)?;
-    let mut lines = Vec::with_capacity(alloc, 1)?;
-    lines.push(Text::from_slice(alloc, line)?)?;
-    Ok(Attribute::new(name, lines))
-}
-
 fn upper_attributes(alloc: Global, root: &Name, source: &Name) -> Result<Vec<Attribute>, AllocError>
     ensures { IfOk result (λ attributes. attributes.items ≡ upper_block root.now source.now) }
 {
     let mut attributes = Vec::with_capacity(alloc, 3)?;
-    attributes.push(attribute(alloc, b"as-block", UPPER)?)?;
-    attributes.push(attribute(alloc, b"mnt-by", root.as_bytes())?)?;
-    attributes.push(attribute(alloc, b"source", source.as_bytes())?)?;
+    attributes.push(Attribute::of_line(alloc, b"as-block", UPPER)?)?;
+    attributes.push(Attribute::of_line(alloc, b"mnt-by", root.as_bytes())?)?;
+    attributes.push(Attribute::of_line(alloc, b"source", source.as_bytes())?)?;
     Ok(attributes)
 }
 

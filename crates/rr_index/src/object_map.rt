@@ -24,6 +24,7 @@ ghost use Rattle.rr_index.specs.OriginIndexes.{origin_cmp};
 ghost use Rattle.rr_index.specs.Private.{is_from, IsTold};
 
 use crate::origin_index::OriginIndex;
+use crate::placed::Placed;
 use rr_book::lists::origin_at;
 use rr_number::{Address, AsNumber, Prefix, Span};
 use rr_object::{Key, Object};
@@ -31,12 +32,11 @@ use std::alloc::{AllocError, AllocFailed, Global};
 use std::collections::btree_map::Range;
 use std::collections::{BTreeMap, BTreeSet};
 use std::marker::Model;
-use std::mem;
 
 /// Objects, each under its key; contracts see the finite map from keys to objects.
 #[derive(Drop)]
 pub(crate) struct ObjectMap {
-    entries: BTreeMap<Key, Object>,
+    entries: BTreeMap<Key, Placed>,
 }
 
 impl Model for ObjectMap {
@@ -70,7 +70,7 @@ impl ObjectMap {
     pub(crate) fn get(&self, key: &Key) -> Option<&Object>
         ensures { option_copied result ≡ get self.now key.now }
     {
-        self.entries.get(key)
+        self.entries.get(key).map(Placed::object)
     }
 
     /// Puts the object under its key. The error is want of memory, changes nothing, and gives the object back.
@@ -79,15 +79,18 @@ impl ObjectMap {
         ensures err { OnErr result (self.new ≡ self.old) }
         ensures returned { IfErr result (λ refused. refused.value ≡ object) }
     {
-        match object.key().copy(alloc) {
-            Ok(key) => match self.entries.insert(key, object) {
-                Ok(_) => Ok(()),
-                Err(refused) => {
-                    let (_, object) = refused.value;
-                    Err(AllocFailed { value: object })
-                }
-            },
-            Err(_) => Err(AllocFailed { value: object }),
+        let Ok(key) = object.key().copy(alloc) else {
+            return Err(AllocFailed { value: object });
+        };
+        let placed = Placed::new(alloc, object)?;
+        match self.entries.insert(key, placed) {
+            Ok(_) => Ok(()),
+            Err(refused) => {
+                let (_, placed) = refused.value;
+                Err(AllocFailed {
+                    value: placed.into_object(),
+                })
+            }
         }
     }
 
@@ -101,7 +104,7 @@ impl ObjectMap {
         ensures back { IfErr result (λ back. back ≡ object) }
     {
         match self.entries.get_mut(object.key()) {
-            Some(place) => Ok(mem::replace(place, object)),
+            Some(placed) => Ok(placed.replace(object)),
             None => Err(object),
         }
     }
@@ -111,7 +114,7 @@ impl ObjectMap {
         ensures rest { self.new ≡ remove self.old key.now }
         ensures old { result ≡ get self.old key.now }
     {
-        self.entries.remove(key)
+        self.entries.remove(key).map(Placed::into_object)
     }
 
     /// The objects in the order of class and key; the error is want of memory.
@@ -119,8 +122,8 @@ impl ObjectMap {
         ensures { IfOk result (λ found. lent found.items ≡ values self.now) }
     {
         let mut found = Vec::new(alloc);
-        for object in self.entries.values() {
-            found.push(object)?;
+        for placed in self.entries.values() {
+            found.push(placed.object())?;
         }
         Ok(found)
     }
@@ -190,14 +193,14 @@ impl ObjectMap {
         ensures { IfOk result (λ found. lent found.items ≡ values_of (filter (λ e. lies_between first last e.0) (entries self.now))) }
     {
         let mut found = Vec::new(alloc);
-        for (_, object) in self.between(first, last) {
-            found.push(object)?;
+        for (_, placed) in self.between(first, last) {
+            found.push(placed.object())?;
         }
         Ok(found)
     }
 
     /// The objects whose keys lie from one key to another, with their keys, in the order of class and key.
-    fn between(&self, first: Key, last: Key) -> Range<'_, Key, Object>
+    fn between(&self, first: Key, last: Key) -> Range<'_, Key, Placed>
         requires { is_gt (key_cmp first last) ≡ false }
         ensures { result ≡ filter (λ e. lies_between first last e.0) (entries self.now) }
     {
@@ -261,8 +264,8 @@ impl ObjectMap {
         ensures { IfOk result (λ v. v.items ≡ origins_among (values self.now) prefix) }
     {
         let mut origins = Vec::new(alloc);
-        for (_, object) in self.between(first_of(prefix), last_of(prefix)) {
-            if let Some(origin) = origin_at(object.key(), prefix) {
+        for (_, placed) in self.between(first_of(prefix), last_of(prefix)) {
+            if let Some(origin) = origin_at(placed.object().key(), prefix) {
                 origins.push(origin)?;
             }
         }

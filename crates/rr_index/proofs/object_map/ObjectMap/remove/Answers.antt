@@ -1,4 +1,4 @@
-use Rattle.std.proofs.Common.{ap, ◌∙◌}
+use Rattle.std.proofs.Common.{rules, ap, ◌∙◌}
 use Rattle.std.specs.FinMap.{get, remove}
 use Rattle.rr_index.proofs.Kept.{looked_up, registry_removed, rising}
 use Rattle.rr_index.proofs.object_map.ObjectMap.remove.Goals as goal
@@ -12,4 +12,4 @@ returns-clause-rest c =
     ∙ ap (λ r. remove r c.args.key.now) c.self.view_is
 
 pub returns-clause-old : goal.returns-clause-old
-returns-clause-old c = c.remove.ensures.value ∙ looked_up c.self.inside.entries c.args.key.now c.self.invariant ∙ ap (λ r. get r c.args.key.now) c.self.view_is
+returns-clause-old c = (search rules) ∙ c.remove.ensures.value ∙ looked_up c.self.inside.entries c.args.key.now c.self.invariant ∙ ap (λ r. get r c.args.key.now) c.self.view_is

@@ -1,21 +1,21 @@
 -- The lines of the opening objects, and what they mean.
-use Rattle.std.proofs.Common.{◌≡◌, ℕ, ◌+◌, ◌<◌, Bool, true, false, not, ◌&&◌, length, List, [], ◌∷◌, ◌++◌, take, drop, Option, Some, None, refl, sym, ap, ◌∙◌, arith, codes, get_or, nat_le, length-append, cond}
+use Rattle.std.proofs.Common.{◌≡◌, ℕ, ◌+◌, ◌<◌, Bool, true, false, ◌&&◌, length, List, [], ◌∷◌, ◌++◌, drop, Some, None, refl, sym, ap, ◌∙◌, arith, codes, nat_le, cond}
 use Rattle.std.proofs.lemmas.Bool.Decides.{nat_tests}
 use Rattle.std.proofs.lemmas.Grind.{common_steps}
 use Rattle.std.proofs.lemmas.List.{append-nil, take_at}
 use Rattle.std.proofs.lemmas.List.Folds.{list_all-append}
 use Rattle.std.proofs.lemmas.List.Sums.{list_all-from_AllPass}
-use Rattle.std.specs.Prelude.{filter, is_some}
+use Rattle.std.specs.Prelude.{is_some}
 use Rattle.std.specs.Char.{is_ascii_alphanumeric}
 use Rattle.std.specs.Str.{bytes_eq}
-use Rattle.std.specs.List.{after_first, before_first, list_all, position_or_len, slice_split}
-use Rattle.hex.specs.Hex.{IsBytes, encode_lower, encode_with, decode_sized, hex_digit_value, is_hex_digit, lower_digits}
-use Rattle.hex.proofs.HexLemmas.{decode_of-encode_lower, decode_of-ok, decode_sized-encode_lower, length-encode_with}
+use Rattle.std.specs.List.{after_first, before_first, list_all, position_or_len}
+use Rattle.hex.specs.Hex.{IsBytes, encode_lower, is_hex_digit}
+use Rattle.hex.proofs.HexLemmas.{decode_of-encode_lower, decode_of-ok, decode_sized-encode_lower}
 use Rattle.rr_bytes.specs.Blanks.{is_blank, is_blank_or_comma}
 use Rattle.rr_bytes.specs.LetterCase.{is_keyword, upper}
 use Rattle.rr_bytes.specs.NameBytes.{begins_with_letter, ends_with_alphanumeric, is_name, is_name_byte}
-use Rattle.rr_bytes.specs.Parts.{is_filled, parts_at}
-use Rattle.rr_number.specs.Names.{IsUpperName, is_maintainer_name, maintainer_name_of, name_of}
+use Rattle.rr_bytes.specs.Parts.{is_filled}
+use Rattle.rr_number.specs.Names.{IsUpperName, is_maintainer_name, maintainer_name_of}
 use Rattle.rr_number.proofs.NameLemmas.{name_of-upper_name}
 use Rattle.rr_text.specs.Bytes.{is_colon}
 use Rattle.rr_object.specs.Auths.{auth_item, auth_of_words, is_salt, salted_digest_of}
@@ -23,7 +23,7 @@ use Rattle.rr_object.specs.Items.{items, words}
 use Rattle.rr_object.specs.Parts.{AuthParts}
 use Rattle.rr_desk.specs.Settings.{IsDigest}
 use Rattle.rr_desk.specs.Opening.{auth_line}
-use Rattle.rr_desk.proofs.PlainTexts.{IsShown, all_follow, both_true, is_plain, is_shown, plain_blank, plain_item, shown_between, shown_plain, split_behind, split_whole}
+use Rattle.rr_desk.proofs.PlainTexts.{IsShown, all_follow, both_true, is_plain, plain_blank, plain_item, shown_between, shown_plain, split_behind, split_whole}
 
 -- names are plain
 name_byte_plain : (b : ℕ) → is_name_byte b ≡ true → is_plain b ≡ true

@@ -1,42 +1,37 @@
 -- The paragraphs of the opening objects are read as objects.
-use Rattle.std.proofs.Common.{◌≡◌, ℕ, Bool, true, false, not, ◌&&◌, ◌||◌, List, [], ◌∷◌, ◌++◌, Option, Some, None, Result, Ok, Err, refl, sym, ap, ◌∙◌, codes, arith, IfOk}
-use Rattle.std.specs.Prelude.{is_some}
+use Rattle.std.proofs.Common.{◌≡◌, ℕ, true, false, not, List, [], ◌∷◌, ◌++◌, Some, Result, Ok, Err, refl, codes, arith, IfOk}
 use Rattle.std.specs.List.{list_any}
 use Rattle.rr_bytes.specs.Blanks.{is_blank_or_line_feed, is_line_feed}
 use Rattle.rr_bytes.specs.NameBytes.{is_attribute_name}
 use Rattle.rr_text.specs.Bytes.{is_refused}
-use Rattle.std.specs.Result.{is_ok}
 use Rattle.std.specs.Str.{bytes_eq}
 use Rattle.rr_bytes.specs.Cuts.{cut_at}
-use Rattle.rr_bytes.specs.LetterCase.{is_keyword, lowered, upper}
-use Rattle.rr_bytes.specs.NameBytes.{is_name}
+use Rattle.rr_bytes.specs.LetterCase.{lowered}
 use Rattle.rr_bytes.specs.Trims.{trim, trim_end, trim_start}
 use Rattle.rr_number.specs.Addresses.{address_of, joined_of}
 use Rattle.rr_number.specs.AsNumbers.{as_number_of}
 use Rattle.rr_number.specs.AsSpans.{as_span_of}
 use Rattle.rr_number.specs.Dashes.{dashed_of}
 use Rattle.rr_number.specs.EndsTexts.{ends_between}
-use Rattle.rr_number.specs.Names.{IsUpperName, is_maintainer_name, is_reserved, maintainer_name_of, name_of}
 use Rattle.rr_number.specs.Numerals.{number_of}
 use Rattle.rr_number.specs.Spans.{Ends}
 use Rattle.rr_number.specs.SpanTexts.{spelled_span}
 use Rattle.rr_number.proofs.NameLemmas.{name_of-upper_name}
-use Rattle.rr_text.specs.Fields.{AreFields, Field, IsField, IsLine}
+use Rattle.rr_text.specs.Fields.{AreFields, Field, IsField, IsLine, one_line}
 use Rattle.rr_text.specs.Meanings.{value_meaning}
-use Rattle.rr_object.specs.Auths.{auth_item}
 use Rattle.rr_object.specs.Grants.{entries_behind}
-use Rattle.rr_object.specs.Items.{items, only, values_of}
+use Rattle.rr_object.specs.Items.{items}
 use Rattle.rr_object.specs.Keys.{class_of}
 use Rattle.rr_object.specs.KeySpellings.{key_at, key_of, key_of_text}
-use Rattle.rr_object.specs.Kinds.{kind_name, occurs}
+use Rattle.rr_object.specs.Kinds.{occurs}
 use Rattle.rr_object.specs.Objects.{Obj, names_of}
-use Rattle.rr_object.specs.Readings.{has_bad_authority, has_bad_membership, has_bad_text, has_bad_value, is_from, is_miscounted, items_of, items_read, obj_at, obj_of, object_of, source_of}
-use Rattle.rr_object.specs.declared.class.Class.{Class}
+use Rattle.rr_object.specs.Readings.{has_bad_authority, has_bad_membership, has_bad_text, has_bad_value, is_from, is_miscounted, items_of, items_read, obj_at, obj_of, object_of, source_of, ReadsAs}
 use Rattle.rr_object.specs.declared.class.Class.TheVariants as class
 use Rattle.rr_object.specs.declared.key.Key.{Key}
 use Rattle.rr_object.specs.declared.key.Key.TheVariants.{Mntner, AsBlock, Inetnum}
-use Rattle.rr_object.specs.declared.kind.Kind.TheVariants.{MntBy, Source, Auth, MntLower, MntRoutes, Members, MbrsByRef, MemberOf}
-use Rattle.rr_desk.specs.Opening.{AreOpening, addresses_fields, auth_line, field, four_octets_fields, numbers_fields, owned, root_fields}
+use Rattle.rr_object.specs.declared.kind.Kind.TheVariants.{MntBy, Source, Auth, MntLower, MntRoutes}
+use Rattle.rr_store.specs.Migrating.{upper_block}
+use Rattle.rr_desk.specs.Opening.{AreOpening, addresses_fields, auth_line, four_octets_fields, numbers_fields, owned, root_fields}
 use Rattle.rr_desk.specs.Private.{IsParagraphOf, HasObject}
 use Rattle.rr_desk.specs.Settings.{IsSettings, SettingsParts}
 use Rattle.rr_desk.proofs.PlainTexts.{IsShown, shown_line, shown_meaning}
@@ -50,7 +45,7 @@ read_as fields source key read counted spelled own = rw (read, counted, spelled,
 
 -- the attributes of an opening object: its own, and those that it ends in
 abbrev pub span_fields : List ℕ → List ℕ → SettingsParts → List Field
-span_fields name line s = field name line ∷ owned s
+span_fields name line s = one_line name line ∷ owned s
 
 root_means : (s : SettingsParts) → IsSettings s → value_meaning (s.root ∷ []) ≡ s.root
 root_means s is = shown_meaning s.root (shown_name s.root is.root.spelled)
@@ -272,34 +267,31 @@ root_readable s source fields is same own = readable_at source s.source fields (
 pub numbers_readable : (s : SettingsParts) (source : List ℕ) (fields : List Field) → IsSettings s → fields ≡ numbers_fields s → source ≡ s.source → HasObject source fields
 numbers_readable s source fields is same own = readable_at source s.source fields (numbers_fields s) _ same own (numbers_read s is)
 
-pub four_octets_readable : (s : SettingsParts) (source : List ℕ) (fields : List Field) → IsSettings s → fields ≡ four_octets_fields s → source ≡ s.source → HasObject source fields
-four_octets_readable s source fields is same own = readable_at source s.source fields (four_octets_fields s) _ same own (four_octets_read s is)
+-- that block can be read, so that it is never refused
+pub four_octets_told : (s : SettingsParts) (root source : List ℕ) → IsSettings s → root ≡ s.root → source ≡ s.source → ReadsAs source (upper_block root source) (block_object four_octets (codes "AS65536 - AS4294967295") s)
+four_octets_told s root source is of_root of_source = rw (of_root, of_source) (four_octets_read s is)
 
 pub addresses_readable : (s : SettingsParts) (source : List ℕ) (fields : List Field) → IsSettings s → fields ≡ addresses_fields s → source ≡ s.source → HasObject source fields
 addresses_readable s source fields is same own = readable_at source s.source fields (addresses_fields s) _ same own (addresses_read s is)
 
 -- an attribute of one line is one where its name is good
-one_line : (name line : List ℕ) → is_attribute_name name ≡ true → lowered name ≡ name → IsLine line → IsField (field name line)
-one_line name line named lower good = record { named = named; lower = lower; some = omega arith; good = (good, tt) }
+good_line : (name line : List ℕ) → is_attribute_name name ≡ true → lowered name ≡ name → IsLine line → IsField (one_line name line)
+good_line name line named lower good = record { named = named; lower = lower; some = omega arith; good = (good, tt) }
 
 literal_line : (line : List ℕ) → trim is_blank_or_line_feed line ≡ line → not (list_any is_line_feed line) ≡ true → not (list_any is_refused line) ≡ true → IsLine line
 literal_line line trimmed unbroken clean = record { trimmed = trimmed; unbroken = unbroken; clean = clean }
 
-pub numbers_line : IsField (field (codes "as-block") (codes "AS0 - AS65535"))
+pub numbers_line : IsField (one_line (codes "as-block") (codes "AS0 - AS65535"))
 unfolding trim_start trim_end
-numbers_line = one_line (codes "as-block") (codes "AS0 - AS65535") refl refl (literal_line (codes "AS0 - AS65535") refl refl refl)
+numbers_line = good_line (codes "as-block") (codes "AS0 - AS65535") refl refl (literal_line (codes "AS0 - AS65535") refl refl refl)
 
-pub four_octets_line : IsField (field (codes "as-block") (codes "AS65536 - AS4294967295"))
+pub addresses_line : IsField (one_line (codes "inetnum") (codes "0.0.0.0 - 255.255.255.255"))
 unfolding trim_start trim_end
-four_octets_line = one_line (codes "as-block") (codes "AS65536 - AS4294967295") refl refl (literal_line (codes "AS65536 - AS4294967295") refl refl refl)
-
-pub addresses_line : IsField (field (codes "inetnum") (codes "0.0.0.0 - 255.255.255.255"))
-unfolding trim_start trim_end
-addresses_line = one_line (codes "inetnum") (codes "0.0.0.0 - 255.255.255.255") refl refl (literal_line (codes "0.0.0.0 - 255.255.255.255") refl refl refl)
+addresses_line = good_line (codes "inetnum") (codes "0.0.0.0 - 255.255.255.255") refl refl (literal_line (codes "0.0.0.0 - 255.255.255.255") refl refl refl)
 
 -- the attributes of the root, and those that each opening object ends in, are attributes
-pub named_line : (name line : List ℕ) → is_attribute_name name ≡ true → lowered name ≡ name → IsShown line → IsField (field name line)
-named_line name line named lower shown = one_line name line named lower (shown_line line shown)
+pub named_line : (name line : List ℕ) → is_attribute_name name ≡ true → lowered name ≡ name → IsShown line → IsField (one_line name line)
+named_line name line named lower shown = good_line name line named lower (shown_line line shown)
 
 behind_fields : (front back : List Field) → AreFields front → AreFields back → AreFields (front ++ back)
 behind_fields [] back front_good back_good = back_good
@@ -312,7 +304,7 @@ owned_good front s good is =
       (named_line (codes "source") s.source refl refl (shown_name s.source is.source.spelled), tt),
     )
 
-pub root_good : (s : SettingsParts) → IsSettings s → AreFields (field (codes "mntner") s.root ∷ (field (codes "auth") (auth_line s.auth) ∷ []))
+pub root_good : (s : SettingsParts) → IsSettings s → AreFields (one_line (codes "mntner") s.root ∷ (one_line (codes "auth") (auth_line s.auth) ∷ []))
 root_good s is = (
   named_line (codes "mntner") s.root refl refl (shown_name s.root is.root.spelled),
   (named_line (codes "auth") (auth_line s.auth) refl refl (shown_auth s.auth is.auth), tt),

@@ -1,13 +1,11 @@
 -- Texts of plain bytes: no blanks, commas, comments or control bytes stand in them.
-use Rattle.std.proofs.Common.{◌≡◌, ℕ, ◌<◌, ◌==◌, Bool, true, false, not, ◌&&◌, cond, length, List, [], ◌∷◌, ◌++◌, take, refl, sym, ap, ◌∙◌, arith, nat_lt, nat_le, append_assoc}
+use Rattle.std.proofs.Common.{◌≡◌, ℕ, ◌<◌, ◌==◌, Bool, true, false, not, ◌&&◌, length, List, [], ◌∷◌, ◌++◌, refl, sym, ap, ◌∙◌, arith, nat_lt, append_assoc}
 use Rattle.std.proofs.lemmas.Bool.Decides.{nat_tests}
 use Rattle.std.proofs.lemmas.List.{append-nil}
 use Rattle.std.proofs.lemmas.List.Folds.{list_all-append}
 use Rattle.std.proofs.Math.Seq.{take-length}
-use Rattle.std.specs.Char.{is_ascii_control, is_ascii_alphanumeric, is_ascii_alphabetic}
 use Rattle.std.specs.List.{before_first, list_all, list_any, position_or_len, slice_split}
 use Rattle.rr_bytes.specs.Blanks.{is_blank, is_blank_or_comma, is_blank_or_line_feed, is_line_feed}
-use Rattle.rr_bytes.specs.NameBytes.{begins, is_name, is_name_byte}
 use Rattle.rr_bytes.specs.Trims.{before_trimmed, trim, trim_end, trim_start}
 use Rattle.rr_text.specs.Bytes.{is_hash, is_refused}
 use Rattle.rr_text.specs.Fields.{IsLine}

@@ -1,7 +1,7 @@
 -- The objects that a registry opens with (profile).
 use Rattle.std.specs.Prelude.{◌≡◌, ℕ, List, [], ◌∷◌, ◌++◌, Ok, codes, map}
 use Rattle.hex.specs.Hex.{encode_lower}
-use Rattle.rr_text.specs.Fields.{Field}
+use Rattle.rr_text.specs.Fields.{Field, one_line}
 use Rattle.rr_object.specs.Objects.{Obj}
 use Rattle.rr_object.specs.Parts.{AuthParts}
 use Rattle.rr_object.specs.Readings.{object_of}
@@ -10,26 +10,22 @@ use Rattle.rr_registry.specs.Loading.{IsTaken}
 use Rattle.rr_store.specs.Migrating.{upper_block}
 use Rattle.rr_desk.specs.Settings.{SettingsParts}
 
--- an attribute with a value of one line (RFC 2622, 2)
-abbrev pub field : List ℕ → List ℕ → Field
-field name line = record { name = name; lines = line ∷ [] }
-
 -- the value of `auth` for a digest: the scheme, a blank, the salt, a colon, and the digest in lower case (profile)
 abbrev pub auth_line : AuthParts → List ℕ
 auth_line auth = codes "SHA256-PW " ++ (auth.salt ++ (58 ∷ encode_lower auth.digest))
 
 -- each opening object is the root maintainer's, and of the settings' source (profile)
 abbrev pub owned : SettingsParts → List Field
-owned settings = field (codes "mnt-by") settings.root ∷ (field (codes "source") settings.source ∷ [])
+owned settings = one_line (codes "mnt-by") settings.root ∷ (one_line (codes "source") settings.source ∷ [])
 
 -- the root maintainer (profile)
 abbrev pub root_fields : SettingsParts → List Field
 root_fields settings =
-    field (codes "mntner") settings.root ∷ (field (codes "auth") (auth_line settings.auth) ∷ owned settings)
+    one_line (codes "mntner") settings.root ∷ (one_line (codes "auth") (auth_line settings.auth) ∷ owned settings)
 
 -- the block of all AS numbers of two octets (profile)
 abbrev pub numbers_fields : SettingsParts → List Field
-numbers_fields settings = field (codes "as-block") (codes "AS0 - AS65535") ∷ owned settings
+numbers_fields settings = one_line (codes "as-block") (codes "AS0 - AS65535") ∷ owned settings
 
 -- the block of the other AS numbers of four octets, which is also the one that migration adds (RFC 6793; profile)
 abbrev pub four_octets_fields : SettingsParts → List Field
@@ -37,7 +33,7 @@ four_octets_fields settings = upper_block settings.root settings.source
 
 -- the span of all addresses (profile)
 abbrev pub addresses_fields : SettingsParts → List Field
-addresses_fields settings = field (codes "inetnum") (codes "0.0.0.0 - 255.255.255.255") ∷ owned settings
+addresses_fields settings = one_line (codes "inetnum") (codes "0.0.0.0 - 255.255.255.255") ∷ owned settings
 
 -- the paragraphs of the opening objects: the root maintainer, the two blocks of AS numbers, and the span of all addresses
 -- (profile)

@@ -1,7 +1,6 @@
 -- Settings: what a registry opens with, and how far expansions of sets go (profile).
-use Rattle.std.specs.Prelude.{◌≡◌, ℕ, ◌≤◌, Bool, true, ◌&&◌, nat_le, List, [], ◌∷◌, length, Option, Some, None, Result, Ok, Err, codes, if◌then◌else◌}
+use Rattle.std.specs.Prelude.{◌≡◌, ℕ, ◌≤◌, true, ◌&&◌, nat_le, List, [], ◌∷◌, length, Option, Some, None, Result, Ok, Err, codes, if◌then◌else◌}
 use Rattle.std.specs.Option.{option_and_then}
-use Rattle.std.specs.Result.{result_ok}
 use Rattle.hex.specs.Hex.{IsBytes}
 use Rattle.rr_number.specs.Names.{IsUpperName, is_maintainer_name, maintainer_name_of, name_of}
 use Rattle.rr_object.specs.Auths.{auth_item, is_salt}

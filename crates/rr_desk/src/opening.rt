@@ -1,8 +1,8 @@
 //! The objects that a registry opens with.
 
 ghost use Rattle.std.specs.Prelude.{◌≡◌, [], ◌∷◌, ◌++◌, IfOk};
-ghost use Rattle.rr_text.specs.Fields.{AreFields, IsField};
-ghost use Rattle.rr_desk.specs.Opening.{AreOpening, IsOpened, addresses_fields, auth_line, field, four_octets_fields, numbers_fields, owned, root_fields};
+ghost use Rattle.rr_text.specs.Fields.{AreFields, IsField, one_line};
+ghost use Rattle.rr_desk.specs.Opening.{AreOpening, IsOpened, addresses_fields, auth_line, four_octets_fields, numbers_fields, owned, root_fields};
 ghost use Rattle.rr_desk.specs.Private.{IsParagraphOf, HasObject};
 
 use crate::settings::Settings;
@@ -10,7 +10,8 @@ use rr_index::IndexedBook;
 use rr_number::Name;
 use rr_object::{Auth, Object, ObjectFault};
 use rr_registry::{LoadFault, Registry};
-use rr_text::{Attribute, Paragraph, Text};
+use rr_store::{StoreFault, upper_object};
+use rr_text::{Attribute, Paragraph};
 use std::alloc::{AllocError, Global};
 
 /// The objects that a registry of these settings opens with: the root maintainer, the blocks of AS numbers of two and of
@@ -75,14 +76,16 @@ fn numbers_object(alloc: Global, settings: &Settings) -> Result<Object, AllocErr
     read_object(alloc, paragraph, settings.source())
 }
 
-/// The block of the other AS numbers of four octets (RFC 6793).
-#[tactic(auto, using(crate::proofs::OpeningReads::four_octets_readable, crate::proofs::OpeningReads::read_back))]
+/// The block of the other AS numbers of four octets, which migration adds too (RFC 6793).
 pub(crate) fn four_octets_object(alloc: Global, settings: &Settings) -> Result<Object, AllocError>
     ensures { IfOk result (IsParagraphOf settings.now.source (four_octets_fields settings.now)) }
 {
     settings.are_good();
-    let paragraph = four_octets_paragraph(alloc, settings)?;
-    read_object(alloc, paragraph, settings.source())
+    match upper_object(alloc, settings.root(), settings.source()) {
+        Ok(object) => Ok(object),
+        Err(StoreFault::Memory) => Err(AllocError),
+        Err(StoreFault::Store) => unreachable!(),
+    }
 }
 
 /// The span of all addresses.
@@ -99,9 +102,9 @@ fn root_paragraph(alloc: Global, settings: &Settings) -> Result<Paragraph, Alloc
     ensures { IfOk result (λ paragraph. paragraph ≡ root_fields settings.now) }
 {
     settings.are_good();
-    let root = attribute(alloc, b"mntner", settings.root().as_bytes())?;
+    let root = Attribute::of_line(alloc, b"mntner", settings.root().as_bytes())?;
     let line = auth_text(alloc, settings.auth())?;
-    let auth = attribute(alloc, b"auth", line.as_slice())?;
+    let auth = Attribute::of_line(alloc, b"auth", line.as_slice())?;
     let mut attributes = Vec::with_capacity(alloc, 4)?;
     attributes.push(root)?;
     attributes.push(auth)?;
@@ -112,12 +115,6 @@ fn numbers_paragraph(alloc: Global, settings: &Settings) -> Result<Paragraph, Al
     ensures { IfOk result (λ paragraph. paragraph ≡ numbers_fields settings.now) }
 {
     span_paragraph(alloc, settings, b"as-block", b"AS0 - AS65535")
-}
-
-fn four_octets_paragraph(alloc: Global, settings: &Settings) -> Result<Paragraph, AllocError>
-    ensures { IfOk result (λ paragraph. paragraph ≡ four_octets_fields settings.now) }
-{
-    span_paragraph(alloc, settings, b"as-block", b"AS65536 - AS4294967295")
 }
 
 fn addresses_paragraph(alloc: Global, settings: &Settings) -> Result<Paragraph, AllocError>
@@ -133,10 +130,10 @@ fn span_paragraph(
     class: &[u8],
     span: &[u8],
 ) -> Result<Paragraph, AllocError>
-    requires { IsField (field class.now span.now) }
-    ensures { IfOk result (λ paragraph. paragraph ≡ field class.now span.now ∷ owned settings.now) }
+    requires { IsField (one_line class.now span.now) }
+    ensures { IfOk result (λ paragraph. paragraph ≡ one_line class.now span.now ∷ owned settings.now) }
 {
-    let class = attribute(alloc, class, span)?;
+    let class = Attribute::of_line(alloc, class, span)?;
     let mut attributes = Vec::with_capacity(alloc, 3)?;
     attributes.push(class)?;
     owned(alloc, attributes, settings)
@@ -166,21 +163,11 @@ fn owned(
     ensures { IfOk result (λ paragraph. paragraph ≡ attributes.items ++ owned settings.now) }
 {
     settings.are_good();
-    let maintainer = attribute(alloc, b"mnt-by", settings.root().as_bytes())?;
-    let source = attribute(alloc, b"source", settings.source().as_bytes())?;
+    let maintainer = Attribute::of_line(alloc, b"mnt-by", settings.root().as_bytes())?;
+    let source = Attribute::of_line(alloc, b"source", settings.source().as_bytes())?;
     attributes.push(maintainer)?;
     attributes.push(source)?;
     Ok(Paragraph::new(attributes))
-}
-
-/// An attribute with a value of one line.
-fn attribute(alloc: Global, name: &[u8], line: &[u8]) -> Result<Attribute, AllocError>
-    ensures { IfOk result (λ attribute. attribute ≡ field name.now line.now) }
-{
-    let name = Text::from_slice(alloc, name)?;
-    let mut lines = Vec::with_capacity(alloc, 1)?;
-    lines.push(Text::from_slice(alloc, line)?)?;
-    Ok(Attribute::new(name, lines))
 }
 
 /// The value of `auth` for a digest.

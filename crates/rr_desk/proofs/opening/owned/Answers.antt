@@ -1,6 +1,6 @@
 use Rattle.std.proofs.Common.{◌≡◌, ◌++◌, arith, subst, sym}
 use Rattle.std.proofs.lemmas.Grind.{common_steps}
-use Rattle.rr_text.specs.Fields.{AreFields, Field}
+use Rattle.rr_text.specs.Fields.{AreFields}
 use Rattle.rr_desk.specs.Opening.{owned}
 use Rattle.rr_desk.proofs.OpeningReads.{owned_good}
 use Rattle.rr_desk.proofs.opening.owned.Goals as goal

@@ -4,4 +4,6 @@
 #[cfg(test)]
 mod migration_tests;
 #[cfg(test)]
+mod stop_tests;
+#[cfg(test)]
 mod store_tests;

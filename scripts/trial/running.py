@@ -103,12 +103,14 @@ def built(program):
     return os.path.join(os.path.dirname(program), "crates", "rr_cli", "out", "rr_cli")
 
 
-def limited(most_bytes=None, stack=None, user=None, closed=()):
+def limited(most_bytes=None, most_files=None, stack=None, user=None, closed=()):
     """Sets limits in a process that is about to become the program."""
     def set_limits():
         if most_bytes is not None:
             signal.signal(signal.SIGXFSZ, signal.SIG_IGN)
             resource.setrlimit(resource.RLIMIT_FSIZE, (most_bytes, most_bytes))
+        if most_files is not None:
+            resource.setrlimit(resource.RLIMIT_NOFILE, (most_files, most_files))
         if stack is not None:
             resource.setrlimit(resource.RLIMIT_STACK, (stack, stack))
         if user is not None:

@@ -49,8 +49,10 @@ class Script:
         words.add_argument("--seed", type=int, default=1)
         words.add_argument("--only", default="", help="those cases alone whose names begin so")
         words.add_argument("--count", type=int, help="how many inputs of chance a case of scripts/fuzz takes")
+        words.add_argument("--lanes", type=int, help="how many runs of scripts/sweeps go on beside each other")
         read = words.parse_args()
         self.long, self.seed, self.only, self.count, self.failed = read.long, read.seed, read.only, read.count, 0
+        self.lanes = read.lanes or self.pick(2, 1)
         self.program = built(os.path.abspath(read.program))
         self.folder = tempfile.TemporaryDirectory(prefix="irrdesk-")
         self.work = self.folder.name

@@ -25,8 +25,8 @@ abbrev pub set_item : List ℕ → Option (Option (List ℕ))
 set_item item = option_map Some (set_name_of item)
 
 -- a maintainer's name, or `ANY`, which is none (RFC 2622, 5)
-abbrev pub referrer_item : List ℕ → Option (Option (List ℕ))
-referrer_item item = if is_any item then Some None else maintainer_item item
+abbrev pub by_ref_item : List ℕ → Option (Option (List ℕ))
+by_ref_item item = if is_any item then Some None else maintainer_item item
 
 -- the kind of as-sets (RFC 2622, 5)
 abbrev pub is_as_set_kind : SetKind → Bool

@@ -23,7 +23,7 @@ use Rattle.rr_object.specs.Items.{only, values_of, items, joined, spaced, are_go
 use Rattle.rr_object.specs.Keys.{class_of}
 use Rattle.rr_object.specs.KeySpellings.{key_of}
 use Rattle.rr_object.specs.Kinds.{kind_name, is_read, occurs}
-use Rattle.rr_object.specs.Members.{maintainer_item, set_item, referrer_item, as_set_item, route_set_item}
+use Rattle.rr_object.specs.Members.{maintainer_item, set_item, by_ref_item, as_set_item, route_set_item}
 use Rattle.rr_object.specs.Objects.{Obj}
 use Rattle.rr_object.specs.Parts.{ByRefParts}
 
@@ -124,7 +124,7 @@ has_bad_authority class fields =
 unfoldable pub has_bad_membership : Class → List Field → Bool
 has_bad_membership class fields =
     not (are_good (member_item class) (items_read Members class fields))
-    || (not (are_good referrer_item (items_read MbrsByRef class fields))
+    || (not (are_good by_ref_item (items_read MbrsByRef class fields))
     || not (are_good set_item (items_read MemberOf class fields)))
 
 -- an interpreted attribute of an object of the class has a bad value (RFC 2622, 2 to 6; RFC 2725, 10)
@@ -134,7 +134,7 @@ has_bad_value class fields =
 
 -- whose objects may say that they belong to a set (RFC 2622, 5)
 abbrev pub by_ref_of : List (List ℕ) → ByRefParts
-by_ref_of listed = record { any = list_any is_any listed; names = meant referrer_item listed }
+by_ref_of listed = record { any = list_any is_any listed; names = meant by_ref_item listed }
 
 -- an object of this key, with what its paragraph says (RFC 2622, 2 to 6; RFC 2725, 10)
 unfoldable pub obj_at : Key → List Field → Obj

@@ -16,7 +16,7 @@ pub struct MaintainersNamed<'a> {
     maintainers: &'a [Name],
     lower: &'a [Name],
     routes: &'a [Grant],
-    referrers: &'a [Name],
+    by_ref: &'a [Name],
 }
 
 impl<'a> Model for MaintainersNamed<'a> {
@@ -24,7 +24,7 @@ impl<'a> Model for MaintainersNamed<'a> {
 
     ghost Value = { List (List ℕ) };
 
-    ghost view = { λ s. ((s.maintainers.now ++ s.lower.now) ++ map (λ grant. grant.name) s.routes.now) ++ s.referrers.now };
+    ghost view = { λ s. ((s.maintainers.now ++ s.lower.now) ++ map (λ grant. grant.name) s.routes.now) ++ s.by_ref.now };
 }
 
 impl Object {
@@ -36,7 +36,7 @@ impl Object {
             maintainers: self.maintainers(),
             lower: self.lower(),
             routes: self.routes(),
-            referrers: self.by_ref().names(),
+            by_ref: self.by_ref().names(),
         }
     }
 
@@ -68,8 +68,8 @@ impl<'a> Iterator for MaintainersNamed<'a> {
             self.routes = others;
             return Some(first.name());
         }
-        let (first, others) = self.referrers.split_first()?;
-        self.referrers = others;
+        let (first, others) = self.by_ref.split_first()?;
+        self.by_ref = others;
         Some(first)
     }
 }

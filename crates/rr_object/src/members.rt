@@ -3,7 +3,7 @@
 ghost use Rattle.std.specs.Prelude.{◌≡◌, ◌≢◌, IfErr, IfOk, None, Some};
 ghost use Rattle.rr_number.specs.SetNames.{set_name_of};
 ghost use Rattle.rr_object.specs.Auths.{auth_item};
-ghost use Rattle.rr_object.specs.Members.{as_set_item, is_as_set_kind, is_in_as_sets, maintainer_item, operated_set, referrer_item, route_set_item, set_item, member_set_of};
+ghost use Rattle.rr_object.specs.Members.{as_set_item, is_as_set_kind, is_in_as_sets, maintainer_item, operated_set, by_ref_item, route_set_item, set_item, member_set_of};
 ghost use Rattle.rr_object.specs.declared.fault.ObjectFault.TheVariants.{BadValue, Memory};
 
 use crate::auth::Auth;
@@ -30,12 +30,12 @@ impl ReadItem for Maintainers {
 }
 
 /// Maintainers' names, and `ANY`, which is none.
-pub(crate) struct Referrers;
+pub(crate) struct ByRefNames;
 
-impl ReadItem for Referrers {
+impl ReadItem for ByRefNames {
     type Item = Name;
 
-    ghost item_of = { referrer_item };
+    ghost item_of = { by_ref_item };
 
     fn read_item(alloc: Global, item: &[u8]) -> Result<Option<Name>, ObjectFault> {
         if is_any(item) {

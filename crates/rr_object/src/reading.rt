@@ -9,7 +9,7 @@ ghost use Rattle.rr_object.specs.Grants.{grants_of, is_any};
 ghost use Rattle.rr_object.specs.Items.{are_good, items, meant, only, values_of};
 ghost use Rattle.rr_object.specs.Readings.{by_ref_of, has_bad_authority, has_bad_membership, has_bad_text, is_kept_out, items_read, maintainers_of, member_item, source_of};
 ghost use Rattle.rr_object.specs.Kinds.{kind_name};
-ghost use Rattle.rr_object.specs.Members.{referrer_item, set_item};
+ghost use Rattle.rr_object.specs.Members.{by_ref_item, set_item};
 ghost use Rattle.rr_object.specs.declared.fault.ObjectFault.TheVariants.{BadValue, Memory};
 ghost use Rattle.rr_object.specs.declared.kind.Kind.TheVariants as kinds;
 
@@ -24,7 +24,7 @@ use crate::item::{ReadItem, read_items};
 use crate::kind::Kind;
 use crate::lists::{items, values_of};
 use crate::member::Member;
-use crate::members::{AsSetMembers, Auths, Maintainers, Referrers, RouteSetMembers, Sets};
+use crate::members::{AsSetMembers, Auths, ByRefNames, Maintainers, RouteSetMembers, Sets};
 use rr_number::{Name, SetName};
 use rr_text::{Attribute, Paragraph, Text};
 use std::alloc::{AllocError, Global};
@@ -232,14 +232,14 @@ fn read_members(
 }
 
 fn read_by_ref(alloc: Global, class: Class, paragraph: &Paragraph) -> Result<ByRef, ObjectFault>
-    ensures good { IfOk result (λ _. are_good referrer_item (items_read kinds.MbrsByRef class paragraph.now) ≡ true) }
+    ensures good { IfOk result (λ _. are_good by_ref_item (items_read kinds.MbrsByRef class paragraph.now) ≡ true) }
     ensures value { IfOk result (λ read. read ≡ by_ref_of (items_read kinds.MbrsByRef class paragraph.now)) }
     ensures bad { IfErr result (λ fault. fault ≢ Memory
-        → (fault ≡ BadValue) × (are_good referrer_item (items_read kinds.MbrsByRef class paragraph.now) ≡ false)) }
+        → (fault ≡ BadValue) × (are_good by_ref_item (items_read kinds.MbrsByRef class paragraph.now) ≡ false)) }
 {
     let text = text_read(alloc, class, Kind::MbrsByRef, paragraph)?;
     let listed = items(alloc, &text)?;
-    let names = read_items::<Referrers>(alloc, &listed)?;
+    let names = read_items::<ByRefNames>(alloc, &listed)?;
     Ok(ByRef::new(has_any(&listed), names))
 }
 

@@ -32,7 +32,7 @@ use Rattle.rr_registry.specs.declared.gathered.Gathered.{Gathered}
 use Rattle.rr_registry.specs.declared.load.LoadFault.{LoadFault}
 use Rattle.rr_registry.specs.declared.load.LoadFault.TheVariants.{Memory, Overlap}
 use Rattle.rr_registry.specs.Loading.{clash_of, is_crossed_by_some, is_key_of_some}
-use Rattle.rr_registry.specs.Private.{HoldsSpans, IsApart, IsEntered, IsHeld, IsTakenIn}
+use Rattle.rr_registry.specs.Private.{HoldsSpans, IsApart, IsConsistent, IsEntered, IsTakenIn}
 
 -- the derived order of keys is their order
 pub one_order : (derived.ghosts).cmp ≡ key_cmp
@@ -158,9 +158,9 @@ module _ (os : List Obj) (inetnums blocks : SpanMap (Unit {0})) (has : HoldsSpan
   rest_entered (RouteSet n) a b = other_entered (RouteSet n) (none_crosses (RouteSet n) os refl) (λ s. refl) (λ s. refl)
 
 -- the object whose span was entered was taken in
-pub entered_is_taken : (before after : Gathered) (n : ℕ) (o : Obj) → IsHeld before → IsKeyValue o.key → is_key_of_some o.key (values before.objects) ≡ false
+pub entered_is_taken : (before after : Gathered) (n : ℕ) (o : Obj) → IsConsistent before → IsKeyValue o.key → is_key_of_some o.key (values before.objects) ≡ false
     → IsEntered (values before.objects) o.key after.spans.inetnums after.spans.blocks → after.objects.entries ≡ map entry (put_in o (values before.objects))
-    → IsTakenIn (values before.objects) n o (values after.objects) × IsHeld after
+    → IsTakenIn (values before.objects) n o (values after.objects) × IsConsistent after
 entered_is_taken before after n o held formed new entered grown =
     let os = values before.objects in
     let same : values after.objects ≡ put_in o os = grown_values after.objects.entries (put_in o os) grown in
@@ -176,7 +176,7 @@ entered_is_taken before after n o held formed new entered grown =
       },
     )
 
-pub nothing_held : (g : Gathered) → g.objects.entries ≡ [] → g.spans.inetnums ≡ empty → g.spans.blocks ≡ empty → IsHeld g
+pub nothing_held : (g : Gathered) → g.objects.entries ≡ [] → g.spans.inetnums ≡ empty → g.spans.blocks ≡ empty → IsConsistent g
 nothing_held g none inetnums blocks =
     let no_values : values g.objects ≡ [] = ap values_of none in
     record {

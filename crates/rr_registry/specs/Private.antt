@@ -50,8 +50,8 @@ pub record IsEntered (os : List Obj) (key : Key) (inetnums blocks : SpanMap (Uni
   pub inetnums_are : (s : Ends) → contains_key inetnums s ≡ (eq_by_cmp key_cmp (Inetnum s) key || is_key_of_some (Inetnum s) os)
   pub blocks_are : (s : Ends) → contains_key blocks s ≡ (eq_by_cmp key_cmp (AsBlock s) key || is_key_of_some (AsBlock s) os)
 
--- Each object stands under its own key, and the spans are those of the objects.
-pub record IsHeld (g : Gathered) : Type 0 where
+-- What was gathered is consistent: each object stands under its own key, and the spans are those of the objects.
+pub record IsConsistent (g : Gathered) : Type 0 where
   pub apart : IsApart (values g.objects)
   pub keyed : g.objects.entries ≡ map entry (values g.objects)
   pub spans : HoldsSpans (values g.objects) g.spans.inetnums g.spans.blocks

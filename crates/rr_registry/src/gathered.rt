@@ -5,7 +5,7 @@ ghost use Rattle.std.specs.FinMap.{insert};
 ghost use Rattle.rr_object.specs.Objects.{Obj};
 ghost use Rattle.rr_cover.specs.SpanMaps.{crosses_some};
 ghost use Rattle.rr_registry.specs.Loading.{clash_of, is_crossed_by_some};
-ghost use Rattle.rr_registry.specs.Private.{HoldsSpans, IsEntered, IsHeld, IsTakenIn, objects_of};
+ghost use Rattle.rr_registry.specs.Private.{HoldsSpans, IsConsistent, IsEntered, IsTakenIn, objects_of};
 
 use crate::load::LoadFault;
 use rr_cover::{InsertFault, SpanNest};
@@ -32,7 +32,7 @@ pub(crate) struct Spans {
 impl Gathered {
     /// No objects.
     pub(crate) fn new(alloc: Global) -> Gathered
-        ensures held { IsHeld result }
+        ensures consistent { IsConsistent result }
         ensures none { objects_of result ≡ [] }
     {
         Gathered {
@@ -46,9 +46,9 @@ impl Gathered {
 
     /// Puts the n-th object among those before it.
     pub(crate) fn take_in(&mut self, alloc: Global, n: u64, object: Object) -> Result<(), LoadFault>
-        requires { IsHeld self.old }
+        requires { IsConsistent self.old }
         ensures ok { OnOk result (IsTakenIn (objects_of self.old) n object (objects_of self.new)) }
-        ensures held { OnOk result (IsHeld self.new) }
+        ensures consistent { OnOk result (IsConsistent self.new) }
         ensures err { IfErr result (λ fault. (fault ≡ LoadFault.Memory) ⊎ (clash_of (objects_of self.old) n object ≡ Some fault)) }
     {
         object.key_is_well_formed();

@@ -35,8 +35,8 @@ returns-clause-ok c =
     (rw c.key-2.ensures at c.in_ok-enter.ensures.ok os c.requires.spans)
     (grown_entries c.args.self.now.objects.entries c.insert.new.self.entries os c.in_ok-copy.field-0 c.args.object c.requires.keyed (c.in_ok-copy.ensures ∙ c.key-3.ensures) c.in_ok-insert.ensures.entries)).0
 
-pub returns-clause-held : goal.returns-clause-held
-returns-clause-held c =
+pub returns-clause-consistent : goal.returns-clause-consistent
+returns-clause-consistent c =
     let os = values c.args.self.now.objects in
     let known : c.contains_key.result ≡ is_key_of_some c.args.object.key os =
     c.contains_key.ensures ∙ stands c.args.self.now.objects.entries os c.key.result.now c.requires.keyed ∙ ap (λ k. is_key_of_some k os) c.key.ensures in

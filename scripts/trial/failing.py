@@ -16,8 +16,6 @@ class Failing:
 
     def __init__(self, script):
         self.script, self.said = script, set()
-        # How many runs go on beside each other: the long form leaves the machine to others.
-        self.lanes = script.pick(2, 1)
         self.library = os.path.join(script.work, "failing.so")
         source = os.path.join(TOP, "scripts", "failing.c")
         subprocess.run(["gcc", "-O1", "-shared", "-fPIC", "-o", self.library, source], check=True)
@@ -84,7 +82,7 @@ class Failing:
             finally:
                 shutil.rmtree(folder)
 
-        with ThreadPoolExecutor(self.lanes) as pool:
+        with ThreadPoolExecutor(self.script.lanes) as pool:
             list(pool.map(one, taken))
         return f"{len(taken) - 1} of {count} {'bytes' if how == 'take' else 'calls'}"
 

@@ -49,8 +49,10 @@ class Script:
         words.add_argument("--seed", type=int, default=1)
         words.add_argument("--only", default="", help="those cases alone whose names begin so")
         words.add_argument("--count", type=int, help="how many inputs of chance a case of scripts/fuzz takes")
+        words.add_argument("--lanes", type=int, help="how many runs of scripts/sweeps go on beside each other")
         read = words.parse_args()
         self.long, self.seed, self.only, self.count, self.failed = read.long, read.seed, read.only, read.count, 0
+        self.lanes = read.lanes or self.pick(2, 1)
         self.program = built(os.path.abspath(read.program))
         self.folder = tempfile.TemporaryDirectory(prefix="irrdesk-")
         self.work = self.folder.name
@@ -103,12 +105,14 @@ def built(program):
     return os.path.join(os.path.dirname(program), "crates", "rr_cli", "out", "rr_cli")
 
 
-def limited(most_bytes=None, stack=None, user=None, closed=()):
+def limited(most_bytes=None, most_files=None, stack=None, user=None, closed=()):
     """Sets limits in a process that is about to become the program."""
     def set_limits():
         if most_bytes is not None:
             signal.signal(signal.SIGXFSZ, signal.SIG_IGN)
             resource.setrlimit(resource.RLIMIT_FSIZE, (most_bytes, most_bytes))
+        if most_files is not None:
+            resource.setrlimit(resource.RLIMIT_NOFILE, (most_files, most_files))
         if stack is not None:
             resource.setrlimit(resource.RLIMIT_STACK, (stack, stack))
         if user is not None:

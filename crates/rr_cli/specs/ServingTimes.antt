@@ -1,5 +1,5 @@
 -- How long a peer is waited for (profile).
-use Rattle.std.specs.Prelude.{ℕ, ◌+◌, ◌-◌, ◌*◌, ◌/◌, ◌==◌, min, Option, None, Some, if◌then◌else◌}
+use Rattle.std.specs.Prelude.{◌≡◌, ◌⊎◌, ℕ, ◌+◌, ◌-◌, ◌*◌, ◌/◌, ◌==◌, true, min, is_some, Option, None, Some, if◌then◌else◌}
 
 -- a second, in nanoseconds
 abbrev pub second : ℕ
@@ -12,6 +12,12 @@ wait_of left = if left == 0 then None else Some (min left (10 * second))
 -- what the next call waits, in nanoseconds, where the peer is given so many seconds in all and has taken so many nanoseconds
 abbrev pub next_wait : ℕ → ℕ → Option ℕ
 next_wait seconds taken = wait_of (seconds * second - taken)
+
+-- there is a wait, and it stands as the timeout of the next call; it is told where another one stood (profile)
+pub record SetsWait (wait before after told : Option ℕ) : Type 0 where
+  pub there_is : is_some wait ≡ true
+  pub stands : after ≡ wait
+  pub is_told : (told ≡ wait) ⊎ ((told ≡ None) × (before ≡ wait))
 
 -- how many seconds a peer is given to take a reply of which so many bytes went out: 60, and one more for each 16 KiB (profile)
 abbrev pub reply_time : ℕ → ℕ

@@ -1,10 +1,10 @@
 -- What the submission of a command does, by how it ends (profile).
-use Rattle.std.specs.Prelude.{◌≡◌, ℕ, ◌==◌, ◌⊎◌, List, Result, Ok, Err, if◌then◌else◌}
+use Rattle.std.specs.Prelude.{◌≡◌, ℕ, ◌==◌, ◌⊎◌, false, List, Result, Ok, Err, if◌then◌else◌}
 use Rattle.sqlite_trees.specs.declared.store.Store as store
 use Rattle.rr_io.specs.Told.{Told}
 use Rattle.rr_submission.specs.declared.submission.Done.{Done}
 use Rattle.rr_submission.specs.declared.submission.DeskFault.{DeskFault}
-use Rattle.rr_submission.specs.Submissions.{Sides, Submits}
+use Rattle.rr_submission.specs.Submissions.{Sides, Submits, UnlessStoreFault}
 use Rattle.rr_desk.specs.Opening.{IsOpened}
 use Rattle.rr_desk.specs.Settings.{built_in}
 use Rattle.rr_desk.specs.Stocks.{Stock, stock_ledger}
@@ -20,10 +20,11 @@ abbrev pub submission_end : Result Done DeskFault → Result ℕ Trouble
 submission_end (Ok done) = Ok (done_status done)
 submission_end (Err fault) = Err (Submission fault)
 
--- a submission was made to a desk, and its answer is told (profile)
+-- a submission was made to a desk, and its answer is told; only a fault of the store stopped the desk (profile)
 pub record HasSubmitted {S : Type 0} (g : store.Ghosts S) (source : List ℕ) (sides : Sides) (old new : Stock S) (result : Result ℕ Trouble) : Type 0 where
   pub answer : Result Done DeskFault
   pub submits : Submits (stock_ledger g) source sides old new answer
+  pub runs : UnlessStoreFault answer (new.stopped ≡ false)
   pub told : result ≡ submission_end answer
 
 -- there is no desk, and nothing was read or printed (profile)

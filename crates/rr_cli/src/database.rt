@@ -4,6 +4,7 @@ ghost use Rattle.std.specs.Prelude.{◌≡◌, IfOk, false};
 
 use crate::cause::DatabaseCause;
 use crate::fault::ProgramFault;
+use crate::progress::Opening;
 use crate::settings_reading::read_settings_file;
 use crate::trouble::Trouble;
 use rr_desk::{Desk, Settings};
@@ -49,9 +50,20 @@ pub fn open_desk<'a>(
     ensures { IfOk result (λ opened. opened.0.stored.stopped ≡ false) }
 {
     let (read, store) = read_settings_file(rt, settings)?;
-    match open_desk_at(rt, read, store.as_str()) {
+    let opening = Opening::begin(rt, size_of(rt, store.as_str()));
+    let opened = open_desk_at(rt, read, store.as_str());
+    opening.end();
+    match opened {
         Ok(desk) => Ok((desk, store)),
         Err(trouble) => Err(ProgramFault::named(store, trouble)),
+    }
+}
+
+/// How many bytes the file at a path has; none where that cannot be told.
+fn size_of(rt: &HostRuntime, store: &str) -> u64 {
+    match fs::metadata(rt, store) {
+        Ok(found) => found.len(),
+        Err(_) => 0,
     }
 }
 

@@ -1,19 +1,22 @@
-//! What `--help` says of the program and of each command, each with an example.
+//! What `--help` says of the program and of each command, each with an example. No line has more than 79 columns.
 
 /// What the program is.
 pub const PROGRAM: &str = "An Internet routing registry for IPv4 (RFC 2622, RFC 2725).
 
-Without a command a registry in memory, of which nothing lasts, reads a submission on standard input and prints the report.
-Its root maintainer is ROOT-MNT, whose secret `bc` is published.";
+Without a command it submits standard input to a registry in memory, of which
+nothing lasts, and prints the report. The root maintainer of that registry is
+ROOT-MNT, whose secret `bc` is published.";
 
 /// The program by an example, and its statuses.
 pub const PROGRAM_EXAMPLE: &str = "Example, with the settings in irr.toml:
   irrdesk init irr.toml
   irrdesk submit irr.toml objects.rpsl
   irrdesk query irr.toml 10.1.2.3
+`irrdesk COMMAND --help` shows each command by an example.
 
-irr.toml has the name of the registry, its root maintainer with the salt and the digest of its secret, the
-most names that an expansion of a set may reach, and the path of the database:
+irr.toml has the name of the registry, its root maintainer with the salt and
+the digest of its secret, the most names that an expansion of a set may reach,
+and the path of the database:
   source = \"TEST\"
   root = \"ROOT-MNT\"
   auth = \"SHA256-PW salt:digest\"
@@ -22,8 +25,9 @@ most names that an expansion of a set may reach, and the path of the database:
 This prints the value of `auth` for the salt `salt` and the secret `secret`:
   printf 'SHA256-PW salt:%.64s\\n' \"$(printf %s saltsecret | sha256sum)\"
 
-Status: 0 done, 1 an item was refused or an answer is an error, 2 wrong arguments, 3 the settings,
-4 the database, 5 a file, a stream, a socket, memory, or a dump that is not loaded.";
+Status: 0 done, 1 an item was refused or an answer is an error, 2 wrong
+arguments, 3 the settings, 4 the database, 5 a file, a stream, a socket,
+memory, or a dump that is not loaded.";
 
 /// What `init` does.
 pub const INIT: &str = "Makes the database of a registry, with its opening objects";
@@ -31,15 +35,17 @@ pub const INIT: &str = "Makes the database of a registry, with its opening objec
 /// `init` by an example.
 pub const INIT_EXAMPLE: &str = "Example:
   irrdesk init irr.toml
-prints `created 4 objects`: the root maintainer, and the blocks of all AS numbers and addresses, which it maintains.
-The database is to be new; `irrdesk load` makes one from a dump.";
+prints `created 4 objects`: the root maintainer and what it maintains, the two
+blocks of all AS numbers and the inetnum of all addresses. The database is to
+be new; `irrdesk load` makes one from a dump.";
 
 /// What `submit` does.
-pub const SUBMIT: &str =
-    "Submits the objects of a file, each judged and committed by itself, and prints the report";
+pub const SUBMIT: &str = "Submits a file, item by item, and prints the report";
 
 /// `submit` by an example.
-pub const SUBMIT_EXAMPLE: &str = "Example, with the root's secret `bc` and this in objects.rpsl:
+pub const SUBMIT_EXAMPLE: &str =
+    "Example, with the root's secret `bc` and this in objects.rpsl, where each line
+begins in the first column:
   password: bc
 
   inetnum:  10.0.0.0/8
@@ -50,22 +56,30 @@ the command
 prints
   1 inetnum 10.0.0.0 - 10.255.255.255: added
   % items 1
-An object with the key of a registered one changes it; with an attribute `delete` it deletes that one.";
+Each item is in the database before its line is printed. An object with the
+key of a registered one changes it; with an attribute `delete` it deletes that
+one. FILE may be /dev/stdin.";
 
 /// What `query` does.
 pub const QUERY: &str = "Asks the registry, and prints the answer";
 
 /// `query` by examples.
 pub const QUERY_EXAMPLE: &str = "Examples:
-  irrdesk query irr.toml 10.1.2.3               the closest inetnum and routes
-  irrdesk query irr.toml exact 10.0.0.0/8       those of this prefix; less, more: around it, inside it
-  irrdesk query irr.toml AS1                    the aut-num; so with the name of a maintainer or a set
+  irrdesk query irr.toml 10.1.2.3             the closest inetnum and routes
+  irrdesk query irr.toml exact 10.0.0.0/8     those of exactly this prefix
+  irrdesk query irr.toml less 10.0.0.0/8      those around it, and its own
+  irrdesk query irr.toml more 10.0.0.0/8      those inside it, and its own
+  irrdesk query irr.toml AS1                  the aut-num; so with the name of
+                                              a maintainer or a set
   irrdesk query irr.toml object route 10.0.0.0/8 AS1
-  irrdesk query irr.toml inverse mnt A-MNT      what names a maintainer; inverse origin AS1: the routes
-  irrdesk query irr.toml expand AS-X            the members of a set; prefixes AS-X: their prefixes
-These are no errors: `% no entries`, where nothing was found; `% empty`, where a set that is registered gives
-nothing; and `% missing NAME`, where a set that is named on the way is not registered.
-An error is one line `% error n` with status 1: 1 is a bad query, 2 one over 1024 bytes, 3 an expansion over the
+  irrdesk query irr.toml inverse mnt A-MNT    what names a maintainer
+  irrdesk query irr.toml inverse origin AS1   the routes of an AS
+  irrdesk query irr.toml expand AS-X          the members of a set
+  irrdesk query irr.toml prefixes AS-X        the prefixes of a set
+These are no errors: `% no entries`, where nothing was found; `% empty`, where
+a set that is registered gives nothing; and `% missing NAME`, where a set that
+is named on the way is not registered. An error is one line `% error n` with
+status 1: 1 is a bad query, 2 one over 1024 bytes, 3 an expansion over the
 limit, 4 memory, 5 the database, 6 one that failed before.";
 
 /// What `dump` does.
@@ -74,35 +88,34 @@ pub const DUMP: &str = "Prints all objects, by class and key, and their number";
 /// `dump` by an example.
 pub const DUMP_EXAMPLE: &str = "Example, a backup:
   irrdesk dump irr.toml --full > backup.rpsl
-A whole dump ends in a line `% end n`. One without --full shows `# filtered` as each
-value of `auth`, and cannot be loaded.";
+A whole dump ends in a line `% end n`. One without --full shows `# filtered`
+as each value of `auth`, and cannot be loaded.";
 
 /// What `load` does.
-pub const LOAD: &str =
-    "Makes a registry from a full dump, in a database that is new: all of it or nothing";
+pub const LOAD: &str = "Makes a registry from a full dump, in a new database";
 
 /// `load` by an example.
 pub const LOAD_EXAMPLE: &str = "Example, with another `store` in the settings new.toml:
   tail -n 1 backup.rpsl
   irrdesk load new.toml backup.rpsl
-prints `% end n`, and `loaded n objects`. Any RPSL text is loaded, also a dump that was cut between two
-objects: where its last line is not `% end n`, it is not whole.";
+prints `% end n`, and `loaded n objects`. All of it is loaded, or nothing. Any
+RPSL text is, also a dump that was cut between two objects: where its last
+line is not `% end n`, it is not whole.";
 
 /// What `migrate` does.
-pub const MIGRATE: &str =
-    "Makes a database of version 1 one of version 2, which has AS numbers of four octets";
+pub const MIGRATE: &str = "Migrates a database of version 1, with AS numbers of two octets";
 
 /// `migrate` by an example.
 pub const MIGRATE_EXAMPLE: &str =
-    "Example, behind a copy of the file and of the log that may lie beside it, since there is no way back:
+    "Example, behind a copy of the file and of the log that may lie beside it, since
+there is no way back:
   mkdir kept
   cp irr.db* kept/
   irrdesk migrate irr.toml
-prints `migrated to version 2`.";
+prints `migrated to version 2`, which has AS numbers of four octets.";
 
 /// What `serve` does.
-pub const SERVE: &str =
-    "Answers whois and HTTP on a port of 127.0.0.1, one connection after the other";
+pub const SERVE: &str = "Answers whois and HTTP on a port of 127.0.0.1, one peer at a time";
 
 /// `serve` by an example.
 pub const SERVE_EXAMPLE: &str = "Example, for a thousand connections:
@@ -112,14 +125,15 @@ and from elsewhere on the same machine:
   curl http://127.0.0.1:4343/query/AS1
   curl http://127.0.0.1:4343/dump
   curl --data-binary @objects.rpsl http://127.0.0.1:4343/submissions
-At the end it prints how many connections were served, and how many failed. It listens on 127.0.0.1 alone, nothing
-on it is encrypted, and no other program can use the database meanwhile.";
+At the end it prints how many connections were served, and how many failed. It
+listens on 127.0.0.1 alone, nothing on it is encrypted, and no other program
+can use the database meanwhile.";
 
 /// What `probe` does.
-pub const PROBE: &str =
-    "Asks for the root maintainer over a connection of its own, and prints the reply";
+pub const PROBE: &str = "Asks for the root maintainer over a connection, and prints the reply";
 
 /// `probe` by an example.
 pub const PROBE_EXAMPLE: &str = "Example:
   irrdesk probe irr.toml
-prints the root maintainer of irr.toml, with `# filtered` as the value of its `auth`.";
+prints the root maintainer of irr.toml, with `# filtered` as the value of its
+`auth`: the registry can be opened and served.";

@@ -11,10 +11,16 @@ const QUIET: u64 = 1_000;
 /// The fewest milliseconds between two lines.
 const PAUSE: u64 = 200;
 
+/// What takes the last line of a terminal away.
+const CLEARED: &[u8] = b"\r\x1b[K";
+
+/// A database of fewer bytes is opened without a word.
+const LARGE: u64 = 8_388_608;
+
 /// What is counted of the bytes that pass.
 #[derive(Clone, Copy, Debug, PartialEq, Eq)]
 pub enum Things {
-    /// The items of a report: each has a line.
+    /// The items of a report: each has a line, and the last line, which begins with `%`, is that of none.
     Items,
     /// The objects of a dump: an empty line ends each.
     Objects,
@@ -43,6 +49,8 @@ pub struct Meter<'a> {
     /// Whether what is printed may stand on the same terminal.
     is_shared: bool,
     is_line_empty: bool,
+    /// Whether the line that passes began with `%`.
+    is_note: bool,
     count: u64,
 }
 
@@ -62,6 +70,7 @@ impl<'a> Meter<'a> {
             is_shown: false,
             is_shared,
             is_line_empty: true,
+            is_note: false,
             count: 0,
         }
     }
@@ -76,6 +85,7 @@ impl<'a> Meter<'a> {
             is_shown: rt.stderr().is_terminal(),
             is_shared: rt.stdout().is_terminal(),
             is_line_empty: true,
+            is_note: false,
             count: 0,
         }
     }
@@ -84,7 +94,7 @@ impl<'a> Meter<'a> {
     pub fn clear(&mut self) {
         if self.is_shown {
             self.is_shown = false;
-            let _ = self.rt.stderr().write_all(b"\r\x1b[K");
+            let _ = self.rt.stderr().write_all(CLEARED);
         }
     }
 
@@ -102,7 +112,7 @@ impl<'a> Meter<'a> {
     fn pass(&mut self, bytes: &[u8], made_way: bool) {
         if let Some(begun) = self.begun {
             let more = match self.things {
-                Things::Items => line_ends(bytes),
+                Things::Items => self.item_lines(bytes),
                 Things::Objects => self.empty_lines(bytes),
                 Things::Bytes => bytes.len() as u64,
             };
@@ -111,6 +121,21 @@ impl<'a> Meter<'a> {
                 self.show(begun, made_way);
             }
         }
+    }
+
+    /// How many lines of items end in the bytes.
+    fn item_lines(&mut self, bytes: &[u8]) -> u64 {
+        let mut count = 0u64;
+        for byte in bytes {
+            if self.is_line_empty {
+                self.is_note = *byte == b'%';
+            }
+            self.is_line_empty = *byte == b'\n';
+            if self.is_line_empty && !self.is_note {
+                count = count.saturating_add(1);
+            }
+        }
+        count
     }
 
     /// How many empty lines end in the bytes.
@@ -241,7 +266,27 @@ impl<R: Source> Source for Reading<'_, '_, R> {
     }
 }
 
-/// How many lines end in the bytes.
-fn line_ends(bytes: &[u8]) -> u64 {
-    bytes.iter().filter(|byte| **byte == b'\n').count() as u64
+/// A line on a terminal that says, of a large database, that it is being opened.
+#[derive(Drop)]
+pub struct Opening<'a> {
+    rt: &'a HostRuntime,
+    is_shown: bool,
+}
+
+impl<'a> Opening<'a> {
+    /// Shows the line for a database of so many bytes, where that is large and standard error is a terminal.
+    pub fn begin(rt: &'a HostRuntime, size: u64) -> Opening<'a> {
+        let is_shown = size >= LARGE && rt.stderr().is_terminal();
+        if is_shown {
+            let _ = rt.stderr().write_all(b"opening the database");
+        }
+        Opening { rt, is_shown }
+    }
+
+    /// Takes the line away.
+    pub fn end(self) {
+        if self.is_shown {
+            let _ = self.rt.stderr().write_all(CLEARED);
+        }
+    }
 }

@@ -1,5 +1,5 @@
 -- A desk over tables as what connections ask.
-use Rattle.std.specs.Prelude.{◌≡◌, ℕ, false, List, Result}
+use Rattle.std.specs.Prelude.{◌≡◌, ℕ, true, false, List, Result}
 use Rattle.sqlite.specs.Held.{state}
 use Rattle.sqlite.specs.State.{HasCleanDisk}
 use Rattle.sqlite_trees.specs.declared.store.Store as store
@@ -9,6 +9,7 @@ use Rattle.rr_answer.specs.Dumps.{dump}
 use Rattle.rr_submission.specs.declared.ledger.Ledger as ledger
 use Rattle.rr_desk.specs.declared.desk.Desk.{Desk}
 use Rattle.rr_desk.specs.Answering as desk_answering
+use Rattle.rr_desk.specs.Rows.{KeepsRows}
 use Rattle.rr_desk.specs.Stocks.{stock_ledger}
 use Rattle.rr_http.specs.declared.registrar.Registrar as registrar
 
@@ -20,12 +21,15 @@ desk_ledger g = record {
   Halts = λ old secrets item new. (stock_ledger g).Halts old.stored secrets item new.stored;
 }
 
--- the text in which a desk answers a query, and what that leaves of the desk: its registry, and whether it is stopped
+-- the text in which a desk answers a query, and what that leaves of the desk: its registry, whether it is stopped, and the rows of
+-- its registry, also where a fault of the store stopped it; one that was stopped stays as it is
 pub record IsDeskAnswer {S : Type 0} (g : store.Ghosts S) (before : Desk S) (query text : List ℕ) (after : Desk S) : Type 0 where
   pub answer : Result (List ℕ) QueryFault
   pub answered : desk_answering.IsAnswered (HasCleanDisk (state g after.stored.store)) before.stored.registry before.settings.limit query before.stored.stopped after.stored.stopped answer
   pub is : text ≡ answer_bytes answer
   pub same : after.stored.registry ≡ before.stored.registry
+  pub keeps : before.stored.stopped ≡ false → KeepsRows before.stored.registry (state g after.stored.store)
+  pub still : before.stored.stopped ≡ true → after ≡ before
 
 -- a desk answers queries, gives the public dump of its registry, and takes submissions until it is stopped
 abbrev pub desk_registrar : {S : Type 0} → store.Ghosts S → registrar.Ghosts (Desk S)

@@ -3,6 +3,8 @@ use Rattle.std.specs.Prelude.{◌≡◌, ◌+◌, ◌<◌, ◌≤◌, ◌^◌, O
 use Rattle.rr_io.specs.Told.{Told}
 use Rattle.rr_desk.specs.declared.peers.ConnFault.TheVariants.{Read, Write}
 use Rattle.rr_desk.specs.Turns.{Answer}
+use Rattle.rr_http.specs.declared.registrar.Registrar.{Ghosts}
+use Rattle.rr_http.specs.Serving.{Serves}
 
 -- a connection was served where no call of it failed; else its fault is the read's where a read failed, and where only writes
 -- failed the write's (profile)
@@ -14,3 +16,10 @@ TellsFaults from_old from_new old new (Err Write) = (from_new.faults ≡ from_ol
 -- one more failed call can be counted
 abbrev pub CanCount : Told → Type 0
 CanCount told = told.faults + 1 < 2 ^ 64
+
+-- serving a connection, one more of whose failed calls can be counted on each side, tells whether one failed, as of each connection
+-- that a listener has just accepted
+abbrev pub AnswersTellFailedCalls : {D : Type 0} → Ghosts D → Type 0
+AnswersTellFailedCalls {D} desk =
+    (before after : D) (from_old from_new old new : Told) (result : Answer) → CanCount from_old → CanCount old
+    → Serves desk before after from_old from_new old new result → TellsFaults from_old from_new old new result

@@ -1,5 +1,6 @@
 //! Laws of connections, for readers and for the proofs of other crates. Nothing calls these functions.
 
+ghost use Rattle.rr_http.specs.Faults.{AnswersTellFailedCalls};
 ghost use Rattle.rr_http.specs.ReplyBytes.{AnswersWithItsReply, AnswersWithItsReport};
 ghost use Rattle.rr_http.specs.ToldBytes.{BodyIsBehindItsHead, WantsByItsBytes};
 ghost use Rattle.rr_http.specs.Wants.{WantsByItsFront};
@@ -29,4 +30,10 @@ pub fn answers_with_its_reply<D: Registrar>()
 /// A submission that ended well is answered with the whole report on its body, of which no byte is missing.
 pub fn answers_with_its_report<D: Registrar>()
     ensures { AnswersWithItsReport D.Registrar }
+{}
+
+/// A connection is served well exactly where no read and no write of it failed, and else its fault says which; so of those that
+/// a listener accepts, which of its turns failed.
+pub fn answers_tell_failed_calls<D: Registrar>()
+    ensures { AnswersTellFailedCalls D.Registrar }
 {}

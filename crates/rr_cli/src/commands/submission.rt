@@ -1,8 +1,11 @@
 //! Submissions, of standard input to a registry in memory, or of a file to one in a database.
 
 ghost use Rattle.std.specs.Prelude.{◌≡◌, IfOk, false};
+ghost use Rattle.sqlite.specs.Held.{state};
+ghost use Rattle.sqlite.specs.State.{HasCleanDisk};
 ghost use Rattle.sqlite.specs.Steps.{over_memory};
 ghost use Rattle.rr_desk.specs.Opening.{IsOpened};
+ghost use Rattle.rr_desk.specs.Rows.{Holds};
 ghost use Rattle.rr_desk.specs.Settings.{built_in};
 ghost use Rattle.rr_cli.specs.Submitted.{HasSubmitted, RunsPlain, done_status};
 
@@ -126,7 +129,7 @@ pub(crate) fn submit_to<S: Alter, R: Source, W: Sink>(
     writer: &mut W,
 ) -> Result<u8, Trouble>
     requires { desk.old.stored.stopped ≡ false }
-    ensures { HasSubmitted S.Store desk.old.settings.source (record {
+    ensures submitted { HasSubmitted S.Store desk.old.settings.source (record {
       reader_before = R.told reader.old;
       reader_after = R.told reader.new;
       writer_before = W.told writer.old;
@@ -134,6 +137,8 @@ pub(crate) fn submit_to<S: Alter, R: Source, W: Sink>(
       before = desk.old.stored.registry;
       after = desk.new.stored.registry;
     }) desk.old.stored desk.new.stored result }
+    ensures rows { desk.new.stored.stopped ≡ false → HasCleanDisk (state S.Store desk.new.stored.store) → Holds desk.new.stored.registry (state S.Store desk.new.stored.store) }
+    ensures settings { desk.new.settings ≡ desk.old.settings }
 {
     match desk.submit(alloc, reader, writer) {
         Ok(done) => Ok(done_status(done)),

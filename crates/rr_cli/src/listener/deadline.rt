@@ -1,9 +1,9 @@
 //! How long a peer is waited for.
 
-ghost use Rattle.std.specs.Prelude.{◌≡◌, ◌+◌, min};
+ghost use Rattle.std.specs.Prelude.{◌≡◌, ◌+◌, min, IfOk, None, OnErr, Some};
 ghost use Rattle.std.specs.Duration.{as_nanos, max_nanos};
 ghost use Rattle.std.specs.Option.{option_map};
-ghost use Rattle.rr_cli.specs.ServingTimes.{next_wait};
+ghost use Rattle.rr_cli.specs.ServingTimes.{SetsWait, next_wait};
 
 use std::io;
 use std::io::ErrorKind;
@@ -22,7 +22,8 @@ pub struct Deadline {
 impl Deadline {
     /// No time is taken yet.
     pub fn new() -> Deadline
-        ensures { as_nanos result.taken ≡ 0 }
+        ensures taken { as_nanos result.taken ≡ 0 }
+        ensures unset { result.timeout ≡ None }
     {
         Deadline {
             taken: Duration::ZERO,
@@ -32,22 +33,35 @@ impl Deadline {
 
     /// Takes so much of the time.
     pub fn take(&mut self, waited: Duration)
-        ensures { as_nanos self.new.taken ≡ min (as_nanos self.old.taken + as_nanos waited) max_nanos }
+        ensures taken { as_nanos self.new.taken ≡ min (as_nanos self.old.taken + as_nanos waited) max_nanos }
+        ensures timeout { self.new.timeout ≡ self.old.timeout }
     {
         self.taken = self.taken.saturating_add(waited);
     }
 
     /// The timeout to set before the next call, where the peer is given so many seconds in all; none where the one that was
     /// set last still serves. The error is that the time is over.
-    pub fn next_timeout(&mut self, seconds: u64) -> io::Result<Option<Duration>> {
-        let Some(wait) = self.next_wait(seconds) else {
-            return Err(io::Error::from(ErrorKind::TimedOut));
-        };
+    pub fn next_timeout(&mut self, seconds: u64) -> io::Result<Option<Duration>>
+        ensures sets { IfOk result (λ told. SetsWait (next_wait seconds (as_nanos self.old.taken)) (option_map as_nanos self.old.timeout) (option_map as_nanos self.new.timeout) (option_map as_nanos told)) }
+        ensures over { OnErr result (next_wait seconds (as_nanos self.old.taken) ≡ None) }
+        ensures taken { self.new.taken ≡ self.old.taken }
+    {
+        match self.next_wait(seconds) {
+            Some(wait) => Ok(self.set(wait)),
+            None => Err(io::Error::from(ErrorKind::TimedOut)),
+        }
+    }
+
+    /// Notes the timeout of the next call, and gives it where another one stood.
+    fn set(&mut self, wait: Duration) -> Option<Duration>
+        ensures sets { SetsWait (Some (as_nanos wait)) (option_map as_nanos self.old.timeout) (option_map as_nanos self.new.timeout) (option_map as_nanos result) }
+        ensures taken { self.new.taken ≡ self.old.taken }
+    {
         if self.timeout == Some(wait) {
-            return Ok(None);
+            return None;
         }
         self.timeout = Some(wait);
-        Ok(Some(wait))
+        Some(wait)
     }
 
     /// How long the next call may wait, where the peer is given so many seconds in all: at most 10 seconds, and not past the

@@ -36,6 +36,11 @@ impl<'a> Reply<'a> {
         }
     }
 
+    /// Whether some of its bytes went out.
+    pub fn is_begun(&self) -> bool {
+        self.written > 0
+    }
+
     /// Tells the peer that nothing more comes. The error is the system's.
     pub fn finish(self) -> io::Result<()> {
         self.socket.shutdown(Shutdown::Write)

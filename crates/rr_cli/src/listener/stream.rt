@@ -25,15 +25,18 @@ pub fn accept_stream<'a>(rt: &'a HostRuntime, socket: &TcpListener) -> io::Resul
     ))
 }
 
-/// Ends a connection, and closes it. Where no call of it failed the peer is told first that the reply is whole, and what it
-/// still sends is taken in for a while: a socket that is closed over bytes that were not read resets the connection, and the
-/// peer may lose the reply.
+/// Ends a connection, and closes it. Where the peer may get what was written it is told first that nothing more comes, and
+/// what it still sends is taken in for a while: a socket that is closed over bytes that were not read resets the connection, and
+/// the peer may lose the reply.
 pub fn end_stream(stream: Stream<'_>) {
     let (request, reply) = stream.into_parts();
-    if request.failed_reads() > 0 || reply.failed_writes() > 0 {
+    if reply.failed_writes() > 0 {
         return;
     }
-    let _ = settle(request.into_inner(), reply.into_inner());
+    let reply = reply.into_inner();
+    if reply.is_begun() {
+        let _ = settle(request.into_inner(), reply);
+    }
 }
 
 fn settle(request: Request<'_>, reply: Reply<'_>) -> io::Result<()> {

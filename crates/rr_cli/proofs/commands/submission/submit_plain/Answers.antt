@@ -8,5 +8,5 @@ returns g c = inr (record {
   old = c.in_ok-desk.desk.stored;
   new = c.submit_to.new.desk.stored;
   opened = c.in_ok-desk.ensures.opened;
-  submitted = submitted_built_in over_memory _ _ _ _ _ c.in_ok-desk.ensures.settings c.submit_to.ensures;
+  submitted = submitted_built_in over_memory _ _ _ _ _ c.in_ok-desk.ensures.settings c.submit_to.ensures.submitted;
 })

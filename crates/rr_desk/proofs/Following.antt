@@ -1,6 +1,6 @@
 -- What an item does to the registry, and how the rows follow it.
 use Rattle.std.proofs.Common.{◌≡◌, ℕ, Bool, true, false, cond, List, Ok, Err, Result, OnOk, IsTrue, inl, inr, refl, sym, ap, subst, ◌∙◌, arith}
-use Rattle.std.specs.Prelude.{Option, None, Some, if◌then◌else◌}
+use Rattle.std.specs.Prelude.{Option, None, Some, is_some, if◌then◌else◌}
 use Rattle.std.proofs.lemmas.Bool.{true≢false}
 use Rattle.std.specs.FinMap.{get, insert, remove, get-insert}
 use Rattle.sqlite_trees.specs.Tree.{Trees}
@@ -22,14 +22,14 @@ use Rattle.rr_auth.specs.Verdicts.{after, change, is_met_by, submission, verdict
 use Rattle.rr_object.proofs.KeyLaws.{keys_total, tied_key}
 use Rattle.rr_auth.proofs.Steps.{verdicts_are_met}
 use Rattle.rr_registry.specs.declared.outcome.Outcome.{Outcome}
-use Rattle.rr_registry.specs.declared.outcome.Outcome.TheVariants.{Deleted}
+use Rattle.rr_registry.specs.declared.outcome.Outcome.TheVariants.{Added, Changed, Same as Unchanged, Deleted, Refused}
 use Rattle.rr_registry.specs.Runs.{IsStep, outcome_of}
 use Rattle.rr_rows.specs.Entries.{TreesOf}
 use Rattle.rr_rows.specs.Maps.{HasRows, Puts, TakesOut}
 use Rattle.rr_store.specs.Adding.{AddsTo}
 use Rattle.rr_desk.specs.Halts.{IsHalted, changes}
 use Rattle.rr_desk.specs.Rows.{Holds}
-use Rattle.rr_desk.specs.Private.{Follows, FollowsGain, FollowsNew, Gains, GainsNew, LeadsTo}
+use Rattle.rr_desk.specs.Private.{Follows, FollowsGain, FollowsNew, Gains, GainsNew, LeadsTo, puts_one}
 
 -- a change is never an addition
 behind : (b : Bool) (c : Code) (v : Verdict) → (if b then Refuse c else v) ≡ Add → v ≡ Add
@@ -74,11 +74,23 @@ leads before secrets item outcome later (inl e) =
     (λ o is added. absent_if_added before secrets o (subst (λ i. verdict before secrets i ≡ Add) is added)))
 leads before secrets item outcome later (inr w) = rw (w.outcome_is, w.effect) refl
 
+-- an object that was put in stands under its key
+stands_there : (key : Key) (before after : Reg) (gain : Gains before key after) → get after key ≡ Some gain.object
+stands_there key before after gain =
+    ap (λ r. get r key) gain.is ∙ (get-insert keys_total before key gain.object key ∙ ap (λ b. cond b (Some gain.object) (get before key)) (tied_key key))
+
+-- so one stands there after an outcome that put one in
+pub stands_after : (before : Reg) (key : Key) (outcome : Outcome) (after : Reg) → LeadsTo before key outcome after → puts_one outcome ≡ true → is_some (get after key) ≡ true
+stands_after before key Added after leading puts = ap is_some (stands_there key before after leading.gain)
+stands_after before key Changed after leading puts = ap is_some (stands_there key before after leading)
+stands_after before key Unchanged after leading puts = absurd (true≢false (sym puts))
+stands_after before key Deleted after leading puts = absurd (true≢false (sym puts))
+stands_after before key (Refused code) after leading puts = absurd (true≢false (sym puts))
+
 -- the object that stands under the key of one that was put in is that one
 the_gained : (key : Key) (before after : Reg) (object : Obj) → get after key ≡ Some object → (gain : Gains before key after) → object ≡ gain.object
 the_gained key before after object found gain =
-    let there : get after key ≡ Some gain.object =
-    ap (λ r. get r key) gain.is ∙ (get-insert keys_total before key gain.object key ∙ ap (λ b. cond b (Some gain.object) (get before key)) (tied_key key)) in
+    let there : get after key ≡ Some gain.object = stands_there key before after gain in
     cc
 
 -- its rows are put in with it

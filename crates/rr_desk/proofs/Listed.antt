@@ -15,8 +15,8 @@ use Rattle.rr_rows.proofs.MapRows.{each_value}
 use Rattle.rr_store.specs.Opening.{IsUnreadable}
 use Rattle.rr_store.specs.declared.fault.OpenFault.TheVariants as opened
 use Rattle.rr_load.proofs.SoundLists.{sound_list}
-use Rattle.rr_desk.specs.Opened.{HasNoRegistry, IsUnsound}
-use Rattle.rr_desk.specs.Private.{opening_fault}
+use Rattle.rr_desk.specs.Opened.{HasNoRegistry}
+use Rattle.rr_desk.specs.Private.{IsUnsound, opening_fault}
 use Rattle.rr_desk.proofs.ListRows.{gathered_is}
 
 -- rows of objects that are no registry are those of no registry

@@ -1,5 +1,5 @@
 -- What private functions of the desk promise each other. No public clause cites these.
-use Rattle.std.specs.Prelude.{◌≡◌, None, ℕ, List, Ok}
+use Rattle.std.specs.Prelude.{◌≡◌, None, Some, ℕ, Bool, true, false, List, Ok}
 use Rattle.std.specs.FinMap.{get, insert, remove}
 use Rattle.sqlite.specs.Effect.{Database}
 use Rattle.rr_object.specs.declared.key.Key.{Key}
@@ -7,7 +7,8 @@ use Rattle.rr_object.specs.Objects.{Obj}
 use Rattle.rr_auth.specs.Registries.{Reg}
 use Rattle.rr_registry.specs.declared.outcome.Outcome.{Outcome}
 use Rattle.rr_registry.specs.declared.outcome.Outcome.TheVariants.{Added, Changed, Same as Unchanged, Deleted, Refused}
-use Rattle.rr_rows.specs.Maps.{HasRows}
+use Rattle.rr_rows.specs.Maps.{AreStored, HasRows}
+use Rattle.rr_registry.specs.Loading.{load_fault}
 use Rattle.rr_registry.specs.declared.load.LoadFault.{LoadFault}
 use Rattle.rr_registry.specs.declared.load.LoadFault.TheVariants.{Duplicate, Overlap, Unnamed, Memory}
 use Rattle.rr_store.specs.declared.fault.OpenFault.{OpenFault}
@@ -33,6 +34,14 @@ LeadsTo before key Changed after = Gains before key after
 LeadsTo before key Unchanged after = after ≡ before
 LeadsTo before key Deleted after = after ≡ remove before key
 LeadsTo before key (Refused code) after = after ≡ before
+
+-- after the outcome an object stands under the key of its item
+abbrev pub puts_one : Outcome → Bool
+puts_one Added = true
+puts_one Changed = true
+puts_one Unchanged = false
+puts_one Deleted = false
+puts_one (Refused code) = false
 
 -- where the rows were those of a registry, they are those of the one that it is with an object under this key
 abbrev pub FollowsGain : Key → Reg → Database → Database → Type 0
@@ -61,3 +70,11 @@ pub record IsParagraphOf (source : List ℕ) (fields : List Field) (object : Obj
 pub record HasObject (source : List ℕ) (fields : List Field) : Type 0 where
   pub object : Obj
   pub read : object_of fields source ≡ Ok object
+
+-- the tables hold the rows of objects of the source which are no sound registry: one crosses another, or names a maintainer who
+-- is not among them (profile)
+pub record IsUnsound (source : List ℕ) (db : Database) : Type 0 where
+  pub objects : List Obj
+  pub stored : AreStored source objects db
+  pub fault : LoadFault
+  pub is_fault : load_fault objects ≡ Some fault

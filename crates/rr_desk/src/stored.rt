@@ -1,6 +1,7 @@
 //! A registry and the store of its rows, which change together.
 
-ghost use Rattle.std.specs.Prelude.{◌≡◌, false, true, IsTrue, IfOk, OnErr, OnOk};
+ghost use Rattle.std.specs.Prelude.{◌≡◌, false, true, IsTrue, IfOk, OnErr, OnOk, is_some};
+ghost use Rattle.std.specs.FinMap.{get};
 ghost use Rattle.sqlite.specs.Held.{state};
 ghost use Rattle.sqlite.specs.State.{HasCleanDisk, Survives};
 ghost use Rattle.rr_answer.specs.declared.query.Query.TheVariants.{Naming};
@@ -10,7 +11,7 @@ ghost use Rattle.rr_rows.specs.Entries.{TreesOf};
 ghost use Rattle.rr_rows.specs.Maps.{HasRows};
 ghost use Rattle.rr_desk.specs.Halts.{IsHalted, changes};
 ghost use Rattle.rr_desk.specs.LookupParts.{is_refused};
-ghost use Rattle.rr_desk.specs.Private.{Follows, FollowsGain, FollowsNew};
+ghost use Rattle.rr_desk.specs.Private.{Follows, FollowsGain, FollowsNew, puts_one};
 ghost use Rattle.rr_desk.specs.Rows.{Holds, KeepsRows};
 
 use rr_auth::{Book, Item, Secrets};
@@ -180,6 +181,7 @@ fn follow<S: Alter>(
     key: &Key,
     outcome: Outcome,
 ) -> Result<(), StoreFault>
+    requires { puts_one outcome ≡ true → is_some (get registry.now key.now) ≡ true }
     ensures ok { HasCleanDisk (state S.Store store.new) → OnOk result (Follows key.now outcome registry.now (state S.Store store.old).now (state S.Store store.new).now) }
     ensures is_open { HasCleanDisk (state S.Store store.new) → IsTrue (state S.Store store.old).is_open → OnOk result (IsTrue (state S.Store store.new).is_open) }
     ensures err { HasCleanDisk (state S.Store store.new) → IsTrue (state S.Store store.new).is_open → OnErr result ((state S.Store store.new).now ≡ (state S.Store store.old).now) }
@@ -201,6 +203,7 @@ fn add_stored<S: Alter>(
     store: &mut Store<S>,
     key: &Key,
 ) -> Result<(), StoreFault>
+    requires { is_some (get registry.now key.now) ≡ true }
     ensures ok { HasCleanDisk (state S.Store store.new) → OnOk result (FollowsNew key.now registry.now (state S.Store store.old).now (state S.Store store.new).now) }
     ensures is_open { HasCleanDisk (state S.Store store.new) → IsTrue (state S.Store store.old).is_open → OnOk result (IsTrue (state S.Store store.new).is_open) }
     ensures err { HasCleanDisk (state S.Store store.new) → IsTrue (state S.Store store.new).is_open → OnErr result ((state S.Store store.new).now ≡ (state S.Store store.old).now) }
@@ -208,7 +211,7 @@ fn add_stored<S: Alter>(
 {
     match registry.book().get(key) {
         Some(object) => store.add(alloc, object),
-        None => Err(StoreFault::Store),
+        None => unreachable!(),
     }
 }
 
@@ -219,6 +222,7 @@ fn put_stored<S: Alter>(
     store: &mut Store<S>,
     key: &Key,
 ) -> Result<(), StoreFault>
+    requires { is_some (get registry.now key.now) ≡ true }
     ensures ok { HasCleanDisk (state S.Store store.new) → OnOk result (FollowsGain key.now registry.now (state S.Store store.old).now (state S.Store store.new).now) }
     ensures is_open { HasCleanDisk (state S.Store store.new) → IsTrue (state S.Store store.old).is_open → OnOk result (IsTrue (state S.Store store.new).is_open) }
     ensures err { HasCleanDisk (state S.Store store.new) → IsTrue (state S.Store store.new).is_open → OnErr result ((state S.Store store.new).now ≡ (state S.Store store.old).now) }
@@ -226,6 +230,6 @@ fn put_stored<S: Alter>(
 {
     match registry.book().get(key) {
         Some(object) => store.put(alloc, object),
-        None => Err(StoreFault::Store),
+        None => unreachable!(),
     }
 }

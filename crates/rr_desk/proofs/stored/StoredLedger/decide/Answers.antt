@@ -2,7 +2,7 @@ use Rattle.std.proofs.Common.{sym, subst, true}
 use Rattle.sqlite.specs.Held.{state}
 use Rattle.rr_desk.specs.Halts.{IsHalted}
 use Rattle.rr_desk.specs.Private.{LeadsTo}
-use Rattle.rr_desk.proofs.Following.{halts_there, leads, still_held}
+use Rattle.rr_desk.proofs.Following.{halts_there, leads, stands_after, still_held}
 use Rattle.rr_desk.proofs.stored.StoredLedger.decide.Goals as goal
 
 pub invariant_of-self : goal.invariant_of-self
@@ -10,6 +10,11 @@ invariant_of-self g c = λ running.
     still_held (state g.S.Store c.self.inside.store) (state g.S.Store c.follow.new.store) c.self.inside.registry c.apply-outcome.new.self c.in-Ok.key c.apply-outcome.result _ (c.self.invariant running)
     (subst (λ k. LeadsTo c.self.inside.registry k c.apply-outcome.result c.apply-outcome.new.self) (sym c.in-Ok.ensures) (leads _ _ _ _ _ c.apply-outcome.ensures.step))
     c.follow.ensures.crash c.in-Ok-follow.ensures.ok c.in-Ok-follow.ensures.is_open c.settled.ensures
+
+pub follow-requires : goal.follow-requires
+follow-requires g c =
+    stands_after c.self.inside.registry c.in-Ok.key c.apply-outcome.result c.apply-outcome.new.self
+    (subst (λ k. LeadsTo c.self.inside.registry k c.apply-outcome.result c.apply-outcome.new.self) (sym c.in-Ok.ensures) (leads _ _ _ _ _ c.apply-outcome.ensures.step))
 
 pub returns-clause-halts : goal.returns-clause-halts
 returns-clause-halts g c =

@@ -39,6 +39,11 @@ pub fn plain<'a, R: Source, W: Sink>(
             Trouble::Submission(DeskFault::WriteFault { .. }) => {
                 ProgramFault::of(STANDARD_OUTPUT, trouble)
             }
+            // A database in memory fails for want of memory alone.
+            Trouble::Creating(_)
+            | Trouble::Submission(DeskFault::StoreFault { .. } | DeskFault::Stopped) => {
+                ProgramFault::plain(Trouble::Memory)
+            }
             _ => ProgramFault::plain(trouble),
         }),
     }

@@ -2,6 +2,8 @@
 #![tactic(auto)]
 
 #[cfg(test)]
+mod databases;
+#[cfg(test)]
 mod migration_tests;
 #[cfg(test)]
 mod stop_tests;

@@ -1,29 +1,17 @@
 //! A stop at each call of a disk, and the rows that are found behind it.
 
-use crate::migration_tests::old_registry;
-use crate::store_tests::{HOLDER, ROOT, TEN, WHOLE, four, name, object, text_of};
-use rr_object::Object;
-use rr_store::{OpenFault, Store};
-use sqlite::{Alter, Connection, FileStore, Files, Options};
+use crate::databases::{
+    Database, HOLDER, MOVED, NUMBERS, ROOT, TEN, WHOLE, expect_texts, is_made_of,
+};
+use crate::migration_tests::{OLD, lay};
+use rr_store::OpenFault;
+use sqlite::{Connection, FileStore, Files, Options};
 use sqlite_disk::{Crash, Disk, Fuse, Memory};
 use std::alloc::Global;
 use std::process::Abort;
 use std::test::Fail;
 
-/// One of the four objects, which the root maintains in place of the other maintainer.
-const MOVED: &str = "\
-inetnum:        10.0.0.0 - 10.255.255.255
-mnt-by:         ROOT-MNT
-source:         TEST
-";
-
-/// The blocks of AS numbers, of which migration adds the second.
-const NUMBERS: &str = "\
-as-block:       AS0 - AS65535
-mnt-by:         ROOT-MNT
-source:         TEST
-";
-
+/// The block of the other AS numbers, which migration adds.
 const UPPER: &str = "\
 as-block:       AS65536 - AS4294967295
 mnt-by:         ROOT-MNT
@@ -56,28 +44,16 @@ fn blank(alloc: Global) -> Files<Memory> {
     }
 }
 
-fn copied(alloc: Global, file: &Memory) -> Result<Memory, Fail> {
-    let mut copy = Memory::new(alloc);
-    copy.write_at(0, file.bytes())?;
-    copy.sync()?;
-    Ok(copy)
-}
-
-/// A copy of the files, one of which fails after so many calls.
-fn fused(
-    alloc: Global,
-    files: &Files<Memory>,
-    part: Part,
-    calls: u64,
-) -> Result<Files<Fuse<Memory>>, Fail> {
+/// The files, one of which fails after so many calls.
+fn fused(files: Files<Memory>, part: Part, calls: u64) -> Files<Fuse<Memory>> {
     let (log, db) = match part {
         Part::Log => (calls, u64::MAX),
         Part::Database => (u64::MAX, calls),
     };
-    Ok(Files {
-        log: Fuse::new(copied(alloc, &files.log)?, log),
-        db: Fuse::new(copied(alloc, &files.db)?, db),
-    })
+    Files {
+        log: Fuse::new(files.log, log),
+        db: Fuse::new(files.db, db),
+    }
 }
 
 /// The database of the files, or none where the disk fails before.
@@ -106,61 +82,43 @@ fn restarted<D: Crash + Drop>(
 }
 
 /// The canonical texts of the objects of the store in a database, and none where there is no store.
-fn stored<S: Alter + Drop>(alloc: Global, conn: Connection<S>) -> Result<Vec<u8>, Fail> {
-    if !conn.is_autocommit() {
-        return Err("in a transaction".into());
-    }
-    match Store::open_all(alloc, conn, &name(alloc, "TEST")?) {
-        Ok((_store, objects)) => text_of(alloc, &objects),
-        Err((OpenFault::Store, _conn)) => Ok(Vec::new(alloc)),
+fn stored<D: Database + Drop>(alloc: Global, database: D) -> Result<Vec<u8>, Fail> {
+    let (opened, _database) = database.opened(alloc, "TEST")?;
+    match opened {
+        Ok(text) => Ok(text),
+        Err(OpenFault::Store) => Ok(Vec::new(alloc)),
         Err(_) => Err("rows of no registry".into()),
     }
 }
 
 /// The same of tables of version 2, or else of those of version 1, and whether they are of version 2.
-fn found<S: Alter + Drop>(alloc: Global, conn: Connection<S>) -> Result<(bool, Vec<u8>), Fail> {
-    if !conn.is_autocommit() {
-        return Err("in a transaction".into());
-    }
-    match Store::open_all(alloc, conn, &name(alloc, "TEST")?) {
-        Ok((_store, objects)) => Ok((true, text_of(alloc, &objects)?)),
-        Err((OpenFault::WrongVersion(1), conn)) => Ok((false, old_text(alloc, conn)?)),
+fn found<D: Database + Drop>(alloc: Global, database: D) -> Result<(bool, Vec<u8>), Fail> {
+    let (opened, database) = database.opened(alloc, "TEST")?;
+    match opened {
+        Ok(text) => Ok((true, text)),
+        Err(OpenFault::WrongVersion(1)) => Ok((false, database.old_objects(alloc)?)),
         Err(_) => Err("rows of no registry".into()),
     }
 }
 
-/// Makes a store, puts an object in place of one and takes it out while the disk lets it: how many of the three were
-/// done, and the database.
-fn written<S: Alter + Drop>(
-    alloc: Global,
-    conn: Connection<S>,
-) -> Result<(usize, Connection<S>), Fail> {
-    if !conn.is_autocommit() {
-        return Err("in a transaction".into());
-    }
-    let objects = four(alloc)?;
-    let lent: Vec<&Object> = objects.iter().collect(alloc)?;
-    let mut store = match Store::create(alloc, conn, &lent) {
-        Ok(store) => store,
-        Err((_fault, conn)) => return Ok((0, conn)),
-    };
-    if store.put(alloc, &object(alloc, MOVED)?).is_err() {
-        return Ok((1, store.close()));
-    }
-    if store.remove(alloc, object(alloc, TEN)?.key()).is_err() {
-        return Ok((2, store.close()));
-    }
-    Ok((3, store.close()))
+/// The objects after none, one, two and three of the writes.
+const WRITTEN: [&[&str]; 4] = [
+    &[],
+    &[HOLDER, ROOT, WHOLE, TEN],
+    &[HOLDER, ROOT, WHOLE, MOVED],
+    &[HOLDER, ROOT, WHOLE],
+];
+
+/// Whether the objects are those after so many writes, or after one more.
+fn is_written(done: usize, text: &[u8]) -> bool {
+    WRITTEN
+        .iter()
+        .skip(done)
+        .take(2)
+        .any(|texts| is_made_of(text, texts))
 }
 
-/// Whether the text is the one at this place or the next one.
-fn is_one_of(texts: &[String], place: usize, text: &[u8]) -> bool {
-    let here = texts.get(place).is_some_and(|it| it.as_bytes() == text);
-    let next = texts.iter().skip(place).nth(1);
-    here || next.is_some_and(|it| it.as_bytes() == text)
-}
-
-/// How many of the three were done on these files, and the rows behind the stop. None where the disk fails before.
+/// How many of the three writes were done on these files, and the rows behind the stop. None where the disk fails before.
 fn rows_written<D: Crash + Drop>(
     alloc: Global,
     files: Files<D>,
@@ -168,23 +126,31 @@ fn rows_written<D: Crash + Drop>(
     let Some(conn) = database(alloc, files)? else {
         return Ok(None);
     };
-    let (done, conn) = written(alloc, conn)?;
+    let (done, conn) = conn.written(alloc)?;
     let rows = stored(alloc, restarted(alloc, conn)?)?;
     Ok(Some((done, rows)))
 }
 
-/// Stops the three writes at each call of this file: how many were done at a stop, and last of all the three.
-fn stop_writes<R: Abort + AllocGlobal>(
+/// How many of the three writes were done at the stop of this file's call, where the disk did not fail before. Asserts
+/// what stands behind the stop.
+fn expect_written<R: Abort + AllocGlobal>(
     rt: &R,
     part: Part,
-    texts: &[String],
-) -> Result<[bool; 4], Fail> {
+    calls: u64,
+) -> Result<Option<usize>, Fail> {
+    let files = fused(blank(rt.alloc()), part, calls);
+    let Some((done, rows)) = rows_written(rt.alloc(), files)? else {
+        return Ok(None);
+    };
+    assert!(rt; is_written(done, &rows), "{part:?} {calls}");
+    Ok(Some(done))
+}
+
+/// Stops the three writes at each call of this file: how many were done at a stop, and last of all the three.
+fn stop_writes<R: Abort + AllocGlobal>(rt: &R, part: Part) -> Result<[bool; 4], Fail> {
     let mut seen = [false; 4];
-    let blank = blank(rt.alloc());
     for calls in 0..CALLS {
-        let files = fused(rt.alloc(), &blank, part, calls)?;
-        if let Some((done, rows)) = rows_written(rt.alloc(), files)? {
-            assert!(rt; is_one_of(texts, done, &rows), "{part:?} {calls}");
+        if let Some(done) = expect_written(rt, part, calls)? {
             if let Some(is_seen) = seen.get_mut(done) {
                 *is_seen = true;
             }
@@ -198,52 +164,25 @@ fn stop_writes<R: Abort + AllocGlobal>(
 
 #[test]
 fn a_stop_leaves_the_rows_before_a_write_or_behind_it(rt: HostRuntime) -> Result<(), Fail> {
-    let alloc = rt.alloc();
-    let texts = [
-        String::new(alloc),
-        format!(in alloc; "{HOLDER}{ROOT}{WHOLE}{TEN}")?,
-        format!(in alloc; "{HOLDER}{ROOT}{WHOLE}{MOVED}")?,
-        format!(in alloc; "{HOLDER}{ROOT}{WHOLE}")?,
-    ];
-    assert_eq!(rt; stop_writes(&rt, Part::Log, &texts)?, [true; 4]);
-    let _seen = stop_writes(&rt, Part::Database, &texts)?;
+    assert_eq!(rt; stop_writes(&rt, Part::Log)?, [true; 4]);
+    let _seen = stop_writes(&rt, Part::Database)?;
     Ok(())
 }
 
-/// The canonical texts of the objects of tables of version 1.
-fn old_text<S: Alter + Drop>(alloc: Global, mut conn: Connection<S>) -> Result<Vec<u8>, Fail> {
-    if !conn.is_autocommit() {
-        return Err("in a transaction".into());
-    }
-    match Store::old_objects(alloc, &mut conn, &name(alloc, "TEST")?) {
-        Ok(objects) => text_of(alloc, &objects),
-        Err(_) => Err("rows of no registry of version 1".into()),
-    }
+fn copied(alloc: Global, file: &Memory) -> Result<Memory, Fail> {
+    let mut copy = Memory::new(alloc);
+    copy.write_at(0, file.bytes())?;
+    copy.sync()?;
+    Ok(copy)
 }
 
 /// The files with a registry of version 1.
 fn laid<D: Disk + Drop>(alloc: Global, files: Files<D>) -> Result<Files<D>, Fail> {
     let mut conn = database(alloc, files)?.ok_or("no database")?;
-    old_registry(&mut conn)?;
+    lay(&mut conn, OLD)?;
     match conn.close_files() {
         Ok(files) => Ok(files),
         Err((error, _store)) => Err(error.into()),
-    }
-}
-
-/// Migrates a database: whether that was done, and the database.
-fn migrated<S: Alter + Drop>(
-    alloc: Global,
-    conn: Connection<S>,
-) -> Result<(bool, Connection<S>), Fail> {
-    if !conn.is_autocommit() {
-        return Err("in a transaction".into());
-    }
-    let root = name(alloc, "ROOT-MNT")?;
-    let source = name(alloc, "TEST")?;
-    match Store::migrate(alloc, conn, &root, &source) {
-        Ok(store) => Ok((true, store.close())),
-        Err((_fault, conn)) => Ok((false, conn)),
     }
 }
 
@@ -256,27 +195,45 @@ fn rows_migrated<D: Crash + Drop>(
     let Some(conn) = database(alloc, files)? else {
         return Ok(None);
     };
-    let (done, conn) = migrated(alloc, conn)?;
+    let (fault, conn) = conn.migrated(alloc, "ROOT-MNT")?;
     let (is_new, rows) = found(alloc, restarted(alloc, conn)?)?;
-    Ok(Some((done, is_new, rows)))
+    Ok(Some((fault.is_none(), is_new, rows)))
+}
+
+/// The objects of version 1, and the migrated ones.
+const BEFORE: &[&str] = &[ROOT, NUMBERS];
+
+const BEHIND: &[&str] = &[ROOT, NUMBERS, UPPER];
+
+/// Whether the files, one of which fails after so many calls, were migrated, and whether their tables are migrated behind
+/// the stop, where the disk did not fail before. Asserts what stands behind it.
+fn expect_migrated<R: Abort + AllocGlobal>(
+    rt: &R,
+    old: &Files<Memory>,
+    part: Part,
+    calls: u64,
+) -> Result<Option<(bool, bool)>, Fail> {
+    let log = copied(rt.alloc(), &old.log)?;
+    let db = copied(rt.alloc(), &old.db)?;
+    let files = fused(Files { log, db }, part, calls);
+    let Some((done, is_new, rows)) = rows_migrated(rt.alloc(), files)? else {
+        return Ok(None);
+    };
+    expect_texts(rt, &rows, if is_new { BEHIND } else { BEFORE })?;
+    assert!(rt; is_new || !done, "{part:?} {calls}");
+    Ok(Some((done, is_new)))
 }
 
 /// Stops the migration at each call of this file: whether a stop left the tables of version 1, and whether one left
 /// those of version 2.
 fn stop_migration<R: Abort + AllocGlobal>(
     rt: &R,
+    old: &Files<Memory>,
     part: Part,
-    before: &str,
-    behind: &str,
 ) -> Result<[bool; 2], Fail> {
     let mut seen = [false; 2];
-    let old = laid(rt.alloc(), blank(rt.alloc()))?;
     for calls in 0..CALLS {
-        let files = fused(rt.alloc(), &old, part, calls)?;
-        if let Some((done, is_new, rows)) = rows_migrated(rt.alloc(), files)? {
-            let wanted = if is_new { behind } else { before };
-            assert_eq!(rt; rows.as_slice(), wanted.as_bytes(), "{part:?} {calls}");
-            assert!(rt; is_new || !done, "{part:?} {calls}");
+        if let Some((done, is_new)) = expect_migrated(rt, old, part, calls)? {
             seen = [seen[0] || !is_new, seen[1] || is_new];
             if done {
                 return Ok(seen);
@@ -288,10 +245,8 @@ fn stop_migration<R: Abort + AllocGlobal>(
 
 #[test]
 fn a_stop_leaves_tables_of_version_1_or_migrated_ones(rt: HostRuntime) -> Result<(), Fail> {
-    let before = format!(in rt.alloc(); "{ROOT}{NUMBERS}")?;
-    let behind = format!(in rt.alloc(); "{ROOT}{NUMBERS}{UPPER}")?;
-    let seen = stop_migration(&rt, Part::Log, before.as_str(), behind.as_str())?;
-    assert_eq!(rt; seen, [true; 2]);
-    let _seen = stop_migration(&rt, Part::Database, before.as_str(), behind.as_str())?;
+    let old = laid(rt.alloc(), blank(rt.alloc()))?;
+    assert_eq!(rt; stop_migration(&rt, &old, Part::Log)?, [true; 2]);
+    let _seen = stop_migration(&rt, &old, Part::Database)?;
     Ok(())
 }

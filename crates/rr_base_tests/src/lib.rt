@@ -1,11 +1,9 @@
-//! Tests of the base crates: outside examples of texts and numbers, streams that fail, walks of small graphs, and trees
-//! of spans.
+//! Tests of the base crates: outside examples of texts and numbers, streams that fail, and how many levels trees of spans
+//! have.
 #![tactic(auto)]
 
 #[cfg(test)]
 mod cover_tests;
-#[cfg(test)]
-mod graph_tests;
 #[cfg(test)]
 mod io_tests;
 #[cfg(test)]
@@ -18,3 +16,5 @@ mod reader_tests;
 mod span_tests;
 #[cfg(test)]
 mod text_tests;
+#[cfg(test)]
+mod told;

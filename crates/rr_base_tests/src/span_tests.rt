@@ -1,66 +1,131 @@
 //! Spans in both spellings.
-use rr_number::Span;
+use crate::told::is_told;
+use rr_number::{ShortText, Span};
 use std::test::Fail;
 
-fn span(text: &[u8]) -> Result<Span, Fail> {
-    Ok(Span::read(text).ok_or("no span")?)
+fn span(text: &str) -> Result<Span, Fail> {
+    Ok(Span::read(text.as_bytes()).ok_or("no span")?)
 }
 
+/// Spans as they are spelled, their first number, their last, how many they are, and their text.
+const SPELLED: &[(&str, u32, u32, u64, &str)] = &[
+    (
+        "10.0.0.0/8",
+        167_772_160,
+        184_549_375,
+        16_777_216,
+        "10.0.0.0 - 10.255.255.255",
+    ),
+    (
+        "10.0.0.0 - 10.255.255.255",
+        167_772_160,
+        184_549_375,
+        16_777_216,
+        "10.0.0.0 - 10.255.255.255",
+    ),
+    (
+        "10.0.0.0-10.255.255.255",
+        167_772_160,
+        184_549_375,
+        16_777_216,
+        "10.0.0.0 - 10.255.255.255",
+    ),
+    (
+        "10.0.0.0\t \r-\t10.255.255.255",
+        167_772_160,
+        184_549_375,
+        16_777_216,
+        "10.0.0.0 - 10.255.255.255",
+    ),
+    (
+        "10.1.0.128 - 10.1.1.127",
+        167_837_824,
+        167_838_079,
+        256,
+        "10.1.0.128 - 10.1.1.127",
+    ),
+];
+
 #[test]
-fn both_spellings_are_one_span(rt: HostRuntime) -> Result<(), Fail> {
-    let spelled = span(b"10.0.0.0 - 10.255.255.255")?;
-    assert_eq!(rt; span(b"10.0.0.0/8")?, spelled);
-    assert_eq!(rt; spelled.first(), 167_772_160);
-    assert_eq!(rt; spelled.last(), 184_549_375);
-    assert_eq!(rt; spelled.size(), 16_777_216);
-    assert_eq!(rt; spelled.text().as_str(), "10.0.0.0 - 10.255.255.255");
+fn spans_are_prefixes_or_ends_with_a_dash(rt: HostRuntime) -> Result<(), Fail> {
+    for (text, first, last, size, printed) in SPELLED {
+        let found = span(text)?;
+        assert_eq!(rt; found.first(), *first, "{text}");
+        assert_eq!(rt; found.last(), *last, "{text}");
+        assert_eq!(rt; found.size(), *size, "{text}");
+        assert!(rt; is_told(Some(found.text()), Some(*printed)), "{text}");
+    }
     Ok(())
 }
 
-#[test]
-fn blanks_beside_the_dash_are_optional(rt: HostRuntime) -> Result<(), Fail> {
-    let spelled = span(b"10.0.0.0 - 10.255.255.255")?;
-    assert_eq!(rt; span(b"10.0.0.0-10.255.255.255")?, spelled);
-    assert_eq!(rt; span(b"10.0.0.0\t \r-\t10.255.255.255")?, spelled);
-    Ok(())
+fn printed(text: &str) -> Option<ShortText> {
+    Some(Span::read(text.as_bytes())?.text())
 }
 
-#[test]
-fn a_span_need_not_be_a_prefix(rt: HostRuntime) -> Result<(), Fail> {
-    let odd = span(b"10.1.0.128 - 10.1.1.127")?;
-    assert_eq!(rt; odd.size(), 256);
-    assert_eq!(rt; odd.text().as_str(), "10.1.0.128 - 10.1.1.127");
-    Ok(())
-}
+const REFUSED: &[&str] = &[
+    "",
+    "10.1.0.9 - 10.1.0.3",
+    "10.0.0.0 - 10.0.0.1 - 10.0.0.2",
+    " 10.0.0.0 - 10.0.0.1",
+    "10.0.0.0 - 10.0.0.1 ",
+    "10.0.0.0/8 - 10.0.0.1",
+    "10.0.0.0",
+];
 
 #[test]
 fn other_spellings_are_refused(rt: HostRuntime) {
-    let refused: [&[u8]; 7] = [
-        b"",
-        b"10.1.0.9 - 10.1.0.3",
-        b"10.0.0.0 - 10.0.0.1 - 10.0.0.2",
-        b" 10.0.0.0 - 10.0.0.1",
-        b"10.0.0.0 - 10.0.0.1 ",
-        b"10.0.0.0/8 - 10.0.0.1",
-        b"10.0.0.0",
-    ];
-    for text in refused {
-        assert_eq!(rt; Span::read(text), None);
+    for text in REFUSED {
+        assert!(rt; is_told(printed(text), None), "{text}");
     }
 }
 
+/// Two spans, and whether the first covers, crosses, and meets the second.
+const PAIRS: &[(&str, &str, bool, bool, bool)] = &[
+    (
+        "10.1.0.0 - 10.1.1.255",
+        "10.1.0.128 - 10.1.1.127",
+        true,
+        false,
+        true,
+    ),
+    (
+        "10.1.0.0 - 10.1.1.255",
+        "10.1.0.0 - 10.1.1.255",
+        true,
+        false,
+        true,
+    ),
+    (
+        "10.1.0.128 - 10.1.1.127",
+        "10.1.0.0 - 10.1.1.255",
+        false,
+        false,
+        true,
+    ),
+    (
+        "10.1.0.0 - 10.1.1.255",
+        "10.1.1.0 - 10.1.2.255",
+        false,
+        true,
+        true,
+    ),
+    (
+        "10.1.1.0 - 10.1.2.255",
+        "10.1.0.0 - 10.1.1.255",
+        false,
+        true,
+        true,
+    ),
+    ("10.1.0.0 - 10.1.1.255", "10.1.2.0/24", false, false, false),
+];
+
 #[test]
 fn spans_are_apart_or_nested_or_cross(rt: HostRuntime) -> Result<(), Fail> {
-    let low = span(b"10.1.0.0 - 10.1.1.255")?;
-    let inner = span(b"10.1.0.128 - 10.1.1.127")?;
-    let crossing = span(b"10.1.1.0 - 10.1.2.255")?;
-    let apart = span(b"10.1.2.0/24")?;
-    assert!(rt; low.covers(inner));
-    assert!(rt; low.covers(low));
-    assert!(rt; !inner.covers(low));
-    assert!(rt; !low.crosses(inner));
-    assert!(rt; low.crosses(crossing));
-    assert!(rt; crossing.crosses(low));
-    assert!(rt; !low.meets(apart));
+    for (one, other, covers, crosses, meets) in PAIRS {
+        let (one, other) = (span(one)?, span(other)?);
+        assert_eq!(rt; one.covers(other), *covers, "{one} and {other}");
+        assert_eq!(rt; one.crosses(other), *crosses, "{one} and {other}");
+        assert_eq!(rt; one.meets(other), *meets, "{one} and {other}");
+    }
     Ok(())
 }

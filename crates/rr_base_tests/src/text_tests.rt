@@ -3,26 +3,43 @@
 use rr_text::{
     Paragraph, Text, TextFault, meaning, next_paragraph, print, read_canonical, skip_paragraph,
 };
-use std::alloc::Global;
+use std::alloc::{AllocError, Global};
+use std::process::Abort;
 use std::test::Fail;
 
-const DIGEST: &str = "ba7816bf8f01cfea414140de5dae2223b00361a396177a9cb410ff61f20015ad";
-
 /// A text with CR LF at each line end but the last, folded values and a skipped line.
-pub(crate) fn folded(alloc: Global) -> Result<String, Fail> {
-    let digest = DIGEST;
-    let text = format!(in alloc;
-        "Mntner: A-MNT\r\ndescr: first # note\r\n\tsecond\r\n+\r\n% skipped\r\n+third\r\nauth: SHA256-PW\r\n ab:{digest}\r\nmnt-by: A-MNT\r\nsource: test"
-    )?;
-    Ok(text)
-}
+pub(crate) const FOLDED: &str = "\
+Mntner: A-MNT\r
+descr: first # note\r
+\tsecond\r
++\r
+% skipped\r
++third\r
+auth: SHA256-PW\r
+\x20ab:ba7816bf8f01cfea414140de5dae2223b00361a396177a9cb410ff61f20015ad\r
+mnt-by: A-MNT\r
+source: test";
 
-pub(crate) fn canonical(alloc: Global) -> Result<String, Fail> {
-    let digest = DIGEST;
-    let text = format!(in alloc;
-        "mntner:         A-MNT\ndescr:          first # note\n                second\n+\n                third\nauth:           SHA256-PW\n                ab:{digest}\nmnt-by:         A-MNT\nsource:         test\n"
-    )?;
-    Ok(text)
+/// Its canonical text.
+pub(crate) const CANONICAL: &str = "\
+mntner:         A-MNT
+descr:          first # note
+                second
++
+                third
+auth:           SHA256-PW
+                ab:ba7816bf8f01cfea414140de5dae2223b00361a396177a9cb410ff61f20015ad
+mnt-by:         A-MNT
+source:         test
+";
+
+/// Whether a paragraph is printed so.
+pub(crate) fn is_printed(
+    alloc: Global,
+    paragraph: &Paragraph,
+    wanted: &str,
+) -> Result<bool, AllocError> {
+    Ok(print(alloc, paragraph)?.as_slice() == wanted.as_bytes())
 }
 
 /// The first paragraph of a text and the place after it.
@@ -31,93 +48,106 @@ fn first(alloc: Global, text: &[u8]) -> Result<(Paragraph, usize), Fail> {
     Ok(found.ok_or("no paragraph")?)
 }
 
-fn fault_of(alloc: Global, text: &[u8]) -> Option<TextFault> {
-    next_paragraph(alloc, text, 0).err()
+/// Asserts that the first paragraph of a text is printed so; answers with the place after it.
+fn expect_printed<R: Abort + AllocGlobal>(
+    rt: &R,
+    text: &[u8],
+    printed: &str,
+) -> Result<usize, Fail> {
+    let (paragraph, after) = first(rt.alloc(), text)?;
+    assert!(rt; is_printed(rt.alloc(), &paragraph, printed)?, "{printed}");
+    Ok(after)
+}
+
+/// Asserts the fault of a text's first paragraph.
+fn expect_fault<R: Abort + AllocGlobal>(rt: &R, text: &[u8], fault: TextFault) {
+    let found = next_paragraph(rt.alloc(), text, 0).err();
+    assert_eq!(rt; found, Some(fault), "of {text:?}");
 }
 
 #[test]
 fn folded_text_is_read_and_printed(rt: HostRuntime) -> Result<(), Fail> {
-    let alloc = rt.alloc();
-    let text = folded(alloc)?;
-    let (paragraph, after) = first(alloc, text.as_bytes())?;
-    assert_eq!(rt; after, text.len());
-    let printed = print(alloc, &paragraph)?;
-    let expected = canonical(alloc)?;
-    assert_eq!(rt; printed.as_slice(), expected.as_bytes());
-    let names = [
-        b"mntner".as_slice(),
-        b"descr",
-        b"auth",
-        b"mnt-by",
-        b"source",
-    ];
-    assert_eq!(rt; paragraph.attributes().len(), names.len());
-    for (attribute, name) in paragraph.attributes().iter().zip(names.iter()) {
-        assert_eq!(rt; attribute.name(), *name);
+    let after = expect_printed(&rt, FOLDED.as_bytes(), CANONICAL)?;
+    assert_eq!(rt; after, FOLDED.len());
+    Ok(())
+}
+
+const NAMES: &[&str] = &["mntner", "descr", "auth", "mnt-by", "source"];
+
+#[test]
+fn attributes_have_their_names_in_lower_case(rt: HostRuntime) -> Result<(), Fail> {
+    let (paragraph, _) = first(rt.alloc(), FOLDED.as_bytes())?;
+    assert_eq!(rt; paragraph.attributes().len(), NAMES.len());
+    for (attribute, name) in paragraph.attributes().iter().zip(NAMES.iter()) {
+        assert!(rt; attribute.name() == name.as_bytes(), "{name}");
     }
     Ok(())
 }
 
 #[test]
 fn meaning_leaves_comments_out(rt: HostRuntime) -> Result<(), Fail> {
-    let alloc = rt.alloc();
-    let text = folded(alloc)?;
-    let (paragraph, _) = first(alloc, text.as_bytes())?;
+    let (paragraph, _) = first(rt.alloc(), FOLDED.as_bytes())?;
     let descr = paragraph.attributes().get(1).ok_or("descr")?;
     assert_eq!(rt; descr.lines().len(), 4);
-    let said = meaning(alloc, descr)?;
+    let said = meaning(rt.alloc(), descr)?;
     assert_eq!(rt; said.as_slice(), b"first second  third".as_slice());
     Ok(())
 }
 
 #[test]
 fn canonical_text_is_read_again(rt: HostRuntime) -> Result<(), Fail> {
-    let alloc = rt.alloc();
-    let text = canonical(alloc)?;
-    let read = read_canonical(alloc, text.as_bytes())?.ok_or("canonical")?;
-    let (paragraph, _) = first(alloc, text.as_bytes())?;
+    let text = CANONICAL.as_bytes();
+    let read = read_canonical(rt.alloc(), text)?.ok_or("canonical")?;
+    let (paragraph, _) = first(rt.alloc(), text)?;
     assert!(rt; read == paragraph);
-    for other in [
-        b"".as_slice(),
-        b"descr: x\n",
-        b"descr:          x",
-        b"descr:          x\n\n",
-        b"no colon\n",
-    ] {
-        let none = read_canonical(alloc, other)?;
-        assert!(rt; none.is_none(), "of {other:?}");
+    Ok(())
+}
+
+/// Texts that are no canonical ones.
+const OTHERS: &[&str] = &[
+    "",
+    "descr: x\n",
+    "descr:          x",
+    "descr:          x\n\n",
+    "no colon\n",
+];
+
+#[test]
+fn other_text_is_not_canonical(rt: HostRuntime) -> Result<(), Fail> {
+    for text in OTHERS {
+        assert!(rt;
+            read_canonical(rt.alloc(), text.as_bytes())?.is_none(),
+            "{text}"
+        );
     }
     Ok(())
 }
 
 #[test]
-fn paragraphs_are_copied_and_changed(rt: HostRuntime) -> Result<(), Fail> {
-    let alloc = rt.alloc();
-    let text = b"mntner: A-MNT\npassword: one\nauth: x\nPassword: two\nauth: y\n z\n";
-    let (paragraph, _) = first(alloc, text)?;
-    let copy = paragraph.copy(alloc)?;
+fn paragraphs_are_copied(rt: HostRuntime) -> Result<(), Fail> {
+    let (paragraph, _) = first(rt.alloc(), FOLDED.as_bytes())?;
+    let copy = paragraph.copy(rt.alloc())?;
     assert!(rt; copy == paragraph);
+    Ok(())
+}
+
+#[test]
+fn paragraphs_are_changed(rt: HostRuntime) -> Result<(), Fail> {
+    let text = b"mntner: A-MNT\npassword: one\nauth: x\nPassword: two\nauth: y\n z\n";
+    let (paragraph, _) = first(rt.alloc(), text)?;
     let hidden = paragraph
-        .with_values(alloc, b"auth", b"# filtered")?
+        .with_values(rt.alloc(), b"auth", b"# filtered")?
         .without(b"password");
-    assert!(rt; hidden != paragraph);
-    let printed = print(alloc, &hidden)?;
-    let expected =
-        b"mntner:         A-MNT\nauth:           # filtered\nauth:           # filtered\n";
-    assert_eq!(rt; printed.as_slice(), expected.as_slice());
+    let wanted = "mntner:         A-MNT\nauth:           # filtered\nauth:           # filtered\n";
+    assert!(rt; is_printed(rt.alloc(), &hidden, wanted)?);
     Ok(())
 }
 
 /// A paragraph with this many bytes more than it takes to reach 65,536, one of them this.
-pub(crate) fn sized(alloc: Global, more: usize, byte: u8) -> Result<Vec<u8>, Fail> {
+pub(crate) fn sized(alloc: Global, more: usize, byte: u8) -> Result<Vec<u8>, AllocError> {
     let mut text = b"descr: ".to_vec(alloc)?;
     text.push(byte)?;
-    for _ in 0..1524 {
-        text.push(b'a')?;
-    }
-    for _ in 0..more {
-        text.push(b'a')?;
-    }
+    text.resize(more.saturating_add(1_532), b'a')?;
     text.push(b'\n')?;
     for _ in 0..1_000 {
         text.extend_from_slice(
@@ -129,88 +159,84 @@ pub(crate) fn sized(alloc: Global, more: usize, byte: u8) -> Result<Vec<u8>, Fai
 }
 
 #[test]
-fn size_decides_before_other_faults(rt: HostRuntime) -> Result<(), Fail> {
-    let alloc = rt.alloc();
-    let whole = sized(alloc, 0, b'a')?;
+fn a_paragraph_has_at_most_65536_bytes(rt: HostRuntime) -> Result<(), Fail> {
+    let whole = sized(rt.alloc(), 0, b'a')?;
     assert_eq!(rt; whole.len(), 65_536);
-    let (_, after) = first(alloc, whole.as_slice())?;
-    assert_eq!(rt; after, whole.len());
-    let faulty = sized(alloc, 0, 0)?;
-    assert_eq!(rt;
-        fault_of(alloc, faulty.as_slice()),
-        Some(TextFault::BadByte)
-    );
-    for byte in [b'a', 0] {
-        let larger = sized(alloc, 1, byte)?;
-        assert_eq!(rt; larger.len(), 65_537);
-        assert_eq!(rt;
-            fault_of(alloc, larger.as_slice()),
-            Some(TextFault::TooLarge)
-        );
-    }
-    for line in [b" x\n".as_slice(), b"x\n", b"1: x\n"] {
-        let mut faulty = line.to_vec(alloc)?;
-        faulty.extend_from_slice(sized(alloc, 0, b'a')?.as_slice())?;
-        assert_eq!(rt;
-            fault_of(alloc, faulty.as_slice()),
-            Some(TextFault::TooLarge),
-            "after {line:?}"
-        );
+    let (_, after) = first(rt.alloc(), &whole)?;
+    assert_eq!(rt; after, 65_536);
+    Ok(())
+}
+
+/// How many bytes a paragraph has more, one of them, and its fault: its size decides before its bytes.
+const SIZES: &[(usize, u8, TextFault)] = &[
+    (0, 0, TextFault::BadByte),
+    (1, b'a', TextFault::TooLarge),
+    (1, 0, TextFault::TooLarge),
+];
+
+#[test]
+fn size_decides_before_other_faults(rt: HostRuntime) -> Result<(), Fail> {
+    for (more, byte, fault) in SIZES {
+        expect_fault(&rt, &sized(rt.alloc(), *more, *byte)?, *fault);
     }
     Ok(())
 }
 
+/// Faulty lines.
+const FAULTY: &[&str] = &[" x\n", "x\n", "1: x\n"];
+
 #[test]
-fn the_first_faulty_line_decides(rt: HostRuntime) -> Result<(), Fail> {
-    let alloc = rt.alloc();
-    let faults = [
-        (b"a: b\x00\n".as_slice(), TextFault::BadByte),
-        (b"a: b\x7f\n", TextFault::BadByte),
-        (b" \x01\n", TextFault::BadByte),
-        (b"nocolon\x1f\n", TextFault::BadByte),
-        (b" a: b\n", TextFault::FirstContinues),
-        (b"+\n", TextFault::FirstContinues),
-        (b"\ra: b\n", TextFault::FirstContinues),
-        (b"1a: b\x00\n", TextFault::BadByte),
-        (b"a: \x01\nnocolon\n1: c\n", TextFault::BadByte),
-        (b" a\nnocolon\n1: c\x00\n", TextFault::FirstContinues),
-        (b"nocolon\na\x00: b\n", TextFault::NoColon),
-        (b"nocolon\n1a: b\n", TextFault::NoColon),
-        (b"a b\n", TextFault::NoColon),
-        (b"1a: b\nnocolon\n", TextFault::BadName),
-        (b": b\n", TextFault::BadName),
-        (b"a b: c\n", TextFault::BadName),
-        (b"a: b\n c\n9: d\n e\x00\n", TextFault::BadName),
-        (b"% x\x00\n+a\n", TextFault::FirstContinues),
-    ];
-    for (text, fault) in faults {
-        assert_eq!(rt; fault_of(alloc, text), Some(fault), "of {text:?}");
+fn size_decides_behind_a_faulty_line(rt: HostRuntime) -> Result<(), Fail> {
+    for line in FAULTY {
+        let mut text = line.as_bytes().to_vec(rt.alloc())?;
+        text.extend_from_slice(sized(rt.alloc(), 0, b'a')?.as_slice())?;
+        expect_fault(&rt, &text, TextFault::TooLarge);
     }
     Ok(())
 }
 
+/// Texts, and their faults: that of the first faulty line.
+const FAULTS: &[(&str, TextFault)] = &[
+    ("a: b\x00\n", TextFault::BadByte),
+    ("a: b\x7f\n", TextFault::BadByte),
+    (" \x01\n", TextFault::BadByte),
+    ("nocolon\x1f\n", TextFault::BadByte),
+    (" a: b\n", TextFault::FirstContinues),
+    ("+\n", TextFault::FirstContinues),
+    ("\ra: b\n", TextFault::FirstContinues),
+    ("1a: b\x00\n", TextFault::BadByte),
+    ("a: \x01\nnocolon\n1: c\n", TextFault::BadByte),
+    (" a\nnocolon\n1: c\x00\n", TextFault::FirstContinues),
+    ("nocolon\na\x00: b\n", TextFault::NoColon),
+    ("nocolon\n1a: b\n", TextFault::NoColon),
+    ("a b\n", TextFault::NoColon),
+    ("1a: b\nnocolon\n", TextFault::BadName),
+    (": b\n", TextFault::BadName),
+    ("a b: c\n", TextFault::BadName),
+    ("a: b\n c\n9: d\n e\x00\n", TextFault::BadName),
+    ("% x\x00\n+a\n", TextFault::FirstContinues),
+    // Names of 65 and of 64 bytes, of which the second begins with a dash.
+    (
+        "a-_0aaaaaaaaaaaaaaaaaaaaaaaaaaaaaaaaaaaaaaaaaaaaaaaaaaaaaaaaaaaaa: x",
+        TextFault::BadName,
+    ),
+    (
+        "-_0aaaaaaaaaaaaaaaaaaaaaaaaaaaaaaaaaaaaaaaaaaaaaaaaaaaaaaaaaaaaa: x",
+        TextFault::BadName,
+    ),
+];
+
 #[test]
-fn names_have_64_bytes_at_most(rt: HostRuntime) -> Result<(), Fail> {
-    let alloc = rt.alloc();
-    let name = "a-_0aaaaaaaaaaaaaaaaaaaaaaaaaaaaaaaaaaaaaaaaaaaaaaaaaaaaaaaaaaaaa";
-    assert_eq!(rt; name.len(), 65);
-    let longer = format!(in alloc; "{name}: x")?;
-    assert_eq!(rt;
-        fault_of(alloc, longer.as_bytes()),
-        Some(TextFault::BadName)
-    );
-    assert_eq!(rt;
-        fault_of(alloc, &longer.as_bytes()[1..]),
-        Some(TextFault::BadName)
-    );
-    Ok(())
+fn the_first_faulty_line_decides(rt: HostRuntime) {
+    for (text, fault) in FAULTS {
+        expect_fault(&rt, text.as_bytes(), *fault);
+    }
 }
 
 #[test]
 fn high_bytes_are_kept(rt: HostRuntime) -> Result<(), Fail> {
-    let alloc = rt.alloc();
-    let (paragraph, _) = first(alloc, b"descr: \xff\x80 caf\xe9\n% \x00\x07\n")?;
-    let printed = print(alloc, &paragraph)?;
+    let (paragraph, _) = first(rt.alloc(), b"descr: \xff\x80 caf\xe9\n% \x00\x07\n")?;
+    let printed = print(rt.alloc(), &paragraph)?;
     assert_eq!(rt;
         printed.as_slice(),
         b"descr:          \xff\x80 caf\xe9\n".as_slice()
@@ -218,46 +244,41 @@ fn high_bytes_are_kept(rt: HostRuntime) -> Result<(), Fail> {
     Ok(())
 }
 
+/// Texts without a paragraph.
+const SKIPPED: &[&str] = &["", "\n\n", "% one\n# two", " \t\r\n%\n\n#\n \n"];
+
 #[test]
 fn skipped_lines_alone_are_no_paragraph(rt: HostRuntime) -> Result<(), Fail> {
-    let alloc = rt.alloc();
-    for text in [
-        b"".as_slice(),
-        b"\n\n",
-        b"% one\n# two",
-        b" \t\r\n%\n\n#\n \n",
-    ] {
-        let next = next_paragraph(alloc, text, 0)?;
-        assert!(rt; next.is_none(), "of {text:?}");
+    for text in SKIPPED {
+        let text = text.as_bytes();
+        assert!(rt;
+            next_paragraph(rt.alloc(), text, 0)?.is_none(),
+            "of {text:?}"
+        );
         assert_eq!(rt; skip_paragraph(text, 0), text.len());
     }
     Ok(())
 }
 
+/// A text with a faulty paragraph between two good ones.
+const MIDDLE: &[u8] = b"% mirror\n\na: 1\n\n\nfaulty\n% x\n \t\nb: 2";
+
 #[test]
 fn paragraphs_after_a_fault_are_read(rt: HostRuntime) -> Result<(), Fail> {
-    let alloc = rt.alloc();
-    let text = b"% mirror\n\na: 1\n\n\nfaulty\n% x\n \t\nb: 2";
-    let (_, place) = first(alloc, text)?;
-    assert!(rt; place <= text.len());
-    let fault = next_paragraph(alloc, text, place).err();
-    assert_eq!(rt; fault, Some(TextFault::NoColon));
-    let place = skip_paragraph(text, place);
-    let found = next_paragraph(alloc, text, place)?;
-    let (paragraph, place) = found.ok_or("no paragraph")?;
-    let printed = print(alloc, &paragraph)?;
-    assert_eq!(rt; printed.as_slice(), b"b:              2\n".as_slice());
-    assert_eq!(rt; place, text.len());
+    let text = MIDDLE;
+    let place = expect_printed(&rt, text, "a:              1\n")?;
+    let rest = text.get(place..).ok_or("no rest")?;
+    expect_fault(&rt, rest, TextFault::NoColon);
+    let rest = rest.get(skip_paragraph(rest, 0)..).ok_or("no rest")?;
+    let after = expect_printed(&rt, rest, "b:              2\n")?;
+    assert_eq!(rt; after, rest.len());
     Ok(())
 }
 
 #[test]
 fn texts_give_their_bytes_back(rt: HostRuntime) -> Result<(), Fail> {
-    let alloc = rt.alloc();
-    let text = Text::from_slice(alloc, b"# filtered")?;
-    let copy = text.copy(alloc)?;
-    assert!(rt; copy == text);
-    let bytes = Text::from_vec(copy.into_vec()).into_vec();
-    assert_eq!(rt; bytes.as_slice(), b"# filtered".as_slice());
+    let text = Text::from_slice(rt.alloc(), b"# filtered")?;
+    let copy = text.copy(rt.alloc())?;
+    assert_eq!(rt; copy.into_vec().as_slice(), b"# filtered".as_slice());
     Ok(())
 }

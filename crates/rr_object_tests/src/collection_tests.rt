@@ -1,7 +1,7 @@
 //! Lists and nests of spans and trees of prefixes, asked the same.
 use crate::collections::Collection;
 use rr_cover::{InsertFault, PrefixTree, SpanList, SpanNest};
-use rr_number::Span;
+use rr_number::{Address, Prefix, Span};
 use std::alloc::{AllocError, Global};
 use std::fmt::Write;
 use std::process::Abort;
@@ -209,4 +209,58 @@ fn the_longest_cover_in_a_tree_is_closest(rt: HostRuntime) -> Result<(), Fail> {
 fn a_crossing_span_is_refused_with_its_value(rt: HostRuntime) -> Result<(), Fail> {
     expect_answers(&rt, &mut SpanList::new(rt.alloc()), CROSSING)?;
     expect_answers(&rt, &mut SpanNest::new(rt.alloc()), CROSSING)
+}
+
+// The test below shows most where `rt try --test --fail-alloc N` refuses the growth of that number.
+
+/// Whether the collection takes the span, which it does not hold, at once or behind a refusal that changed nothing.
+fn takes<C: Collection>(collection: &mut C, span: Span, value: u32) -> bool {
+    match collection.put(span, value) {
+        Ok(old) => old.is_none(),
+        Err(InsertFault::Overlap(_)) => false,
+        Err(InsertFault::Memory(back)) => {
+            let unchanged = back == value && collection.value_at(span).is_none();
+            unchanged && matches!(collection.put(span, value), Ok(None))
+        }
+    }
+}
+
+/// How many spans were listed, if memory was had.
+fn count(listed: Result<Vec<Span>, AllocError>) -> Option<usize> {
+    match listed {
+        Ok(listed) => Some(listed.len()),
+        Err(_) => None,
+    }
+}
+
+/// The span of the prefix of the last address that has the length.
+fn last_span(length: u8) -> Span {
+    Prefix::new(Address::from_bits(u32::MAX), length.min(32)).span()
+}
+
+/// Nine lengths in no order.
+const LENGTHS: &[u8] = &[28, 24, 32, 27, 31, 26, 30, 25, 29];
+
+/// Asserts that a collection takes nine spans inside each other and one beside them, at which a tree parts, and lists
+/// the nine.
+fn expect_growth<R: Abort + AllocGlobal, C: Collection>(rt: &R, collection: &mut C) {
+    for length in LENGTHS {
+        assert!(rt; takes(collection, last_span(*length), 0), "{length}");
+    }
+    assert!(rt; takes(collection, Span::new(0, 255), 0));
+    let inner = last_span(32);
+    let covering = count(collection.spans_covering(rt.alloc(), inner));
+    let covering = covering.or(count(collection.spans_covering(rt.alloc(), inner)));
+    assert_eq!(rt; covering, Some(9));
+    let outer = last_span(24);
+    let inside = count(collection.spans_inside(rt.alloc(), outer));
+    let inside = inside.or(count(collection.spans_inside(rt.alloc(), outer)));
+    assert_eq!(rt; inside, Some(9));
+}
+
+#[test]
+fn a_refused_growth_changes_nothing(rt: HostRuntime) {
+    expect_growth(&rt, &mut SpanList::new(rt.alloc()));
+    expect_growth(&rt, &mut SpanNest::new(rt.alloc()));
+    expect_growth(&rt, &mut PrefixTree::new(rt.alloc()));
 }

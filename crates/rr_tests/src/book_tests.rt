@@ -14,8 +14,6 @@ use std::alloc::{AllocError, Global};
 use std::process::Abort;
 use std::test::Fail;
 
-const ITEMS: u32 = 1_000;
-
 const MAINTAINERS: [&str; 4] = ["A-MNT", "B-MNT", "C-MNT", "ROOT-MNT"];
 
 /// What is asked of both registries now and then.
@@ -259,10 +257,10 @@ fn answers<B: Keeper>(alloc: Global, registry: &Registry<B>) -> Result<Vec<u8>, 
 }
 
 /// Asserts that both registries list alike what is round the span.
-fn expect_same_lists<R: Abort + AllocGlobal>(
+fn expect_same_lists<P: Keeper, I: Keeper, R: Abort + AllocGlobal>(
     rt: &R,
-    plain: &Registry<PlainBook>,
-    indexed: &Registry<IndexedBook>,
+    plain: &Registry<P>,
+    indexed: &Registry<I>,
     span: Span,
 ) -> Result<(), Fail> {
     let wanted = lists(rt.alloc(), plain, span)?;
@@ -271,19 +269,15 @@ fn expect_same_lists<R: Abort + AllocGlobal>(
 }
 
 /// Asserts that both registries have the same dump, and answer alike.
-fn expect_same_answers<R: Abort + AllocGlobal>(
+fn expect_same_answers<P: Keeper, I: Keeper, R: Abort + AllocGlobal>(
     rt: &R,
-    plain: &Registry<PlainBook>,
-    indexed: &Registry<IndexedBook>,
+    plain: &Registry<P>,
+    indexed: &Registry<I>,
 ) -> Result<(), Fail> {
     let wanted = answers(rt.alloc(), plain)?;
     let found = answers(rt.alloc(), indexed)?;
-    expect_text(
-        rt,
-        &found,
-        str::from_utf8(&wanted)?,
-        "the answers are alike",
-    )
+    let wanted = str::from_utf8(&wanted)?;
+    expect_text(rt, &found, wanted, "the answers are alike")
 }
 
 /// Which of the fruitful queries have been answered by more than a note, with those of the registry as it is now.
@@ -300,39 +294,61 @@ fn fruitful<B: Keeper>(
     Ok(fruitful)
 }
 
-/// The outcome of the n-th item; asserts that both registries give it.
-fn expect_same_outcome<R: Abort + AllocGlobal>(
+/// The outcome of the next item; asserts that both registries give it, and list alike what is round some span.
+fn expect_item<P: Keeper, I: Keeper, R: Abort + AllocGlobal>(
     rt: &R,
-    n: u32,
-    plain: &mut Registry<PlainBook>,
-    indexed: &mut Registry<IndexedBook>,
-    (mut secrets, first, second): (Secrets, Item, Item),
-) -> Outcome {
+    plain: &mut Registry<P>,
+    indexed: &mut Registry<I>,
+    words: &mut Pcg32,
+) -> Result<Outcome, Fail> {
+    let (mut secrets, first, second) = any_items(rt.alloc(), words)?;
     let outcome = plain.apply(rt.alloc(), &mut secrets, first);
     let other = indexed.apply(rt.alloc(), &mut secrets, second);
-    assert_eq!(rt; other, outcome, "item {n}");
-    outcome
+    assert_eq!(rt; other, outcome);
+    expect_same_lists(rt, plain, indexed, any_span(words))?;
+    Ok(outcome)
+}
+
+/// Adds the outcomes of the next fifty items; asserts that both registries answer alike behind them.
+fn expect_items<P: Keeper, I: Keeper, R: Abort + AllocGlobal>(
+    rt: &R,
+    plain: &mut Registry<P>,
+    indexed: &mut Registry<I>,
+    words: &mut Pcg32,
+    outcomes: &mut Vec<Outcome>,
+) -> Result<(), Fail> {
+    for _ in 0..50 {
+        outcomes.push(expect_item(rt, plain, indexed, words)?)?;
+    }
+    expect_same_answers(rt, plain, indexed)
+}
+
+/// Asserts that each outcome comes about.
+fn expect_wanted<R: Abort>(rt: &R, outcomes: &[Outcome]) {
+    for wanted in WANTED {
+        assert!(rt; outcomes.contains(wanted), "no {wanted:?}");
+    }
+}
+
+/// Asserts that registries in two books answer alike to a thousand items, of which every outcome comes about.
+fn expect_alike<P: Keeper + Drop, I: Keeper + Drop, R: Abort + AllocGlobal>(
+    rt: &R,
+) -> Result<(), Fail> {
+    let mut words = Pcg32::new(42, 54);
+    let mut plain = taken::<P>(rt.alloc(), OPENING.as_bytes())?;
+    let mut indexed = taken::<I>(rt.alloc(), OPENING.as_bytes())?;
+    let mut outcomes = Vec::new(rt.alloc());
+    let mut borne = [false; 3];
+    for _ in 0..20 {
+        expect_items(rt, &mut plain, &mut indexed, &mut words, &mut outcomes)?;
+        borne = fruitful(rt.alloc(), &plain, borne)?;
+    }
+    expect_wanted(rt, &outcomes);
+    assert_eq!(rt; borne, [true; 3], "{FRUITFUL:?}");
+    Ok(())
 }
 
 #[test]
 fn both_books_answer_alike(rt: HostRuntime) -> Result<(), Fail> {
-    let mut words = Pcg32::new(42, 54);
-    let mut plain = taken::<PlainBook>(rt.alloc(), OPENING.as_bytes())?;
-    let mut indexed = taken::<IndexedBook>(rt.alloc(), OPENING.as_bytes())?;
-    let mut outcomes = Vec::new(rt.alloc());
-    let mut borne = [false; 3];
-    for n in 0..ITEMS {
-        let items = any_items(rt.alloc(), &mut words)?;
-        outcomes.push(expect_same_outcome(&rt, n, &mut plain, &mut indexed, items))?;
-        expect_same_lists(&rt, &plain, &indexed, any_span(&mut words))?;
-        if n % 50 == 49 {
-            expect_same_answers(&rt, &plain, &indexed)?;
-            borne = fruitful(rt.alloc(), &plain, borne)?;
-        }
-    }
-    for wanted in WANTED {
-        assert!(rt; outcomes.contains(wanted), "no {wanted:?}");
-    }
-    assert_eq!(rt; borne, [true; 3], "{FRUITFUL:?}");
-    Ok(())
+    expect_alike::<PlainBook, IndexedBook, HostRuntime>(&rt)
 }

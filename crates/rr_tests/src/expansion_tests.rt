@@ -74,6 +74,21 @@ route-set: RS-Y
 members: 10.0.0.0/16
 mnt-by: A-MNT
 source: TEST
+
+route-set: RS-L
+members: RS-M^-
+mnt-by: A-MNT
+source: TEST
+
+route-set: RS-M
+members: RS-N^24
+mnt-by: A-MNT
+source: TEST
+
+route-set: RS-N
+members: 10.0.0.0/8
+mnt-by: A-MNT
+source: TEST
 ";
 
 /// AS1 and AS2 with a route each, and sets that refer to them.
@@ -244,6 +259,7 @@ const LISTED: &[Asked] = &[
         given: &[HOLDERS, OPERATORS],
         answers: &[
             ("expand RS-D", 2, "30.0.0.0/8^27-30\n"),
+            ("expand RS-L", 3, "10.0.0.0/8^25-32\n"),
             ("expand RS-X", 3, "% missing RS-GONE\n"),
             ("expand RS-X", 2, "% error 3\n"),
             ("expand RS-GONE", 0, "% no entries\n"),

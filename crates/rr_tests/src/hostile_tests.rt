@@ -5,7 +5,7 @@ use rand_core::utils::NextWord;
 use rand_pcg::Pcg32;
 use rr_index::IndexedBook;
 use rr_io::Counted;
-use rr_registry::{Keeper, PlainBook};
+use rr_registry::{Keeper, PlainBook, Registry};
 use std::alloc::{AllocError, Global};
 use std::process::Abort;
 use std::test::Fail;
@@ -100,24 +100,46 @@ fn expect_lines<R: Abort + AllocGlobal>(rt: &R, text: &[u8], report: &[u8]) -> R
     Ok(())
 }
 
+/// Submits a text that comes in pieces of at most so many bytes; asserts the report.
+fn expect_cut<B: Keeper, R: Abort + AllocGlobal>(
+    rt: &R,
+    registry: &mut Registry<B>,
+    text: &[u8],
+    step: usize,
+    wanted: &[u8],
+) -> Result<(), Fail> {
+    let found = cut_report(rt.alloc(), registry, text, step)?;
+    assert_eq!(rt; found.as_slice(), wanted);
+    Ok(())
+}
+
+/// Submits a text to a book whole, and to two others by single bytes and in pieces: the reports are the same.
+fn expect_alike<P: Keeper, I: Keeper, R: Abort + AllocGlobal>(
+    rt: &R,
+    plain: &mut Registry<P>,
+    by_bytes: &mut Registry<I>,
+    by_pieces: &mut Registry<I>,
+    text: &[u8],
+    step: usize,
+) -> Result<(), Fail> {
+    let whole = report(rt.alloc(), plain, &mut Counted::new(text))?;
+    expect_lines(rt, text, &whole)?;
+    expect_cut(rt, by_bytes, text, 1, &whole)?;
+    expect_cut(rt, by_pieces, text, step, &whole)
+}
+
 /// Submits the texts to a book whole, and to another kind of book by single bytes and in pieces: the reports are the same.
 fn expect_reports<P: Keeper + Drop, I: Keeper + Drop, R: Abort + AllocGlobal>(
     rt: &R,
 ) -> Result<(), Fail> {
-    let alloc = rt.alloc();
     let mut words = Pcg32::new(42, 54);
-    let mut plain = taken::<P>(alloc, OPENING.as_bytes())?;
-    let mut by_bytes = taken::<I>(alloc, OPENING.as_bytes())?;
-    let mut by_pieces = taken::<I>(alloc, OPENING.as_bytes())?;
+    let mut plain = taken::<P>(rt.alloc(), OPENING.as_bytes())?;
+    let mut by_bytes = taken::<I>(rt.alloc(), OPENING.as_bytes())?;
+    let mut by_pieces = taken::<I>(rt.alloc(), OPENING.as_bytes())?;
     for _ in 0..TEXTS {
-        let text = any_text(alloc, &mut words)?;
+        let text = any_text(rt.alloc(), &mut words)?;
         let step = usize::from(words.next_word().to_le_bytes()[0]) + 1;
-        let whole = report(alloc, &mut plain, &mut Counted::new(text.as_slice()))?;
-        expect_lines(rt, &text, &whole)?;
-        let of_bytes = cut_report(alloc, &mut by_bytes, &text, 1)?;
-        assert_eq!(rt; of_bytes.as_slice(), whole.as_slice());
-        let of_pieces = cut_report(alloc, &mut by_pieces, &text, step)?;
-        assert_eq!(rt; of_pieces.as_slice(), whole.as_slice());
+        expect_alike(rt, &mut plain, &mut by_bytes, &mut by_pieces, &text, step)?;
     }
     Ok(())
 }

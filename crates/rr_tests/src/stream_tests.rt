@@ -4,7 +4,7 @@ use crate::texts::OPENING;
 use crate::worked::expect_text;
 use rr_index::IndexedBook;
 use rr_io::{Counted, Cut, Sink};
-use rr_registry::Registry;
+use rr_registry::{Keeper, Registry};
 use rr_submission::{DeskFault, Done, submit};
 use std::alloc::{AllocError, Global};
 use std::io;
@@ -53,9 +53,9 @@ const TWO_READ: &str = "\
 
 /// Submits the three where the reader fails after so many bytes and the writer after others; answers with what is
 /// answered, and with the bytes written.
-fn submit_cut(
+fn submit_cut<B: Keeper>(
     alloc: Global,
-    registry: &mut Registry<IndexedBook>,
+    registry: &mut Registry<B>,
     (given, room): (usize, usize),
 ) -> Result<(Result<Done, DeskFault>, Vec<u8>), Fail> {
     let source = source(alloc)?;
@@ -65,29 +65,31 @@ fn submit_cut(
     Ok((done, writer.into_inner().into_inner()))
 }
 
+/// Asserts how many of the three stand.
+fn expect_stand<B: Keeper, R: Abort + AllocGlobal>(
+    rt: &R,
+    registry: &Registry<B>,
+    items: u64,
+) -> Result<(), Fail> {
+    let stand = registry.objects(rt.alloc())?.len() as u64;
+    assert_eq!(rt; stand, items.saturating_add(4));
+    Ok(())
+}
+
 /// Asserts what comes of the three: what is answered, that this front of the report was written, and how many stand.
-fn expect_cut<R: Abort + AllocGlobal>(
+fn expect_cut<B: Keeper + Drop, R: Abort + AllocGlobal>(
     rt: &R,
     (given, room): (usize, usize),
     wanted: Result<Done, DeskFault>,
     told: &str,
     items: u64,
 ) -> Result<(), Fail> {
-    let mut registry = taken::<IndexedBook>(rt.alloc(), OPENING.as_bytes())?;
+    let mut registry = taken::<B>(rt.alloc(), OPENING.as_bytes())?;
     let (done, written) = submit_cut(rt.alloc(), &mut registry, (given, room))?;
     assert_eq!(rt; done, wanted, "{given} bytes to read, room for {room}");
     let front = &told.as_bytes()[..room.min(told.len())];
-    assert!(rt;
-        written.as_slice() == front,
-        "{given} bytes to read, room for {room}"
-    );
-    let stand = registry.objects(rt.alloc())?.len() as u64;
-    assert_eq!(rt;
-        stand,
-        items.saturating_add(4),
-        "{given} bytes to read, room for {room}"
-    );
-    Ok(())
+    assert!(rt; written.as_slice() == front, "room for {room}");
+    expect_stand(rt, &registry, items)
 }
 
 /// How many of the three are decided where there is room for so many bytes of lines.
@@ -108,7 +110,7 @@ fn a_failed_write_leaves_the_items_told(rt: HostRuntime) -> Result<(), Fail> {
         } else {
             Ok(Done { items, refused: 0 })
         };
-        expect_cut(&rt, (usize::MAX, room), wanted, ADDED, items)?;
+        expect_cut::<IndexedBook, HostRuntime>(&rt, (usize::MAX, room), wanted, ADDED, items)?;
     }
     Ok(())
 }
@@ -127,7 +129,7 @@ fn a_failed_read_leaves_the_items_before_it(rt: HostRuntime) -> Result<(), Fail>
     for given in 0..=THREE.len() {
         let (items, told) = complete(given);
         let wanted = Err(DeskFault::ReadFault { items });
-        expect_cut(&rt, (given, usize::MAX), wanted, told, items)?;
+        expect_cut::<IndexedBook, HostRuntime>(&rt, (given, usize::MAX), wanted, told, items)?;
     }
     for room in 0..=113 {
         let items = decided(room).min(2);
@@ -136,7 +138,13 @@ fn a_failed_read_leaves_the_items_before_it(rt: HostRuntime) -> Result<(), Fail>
         } else {
             DeskFault::ReadFault { items }
         };
-        expect_cut(&rt, (THREE.len() - 5, room), Err(wanted), TWO_READ, items)?;
+        expect_cut::<IndexedBook, HostRuntime>(
+            &rt,
+            (THREE.len() - 5, room),
+            Err(wanted),
+            TWO_READ,
+            items,
+        )?;
     }
     Ok(())
 }
@@ -167,17 +175,16 @@ impl<W: Sink> Sink for Calls<W> {
     }
 }
 
-#[test]
-fn each_line_is_written_in_one_call(rt: HostRuntime) -> Result<(), Fail> {
-    let source = source(rt.alloc())?;
-    let mut registry = taken::<IndexedBook>(rt.alloc(), OPENING.as_bytes())?;
-    let mut reader = Counted::new(THREE.as_bytes());
-    let inner = Counted::new(Vec::new(rt.alloc()));
+/// Asserts that each line of the report on the three goes out in one write.
+fn expect_lines<B: Keeper + Drop, R: Abort + AllocGlobal>(rt: &R) -> Result<(), Fail> {
+    let mut registry = taken::<B>(rt.alloc(), OPENING.as_bytes())?;
     let mut writer = Calls {
-        inner,
+        inner: Counted::new(Vec::new(rt.alloc())),
         calls: 0,
         line_ends: 0,
     };
+    let mut reader = Counted::new(THREE.as_bytes());
+    let source = source(rt.alloc())?;
     let _done = submit(rt.alloc(), &mut registry, &source, &mut reader, &mut writer)?;
     let Calls {
         inner,
@@ -185,7 +192,12 @@ fn each_line_is_written_in_one_call(rt: HostRuntime) -> Result<(), Fail> {
         line_ends,
     } = writer;
     assert_eq!(rt; (calls, line_ends), (4, 4));
-    expect_text(&rt, &inner.into_inner(), ADDED, "the report is whole")
+    expect_text(rt, &inner.into_inner(), ADDED, "the report is whole")
+}
+
+#[test]
+fn each_line_is_written_in_one_call(rt: HostRuntime) -> Result<(), Fail> {
+    expect_lines::<IndexedBook, HostRuntime>(&rt)
 }
 
 /// The root's secret, then this text lengthened to so many bytes, then an inetnum of the root.
@@ -216,15 +228,25 @@ const SIZES: &[(&str, usize, usize, &str)] = &[
     ("x", 1_000_000, 4_096, "1 -: refused E07\n"),
 ];
 
+/// Asserts the report on this text lengthened to a size.
+fn expect_size<B: Keeper + Drop, R: Abort + AllocGlobal>(
+    rt: &R,
+    (text, size, step, first): (&str, usize, usize, &str),
+) -> Result<(), Fail> {
+    let text = lengthened(rt.alloc(), text, size)?;
+    let mut registry = taken::<B>(rt.alloc(), OPENING.as_bytes())?;
+    let found = cut_report(rt.alloc(), &mut registry, &text, step)?;
+    let wanted = format!(in rt.alloc(); "{first}{BEHIND}")?;
+    expect_text(rt, &found, &wanted, "the size decides")
+}
+
+/// The lines behind the first one.
+const BEHIND: &str = "2 inetnum 11.0.0.0 - 11.255.255.255: added\n% items 2\n";
+
 #[test]
 fn a_paragraph_has_at_most_65536_bytes(rt: HostRuntime) -> Result<(), Fail> {
-    let behind = "2 inetnum 11.0.0.0 - 11.255.255.255: added\n% items 2\n";
-    for (text, size, step, first) in SIZES {
-        let text = lengthened(rt.alloc(), text, *size)?;
-        let mut registry = taken::<IndexedBook>(rt.alloc(), OPENING.as_bytes())?;
-        let found = cut_report(rt.alloc(), &mut registry, &text, *step)?;
-        let wanted = format!(in rt.alloc(); "{first}{behind}")?;
-        expect_text(&rt, &found, &wanted, "the size decides")?;
+    for case in SIZES {
+        expect_size::<IndexedBook, HostRuntime>(&rt, *case)?;
     }
     Ok(())
 }

@@ -1,6 +1,6 @@
 use Rattle.std.proofs.Common.{refl}
 use Rattle.rr_bytes.specs.Trims.{trim_end, trim_start}
-use Rattle.rr_base_tests.proofs.text_tests.paragraphs_are_copied_and_changed.Goals as goal
+use Rattle.rr_base_tests.proofs.text_tests.paragraphs_are_changed.Goals as goal
 
 pub with_values-requires : goal.with_values-requires
 unfolding trim_start trim_end

@@ -1,7 +1,7 @@
 //! Canonical text: printed, and read again.
 
-ghost use Rattle.std.specs.Prelude.{◌≡◌, ◌≤◌, ◌<◌, ◌+◌, ◌-◌, ◌^◌, ◌++◌, max, IfOk, OnOk, IfSome, Some, List, length, replicate};
-ghost use Rattle.rr_text.specs.Fields.{Field, AreFields};
+ghost use Rattle.std.specs.Prelude.{◌≡◌, ◌≤◌, ◌<◌, ◌+◌, ◌-◌, ◌^◌, ◌++◌, max, IfOk, OnOk, IfSome, Some, List, length, map, replicate};
+ghost use Rattle.rr_text.specs.Fields.{Field, AreFields, with_value};
 ghost use Rattle.rr_text.specs.CanonicalText as canon;
 
 use crate::attribute::Attribute;
@@ -79,15 +79,56 @@ fn push_attribute(out: &mut Vec<u8>, attribute: &Attribute) -> Result<(), AllocE
     Ok(())
 }
 
-/// The canonical text of a paragraph (profile). The error is want of memory.
+/// An attribute, with this line as its value where it has this name.
+fn push_with_value(
+    out: &mut Vec<u8>,
+    attribute: &Attribute,
+    name: &[u8],
+    line: &[u8],
+) -> Result<(), AllocError>
+    ensures { OnOk result (out.new.items ≡ out.old.items ++ canon.field_text (with_value name.now line.now attribute.now)) }
+{
+    if attribute.has_name(name) {
+        push_opening(out, attribute.name(), line)
+    } else {
+        push_attribute(out, attribute)
+    }
+}
+
+/// Appends the canonical text of a paragraph (profile). The error is want of memory, and tells nothing of what was appended.
 #[tactic(auto, unfolding(crate::specs::CanonicalText::canonical))]
+pub fn print_onto(out: &mut Vec<u8>, paragraph: &Paragraph) -> Result<(), AllocError>
+    ensures { OnOk result (out.new.items ≡ out.old.items ++ canon.canonical paragraph.now) }
+{
+    for attribute in paragraph.attributes() {
+        push_attribute(out, attribute)?;
+    }
+    Ok(())
+}
+
+/// Appends the canonical text of a paragraph in which each attribute of this name, which is given in lower case, has this one
+/// line as its value: that of `Paragraph::with_values`, without the copy. The error is want of memory, and tells nothing of
+/// what was appended.
+pub fn print_onto_with_values(
+    out: &mut Vec<u8>,
+    paragraph: &Paragraph,
+    name: &[u8],
+    line: &[u8],
+) -> Result<(), AllocError>
+    ensures { OnOk result (out.new.items ≡ out.old.items ++ canon.canonical (map (with_value name.now line.now) paragraph.now)) }
+{
+    for attribute in paragraph.attributes() {
+        push_with_value(out, attribute, name, line)?;
+    }
+    Ok(())
+}
+
+/// The canonical text of a paragraph (profile). The error is want of memory.
 pub fn print(alloc: Global, paragraph: &Paragraph) -> Result<Text, AllocError>
     ensures { IfOk result (λ text. text ≡ canon.canonical paragraph.now) }
 {
     let mut out = Vec::new(alloc);
-    for attribute in paragraph.attributes() {
-        push_attribute(&mut out, attribute)?;
-    }
+    print_onto(&mut out, paragraph)?;
     Ok(Text::from_vec(out))
 }
 

@@ -19,7 +19,7 @@ pub mod text;
 pub mod value;
 
 pub use attribute::Attribute;
-pub use canonical::{print, read_canonical};
+pub use canonical::{print, print_onto, print_onto_with_values, read_canonical};
 pub use fault::TextFault;
 pub use paragraph::Paragraph;
 pub use paragraph_reader::ParagraphReader;

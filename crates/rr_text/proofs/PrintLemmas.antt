@@ -1,0 +1,19 @@
+-- Attributes that are printed with other values.
+use Rattle.std.proofs.Common.{◌≡◌, ℕ, ◌≤◌, List, ◌++◌, length, map, take, ap, sym, ◌∙◌}
+use Rattle.std.specs.List.{flat_map}
+use Rattle.std.proofs.lemmas.List.{take_all}
+use Rattle.std.proofs.lemmas.List.Folds.{flat_map-map}
+use Rattle.rr_text.specs.CanonicalText.{canonical, field_text}
+use Rattle.rr_text.specs.Fields.{Field, with_value}
+
+text_with_values : (name line : List ℕ) (fields : List Field)
+    → canonical (map (with_value name line) fields) ≡ flat_map (λ field. field_text (with_value name line field)) fields
+unfolding canonical
+text_with_values name line fields = flat_map-map field_text (with_value name line) fields
+
+-- what was printed of all attributes with these values is their canonical text
+pub all_printed : (name line : List ℕ) (fields listed : List Field) (i : ℕ) (before out : List ℕ) → listed ≡ fields → length listed ≤ i
+    → out ≡ before ++ flat_map (λ field. field_text (with_value name line field)) (take i listed) → out ≡ before ++ canonical (map (with_value name line) fields)
+all_printed name line fields listed i before out same past printed =
+    printed ∙ ap (λ (rest : List Field). before ++ flat_map (λ field. field_text (with_value name line field)) rest) (take_all i listed past ∙ same)
+    ∙ ap (λ text. before ++ text) (sym (text_with_values name line fields))

@@ -22,6 +22,7 @@ pub mod member;
 mod members;
 pub mod object;
 pub mod paragraph_key;
+pub mod public_form;
 mod reading;
 
 pub use auth::Auth;
@@ -35,5 +36,6 @@ pub use key::Key;
 pub use kind::{Kind, Occurs};
 pub use maintainers_named::MaintainersNamed;
 pub use member::{Member, MemberSet};
-pub use object::{Object, public};
+pub use object::Object;
 pub use paragraph_key::key_of;
+pub use public_form::{print_public, public};

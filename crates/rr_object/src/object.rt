@@ -3,7 +3,7 @@
 ghost use Rattle.std.specs.Prelude.{◌≡◌, ◌≢◌, Err, IfErr, IfOk, Ok, Some};
 ghost use Rattle.rr_object.specs.KeyOrders.{IsKeyValue};
 ghost use Rattle.rr_object.specs.KeySpellings.{key_of};
-ghost use Rattle.rr_object.specs.Readings.{obj_of, object_of, public_of, source_of};
+ghost use Rattle.rr_object.specs.Readings.{obj_of, object_of, source_of};
 ghost use Rattle.rr_object.specs.declared.fault.ObjectFault.TheVariants.{Memory};
 
 use crate::auth::Auth;
@@ -254,15 +254,4 @@ fn joined(key: Key, paragraph: Paragraph, authority: Authority, membership: Memb
         by_ref,
         member_of,
     }
-}
-
-/// The paragraph of an object for public answers: each value of an attribute named `auth` is the line `# filtered`. The
-/// error is want of memory.
-#[tactic(auto, unfolding(crate::specs::Readings::public_of))]
-pub fn public(alloc: Global, object: &Object) -> Result<Paragraph, AllocError>
-    ensures { IfOk result (λ paragraph. paragraph ≡ public_of object.now) }
-{
-    object
-        .paragraph()
-        .with_values(alloc, b"auth", b"# filtered")
 }

@@ -1,6 +1,6 @@
 //! Dumps.
 
-ghost use Rattle.std.specs.Prelude.{◌≡◌, ◌++◌, IfOk, length};
+ghost use Rattle.std.specs.Prelude.{◌≡◌, ◌++◌, IfOk, OnOk, length};
 ghost use Rattle.std.specs.FinMap.{values};
 ghost use Rattle.std.specs.List.{flat_map};
 ghost use Rattle.rr_sets.specs.Lists.{lent};
@@ -81,7 +81,7 @@ fn dump_listed<W: Sink>(
     Ok(objects.len())
 }
 
-/// Writes the objects.
+/// Writes the objects, each of which is printed where the one before it was.
 fn dump_objects<W: Sink>(
     alloc: Global,
     objects: &[&Object],
@@ -91,15 +91,16 @@ fn dump_objects<W: Sink>(
     ensures writes { WritesDump (flat_map (dumped full) (lent objects.now)) (W.told writer.old) (W.told writer.new) result }
     ensures aside { W.aside writer.new ≡ W.aside writer.old }
 {
+    let mut text = Vec::new(alloc);
     'objects: for object in objects {
-        dump_object(alloc, object, writer, full)?;
+        dump_object(&mut text, object, writer, full)?;
     }
     Ok(())
 }
 
-/// Writes one object.
+/// Writes one object, whose text takes the place of what the buffer has.
 fn dump_object<W: Sink>(
-    alloc: Global,
+    text: &mut Vec<u8>,
     object: &Object,
     writer: &mut W,
     full: bool,
@@ -107,22 +108,21 @@ fn dump_object<W: Sink>(
     ensures writes { WritesDump (dumped full object.now) (W.told writer.old) (W.told writer.new) result }
     ensures aside { W.aside writer.new ≡ W.aside writer.old }
 {
-    let text = dumped(alloc, object, full)?;
-    write_all(writer, &text)?;
+    text.clear();
+    push_dumped(text, object, full)?;
+    write_all(writer, text.as_slice())?;
     Ok(())
 }
 
-/// An object as it stands in a dump.
-fn dumped(alloc: Global, object: &Object, full: bool) -> Result<Vec<u8>, AllocError>
-    ensures { IfOk result (λ text. text.items ≡ dumped full object.now) }
+/// Appends an object as it stands in a dump.
+fn push_dumped(text: &mut Vec<u8>, object: &Object, full: bool) -> Result<(), AllocError>
+    ensures { OnOk result (text.new.items ≡ text.old.items ++ dumped full object.now) }
 {
-    let mut text = Vec::new(alloc);
     if full {
-        push_paragraph(alloc, &mut text, object.paragraph())?;
+        push_paragraph(text, object.paragraph())
     } else {
-        push_public(alloc, &mut text, object)?;
+        push_public(text, object)
     }
-    Ok(text)
 }
 
 /// Writes the last line.

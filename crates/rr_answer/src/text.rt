@@ -9,8 +9,8 @@ ghost use Rattle.rr_text.specs.CanonicalText.{canonical, ended};
 ghost use Rattle.rr_answer.specs.Texts as texts;
 
 use rr_number::{AsNumber, Range, SetName};
-use rr_object::{Object, public};
-use rr_text::{Paragraph, print};
+use rr_object::{Object, print_public};
+use rr_text::{Paragraph, print_onto};
 use std::alloc::{AllocError, Global};
 
 /// The objects as they are answered: the public canonical text of each and an empty line, or `% no entries` where there
@@ -30,33 +30,27 @@ fn public_texts(alloc: Global, objects: &[&Object]) -> Result<Vec<u8>, AllocErro
 {
     let mut text = Vec::new(alloc);
     'objects: for object in objects {
-        push_public(alloc, &mut text, object)?;
+        push_public(&mut text, object)?;
     }
     Ok(text)
 }
 
 /// Appends an object as it is answered.
-pub(crate) fn push_public(
-    alloc: Global,
-    text: &mut Vec<u8>,
-    object: &Object,
-) -> Result<(), AllocError>
+pub(crate) fn push_public(text: &mut Vec<u8>, object: &Object) -> Result<(), AllocError>
     ensures { OnOk result (text.new.items ≡ text.old.items ++ texts.public_text object.now) }
 {
-    let public = public(alloc, object)?;
-    push_paragraph(alloc, text, &public)
+    print_public(text, object)?;
+    text.push(b'\n')?;
+    Ok(())
 }
 
 /// Appends the canonical text of a paragraph and an empty line.
-pub(crate) fn push_paragraph(
-    alloc: Global,
-    text: &mut Vec<u8>,
-    paragraph: &Paragraph,
-) -> Result<(), AllocError>
+pub(crate) fn push_paragraph(text: &mut Vec<u8>, paragraph: &Paragraph) -> Result<(), AllocError>
     ensures { OnOk result (text.new.items ≡ text.old.items ++ ended (canonical paragraph.now)) }
 {
-    let printed = print(alloc, paragraph)?;
-    push_line(text, printed.as_slice())
+    print_onto(text, paragraph)?;
+    text.push(b'\n')?;
+    Ok(())
 }
 
 /// Appends a line with the LF that ends it.

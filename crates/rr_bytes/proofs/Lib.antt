@@ -1,4 +1,5 @@
 pub mod CutLemmas
+pub mod JoinLemmas
 pub mod LetterCaseLemmas
 pub mod PlaceLemmas
 pub mod TrimLemmas

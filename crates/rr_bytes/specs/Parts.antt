@@ -1,6 +1,7 @@
--- Texts in parts.
+-- Texts in parts, and parts as one text.
 use Rattle.std.specs.Prelude.{ℕ, Bool, not, ◌==◌, length, List, filter}
-use Rattle.std.specs.List.{slice_split}
+use Rattle.std.specs.List.{join_with_byte, slice_split}
+use Rattle.rr_bytes.specs.Blanks.{is_blank}
 
 -- A list that has something in it (profile).
 abbrev pub is_filled : {X : Type 0} → List X → Bool
@@ -9,3 +10,11 @@ is_filled xs = not (length xs == 0)
 -- The parts of a text between bytes that pass a test; empty parts are ignored (profile).
 abbrev pub parts_at : (ℕ → Bool) → List ℕ → List (List ℕ)
 parts_at test text = filter is_filled (slice_split test text)
+
+-- The words of a text, which blanks separate (profile).
+unfoldable pub words : List ℕ → List (List ℕ)
+words text = parts_at is_blank text
+
+-- Texts as one, with a space between each two (profile).
+abbrev pub joined_by_space : List (List ℕ) → List ℕ
+joined_by_space texts = join_with_byte 32 texts

@@ -1,5 +1,5 @@
-//! Bytes, and texts as their bytes: blanks and the line feed, texts less the blanks round them, texts cut at a byte and
-//! into parts, letter case, and what names are made of. Each notion has one definition and one body for all crates.
+//! Bytes, and texts as their bytes: blanks and the line feed, texts less the blanks round them, texts cut at a byte,
+//! into parts and joined from them, letter case, and what names are made of. Each notion has one definition and one body for all crates.
 #![tactic(auto)]
 
 mod byte_set;
@@ -13,5 +13,5 @@ pub use byte_set::ByteSet;
 pub use cuts::{cut_around, cut_at, cut_before, place_of};
 pub use letter_case::{is_keyword, to_lower, to_upper};
 pub use names::{is_attribute_name, is_name};
-pub use parts::parts_between;
+pub use parts::{joined_by_space, parts_between, words};
 pub use trims::{trim, trim_end, trim_start};

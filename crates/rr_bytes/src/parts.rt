@@ -1,9 +1,9 @@
-//! Texts in parts.
+//! Texts in parts, and parts as one text.
 
 ghost use Rattle.std.specs.Prelude.{◌≡◌, ◌<◌, ◌∷◌, [], IfNone, IfOk, IfSome, length, map, position};
 ghost use Rattle.std.specs.List.{slice_split};
 ghost use Rattle.rr_bytes.specs.ByteSets.{is_in};
-ghost use Rattle.rr_bytes.specs.Parts.{parts_at};
+ghost use Rattle.rr_bytes.specs.Parts.{joined_by_space, parts_at, words};
 
 use crate::byte_set::ByteSet;
 use std::alloc::{AllocError, Global};
@@ -28,6 +28,37 @@ pub fn parts_between(
         found.push(rest)?;
     }
     Ok(found)
+}
+
+/// The words of the text, which blanks separate; the error is want of memory.
+#[tactic(auto, unfolding(crate::specs::Parts::words))]
+pub fn words(alloc: Global, text: &[u8]) -> Result<Vec<&[u8]>, AllocError>
+    ensures { IfOk result (λ found. map (λ word. word.now) found.items ≡ words text.now) }
+{
+    parts_between(alloc, text, ByteSet::Blanks)
+}
+
+/// The texts as one, with a space between each two; the error is want of memory.
+pub fn joined_by_space(alloc: Global, texts: &[&[u8]]) -> Result<Vec<u8>, AllocError>
+    ensures { IfOk result (λ joined. joined.items ≡ joined_by_space (map (λ text. text.now) texts.now)) }
+{
+    match texts {
+        [] => Ok(Vec::new(alloc)),
+        [first, further @ ..] => join_further(alloc, first, further),
+    }
+}
+
+/// The first text and the further ones, with a space before each of these.
+#[tactic(auto, using(crate::proofs::JoinLemmas::joined_first))]
+fn join_further(alloc: Global, first: &[u8], further: &[&[u8]]) -> Result<Vec<u8>, AllocError>
+    ensures { IfOk result (λ joined. joined.items ≡ joined_by_space (first.now ∷ map (λ text. text.now) further.now)) }
+{
+    let mut joined = Vec::from_slice(alloc, first)?;
+    'further: for text in further {
+        joined.push(b' ')?;
+        joined.extend_from_slice(text)?;
+    }
+    Ok(joined)
 }
 
 /// The first part of the text and what stands behind the byte that ends it, if one does.

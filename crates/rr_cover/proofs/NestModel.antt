@@ -7,7 +7,7 @@ use Rattle.std.specs.Ordering.{eq_by_cmp}
 use Rattle.rr_number.specs.Spans.{Ends, IsSpan, covers, crosses, size, span_cmp}
 use Rattle.rr_number.proofs.SpanOrder.{span_cmp_total}
 use Rattle.rr_cover.specs.SpanMaps.{NoneCross, IsClosest, NoneCovers, crosses_some}
-use Rattle.rr_cover.specs.SpanNests.{is_ahead, at_span, standing, entries_of, nested, IsApart, IsNest, IsSound}
+use Rattle.rr_cover.specs.SpanNests.{is_ahead, at_span, standing, entries_of, nested, HasNoCrossing, IsNest, IsSound}
 use Rattle.rr_cover.specs.NestParts.{IsLastReaching, NoneReaches, SomeCrosses, NoneCrosses}
 use Rattle.rr_cover.specs.declared.span_nest.Nest.{Nest}
 use Rattle.rr_cover.specs.declared.span_nest.Nest.TheVariants.{Empty, Fork'}
@@ -65,11 +65,11 @@ module _ {T : Type 0} where
   pub held_nested : (nest : Nest T) (s : Ends) → contains_key (nested nest) s ≡ is_some (standing nest s)
   held_nested nest s = ap is_some ((nest_answers nest).all s)
 
-  pub apart_nested : (nest : Nest T) → IsApart nest → NoneCross (nested nest)
+  pub apart_nested : (nest : Nest T) → HasNoCrossing nest → NoneCross (nested nest)
   apart_nested nest apart = record { apart = λ s t in_s in_t. apart.apart s t (sym (held_nested nest s) ∙ in_s) (sym (held_nested nest t) ∙ in_t) }
 
   -- the last in order of the spans that cover s is the closest
-  pub closest_last : (nest : Nest T) (s t : Ends) (v : T) → IsApart nest → IsSpan s → IsLastReaching nest (s.first + 1) s.last t v → IsClosest (nested nest) s t v
+  pub closest_last : (nest : Nest T) (s t : Ends) (v : T) → HasNoCrossing nest → IsSpan s → IsLastReaching nest (s.first + 1) s.last t v → IsClosest (nested nest) s t v
   closest_last nest s t v apart is last = record {
     held = (nest_answers nest).all t ∙ last.held;
     above = covered s t last.begins last.reaches;

@@ -5,7 +5,7 @@ use Rattle.std.specs.Option.{option_or}
 use Rattle.std.specs.Ordering.{eq_by_cmp}
 use Rattle.rr_number.specs.Spans.{Ends, span_cmp}
 use Rattle.rr_cover.specs.SpanNests.{is_ahead, at_span, standing, Only, IsNest}
-use Rattle.rr_cover.specs.NestParts.{count, with_front, with_back, IsOpened}
+use Rattle.rr_cover.specs.NestParts.{count, with_front, with_back, IsTakenApart}
 use Rattle.rr_cover.specs.declared.span_nest.bounds.Bounds.{Bounds}
 use Rattle.rr_cover.specs.declared.span_nest.Nest.{Nest}
 use Rattle.rr_cover.proofs.NestHeld.{Made}
@@ -68,7 +68,7 @@ module _ {T : Type 0} where
       )
 
   -- a tree seen at its root
-  pub opened_of : (nest : Nest T) (span : Ends) (value : T) (bounds : Bounds) (before after : Nest T) → Made nest span value before after → IsNode span bounds before after → count nest ≡ count before + count after + 1 → IsOpened nest span value before after
+  pub opened_of : (nest : Nest T) (span : Ends) (value : T) (bounds : Bounds) (before after : Nest T) → Made nest span value before after → IsNode span bounds before after → count nest ≡ count before + count after + 1 → IsTakenApart nest span value before after
   opened_of nest span value bounds before after made is counted = record {
     fits = is.0.0;
     low = is.1.0;
@@ -79,10 +79,10 @@ module _ {T : Type 0} where
   }
 
   -- what the tree holds then
-  pub all_low : (nest : Nest T) (span : Ends) (value : T) (before after : Nest T) → IsOpened nest span value before after → (k : Ends) (v : T) (new : Nest T) → is_ahead k span ≡ true → Changed before new k (Some v) → (s : Ends) → option_or (standing new s) (option_or (at_span span value s) (standing after s)) ≡ cond (eq_by_cmp span_cmp s k) (Some v) (standing nest s)
+  pub all_low : (nest : Nest T) (span : Ends) (value : T) (before after : Nest T) → IsTakenApart nest span value before after → (k : Ends) (v : T) (new : Nest T) → is_ahead k span ≡ true → Changed before new k (Some v) → (s : Ends) → option_or (standing new s) (option_or (at_span span value s) (standing after s)) ≡ cond (eq_by_cmp span_cmp s k) (Some v) (standing nest s)
   all_low nest span value before after opened k v new ahead changed s =
       low_case nest span value before after opened k (Some v) new s (eq_by_cmp span_cmp s k) refl ahead (changed.all s)
 
-  pub all_high : (nest : Nest T) (span : Ends) (value : T) (before after : Nest T) → IsOpened nest span value before after → (k : Ends) (v : T) (new : Nest T) → is_ahead span k ≡ true → Changed after new k (Some v) → (s : Ends) → option_or (standing before s) (option_or (at_span span value s) (standing new s)) ≡ cond (eq_by_cmp span_cmp s k) (Some v) (standing nest s)
+  pub all_high : (nest : Nest T) (span : Ends) (value : T) (before after : Nest T) → IsTakenApart nest span value before after → (k : Ends) (v : T) (new : Nest T) → is_ahead span k ≡ true → Changed after new k (Some v) → (s : Ends) → option_or (standing before s) (option_or (at_span span value s) (standing new s)) ≡ cond (eq_by_cmp span_cmp s k) (Some v) (standing nest s)
   all_high nest span value before after opened k v new behind changed s =
       high_case nest span value before after opened k (Some v) new s (eq_by_cmp span_cmp s k) refl behind (changed.all s)

@@ -4,7 +4,7 @@ use Rattle.std.specs.Option.{option_or}
 use Rattle.std.specs.Ordering.{eq_by_cmp}
 use Rattle.rr_number.specs.Spans.{Ends, span_cmp}
 use Rattle.rr_cover.specs.SpanNests.{is_ahead, at_span, standing, Only, Fits, IsBound, IsNest}
-use Rattle.rr_cover.specs.NestParts.{IsOpened}
+use Rattle.rr_cover.specs.NestParts.{IsTakenApart}
 use Rattle.rr_cover.specs.declared.span_nest.bounds.Bounds.{Bounds}
 use Rattle.rr_cover.specs.declared.span_nest.Nest.{Nest}
 use Rattle.rr_cover.proofs.Among.{tied_same, same_tied}
@@ -71,7 +71,7 @@ module _ {T : Type 0} where
   pub only_none : (p : Ends → Bool) (nest : Nest T) → ((s : Ends) → standing nest s ≡ None) → Only p nest
   only_none p nest none = record { each = λ s held. absurd (contradicted _ (ap is_some (none s)) held) }
 
-  module _ (nest : Nest T) (span : Ends) (value : T) (before after : Nest T) (opened : IsOpened nest span value before after) where
+  module _ (nest : Nest T) (span : Ends) (value : T) (before after : Nest T) (opened : IsTakenApart nest span value before after) where
     pub made_by : Made nest span value before after
     made_by = record { all = opened.all }
 
@@ -118,7 +118,7 @@ module _ {T : Type 0} where
   just None = refl
   just (Some x) = refl
 
-  module _ (nest : Nest T) (span : Ends) (value : T) (before after : Nest T) (opened : IsOpened nest span value before after) (k : Ends) (o : Option T) where
+  module _ (nest : Nest T) (span : Ends) (value : T) (before after : Nest T) (opened : IsTakenApart nest span value before after) (k : Ends) (o : Option T) where
     pub low_case : (new : Nest T) (s : Ends) (b : Bool) → eq_by_cmp span_cmp s k ≡ b → is_ahead k span ≡ true → standing new s ≡ cond b o (standing before s) → option_or (standing new s) (option_or (at_span span value s) (standing after s)) ≡ cond b o (standing nest s)
     low_case new s true tied ahead is =
         let first : is_ahead s span ≡ true = ap (λ t. is_ahead t span) (tied_same s k tied) ∙ ahead in
@@ -147,7 +147,7 @@ module _ {T : Type 0} where
     changed_high new result ahead changed made = record { all = λ s. made.all s ∙ high_case new s (eq_by_cmp span_cmp s k) refl ahead (changed.all s) }
 
   -- the tree without its root
-  pub taken_out : (nest : Nest T) (span : Ends) (value : T) (before after : Nest T) → IsOpened nest span value before after → (k : Ends) → k ≡ span → (result : Nest T) → ((s : Ends) → standing result s ≡ option_or (standing before s) (standing after s)) → Changed nest result k None
+  pub taken_out : (nest : Nest T) (span : Ends) (value : T) (before after : Nest T) → IsTakenApart nest span value before after → (k : Ends) → k ≡ span → (result : Nest T) → ((s : Ends) → standing result s ≡ option_or (standing before s) (standing after s)) → Changed nest result k None
   taken_out nest span value before after opened k same result rest = record { all = λ s. rest s ∙ case s (eq_by_cmp span_cmp s k) refl }
     where
       nothing : (a b : Option T) → a ≡ None → b ≡ None → option_or a b ≡ None
@@ -184,7 +184,7 @@ module _ {T : Type 0} where
       ap (option_or (at_span span value s)) is_result ∙ sym (regroup (at_span span value s) rest (option_or own high)) ∙ ap (λ x. option_or x (option_or own high)) is_low
 
   -- the root of the front side, over what it had in front and the old root behind it
-  pub fits_first : (span : Ends) (value : T) (before after : Nest T) (front : Ends) (front_value : T) (outer inner rest back : Nest T) → Fits span before after → IsOpened before front front_value outer inner → Made back span value rest after → Only (λ u. is_ahead front u) rest → Fits front outer back
+  pub fits_first : (span : Ends) (value : T) (before after : Nest T) (front : Ends) (front_value : T) (outer inner rest back : Nest T) → Fits span before after → IsTakenApart before front front_value outer inner → Made back span value rest after → Only (λ u. is_ahead front u) rest → Fits front outer back
   fits_first span value before after front front_value outer inner rest back fits opened made only =
       let first = own_of before front front_value outer inner opened (λ u. is_ahead u span) fits.ahead in
       record {
@@ -194,7 +194,7 @@ module _ {T : Type 0} where
       }
 
   -- the root of the back side, over the old root in front and what it had behind it
-  pub fits_last : (span : Ends) (value : T) (before after : Nest T) (last : Ends) (last_value : T) (inner outer rest front : Nest T) → Fits span before after → IsOpened after last last_value inner outer → Made front span value before rest → Only (λ u. is_ahead u last) rest → Fits last front outer
+  pub fits_last : (span : Ends) (value : T) (before after : Nest T) (last : Ends) (last_value : T) (inner outer rest front : Nest T) → Fits span before after → IsTakenApart after last last_value inner outer → Made front span value before rest → Only (λ u. is_ahead u last) rest → Fits last front outer
   fits_last span value before after last last_value inner outer rest front fits opened made only =
       let second = own_of after last last_value inner outer opened (λ u. is_ahead span u) fits.behind in
       record {
@@ -204,7 +204,7 @@ module _ {T : Type 0} where
       }
 
   -- a root between two nodes, each over one of its sides
-  pub fits_between : (left : Ends) (left_value : T) (right : Ends) (right_value : T) (outer low high last front back middle : Nest T) (top : Ends) (top_value : T) → IsOpened middle top top_value low high → Made front left left_value outer low → Made back right right_value high last → Only (λ u. is_ahead u left) outer → Only (λ u. is_ahead left u) middle → Only (λ u. is_ahead u right) middle → Only (λ u. is_ahead right u) last → Fits top front back
+  pub fits_between : (left : Ends) (left_value : T) (right : Ends) (right_value : T) (outer low high last front back middle : Nest T) (top : Ends) (top_value : T) → IsTakenApart middle top top_value low high → Made front left left_value outer low → Made back right right_value high last → Only (λ u. is_ahead u left) outer → Only (λ u. is_ahead left u) middle → Only (λ u. is_ahead u right) middle → Only (λ u. is_ahead right u) last → Fits top front back
   fits_between left left_value right right_value outer low high last front back middle top top_value opened made_front made_back ahead first second behind =
       let from = own_of middle top top_value low high opened (λ u. is_ahead left u) first in
       let to = own_of middle top top_value low high opened (λ u. is_ahead u right) second in
@@ -215,7 +215,7 @@ module _ {T : Type 0} where
       }
 
   -- a span that a tree does not hold is not its root's
-  pub missing_apart : (nest : Nest T) (span : Ends) (value : T) (before after : Nest T) → IsOpened nest span value before after → (k : Ends) → standing nest k ≡ None → eq_by_cmp span_cmp k span ≡ false
+  pub missing_apart : (nest : Nest T) (span : Ends) (value : T) (before after : Nest T) → IsTakenApart nest span value before after → (k : Ends) → standing nest k ≡ None → eq_by_cmp span_cmp k span ≡ false
   missing_apart nest span value before after opened k none = case (eq_by_cmp span_cmp k span) refl
     where
       case : (b : Bool) → eq_by_cmp span_cmp k span ≡ b → b ≡ false

@@ -4,8 +4,8 @@ use Rattle.std.specs.Option.{option_or}
 use Rattle.std.specs.Ordering.{eq_by_cmp}
 use Rattle.rr_number.specs.Prefixes.{PrefixParts, IsMasked, span_of}
 use Rattle.rr_number.specs.Spans.{Ends, covers, span_cmp}
-use Rattle.rr_cover.specs.PrefixTrees.{own, standing, lies_on, IsRootedOn, IsTree}
-use Rattle.rr_cover.specs.TreeParts.{is_above, root_of, IsParting}
+use Rattle.rr_cover.specs.PrefixTrees.{lies_on, IsRootedOn, IsTree}
+use Rattle.rr_cover.specs.TreeParts.{own, standing, is_above, root_of, IsParting}
 use Rattle.rr_cover.specs.declared.prefix_tree.Tree.{Tree}
 use Rattle.rr_cover.specs.declared.prefix_tree.Tree.TheVariants.{Empty, Fork'}
 use Rattle.rr_cover.proofs.Among.{tied_same, same_tied}

@@ -4,8 +4,8 @@ use Rattle.std.specs.Option.{option_or}
 use Rattle.std.specs.Ordering.{eq_by_cmp}
 use Rattle.rr_number.specs.Prefixes.{PrefixParts, span_of}
 use Rattle.rr_number.specs.Spans.{Ends, span_cmp}
-use Rattle.rr_cover.specs.PrefixTrees.{own, standing, in_upper, lies_on, IsRootedOn, IsFork, IsTree}
-use Rattle.rr_cover.specs.TreeParts.{is_idle, only_side}
+use Rattle.rr_cover.specs.PrefixTrees.{in_upper, lies_on, IsRootedOn, IsFork, IsTree}
+use Rattle.rr_cover.specs.TreeParts.{own, standing, is_idle, only_side}
 use Rattle.rr_cover.specs.declared.prefix_tree.Tree.{Tree}
 use Rattle.rr_cover.specs.declared.prefix_tree.Tree.TheVariants.{Empty, Fork'}
 use Rattle.rr_cover.proofs.Among.{tied_same}

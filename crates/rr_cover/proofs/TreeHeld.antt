@@ -5,8 +5,8 @@ use Rattle.std.specs.Ordering.{eq_by_cmp}
 use Rattle.rr_number.specs.Prefixes.{PrefixParts, IsMasked, span_of}
 use Rattle.rr_number.specs.Spans.{Ends, covers, size, span_cmp}
 use Rattle.rr_number.proofs.PrefixSpans.{IsSpan-prefix}
-use Rattle.rr_cover.specs.PrefixTrees.{own, standing, in_upper, lies_on, IsRootedOn, IsFork, IsTree}
-use Rattle.rr_cover.specs.TreeParts.{side_of, IsSmallestCover, NoCover}
+use Rattle.rr_cover.specs.PrefixTrees.{in_upper, lies_on, IsRootedOn, IsFork, IsTree}
+use Rattle.rr_cover.specs.TreeParts.{own, standing, side_of, IsSmallestCover, NoCover}
 use Rattle.rr_cover.specs.declared.prefix_tree.Tree.{Tree}
 use Rattle.rr_cover.specs.declared.prefix_tree.Tree.TheVariants.{Empty, Fork'}
 use Rattle.rr_cover.proofs.Among.{tied_same, same_tied}

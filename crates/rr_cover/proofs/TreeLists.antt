@@ -8,8 +8,8 @@ use Rattle.std.specs.Option.{option_or}
 use Rattle.std.specs.Ordering.{eq_by_cmp, is_lt}
 use Rattle.rr_number.specs.Prefixes.{PrefixParts, span_of}
 use Rattle.rr_number.specs.Spans.{Ends, covers, meets, span_cmp}
-use Rattle.rr_cover.specs.PrefixTrees.{own, standing, IsFork, IsTree}
-use Rattle.rr_cover.specs.TreeParts.{is_listed}
+use Rattle.rr_cover.specs.PrefixTrees.{IsFork, IsTree}
+use Rattle.rr_cover.specs.TreeParts.{own, standing, is_listed}
 use Rattle.rr_cover.specs.declared.prefix_tree.Tree.{Tree}
 use Rattle.rr_cover.proofs.Among.{tied_same}
 use Rattle.rr_cover.proofs.Ordered.{span_eq}

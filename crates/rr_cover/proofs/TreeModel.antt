@@ -8,8 +8,8 @@ use Rattle.rr_number.specs.Spans.{Ends, crosses, span_cmp}
 use Rattle.rr_number.proofs.SpanOrder.{span_cmp_total}
 use Rattle.rr_number.proofs.PrefixSpans.{never_cross}
 use Rattle.rr_cover.specs.SpanMaps.{NoneCross, IsClosest, NoneCovers}
-use Rattle.rr_cover.specs.PrefixTrees.{own, own_entry, standing, entries_of, held_by, IsTree}
-use Rattle.rr_cover.specs.TreeParts.{IsSmallestCover, NoCover}
+use Rattle.rr_cover.specs.PrefixTrees.{own_entry, entries_of, held_by, IsTree}
+use Rattle.rr_cover.specs.TreeParts.{own, standing, IsSmallestCover, NoCover}
 use Rattle.rr_cover.specs.declared.prefix_tree.Tree.{Tree}
 use Rattle.rr_cover.specs.declared.prefix_tree.Tree.TheVariants.{Empty, Fork'}
 use Rattle.rr_cover.proofs.NestModel.{find_both}

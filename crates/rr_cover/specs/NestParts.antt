@@ -52,7 +52,7 @@ pub record NoneCrosses {T : Type 0} (nest : Nest T) (s : Ends) : Type 0 where
   pub none : (t : Ends) → is_some (standing nest t) ≡ true → crosses t s ≡ false
 
 -- A tree taken apart at its root.
-pub record IsOpened {T : Type 0} (nest : Nest T) (span : Ends) (value : T) (before after : Nest T) : Type 0 where
+pub record IsTakenApart {T : Type 0} (nest : Nest T) (span : Ends) (value : T) (before after : Nest T) : Type 0 where
   pub fits : Fits span before after
   pub low : IsNest before
   pub high : IsNest after

@@ -1,8 +1,6 @@
 -- A tree of prefixes with their values, as the map of spans that it holds.
-use Rattle.std.specs.Prelude.{◌≡◌, ℕ, Bool, true, false, ◌&&◌, ◌+◌, ◌-◌, ◌/◌, nat_lt, nat_le, if◌then◌else◌, List, [], ◌∷◌, ◌++◌, Option, Some, None}
+use Rattle.std.specs.Prelude.{◌≡◌, ℕ, Bool, true, false, ◌&&◌, ◌+◌, ◌-◌, ◌/◌, nat_lt, nat_le, List, [], ◌∷◌, ◌++◌, Option, Some, None}
 use Rattle.std.specs.FinMap.{from_entries}
-use Rattle.std.specs.Option.{option_or}
-use Rattle.std.specs.Ordering.{eq_by_cmp}
 use Rattle.rr_number.specs.Prefixes.{PrefixParts, IsMasked, count_of, span_of}
 use Rattle.rr_number.specs.Spans.{Ends, span_cmp}
 use Rattle.rr_cover.specs.SpanMaps.{SpanMap}
@@ -22,16 +20,6 @@ entries_of (Fork' p prefix value lower upper) = own_entry prefix value ++ (entri
 -- The map that a tree holds.
 abbrev pub held_by : {T : Type 0} → Tree T → SpanMap T
 held_by tree = from_entries (entries_of tree)
-
--- A node's value at the span of its prefix.
-abbrev pub own : {T : Type 0} → PrefixParts → Option T → Ends → Option T
-own prefix value s = if eq_by_cmp span_cmp s (span_of prefix) then value else None
-
--- The value that stands at a span.
-abbrev pub standing : {T : Type 0} → Tree T → Ends → Option T
-standing Empty s = None
-standing (Fork' p prefix value lower upper) s =
-    option_or (own prefix value s) (option_or (standing lower s) (standing upper s))
 
 -- How many addresses each half of a prefix has; a prefix of one address has no halves.
 abbrev pub half : PrefixParts → ℕ

@@ -60,7 +60,7 @@ IsNest (Fork' p span value height bounds before after) =
     (Fits span before after × IsBound bounds span before after) × (IsNest before × IsNest after)
 
 -- No two spans of a tree cross.
-pub record IsApart {T : Type 0} (nest : Nest T) : Type 0 where
+pub record HasNoCrossing {T : Type 0} (nest : Nest T) : Type 0 where
   pub apart :
       (s t : Ends) → is_some (standing nest s) ≡ true → is_some (standing nest t) ≡ true
       → crosses s t ≡ false
@@ -68,4 +68,4 @@ pub record IsApart {T : Type 0} (nest : Nest T) : Type 0 where
 -- A tree is sound where its spans stand in order and no two cross.
 pub record IsSound {T : Type 0} (root : Nest T) : Type 0 where
   pub order : IsNest root
-  pub apart : IsApart root
+  pub apart : HasNoCrossing root

@@ -1,12 +1,23 @@
 -- What the parts of a tree of prefixes answer and leave. No public contract cites these.
 use Rattle.std.specs.Prelude.{◌≡◌, ℕ, ◌-◌, ◌≤◌, Bool, true, false, not, ◌&&◌, ◌||◌, if◌then◌else◌, List, Option, None, Some, is_some}
 use Rattle.std.specs.List.{list_any}
+use Rattle.std.specs.Option.{option_or}
 use Rattle.std.specs.Ordering.{eq_by_cmp}
 use Rattle.rr_number.specs.Prefixes.{PrefixParts, IsMasked, span_of}
 use Rattle.rr_number.specs.Spans.{Ends, covers, size, span_cmp}
-use Rattle.rr_cover.specs.PrefixTrees.{standing, in_upper, lies_on}
+use Rattle.rr_cover.specs.PrefixTrees.{in_upper, lies_on}
 use Rattle.rr_cover.specs.declared.prefix_tree.Tree.{Tree}
 use Rattle.rr_cover.specs.declared.prefix_tree.Tree.TheVariants.{Empty, Fork'}
+
+-- A node's value at the span of its prefix.
+abbrev pub own : {T : Type 0} → PrefixParts → Option T → Ends → Option T
+own prefix value s = if eq_by_cmp span_cmp s (span_of prefix) then value else None
+
+-- The value that stands at a span.
+abbrev pub standing : {T : Type 0} → Tree T → Ends → Option T
+standing Empty s = None
+standing (Fork' p prefix value lower upper) s =
+    option_or (own prefix value s) (option_or (standing lower s) (standing upper s))
 
 -- The side of a node on which a span would stand.
 abbrev pub side_of : {T : Type 0} → PrefixParts → Tree T → Tree T → Ends → Tree T

@@ -5,8 +5,8 @@ use Rattle.rr_text.specs.Lines.{text_lines, are_whole_lines, is_blank_line, is_s
 use Rattle.std.proofs.lemmas.List.Elements.{filter-append}
 use Rattle.std.proofs.lemmas.List.{take_at, drop_at, append-nil, map-append, take-append-drop, length-take-le}
 use Rattle.rr_text.proofs.LineLemmas.{text_lines-append, are_whole_lines-append}
-use Rattle.rr_text.specs.Blocks.{blocks, from_unskipped, has_line, from_blank, starts_block}
-use Rattle.rr_text.specs.PrivateParts.{until_blank}
+use Rattle.rr_text.specs.Blocks.{blocks, from_unskipped, has_line, from_blank}
+use Rattle.rr_text.specs.PrivateParts.{starts_block, until_blank}
 
 -- what `slice_split` gives behind its first part
 parts_after : List (List ℕ) → List (List (List ℕ))

@@ -9,12 +9,12 @@ use Rattle.rr_text.specs.declared.line_so_far.LineSoFar.{LineSoFar}
 use Rattle.rr_text.specs.declared.line_so_far.LineSoFar.TheVariants.{Nothing}
 use Rattle.rr_text.specs.declared.line_so_far.LineEnd.{LineEnd}
 use Rattle.rr_text.specs.declared.line_so_far.LineEnd.TheVariants.{Passed, Taken, Closed}
-use Rattle.rr_text.specs.LineParts.{line_so_far, line_with, line_end}
-use Rattle.rr_text.specs.DraftParts.{IsCutSo, KeepsBlock, IsBegun, HasEntry, IsClosed, GathersLines, Finishes, IsFresh, KeepsPiece, TakesLine, EndsLine}
+use Rattle.rr_text.specs.LineParts.{line_so_far, line_with, end_of_line}
+use Rattle.rr_text.specs.DraftParts.{IsCutSo, KeepsBlock, IsBegun, HasEntry, IsClosed, GathersLines, Finishes, HasNoText, KeepsPiece, TakesLine, EndsLine}
 use Rattle.rr_bytes.specs.Blanks.{is_line_feed}
 use Rattle.rr_text.specs.Lines.{text_lines, are_whole_lines, IsWholeLine, is_blank_line, is_skipped_line, is_paragraph_line}
-use Rattle.rr_text.specs.Blocks.{blocks, from_blank, starts_block}
-use Rattle.rr_text.specs.PrivateParts.{until_blank}
+use Rattle.rr_text.specs.Blocks.{blocks, from_blank}
+use Rattle.rr_text.specs.PrivateParts.{starts_block, until_blank}
 use Rattle.rr_text.specs.Entries.{entries, block_entry, size_limit}
 use Rattle.rr_text.specs.WholePart.{closes, closed_lines, whole_part, whole_entries}
 use Rattle.rr_text.proofs.LineLemmas.{text_lines-append, are_whole_lines-append}
@@ -215,7 +215,7 @@ kept_taken old new block line most kept takes =
       too_large = λ past. taken_large old.over new.whole old.kept.items (block ++ line) most takes.whole kept.large past;
     }
 
-kept_fresh : (draft : Draft) → IsFresh draft → KeepsBlock [] [] draft.kept.items draft.over draft.whole
+kept_fresh : (draft : Draft) → HasNoText draft → KeepsBlock [] [] draft.kept.items draft.over draft.whole
 kept_fresh draft fresh = record {
   all = λ _. fresh.kept;
   large = λ e. let over = fresh.over in cc;
@@ -240,7 +240,7 @@ cut_none text passed lines idle = record {
   begun = refl;
 }
 
-begun_with : (text : List ℕ) (draft : Draft) → IsFresh draft → IsCutSo text false [] [] → IsBegun text draft
+begun_with : (text : List ℕ) (draft : Draft) → HasNoText draft → IsCutSo text false [] [] → IsBegun text draft
 begun_with text draft fresh cut = record {
   block = [];
   line = [];
@@ -250,7 +250,7 @@ begun_with text draft fresh cut = record {
 }
 
 -- no text has begun
-pub begun_none : (draft : Draft) → IsFresh draft → IsBegun [] draft
+pub begun_none : (draft : Draft) → HasNoText draft → IsBegun [] draft
 begun_none draft fresh = begun_with [] draft fresh (cut_none [] [] (λ more. refl) refl)
 
 -- a piece without its LF
@@ -285,7 +285,7 @@ feed_lines text piece block line started at more =
     behind_lines text piece line at.cut.passed (text_lines block) at.cut.lines more
     ∙ ap (λ ls. at.cut.passed ++ (text_lines block ++ ls)) (text_lines-append (line ++ piece) more at.whole.ended ∙ ap (λ ls. ls ++ text_lines more) at.whole.single)
 
-fed_passed : (text piece block line : List ℕ) (new : Draft) → IsAtFeed text piece false block line → is_paragraph_line (line ++ piece) ≡ false → IsFresh new → IsBegun (text ++ piece) new
+fed_passed : (text piece block line : List ℕ) (new : Draft) → IsAtFeed text piece false block line → is_paragraph_line (line ++ piece) ≡ false → HasNoText new → IsBegun (text ++ piece) new
 fed_passed text piece block line new at h fresh =
     let none : block ≡ [] = at.cut.none refl in
     let lines : (more : List ℕ) → text_lines ((text ++ piece) ++ more) ≡ (at.cut.passed ++ (line ++ piece) ∷ []) ++ text_lines more = λ more.
@@ -357,18 +357,18 @@ fed_by Closed text piece block line started closes mid new at most kept so ends 
 
 -- a piece with its LF, behind which the line is at its end
 pub begun_fed : (text piece : List ℕ) (old mid new : Draft) (closing : Bool) → IsBegun text old → KeepsPiece old mid piece
-    → EndsLine (line_end mid.started mid.line) mid new closing → 0 < length piece → text_lines piece ≡ piece ∷ [] → are_whole_lines piece ≡ true → GathersLines closing (text ++ piece) new
+    → EndsLine (end_of_line mid.started mid.line) mid new closing → 0 < length piece → text_lines piece ≡ piece ∷ [] → are_whole_lines piece ≡ true → GathersLines closing (text ++ piece) new
 begun_fed text piece old mid new closing begun keeps ends some single h =
     let started : mid.started ≡ old.started = keeps.started in
     let known : mid.line ≡ line_so_far (begun.line ++ piece) = keeps.line ∙ (ap (λ kind. line_with kind piece) begun.known ∙ line_with-append begun.line piece) in
-    let so : EndsSo old.started (begun.line ++ piece) (line_end mid.started mid.line) = rw (started, known) (ends_so old.started (begun.line ++ piece)) in
+    let so : EndsSo old.started (begun.line ++ piece) (end_of_line mid.started mid.line) = rw (started, known) (ends_so old.started (begun.line ++ piece)) in
     let at : IsAtFeed text piece old.started begun.block begun.line = record {
       cut = begun.cut;
       at = cut_ended text begun.block begun.line piece old.started begun.cut single;
       whole = record { single = single_behind begun.line piece begun.cut.begun single; ended = whole_behind begun.line piece some h };
       some = omega (arith, some, length-append begun.line piece);
     } in
-    fed_by (line_end mid.started mid.line) text piece begun.block begun.line old.started closing mid new at
+    fed_by (end_of_line mid.started mid.line) text piece begun.block begun.line old.started closing mid new at
     mid.most (kept_more old mid piece begun.block begun.line begun.kept keeps) so ends
 
 begun_single : (b : ℕ) (bs : List ℕ) → list_any is_line_feed (b ∷ bs) ≡ false → text_lines (b ∷ bs) ≡ (b ∷ bs) ∷ []
@@ -401,7 +401,7 @@ finishes_none true text draft e none = cc
 finishes_none false text draft e none = none
 
 bare_by : (started closing : Bool) (text block : List ℕ) (old new : Draft) → IsCutSo text started block [] → KeepsBlock block [] old.kept.items old.over old.whole → old.started ≡ started
-    → EndsLine (line_end started Nothing) old new closing → Finishes new.started text new
+    → EndsLine (end_of_line started Nothing) old new closing → Finishes new.started text new
 bare_by true closing text block old new cut kept was ends =
     let same : new ≡ old = ends.0 in
     let P : Draft → Type 0 = λ d. Finishes d.started text d in
@@ -426,14 +426,14 @@ ended_by Closed text block line started closing old new at kept was so ends =
     subst P (sym same) (finishes_one old.started text old (was ∙ begun) (entry_of text block old whole.starts kept.front kept.too_large (closed_end text block line whole so.1)))
 
 -- the end of the text, whether or not a line has begun
-pub begun_ended : (text : List ℕ) (old new : Draft) (closing : Bool) → IsBegun text old → EndsLine (line_end old.started old.line) old new closing → Finishes new.started text new
+pub begun_ended : (text : List ℕ) (old new : Draft) (closing : Bool) → IsBegun text old → EndsLine (end_of_line old.started old.line) old new closing → Finishes new.started text new
 begun_ended text old new closing begun ends =
     elim (begun_lines begun.line begun.cut.begun) [
       | inl none ↦
           let known : old.line ≡ Nothing = begun.known ∙ ap line_so_far none in
           let cut : IsCutSo text old.started begun.block [] = rw none at begun.cut in
           let kept : KeepsBlock begun.block [] old.kept.items old.over old.whole = rw none at begun.kept in
-          let so : EndsLine (line_end old.started Nothing) old new closing = subst (λ (kind : LineSoFar). EndsLine (line_end old.started kind) old new closing) known ends in
+          let so : EndsLine (end_of_line old.started Nothing) old new closing = subst (λ (kind : LineSoFar). EndsLine (end_of_line old.started kind) old new closing) known ends in
           bare_by old.started closing text begun.block old new cut kept refl so
       | inr single ↦
           let at : IsAtLineEnd text old.started begun.block begun.line = record {
@@ -446,8 +446,8 @@ begun_ended text old new closing begun ends =
             whole = begun.cut.whole;
             single = single;
           } in
-          let so : EndsSo old.started begun.line (line_end old.started old.line) = rw begun.known (ends_so old.started begun.line) in
-          ended_by (line_end old.started old.line) text begun.block begun.line old.started closing old new at begun.kept refl so ends
+          let so : EndsSo old.started begun.line (end_of_line old.started old.line) = rw begun.known (ends_so old.started begun.line) in
+          ended_by (end_of_line old.started old.line) text begun.block begun.line old.started closing old new at begun.kept refl so ends
     ]
 
 unclosed_blocks : (lines : List (List ℕ)) → list_any is_blank_line lines ≡ false → list_any closes lines ≡ false

@@ -8,7 +8,7 @@ use Rattle.rr_text.specs.declared.line_so_far.LineSoFar.{LineSoFar}
 use Rattle.rr_text.specs.declared.line_so_far.LineSoFar.TheVariants.{Nothing, Blank, Skipped, Kept}
 use Rattle.rr_text.specs.declared.line_so_far.LineEnd.{LineEnd}
 use Rattle.rr_text.specs.declared.line_so_far.LineEnd.TheVariants.{Passed, Taken, Closed}
-use Rattle.rr_text.specs.LineParts.{line_so_far, line_with, line_end}
+use Rattle.rr_text.specs.LineParts.{line_so_far, line_with, end_of_line}
 use Rattle.rr_bytes.specs.Blanks.{is_blank_or_line_feed, is_line_feed}
 use Rattle.rr_text.specs.Lines.{text_lines, are_whole_lines, is_blank_line, is_skipped_line, is_paragraph_line, is_remark_sign}
 
@@ -83,7 +83,7 @@ EndsSo started line Closed = (started ≡ true) × (is_blank_line line ≡ true)
 unblank_sign : (b : ℕ) → is_remark_sign b ≡ true → is_blank_or_line_feed b ≡ false
 unblank_sign b h = grind (arith, nat_tests)
 
-ends_by : (t u started : Bool) (b : ℕ) (bs : List ℕ) → is_remark_sign b ≡ t → is_blank_line (b ∷ bs) ≡ u → EndsSo started (b ∷ bs) (line_end started (line_so_far (b ∷ bs)))
+ends_by : (t u started : Bool) (b : ℕ) (bs : List ℕ) → is_remark_sign b ≡ t → is_blank_line (b ∷ bs) ≡ u → EndsSo started (b ∷ bs) (end_of_line started (line_so_far (b ∷ bs)))
 ends_by true u true b bs h k = let blank : is_blank_or_line_feed b ≡ false = unblank_sign b h in rw h (rw blank refl, refl)
 ends_by true u false b bs h k = rw h (refl, rw h (and-false (not (is_blank_line (b ∷ bs)))))
 ends_by false true true b bs h k = rw (h, k) (refl, k)
@@ -91,7 +91,7 @@ ends_by false true false b bs h k = rw (h, k) (refl, rw k refl)
 ends_by false false true b bs h k = rw (h, k) (k, refl)
 ends_by false false false b bs h k = rw (h, k) (k, rw (k, h) refl)
 
-pub ends_so : (started : Bool) (line : List ℕ) → EndsSo started line (line_end started (line_so_far line))
+pub ends_so : (started : Bool) (line : List ℕ) → EndsSo started line (end_of_line started (line_so_far line))
 ends_so true [] = (refl, refl)
 ends_so false [] = (refl, refl)
 ends_so started (b ∷ bs) = ends_by (is_remark_sign b) (is_blank_line (b ∷ bs)) started b bs refl refl

@@ -16,7 +16,7 @@ use Rattle.rr_bytes.specs.NameBytes.{begins, is_attribute_name, is_name_byte}
 use Rattle.rr_bytes.specs.Trims.{before_trimmed, trim, trim_end, trim_start}
 use Rattle.rr_text.specs.Bytes.{is_colon, is_refused}
 use Rattle.rr_text.specs.Lines.{text_lines, line_kind, is_blank_line, is_skipped_line, is_continuation_sign}
-use Rattle.rr_text.specs.Blocks.{starts_block}
+use Rattle.rr_text.specs.PrivateParts.{starts_block}
 use Rattle.rr_text.specs.Faults.{written_name, opening_fault, fault_by_kind, line_fault, later_fault, block_fault}
 use Rattle.rr_text.specs.Fields.{IsLine, IsField, AreFields}
 use Rattle.rr_text.specs.Entries.{continued, opened_field, opened_by, block_fields}

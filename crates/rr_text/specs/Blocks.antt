@@ -32,8 +32,3 @@ from_block (line ∷ others) = if is_paragraph_line line then line ∷ others el
 -- (RFC 2622, 2)
 unfoldable pub place_behind : ℕ → List ℕ → ℕ
 place_behind from text = length text - length (concat (from_blank (from_block (text_lines (drop from text)))))
-
--- the first line is neither blank nor skipped
-abbrev pub starts_block : List (List ℕ) → Bool
-starts_block [] = false
-starts_block (line ∷ others) = is_paragraph_line line

@@ -10,7 +10,7 @@ use Rattle.rr_text.specs.declared.line_so_far.LineEnd.TheVariants.{Passed, Taken
 use Rattle.rr_text.specs.LineParts.{line_so_far, line_with}
 use Rattle.rr_bytes.specs.Blanks.{is_line_feed}
 use Rattle.rr_text.specs.Lines.{text_lines, are_whole_lines, is_blank_line, is_paragraph_line}
-use Rattle.rr_text.specs.Blocks.{starts_block}
+use Rattle.rr_text.specs.PrivateParts.{starts_block}
 use Rattle.rr_text.specs.Fields.{Field, AreFields}
 use Rattle.rr_text.specs.Entries.{entries, block_entry, size_limit}
 use Rattle.rr_text.specs.WholePart.{whole_part}
@@ -70,7 +70,7 @@ Finishes true text draft = HasEntry text draft
 Finishes false text draft = entries text ≡ []
 
 -- the draft of no text
-pub record IsFresh (draft : Draft) : Type 0 where
+pub record HasNoText (draft : Draft) : Type 0 where
   pub kept : draft.kept.items ≡ []
   pub over : draft.over ≡ false
   pub whole : draft.whole ≡ 0
@@ -95,7 +95,7 @@ pub record TakesLine (old new : Draft) : Type 0 where
 
 -- what the end of a line does to a draft, and whether it closes the block
 abbrev pub EndsLine : LineEnd → Draft → Draft → Bool → Type 0
-EndsLine Passed old new closes = IsFresh new × (closes ≡ false)
+EndsLine Passed old new closes = HasNoText new × (closes ≡ false)
 EndsLine Taken old new closes = TakesLine old new × (closes ≡ false)
 EndsLine Closed old new closes = (new ≡ old) × (closes ≡ true)
 

@@ -20,8 +20,8 @@ line_with Kept more = Kept
 
 -- what the end of a line does, by whether the block has begun: a line of blanks alone closes a block that has, a
 -- skipped line is a line of such a block, and any other line is one of the block that it may begin
-abbrev pub line_end : Bool → LineSoFar → LineEnd
-line_end started Nothing = if started then Closed else Passed
-line_end started Blank = if started then Closed else Passed
-line_end started Skipped = if started then Taken else Passed
-line_end started Kept = Taken
+abbrev pub end_of_line : Bool → LineSoFar → LineEnd
+end_of_line started Nothing = if started then Closed else Passed
+end_of_line started Blank = if started then Closed else Passed
+end_of_line started Skipped = if started then Taken else Passed
+end_of_line started Kept = Taken

@@ -1,7 +1,8 @@
 -- What a value says (RFC 2622, 2).
 use Rattle.std.specs.Prelude.{ℕ, List, map}
-use Rattle.std.specs.List.{before_first, join_with_byte}
+use Rattle.std.specs.List.{before_first}
 use Rattle.rr_bytes.specs.Blanks.{is_blank_or_line_feed}
+use Rattle.rr_bytes.specs.Parts.{joined_by_space}
 use Rattle.rr_bytes.specs.Trims.{trim}
 use Rattle.rr_text.specs.Bytes.{is_hash}
 
@@ -11,4 +12,4 @@ uncommented line = trim is_blank_or_line_feed (before_first is_hash line)
 
 -- a value means its lines less their comments, joined by one space (RFC 2622, 2; the space: profile)
 unfoldable pub value_meaning : List (List ℕ) → List ℕ
-value_meaning lines = trim is_blank_or_line_feed (join_with_byte 32 (map uncommented lines))
+value_meaning lines = trim is_blank_or_line_feed (joined_by_space (map uncommented lines))

@@ -2,7 +2,7 @@
 use Rattle.std.specs.Prelude.{ℕ, Bool, true, false, List, [], ◌∷◌, if◌then◌else◌}
 use Rattle.rr_text.specs.declared.line.LineKind.{LineKind}
 use Rattle.rr_text.specs.declared.line.LineKind.TheVariants.{Blank, Skipped, Continuation, Opening}
-use Rattle.rr_text.specs.Lines.{is_blank_line}
+use Rattle.rr_text.specs.Lines.{is_blank_line, is_paragraph_line}
 use Rattle.rr_text.specs.Entries.{added_value}
 
 -- a line of the last kind alone opens an attribute
@@ -11,6 +11,11 @@ opens_attribute Blank = false
 opens_attribute Skipped = false
 opens_attribute Continuation = false
 opens_attribute Opening = true
+
+-- the first line is neither blank nor skipped
+abbrev pub starts_block : List (List ℕ) → Bool
+starts_block [] = false
+starts_block (line ∷ others) = is_paragraph_line line
 
 -- the lines before the first blank one
 unfoldable pub until_blank : List (List ℕ) → List (List ℕ)

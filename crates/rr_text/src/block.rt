@@ -2,8 +2,8 @@
 
 ghost use Rattle.std.specs.Prelude.{◌≡◌, ◌<◌, ◌≤◌, ◌∷◌, ◌++◌, ◌⊎◌, ℕ, List, [], length, drop, true, IfSome, IfNone};
 ghost use Rattle.rr_text.specs.Lines.{text_lines};
-ghost use Rattle.rr_text.specs.Blocks.{blocks, from_blank, from_block, place_behind, starts_block};
-ghost use Rattle.rr_text.specs.PrivateParts.{until_blank};
+ghost use Rattle.rr_text.specs.Blocks.{blocks, from_blank, from_block, place_behind};
+ghost use Rattle.rr_text.specs.PrivateParts.{starts_block, until_blank};
 
 use crate::line::{is_blank_only, is_of_paragraph, split_line};
 

@@ -28,12 +28,12 @@ pub(crate) struct Draft {
 impl Draft {
     ghost use Rattle.std.specs.Prelude.{◌≡◌, ◌<◌, ◌∷◌, ◌++◌, ℕ, List, [], IfOk, IfSome};
     ghost use Rattle.rr_text.specs.Lines.{text_lines};
-    ghost use Rattle.rr_text.specs.LineParts.{line_end};
+    ghost use Rattle.rr_text.specs.LineParts.{end_of_line};
     ghost use Rattle.rr_text.specs.DraftParts as parts;
 
     /// The draft of no text, with room for a paragraph; the error is want of memory.
     pub(crate) fn new(alloc: Global) -> Result<Draft, AllocError>
-        ensures { IfOk result (λ draft. parts.IsFresh draft) }
+        ensures { IfOk result (λ draft. parts.HasNoText draft) }
     {
         let kept = Vec::with_capacity(alloc, SIZE_LIMIT)?;
         Ok(Draft {
@@ -47,7 +47,7 @@ impl Draft {
 
     /// Forgets the text.
     pub(crate) fn restart(&mut self)
-        ensures { parts.IsFresh self.new }
+        ensures { parts.HasNoText self.new }
     {
         self.kept.clear();
         self.over = false;
@@ -121,7 +121,7 @@ impl Draft {
     }
 
     fn end_line(&mut self) -> bool
-        ensures { parts.EndsLine (line_end self.old.started self.old.line) self.old self.new result }
+        ensures { parts.EndsLine (end_of_line self.old.started self.old.line) self.old self.new result }
     {
         match self.line.end(self.started) {
             LineEnd::Passed => {

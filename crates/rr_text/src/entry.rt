@@ -3,11 +3,10 @@
 ghost use Rattle.std.specs.Prelude.{◌≡◌, ◌≢◌, ◌<◌, ◌≤◌, ◌++◌, ◌∷◌, IfOk, IfErr, OnOk, None, Ok, Err, length, true};
 ghost use Rattle.rr_bytes.specs.LetterCase.{lowered};
 ghost use Rattle.rr_text.specs.Lines.{text_lines};
-ghost use Rattle.rr_text.specs.Blocks.{starts_block};
 ghost use Rattle.rr_text.specs.Faults as faults;
 ghost use Rattle.rr_text.specs.Fields.{AreFields};
 ghost use Rattle.rr_text.specs.Entries as entries;
-ghost use Rattle.rr_text.specs.PrivateParts.{added_lines};
+ghost use Rattle.rr_text.specs.PrivateParts.{added_lines, starts_block};
 
 use crate::attribute::Attribute;
 use crate::fault::TextFault;

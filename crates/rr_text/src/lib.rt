@@ -21,6 +21,7 @@ pub mod value;
 pub use attribute::Attribute;
 pub use canonical::{print, print_onto, print_onto_with_values, read_canonical};
 pub use fault::TextFault;
+pub use line::is_refused;
 pub use paragraph::Paragraph;
 pub use paragraph_reader::ParagraphReader;
 pub use paragraphs::{Paragraphs, ReaderState};

@@ -50,9 +50,9 @@ impl LineKind {
     }
 }
 
-/// Whether a byte may stand in skipped lines alone.
+/// Whether a byte may stand in skipped lines alone (profile).
 #[inline]
-fn is_refused_byte(byte: u8) -> bool
+pub fn is_refused(byte: u8) -> bool
     ensures { result ≡ is_refused byte }
 {
     byte.is_ascii_control() & !ByteSet::BlanksAndLineFeeds.has(byte)
@@ -103,7 +103,7 @@ pub(crate) fn has_refused_byte(line: &[u8]) -> bool
 {
     let mut found = false;
     for byte in line {
-        found |= is_refused_byte(*byte);
+        found |= is_refused(*byte);
     }
     found
 }

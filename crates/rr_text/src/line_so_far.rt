@@ -58,7 +58,7 @@ impl LineSoFar {
 
     /// What the end of such a line does to a paragraph that has begun or not.
     pub(crate) fn end(self, started: bool) -> LineEnd
-        ensures { result ≡ lines.line_end started self }
+        ensures { result ≡ lines.end_of_line started self }
     {
         match self {
             LineSoFar::Nothing | LineSoFar::Blank => {

@@ -5,8 +5,8 @@ ghost use Rattle.std.specs.Option.{option_or};
 ghost use Rattle.std.specs.Ordering.{eq_by_cmp};
 ghost use Rattle.rr_number.specs.Prefixes.{PrefixParts, IsMasked, span_of};
 ghost use Rattle.rr_number.specs.Spans.{Ends, covers, span_cmp};
-ghost use Rattle.rr_cover.specs.PrefixTrees.{own, standing, lies_on, IsFork, IsRootedOn, IsTree};
-ghost use Rattle.rr_cover.specs.TreeParts.{is_above, root_of, IsParting};
+ghost use Rattle.rr_cover.specs.PrefixTrees.{lies_on, IsFork, IsRootedOn, IsTree};
+ghost use Rattle.rr_cover.specs.TreeParts.{own, standing, is_above, root_of, IsParting};
 
 use super::parting::parting;
 use super::reading::{is_same, is_upper};

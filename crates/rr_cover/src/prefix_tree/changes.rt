@@ -4,8 +4,8 @@ ghost use Rattle.std.specs.Prelude.{◌≡◌, true, Bool, None, if◌then◌els
 ghost use Rattle.std.specs.Ordering.{eq_by_cmp};
 ghost use Rattle.rr_number.specs.Prefixes.{PrefixParts, span_of};
 ghost use Rattle.rr_number.specs.Spans.{Ends, span_cmp};
-ghost use Rattle.rr_cover.specs.PrefixTrees.{standing, IsRootedOn, IsTree};
-ghost use Rattle.rr_cover.specs.TreeParts.{is_empty, is_idle, only_side};
+ghost use Rattle.rr_cover.specs.PrefixTrees.{IsRootedOn, IsTree};
+ghost use Rattle.rr_cover.specs.TreeParts.{standing, is_empty, is_idle, only_side};
 
 use super::reading::{is_same, is_upper};
 use super::{Node, Tree};

@@ -5,8 +5,8 @@ ghost use Rattle.std.specs.List.Sorted.{IsStrictlySortedBy};
 ghost use Rattle.std.specs.Ordering.{eq_by_cmp};
 ghost use Rattle.rr_number.specs.Prefixes.{span_of};
 ghost use Rattle.rr_number.specs.Spans.{Ends, covers, span_cmp};
-ghost use Rattle.rr_cover.specs.PrefixTrees.{standing, IsTree};
-ghost use Rattle.rr_cover.specs.TreeParts.{is_listed};
+ghost use Rattle.rr_cover.specs.PrefixTrees.{IsTree};
+ghost use Rattle.rr_cover.specs.TreeParts.{standing, is_listed};
 
 use super::{Node, Tree};
 use rr_number::{Prefix, Span};

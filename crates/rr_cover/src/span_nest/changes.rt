@@ -5,7 +5,7 @@ ghost use Rattle.std.specs.Option.{option_or};
 ghost use Rattle.std.specs.Ordering.{eq_by_cmp};
 ghost use Rattle.rr_number.specs.Spans.{Ends, IsSpan, span_cmp};
 ghost use Rattle.rr_cover.specs.SpanNests.{at_span, is_ahead, standing, Only, Fits, IsBound, IsNest};
-ghost use Rattle.rr_cover.specs.NestParts.{with_front, with_back, IsOpened, Precedes};
+ghost use Rattle.rr_cover.specs.NestParts.{with_front, with_back, IsTakenApart, Precedes};
 
 use super::bounds::Bounds;
 use super::reading::{is_ahead, is_same};
@@ -47,7 +47,7 @@ fn greatest<T>(nest: &Nest<T>) -> u32
 /// The root of the tree and its two sides, cut off from it.
 fn open<T: Drop>(nest: Nest<T>) -> Option<(Box<Node<T>>, Nest<T>, Nest<T>)>
     requires { IsNest nest }
-    ensures some { IfSome result (λ p. IsOpened nest p.0.value.span p.0.value.value p.1 p.2) }
+    ensures some { IfSome result (λ p. IsTakenApart nest p.0.value.span p.0.value.value p.1 p.2) }
     ensures none { IfNone result ((s : Ends) → standing nest s ≡ None) }
 {
     match nest {

@@ -4,7 +4,7 @@ ghost use Rattle.std.specs.Prelude.{◌≡◌, ◌+◌, true, false, nat_le, is_
 ghost use Rattle.std.specs.Option.{option_copied};
 ghost use Rattle.std.specs.Ordering.{eq_by_cmp};
 ghost use Rattle.rr_number.specs.Spans.{Ends, span_cmp};
-ghost use Rattle.rr_cover.specs.SpanNests.{is_ahead, standing, Only, IsNest, IsApart};
+ghost use Rattle.rr_cover.specs.SpanNests.{is_ahead, standing, Only, IsNest, HasNoCrossing};
 ghost use Rattle.rr_cover.specs.NestParts.{ends_in, begins_in, IsLastReaching, NoneReaches, SomeCrosses, NoneCrosses};
 
 use super::{Nest, Node};
@@ -88,7 +88,7 @@ pub(super) fn last_reaching_in<T>(
 /// Whether a span held begins before the span and ends within it.
 fn ends_within<T>(nest: &Nest<T>, span: Span) -> bool
     requires order { IsNest nest.now }
-    requires apart { IsApart nest.now }
+    requires apart { HasNoCrossing nest.now }
     ensures found { result ≡ true → SomeCrosses nest.now span }
     ensures none { result ≡ false
         → (t : Ends) → is_some (standing nest.now t) ≡ true → ends_in t span ≡ false }
@@ -103,7 +103,7 @@ fn ends_within<T>(nest: &Nest<T>, span: Span) -> bool
 /// Whether a span held begins within the span and ends behind it.
 fn begins_within<T>(nest: &Nest<T>, span: Span) -> bool
     requires order { IsNest nest.now }
-    requires apart { IsApart nest.now }
+    requires apart { HasNoCrossing nest.now }
     ensures found { result ≡ true → SomeCrosses nest.now span }
     ensures none { result ≡ false
         → (t : Ends) → is_some (standing nest.now t) ≡ true → begins_in t span ≡ false }
@@ -118,7 +118,7 @@ fn begins_within<T>(nest: &Nest<T>, span: Span) -> bool
 /// Whether the span crosses one that is held.
 pub(super) fn crosses_any<T>(nest: &Nest<T>, span: Span) -> bool
     requires order { IsNest nest.now }
-    requires apart { IsApart nest.now }
+    requires apart { HasNoCrossing nest.now }
     ensures found { result ≡ true → SomeCrosses nest.now span }
     ensures none { result ≡ false → NoneCrosses nest.now span }
 {

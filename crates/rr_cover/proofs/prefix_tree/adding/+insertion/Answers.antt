@@ -4,8 +4,8 @@ use Rattle.std.specs.Ordering.{eq_by_cmp}
 use Rattle.std.specs.Result.{IfOk}
 use Rattle.rr_number.specs.Prefixes.{span_of}
 use Rattle.rr_number.specs.Spans.{covers, span_cmp}
-use Rattle.rr_cover.specs.PrefixTrees.{in_upper, lies_on, standing, IsFork, IsTree}
-use Rattle.rr_cover.specs.TreeParts.{is_above}
+use Rattle.rr_cover.specs.PrefixTrees.{in_upper, lies_on, IsFork, IsTree}
+use Rattle.rr_cover.specs.TreeParts.{standing, is_above}
 use Rattle.rr_cover.proofs.TreeAdded.{missing_above, lies_lower, other_prefix}
 use Rattle.rr_cover.proofs.TreeChanged.{changed_upper, fork_upper, fork_lower}
 use Rattle.rr_cover.proofs.TreeHalves.{ends_ordered}

@@ -2,7 +2,8 @@ use Rattle.std.proofs.Common.{◌≡◌, false, sym, ◌∙◌}
 use Rattle.std.specs.Ordering.{eq_by_cmp}
 use Rattle.rr_number.specs.Prefixes.{span_of}
 use Rattle.rr_number.specs.Spans.{span_cmp}
-use Rattle.rr_cover.specs.PrefixTrees.{in_upper, standing}
+use Rattle.rr_cover.specs.PrefixTrees.{in_upper}
+use Rattle.rr_cover.specs.TreeParts.{standing}
 use Rattle.rr_cover.proofs.TreeAdded.{rooted_on, root_masked, lies_lower, one_way, above_all}
 use Rattle.rr_cover.proofs.prefix_tree.adding.above.Goals as goal
 

@@ -1,6 +1,6 @@
 use Rattle.std.proofs.Common.{◌∙◌}
 use Rattle.rr_cover.proofs.TreeAdded.{beside_all}
-use Rattle.rr_cover.specs.PrefixTrees.{standing}
+use Rattle.rr_cover.specs.TreeParts.{standing}
 use Rattle.rr_cover.proofs.prefix_tree.adding.beside.Goals as goal
 
 -- the tree in front of the node

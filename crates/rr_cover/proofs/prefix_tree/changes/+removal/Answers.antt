@@ -2,7 +2,8 @@ use Rattle.std.proofs.Common.{◌≡◌, true, false, None, ap, sym, subst, ◌�
 use Rattle.std.specs.Ordering.{eq_by_cmp}
 use Rattle.rr_number.specs.Prefixes.{span_of}
 use Rattle.rr_number.specs.Spans.{span_cmp}
-use Rattle.rr_cover.specs.PrefixTrees.{in_upper, standing, IsRootedOn, IsFork, IsTree}
+use Rattle.rr_cover.specs.PrefixTrees.{in_upper, IsRootedOn, IsFork, IsTree}
+use Rattle.rr_cover.specs.TreeParts.{standing}
 use Rattle.rr_cover.proofs.Among.{tied_same}
 use Rattle.rr_cover.proofs.TreeHalves.{ends_ordered}
 use Rattle.rr_cover.proofs.TreeHeld.{stands_root, stands_upper, stands_lower}

@@ -1,6 +1,5 @@
 use Rattle.std.proofs.Common.{◌≡◌, true, ap, sym, ◌∙◌}
-use Rattle.rr_cover.specs.PrefixTrees.{standing}
-use Rattle.rr_cover.specs.TreeParts.{is_idle}
+use Rattle.rr_cover.specs.TreeParts.{standing, is_idle}
 use Rattle.rr_cover.proofs.TreeChanged.{idle_all}
 use Rattle.rr_cover.proofs.prefix_tree.changes.tidy.Goals as goal
 

@@ -2,8 +2,8 @@ use Rattle.std.proofs.Common.{◌≡◌, false, ◌||◌, ◌&&◌, is_some, ap,
 use Rattle.std.proofs.lemmas.Result.{on_ok_weaker}
 use Rattle.rr_number.specs.Prefixes.{span_of}
 use Rattle.rr_number.specs.Spans.{covers, meets}
-use Rattle.rr_cover.specs.PrefixTrees.{standing, IsTree}
-use Rattle.rr_cover.specs.TreeParts.{is_listed}
+use Rattle.rr_cover.specs.PrefixTrees.{IsTree}
+use Rattle.rr_cover.specs.TreeParts.{standing, is_listed}
 use Rattle.rr_cover.proofs.TreeLists.{listed_all, none_inside}
 use Rattle.rr_cover.proofs.prefix_tree.lists.+push_inside.Goals as goal
 

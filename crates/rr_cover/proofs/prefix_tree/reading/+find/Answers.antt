@@ -2,7 +2,8 @@ use Rattle.std.proofs.Common.{◌≡◌, true, false, ap, sym, subst, ◌∙◌}
 use Rattle.std.specs.Ordering.{eq_by_cmp}
 use Rattle.rr_number.specs.Prefixes.{span_of}
 use Rattle.rr_number.specs.Spans.{span_cmp}
-use Rattle.rr_cover.specs.PrefixTrees.{standing, IsTree}
+use Rattle.rr_cover.specs.PrefixTrees.{IsTree}
+use Rattle.rr_cover.specs.TreeParts.{standing}
 use Rattle.rr_cover.proofs.TreeHalves.{ends_ordered}
 use Rattle.rr_cover.proofs.TreeHeld.{stands_root, stands_aside}
 use Rattle.rr_cover.proofs.prefix_tree.reading.+find.Goals as goal

@@ -1,8 +1,8 @@
 use Rattle.std.proofs.Common.{◌≡◌, true, false, ap, sym, subst}
 use Rattle.rr_number.specs.Prefixes.{span_of}
 use Rattle.rr_number.specs.Spans.{covers}
-use Rattle.rr_cover.specs.PrefixTrees.{standing, IsTree}
-use Rattle.rr_cover.specs.TreeParts.{IsSmallestCover, NoCover}
+use Rattle.rr_cover.specs.PrefixTrees.{IsTree}
+use Rattle.rr_cover.specs.TreeParts.{standing, IsSmallestCover, NoCover}
 use Rattle.rr_cover.proofs.TreeHalves.{ends_ordered}
 use Rattle.rr_cover.proofs.TreeHeld.{cover_below, cover_root, no_cover, no_cover_root}
 use Rattle.rr_cover.proofs.prefix_tree.reading.+smallest_cover.Goals as goal

@@ -1,5 +1,5 @@
 -- The order of keys, and the tests by which SQL tells them.
-use Rattle.std.proofs.Common.{◌≡◌, ℕ, pos, Bool, true, false, ◌&&◌, List, [], ◌∷◌, Some, refl, sym, ap, ◌∙◌, Ordering, Less, Equal, Greater, nat_cmp, int_cmp, arith}
+use Rattle.std.proofs.Common.{◌≡◌, ℕ, pos, Bool, true, false, ◌&&◌, List, [], ◌∷◌, refl, sym, ap, ◌∙◌, Ordering, Less, Equal, Greater, nat_cmp, int_cmp, arith}
 use Rattle.std.proofs.lemmas.Bool.Decides.{nat_tests}
 use Rattle.std.specs.Ordering.{is_eq, ordering_then}
 use Rattle.std.specs.Cmp.Lexicographic.{slice_cmp}
@@ -11,38 +11,16 @@ use Rattle.sqlite_value.proofs.OrderLemmas.{value_cmp-Int, value_cmp-Text}
 use Rattle.sqlite_sql.specs.Ops.{binary, is_null, is_true}
 use Rattle.sqlite_sql.specs.declared.ops.BinaryOp.TheVariants.{Compare}
 use Rattle.sqlite_sql.specs.declared.ops.CompareOp.TheVariants.{Eq}
-use Rattle.rr_object.specs.Classes.{class_number}
-use Rattle.rr_object.specs.Keys.{class_of}
 use Rattle.rr_object.specs.declared.key.Key.{Key}
-use Rattle.rr_object.specs.KeyOrders.{HasKeyParts, IsKeyValue, class_and_bytes_cmp, key_cmp}
-use Rattle.rr_object.specs.KeyTexts.{key_bytes}
-use Rattle.rr_object.specs.OldKeys.{old_key_bytes}
+use Rattle.rr_object.specs.KeyOrders.{HasKeyParts, class_and_bytes_cmp, key_cmp}
 use Rattle.rr_object.proofs.DerivedOrder.{derived_order}
-use Rattle.rr_object.proofs.KeyBounds.{has_parts}
 pub use Rattle.rr_object.proofs.KeyLaws.{keys_exact}
-use Rattle.rr_object.proofs.KeysByBytes.{ordered_by_bytes, old_bytes_keep_order}
+use Rattle.rr_object.proofs.KeysByBytes.{ordered_by_bytes}
 use Rattle.rr_rows.specs.Entries.{Entry}
-use Rattle.rr_rows.specs.Maps.{KeyForm, this_form}
 use Rattle.rr_rows.proofs.EntryLemmas.{is_at}
-
--- the texts of keys in this form stand in the order of the keys of a class
-abbrev pub KeepsOrder : KeyForm → Type 0
-KeepsOrder form =
-    (a b : Key) (x y : List ℕ) → IsKeyValue a → IsKeyValue b → form a ≡ Some x → form b ≡ Some y
-    → key_cmp a b ≡ ordering_then (nat_cmp (class_number (class_of a)) (class_number (class_of b))) (slice_cmp nat_cmp x y)
 
 pub ordered_as_bytes : (a b : Key) → HasKeyParts a → HasKeyParts b → key_cmp a b ≡ class_and_bytes_cmp a b
 ordered_as_bytes a b fa fb = sym (derived_order a b) ∙ ordered_by_bytes a b fa fb
-
-pub this_form_keeps_order : KeepsOrder this_form
-this_form_keeps_order a b x y fa fb ea eb =
-    let same_a : key_bytes a ≡ x = cc in
-    let same_b : key_bytes b ≡ y = cc in
-    ordered_as_bytes a b (has_parts a fa) (has_parts b fb)
-    ∙ (λ i. ordering_then (nat_cmp (class_number (class_of a)) (class_number (class_of b))) (slice_cmp nat_cmp (same_a i) (same_b i)))
-
-pub old_form_keeps_order : KeepsOrder old_key_bytes
-old_form_keeps_order = old_bytes_keep_order
 
 -- `=` of two values
 abbrev pub is_same : Value → Value → Bool

@@ -14,7 +14,7 @@ use Rattle.sqlite_trees.proofs.ListLemmas.{along_permutation, all-permutation, a
 use Rattle.sqlite_schema.specs.declared.schema.Schema.{Schema}
 use Rattle.sqlite_schema.specs.declared.schema.Table.{Table}
 use Rattle.rr_rows.specs.Tables.{HasTables, meta, object, named, rules_of, stands_apart}
-use Rattle.rr_rows.specs.Contents.{AreKeyed, AreRising, IsBelow, IsPast, number}
+use Rattle.rr_rows.specs.Contents.{AreKeyed, AreRising, IsBelow, IsPast, number, numbered}
 
 abbrev Differ : Row → Row → Type 0
 Differ a b = rowid a ≢ rowid b
@@ -30,14 +30,23 @@ apart_permutes = along_permutation StaysApart
     (λ x y xs. (IsPermutation-middle (x ∷ []) y xs, λ up. ((λ same. up.0.0 (sym same), up.1.0), (up.0.1, up.1.1))))
     (λ xs ys zs h k. (IsPermutation-trans xs ys zs h.0 k.0, λ up. k.1 (h.1 up)))
 
+module _ (f : Row → Row) (rows answer : List Row) (same : IsPermutation (map f rows) answer) (keyed : AreKeyed answer) where
+  back : IsPermutation answer (map f rows)
+  back = IsPermutation-sym _ _ same
+
+  apart_by : IsAscending (λ a b. Differ (f a) (f b)) rows
+  apart_by = ascending_from_map Differ f rows ((apart_permutes answer (map f rows) back).1 keyed.apart)
+
+  numbered_by : AllByRecursion (λ r. is_int (rowid (f r)) ≡ true) rows
+  numbered_by = all_from_map (λ r. is_int (rowid r) ≡ true) f rows (all-permutation _ answer (map f rows) back keyed.numbered)
+
 -- rows have numbers of their own where the list of these has
 pub keyed_by : (rows answer : List Row) → IsPermutation (map number rows) answer → AreKeyed answer → AreKeyed rows
-keyed_by rows answer same keyed =
-    let back = IsPermutation-sym _ _ same in
-    record {
-      apart = ascending_from_map Differ number rows ((apart_permutes answer (map number rows) back).1 keyed.apart);
-      numbered = all_from_map (λ r. is_int (rowid r) ≡ true) number rows (all-permutation _ answer (map number rows) back keyed.numbered);
-    }
+keyed_by rows answer same keyed = record { apart = apart_by number rows answer same keyed; numbered = numbered_by number rows answer same keyed }
+
+-- and where the list of the rows with their numbers has
+pub keyed_with : (rows answer : List Row) → IsPermutation (map numbered rows) answer → AreKeyed answer → AreKeyed rows
+keyed_with rows answer same keyed = record { apart = apart_by numbered rows answer same keyed; numbered = numbered_by numbered rows answer same keyed }
 
 -- a number that is not above another
 abbrev pub IsUpTo : ℤ → Value → Type 0

@@ -4,12 +4,14 @@ use Rattle.std.specs.List.{list_all}
 use Rattle.std.proofs.lemmas.Bool.{cases_eq}
 use Rattle.std.proofs.lemmas.List.Sorted.{IsPermutation-map}
 use Rattle.sqlite_value.specs.declared.value.Value.TheVariants.{Null, Int, Text, Blob}
+use Rattle.sqlite_value.specs.declared.keys.Collation.TheVariants.{Binary}
+use Rattle.sqlite_value.specs.Keys.{ascending}
 use Rattle.sqlite_value.specs.Order.{Row, column}
 use Rattle.sqlite_trees.specs.Tree.{Trees, rowid, put_row}
 use Rattle.sqlite_trees.proofs.ListLemmas.{map-map, filter-map, map-flat_map, flat_map-map}
 use Rattle.sqlite_sql.specs.Term.{Term, Env, col, holds, eval_all}
 use Rattle.sqlite_sql.specs.Ops.{unary}
-use Rattle.sqlite_sql.specs.Query.{inner, end, matches, output, output_cmp}
+use Rattle.sqlite_sql.specs.Query.{inner, end, key_cmp, matches, output, output_cmp}
 use Rattle.sqlite_sql.specs.Program.{overlay}
 use Rattle.sqlite_schema.specs.declared.schema.Column.{Column}
 use Rattle.sqlite_schema.specs.declared.schema.Kind.TheVariants as kind
@@ -23,10 +25,10 @@ use Rattle.sqlite.specs.Rows.{stamped}
 use Rattle.sqlite.specs.State.{State, Executes, Shown}
 use Rattle.sqlite.proofs.Callers.{reads_as}
 use Rattle.rr_rows.specs.Tables.{Layout, Rules, laid, table_with, stands_apart, HasTables}
-use Rattle.rr_rows.specs.Texts.{insert_meta, insert_object, insert_named, delete_object, delete_name, clear_meta, clear_object, clear_named, select_meta, select_object, select_of_key, select_named, select_naming, meta_numbers, object_numbers, named_numbers}
+use Rattle.rr_rows.specs.Texts.{insert_meta, insert_object, insert_named, delete_object, delete_name, clear_meta, clear_object, clear_named, select_meta, select_object, select_of_key, select_named, select_sorted_named, select_naming, meta_numbers, object_numbers, named_numbers}
 use Rattle.rr_rows.specs.Queries.{Means, alone, rowids_of, rows_of, object_tests, name_tests, naming_tests}
-use Rattle.rr_rows.specs.Contents.{AreKeyed, IsTidy, Alters, Adds, Removes, IsInRank, columns, contents, number, meta_values, object_values, named_values, meets_tests, is_object_of, is_name_of, are_joined, pointed, by_one, by_two, by_three}
-use Rattle.rr_rows.proofs.TextLemmas.{insert_meta_is, insert_object_is, insert_named_is, delete_object_is, delete_name_is, clear_meta_is, clear_object_is, clear_named_is, select_meta_is, select_object_is, select_of_key_is, select_named_is, select_naming_is, meta_numbers_is, object_numbers_is, named_numbers_is}
+use Rattle.rr_rows.specs.Contents.{AreKeyed, IsTidy, Alters, Adds, Removes, IsInRank, columns, contents, number, numbered, meta_values, object_values, named_values, meets_tests, is_object_of, is_name_of, are_joined, pointed, by_one, by_two, by_three}
+use Rattle.rr_rows.proofs.TextLemmas.{insert_meta_is, insert_object_is, insert_named_is, delete_object_is, delete_name_is, clear_meta_is, clear_object_is, clear_named_is, select_meta_is, select_object_is, select_of_key_is, select_named_is, select_sorted_named_is, select_naming_is, meta_numbers_is, object_numbers_is, named_numbers_is}
 use Rattle.rr_rows.proofs.RowLemmas.{put_permutes, put_keyed, without_those, filter_keyed}
 use Rattle.rr_rows.proofs.ChangeLemmas.{Sets, inserted, deleted}
 use Rattle.rr_rows.proofs.QueryLemmas.{answers, matches_of, matches_of_pairs}
@@ -174,11 +176,14 @@ module _ (tree : ℕ) (seen : (db : Trees) → overlay db [] tree ≡ db tree) (
 pub selects_meta : (old new : State) → HasTables old.now.schema → (rows : List Row) → Shown select_meta [] old new rows → IsInRank by_two (map (λ r. column r 1 ∷ column r 2 ∷ []) (old.now.trees 0)) rows
 selects_meta = selects 0 (λ db. refl) select_meta (codes "name" ∷ codes "value" ∷ []) (col 1 1 ∷ col 1 2 ∷ []) (col 1 1 ∷ col 1 2 ∷ []) by_two (λ a b. refl) select_meta_is
 
-pub selects_object : (old new : State) → HasTables old.now.schema → (rows : List Row) → Shown select_object [] old new rows → IsInRank by_two (contents (old.now.trees 2)) rows
-selects_object = selects 2 (λ db. refl) select_object (codes "class" ∷ codes "okey" ∷ codes "body" ∷ []) (col 1 1 ∷ col 1 2 ∷ col 1 3 ∷ []) (col 1 1 ∷ col 1 2 ∷ []) by_two (λ a b. refl) select_object_is
+pub selects_object : (old new : State) → HasTables old.now.schema → (rows : List Row) → Shown select_object [] old new rows → IsInRank by_one (map numbered (old.now.trees 2)) rows
+selects_object = selects 2 (λ db. refl) select_object (codes "rowid" ∷ codes "class" ∷ codes "okey" ∷ codes "body" ∷ []) (col 1 0 ∷ col 1 1 ∷ col 1 2 ∷ col 1 3 ∷ []) (col 1 0 ∷ []) by_one (λ a b. refl) select_object_is
 
-pub selects_named : (old new : State) → HasTables old.now.schema → (rows : List Row) → Shown select_named [] old new rows → IsInRank by_three (contents (old.now.trees 4)) rows
-selects_named = selects 4 (λ db. refl) select_named (codes "maintainer" ∷ codes "class" ∷ codes "okey" ∷ []) (col 1 1 ∷ col 1 2 ∷ col 1 3 ∷ []) (col 1 1 ∷ col 1 2 ∷ col 1 3 ∷ []) by_three (λ a b. refl) select_named_is
+pub selects_named : (old new : State) → HasTables old.now.schema → (rows : List Row) → Shown select_named [] old new rows → IsInRank by_one (map numbered (old.now.trees 4)) rows
+selects_named = selects 4 (λ db. refl) select_named (codes "rowid" ∷ codes "maintainer" ∷ codes "class" ∷ codes "okey" ∷ []) (col 1 0 ∷ col 1 1 ∷ col 1 2 ∷ col 1 3 ∷ []) (col 1 0 ∷ []) by_one (λ a b. refl) select_named_is
+
+pub selects_sorted_named : (old new : State) → HasTables old.now.schema → (rows : List Row) → Shown select_sorted_named [] old new rows → IsInRank by_three (contents (old.now.trees 4)) rows
+selects_sorted_named = selects 4 (λ db. refl) select_sorted_named (codes "maintainer" ∷ codes "class" ∷ codes "okey" ∷ []) (col 1 1 ∷ col 1 2 ∷ col 1 3 ∷ []) (col 1 1 ∷ col 1 2 ∷ col 1 3 ∷ []) by_three (λ a b. refl) select_sorted_named_is
 
 pub numbers_meta : (old new : State) → HasTables old.now.schema → (rows : List Row) → Shown meta_numbers [] old new rows → IsInRank by_one (map number (old.now.trees 0)) rows
 numbers_meta = selects 0 (λ db. refl) meta_numbers (codes "rowid" ∷ []) (col 1 0 ∷ []) (col 1 0 ∷ []) by_one (λ a b. refl) meta_numbers_is
@@ -205,19 +210,22 @@ selects_of_key class key old new has rows h =
 
 -- the rows to which a maintainer's point
 pub selects_naming : (name : List ℕ) (old new : State) → HasTables old.now.schema → (rows : List Row) → Shown select_naming (Text name ∷ []) old new rows
-    → IsInRank by_two (pointed name (contents (old.now.trees 4)) (contents (old.now.trees 2))) rows
+    → IsPermutation (pointed name (contents (old.now.trees 4)) (contents (old.now.trees 2))) (contents rows)
 selects_naming name old new has rows h =
     let l = has.layout in
     let means = select_naming_is l in
     let params : Row = Text name ∷ [] in
-    let shown = col 2 1 ∷ col 2 2 ∷ col 2 3 ∷ [] in
+    let shown = col 2 0 ∷ col 2 1 ∷ col 2 2 ∷ col 2 3 ∷ [] in
     let named = old.now.trees 4 in
     let object = old.now.trees 2 in
+    let all = overlay old.now.trees [] in
     let sure = (reads_as select_naming params old new (laid l) has.is _ means.is means.plain means.unlisted rows h).answer in
-    let list = answers (inner 4 (inner 2 end)) naming_tests shown (col 2 1 ∷ col 2 2 ∷ []) params (overlay old.now.trees []) by_two (λ a b. refl) rows sure in
+    let list = answers (inner 4 (inner 2 end)) naming_tests shown (col 2 1 ∷ col 2 2 ∷ []) params all (key_cmp 1 (ascending Binary ∷ ascending Binary ∷ [])) (λ a b. refl) rows sure in
+    let held : Env → Row = λ e. columns (eval_all shown e) in
     let p : Row → Row → Bool = λ a b. list_all (holds (params ∷ a ∷ b ∷ [])) naming_tests in
-    let each : (a : Row) → map (eval_all shown) (map (λ b. params ∷ a ∷ b ∷ []) (filter (p a) object)) ≡ filter (are_joined name (columns a)) (contents object) =
+    let each : (a : Row) → map held (map (λ b. params ∷ a ∷ b ∷ []) (filter (p a) object)) ≡ filter (are_joined name (columns a)) (contents object) =
     λ a. map-map _ _ (filter (p a) object) ∙ sym (filter-map (are_joined name (columns a)) columns object) in
-    subst (λ xs. IsInRank by_two xs rows)
-    (ap (map (eval_all shown)) (matches_of_pairs 4 2 naming_tests params (overlay old.now.trees [])) ∙ map-flat_map (eval_all shown) _ named ∙ ap (λ (f : Row → List Row). flat_map f named) (λ i a. each a i) ∙ sym (flat_map-map (λ first. filter (are_joined name first) (contents object)) columns named))
-    list
+    subst (λ xs. IsPermutation xs (contents rows))
+    (map-map columns (eval_all shown) (matches all naming_tests (inner 4 (inner 2 end)) (params ∷ [])) ∙ ap (map held) (matches_of_pairs 4 2 naming_tests params all)
+    ∙ map-flat_map held _ named ∙ ap (λ (f : Row → List Row). flat_map f named) (λ i a. each a i) ∙ sym (flat_map-map (λ first. filter (are_joined name first) (contents object)) columns named))
+    (IsPermutation-map columns _ _ list.same)

@@ -4,8 +4,8 @@ use Rattle.sqlite_schema.specs.declared.command.Command.TheVariants.{Delete, Sel
 use Rattle.sqlite.specs.Listing.{understood}
 use Rattle.sqlite_tied.specs.Compute.{everything}
 use Rattle.rr_rows.specs.Tables.{Layout}
-use Rattle.rr_rows.specs.Texts.{insert_meta, insert_object, insert_named, delete_object, delete_name, clear_meta, clear_object, clear_named, select_meta, select_object, select_of_key, select_named, select_naming, meta_numbers, object_numbers, named_numbers}
-use Rattle.rr_rows.specs.Queries.{Means, insert_into, alone, rowids_of, numbers_of, object_tests, name_tests, meta_query, object_query, of_key_query, named_query, naming_query}
+use Rattle.rr_rows.specs.Texts.{insert_meta, insert_object, insert_named, delete_object, delete_name, clear_meta, clear_object, clear_named, select_meta, select_object, select_of_key, select_named, select_sorted_named, select_naming, meta_numbers, object_numbers, named_numbers}
+use Rattle.rr_rows.specs.Queries.{Means, insert_into, alone, rowids_of, numbers_of, numbered_of, object_tests, name_tests, meta_query, of_key_query, sorted_named_query, naming_query}
 
 pub insert_meta_is : (l : Layout) → Means l insert_meta (insert_into 0 2)
 unfolding understood everything
@@ -43,7 +43,7 @@ pub select_meta_is : (l : Layout) → Means l select_meta (Select (alone (meta_q
 unfolding understood everything
 select_meta_is l = record { is = refl; plain = (refl, refl); unlisted = refl }
 
-pub select_object_is : (l : Layout) → Means l select_object (Select (alone (object_query)) (codes "class" ∷ codes "okey" ∷ codes "body" ∷ []))
+pub select_object_is : (l : Layout) → Means l select_object (Select (alone (numbered_of 2)) (codes "rowid" ∷ codes "class" ∷ codes "okey" ∷ codes "body" ∷ []))
 unfolding understood everything
 select_object_is l = record { is = refl; plain = (refl, refl); unlisted = refl }
 
@@ -51,11 +51,15 @@ pub select_of_key_is : (l : Layout) → Means l select_of_key (Select (alone (of
 unfolding understood everything
 select_of_key_is l = record { is = refl; plain = (refl, refl); unlisted = refl }
 
-pub select_named_is : (l : Layout) → Means l select_named (Select (alone (named_query)) (codes "maintainer" ∷ codes "class" ∷ codes "okey" ∷ []))
+pub select_named_is : (l : Layout) → Means l select_named (Select (alone (numbered_of 4)) (codes "rowid" ∷ codes "maintainer" ∷ codes "class" ∷ codes "okey" ∷ []))
 unfolding understood everything
 select_named_is l = record { is = refl; plain = (refl, refl); unlisted = refl }
 
-pub select_naming_is : (l : Layout) → Means l select_naming (Select (alone (naming_query)) (codes "class" ∷ codes "okey" ∷ codes "body" ∷ []))
+pub select_sorted_named_is : (l : Layout) → Means l select_sorted_named (Select (alone (sorted_named_query)) (codes "maintainer" ∷ codes "class" ∷ codes "okey" ∷ []))
+unfolding understood everything
+select_sorted_named_is l = record { is = refl; plain = (refl, refl); unlisted = refl }
+
+pub select_naming_is : (l : Layout) → Means l select_naming (Select (alone (naming_query)) (codes "rowid" ∷ codes "class" ∷ codes "okey" ∷ codes "body" ∷ []))
 unfolding understood everything
 select_naming_is l = record { is = refl; plain = (refl, refl); unlisted = refl }
 

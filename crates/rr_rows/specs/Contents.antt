@@ -29,16 +29,6 @@ columns r = column r 1 ∷ column r 2 ∷ column r 3 ∷ []
 abbrev pub contents : List Row → List Row
 contents = map columns
 
--- the trees of the three tables
-abbrev pub meta_tree : ℕ
-meta_tree = 0
-
-abbrev pub object_tree : ℕ
-object_tree = 2
-
-abbrev pub named_tree : ℕ
-named_tree = 4
-
 -- a database with the three tables, whose rows have numbers of their own
 pub record IsTidy (db : Database) : Type 0 where
   pub has : HasTables db.schema
@@ -134,6 +124,10 @@ by_three = key_cmp 0 (ascending Binary ∷ ascending Binary ∷ ascending Binary
 -- the number of a row, as a row
 abbrev pub number : Row → Row
 number row = rowid row ∷ []
+
+-- the number of a row and its columns
+abbrev pub numbered : Row → Row
+numbered row = rowid row ∷ columns row
 
 -- one number is below another
 abbrev pub IsBelow : Value → Value → Type 0

@@ -49,6 +49,10 @@ rowids_of tree tests = rows_of tree tests (col 1 0 ∷ []) []
 abbrev pub numbers_of : ℕ → Query
 numbers_of tree = rows_of tree [] (col 1 0 ∷ []) (col 1 0 ∷ [])
 
+-- all rows with their rowids, in the order of these
+abbrev pub numbered_of : ℕ → Query
+numbered_of tree = rows_of tree [] (col 1 0 ∷ col 1 1 ∷ col 1 2 ∷ col 1 3 ∷ []) (col 1 0 ∷ [])
+
 -- a row of `object` has the class and the key that are given
 abbrev pub object_tests : List Term
 object_tests = equals (col 1 1) (col 0 0) ∷ equals (col 1 2) (col 0 1) ∷ []
@@ -68,18 +72,15 @@ naming_tests = equals (col 2 1) (col 1 2) ∷ equals (col 2 2) (col 1 3) ∷ equ
 abbrev pub meta_query : Query
 meta_query = rows_of 0 [] (col 1 1 ∷ col 1 2 ∷ []) (col 1 1 ∷ col 1 2 ∷ [])
 
-abbrev pub object_query : Query
-object_query = rows_of 2 [] (col 1 1 ∷ col 1 2 ∷ col 1 3 ∷ []) (col 1 1 ∷ col 1 2 ∷ [])
-
 -- the objects of a class and a key
 abbrev pub of_key_query : Query
 of_key_query = rows_of 2 object_tests (col 1 1 ∷ col 1 2 ∷ col 1 3 ∷ []) []
 
-abbrev pub named_query : Query
-named_query = rows_of 4 [] (col 1 1 ∷ col 1 2 ∷ col 1 3 ∷ []) (col 1 1 ∷ col 1 2 ∷ col 1 3 ∷ [])
+abbrev pub sorted_named_query : Query
+sorted_named_query = rows_of 4 [] (col 1 1 ∷ col 1 2 ∷ col 1 3 ∷ []) (col 1 1 ∷ col 1 2 ∷ col 1 3 ∷ [])
 
 abbrev pub naming_query : Query
-naming_query = select_from (inner 4 (inner 2 end)) naming_tests (col 2 1 ∷ col 2 2 ∷ col 2 3 ∷ []) (col 2 1 ∷ col 2 2 ∷ [])
+naming_query = select_from (inner 4 (inner 2 end)) naming_tests (col 2 0 ∷ col 2 1 ∷ col 2 2 ∷ col 2 3 ∷ []) (col 2 1 ∷ col 2 2 ∷ [])
 
 -- the parameters become a row of so many columns, whose rowid SQLite chooses
 abbrev pub insert_into : ℕ → ℕ → Command

@@ -38,16 +38,19 @@ abbrev pub select_meta : List ℕ
 select_meta = codes "SELECT name, value FROM meta ORDER BY name, value"
 
 abbrev pub select_object : List ℕ
-select_object = codes "SELECT class, okey, body FROM object ORDER BY class, okey"
+select_object = codes "SELECT rowid, class, okey, body FROM object ORDER BY rowid"
 
 abbrev pub select_of_key : List ℕ
 select_of_key = codes "SELECT class, okey, body FROM object WHERE class = ?1 AND okey = ?2"
 
 abbrev pub select_named : List ℕ
-select_named = codes "SELECT maintainer, class, okey FROM named ORDER BY maintainer, class, okey"
+select_named = codes "SELECT rowid, maintainer, class, okey FROM named ORDER BY rowid"
+
+abbrev pub select_sorted_named : List ℕ
+select_sorted_named = codes "SELECT maintainer, class, okey FROM named ORDER BY maintainer, class, okey"
 
 abbrev pub select_naming : List ℕ
-select_naming = codes "SELECT o.class, o.okey, o.body FROM named n JOIN object o ON o.class = n.class AND o.okey = n.okey WHERE n.maintainer = ?1 ORDER BY o.class, o.okey"
+select_naming = codes "SELECT o.rowid, o.class, o.okey, o.body FROM named n JOIN object o ON o.class = n.class AND o.okey = n.okey WHERE n.maintainer = ?1 ORDER BY o.class, o.okey"
 
 abbrev pub meta_numbers : List ℕ
 meta_numbers = codes "SELECT rowid FROM meta ORDER BY rowid"

@@ -4,3 +4,4 @@ pub mod Lists
 pub mod Backwards
 pub mod OwnPairs
 pub mod CarriedBack
+pub mod KnownNodes

@@ -3,13 +3,14 @@
 ghost use Rattle.std.specs.Prelude.{◌≡◌, ◌↔◌, Contains, IfOk, OnOk, map};
 ghost use Rattle.rr_graph.specs.Chain.{HasNoRepeats, MoreThan};
 ghost use Rattle.std.specs.List.Sorted.{IsStrictlySortedBy};
-ghost use Rattle.rr_graph.specs.Carried.{IsFound, IsNamed, IsTooMany, Leads};
+ghost use Rattle.rr_graph.specs.Carried.{IsFound, IsFoundPair, IsNamed, IsTooMany, Leads};
 ghost use Rattle.rr_graph.specs.ReversedParts.{IsCarriedPair};
 
 use crate::backward::reversed;
 use crate::labels::{Edge, Labelled};
 use crate::order::ascending;
 use crate::pairs::{Pairs, own_pairs};
+use crate::settling::settled;
 use crate::{Graph, ReachFault, reach};
 use std::alloc::{AllocError, Global};
 use std::collections::BTreeSet;
@@ -90,9 +91,48 @@ pub fn gather<G: Labelled>(
     ensures many { result ≡ Err ReachFault.TooMany → IsTooMany (G.edge graph.now) (G.own graph.now) G.passed limit start.now }
 {
     let nodes = named(alloc, graph, start, limit)?;
-    let pairs = found_pairs(alloc, graph, &nodes, limit)?;
-    let values = values_at::<G>(alloc, &pairs, start)?;
+    let values = found_at(alloc, graph, &nodes, start, limit)?;
     Ok(Gathered { nodes, values })
+}
+
+/// The values that are found at the start, in ascending order, where the nodes are those that are reached from it.
+fn found_at<G: Labelled>(
+    alloc: Global,
+    graph: &G,
+    nodes: &[G::Node],
+    start: &G::Node,
+    limit: usize,
+) -> Result<Vec<G::Value>, ReachFault>
+    requires { (node : G.Node) → Contains nodes.now node ↔ IsNamed (G.edge graph.now) start.now node }
+    ensures found { IfOk result (λ values. (value : G.Value) → Contains values.items value ↔ IsFound (G.edge graph.now) (G.own graph.now) G.passed start.now value) }
+    ensures sorted { IfOk result (λ values. IsStrictlySortedBy G.Value.cmp values.items) }
+    ensures few { OnOk result (¬ MoreThan limit (IsFoundPair (G.edge graph.now) (G.own graph.now) G.passed start.now)) }
+    ensures many { result ≡ Err ReachFault.TooMany → MoreThan limit (IsFoundPair (G.edge graph.now) (G.own graph.now) G.passed start.now) }
+{
+    let settled = settled(alloc, graph, nodes, limit)?;
+    match settled.into_values(nodes, start) {
+        Some(values) => Ok(values),
+        None => walked(alloc, graph, nodes, start, limit),
+    }
+}
+
+/// The same, over nodes that rings of edges may be reached from.
+fn walked<G: Labelled>(
+    alloc: Global,
+    graph: &G,
+    nodes: &[G::Node],
+    start: &G::Node,
+    limit: usize,
+) -> Result<Vec<G::Value>, ReachFault>
+    requires { (node : G.Node) → Contains nodes.now node ↔ IsNamed (G.edge graph.now) start.now node }
+    ensures found { IfOk result (λ values. (value : G.Value) → Contains values.items value ↔ IsFound (G.edge graph.now) (G.own graph.now) G.passed start.now value) }
+    ensures sorted { IfOk result (λ values. IsStrictlySortedBy G.Value.cmp values.items) }
+    ensures few { OnOk result (¬ MoreThan limit (IsFoundPair (G.edge graph.now) (G.own graph.now) G.passed start.now)) }
+    ensures many { result ≡ Err ReachFault.TooMany → MoreThan limit (IsFoundPair (G.edge graph.now) (G.own graph.now) G.passed start.now) }
+{
+    let pairs = found_pairs(alloc, graph, nodes, limit)?;
+    let values = values_at::<G>(alloc, &pairs, start)?;
+    Ok(values)
 }
 
 /// The pairs of one of the nodes and a value that is carried back to it from one of them over edges between them.

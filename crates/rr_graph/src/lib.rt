@@ -10,6 +10,10 @@ mod gathering;
 mod labels;
 mod order;
 mod pairs;
+mod settled;
+mod settling;
+mod tails;
+mod waiting;
 mod walk;
 
 pub use gathering::{Gathered, gather};

@@ -1,0 +1,53 @@
+-- Nodes whose values are all known, each list of values under its node, and how many pairs these are. Private functions
+-- promise these; what a caller reads is in `Carried`.
+use Rattle.std.specs.Prelude.{◌≡◌, ℕ, ◌≤◌, ◌⊎◌, ◌↔◌, List, length, Contains, Option, Some}
+use Rattle.std.specs.declared.cmp.Ordering.{Ordering}
+use Rattle.std.specs.Option.{option_map}
+use Rattle.std.specs.Global.{Vec}
+use Rattle.std.specs.BTreeMap.{BTreeMap, get}
+use Rattle.std.specs.List.Sorted.{IsStrictlySortedBy}
+use Rattle.rr_graph.specs.Carried.{IsFound}
+use Rattle.rr_graph.specs.Chain.{HasNoRepeats}
+use Rattle.rr_graph.specs.declared.labels.Edge.{Edge}
+
+-- The edges are those that leave the node.
+abbrev pub HasEdges : {N L : Type 0} → (N → N → L → Type 0) → N → List (Edge N L) → Type 0
+HasEdges {N} {L} edge node edges = (to : N) (label : L) → Contains edges (record { to = to; label = label }) ↔ edge node to label
+
+module _ {N V : Type 0} where
+  -- the values that a map of lists has for the node
+  abbrev pub values_at : (N → N → Ordering) → BTreeMap N (Vec V) → N → Option (List V)
+  values_at cmp map node = option_map (λ values. values.items) (get cmp map node)
+
+  -- The node is known, and the value is one of its values.
+  abbrev pub IsHeld : (N → Option (List V)) → N × V → Type 0
+  IsHeld at p = (values : List V) × (at p.0 ≡ Some values) × Contains values p.1
+
+  -- The value is one of the node, or was held before.
+  abbrev pub IsHeldOr : (N → Option (List V)) → N → (V → Type 0) → N × V → Type 0
+  IsHeldOr at node P p = IsHeld at p ⊎ ((p.0 ≡ node) × P p.1)
+
+-- So many pairs are held, and no more than the limit.
+pub record IsTallied {N V : Type 0} (at : N → Option (List V)) (limit count : ℕ) : Type 0 where
+  pub pairs : List (N × V)
+  pub long : length pairs ≡ count
+  pub few : count ≤ limit
+  pub once : HasNoRepeats pairs
+  pub same : (p : N × V) → Contains pairs p ↔ IsHeld at p
+
+-- An edge leads to a known node, of whose values the label makes this one.
+abbrev pub IsPassed : {N L V : Type 0} → (L → V → Option V) → (N → Option (List V)) → List (Edge N L) → V → Type 0
+IsPassed {N} {L} {V} passed at edges v = (e : Edge N L) × Contains edges e × ((w : V) × IsHeld at (e.to, w) × (passed e.label w ≡ Some v))
+
+module _ {N L V : Type 0} (edge : N → N → L → Type 0) (own : N → V → Type 0) (passed : L → V → Option V) where
+  -- A known node has exactly the values that are found at it, in order.
+  abbrev pub IsSettled : (V → V → Ordering) → (N → Option (List V)) → Type 0
+  IsSettled cmp at = (node : N) (values : List V) → at node ≡ Some values → ((v : V) → Contains values v ↔ IsFound edge own passed node v) × IsStrictlySortedBy cmp values
+
+  -- The pair of one of the nodes and a value that is found at it.
+  abbrev pub IsFoundAmong : List N → N × V → Type 0
+  IsFoundAmong nodes p = Contains nodes p.0 × IsFound edge own passed p.0 p.1
+
+-- Only nodes of the list are known.
+abbrev pub IsAmong : {N V : Type 0} → List N → (N → Option (List V)) → Type 0
+IsAmong {N} {V} nodes at = (node : N) (values : List V) → at node ≡ Some values → Contains nodes node

@@ -1,0 +1,138 @@
+//! Settles the nodes of a labelled graph from the ends of its chains back to their start, as far as there are no rings.
+
+ghost use Rattle.std.specs.Prelude.{◌≡◌, ◌↔◌, ◌⊎◌, ◌++◌, true, Contains, IfOk, IfSome, OnOk, is_some};
+ghost use Rattle.std.specs.List.{filter_map};
+ghost use Rattle.std.specs.List.Sorted.{IsStrictlySortedBy};
+ghost use Rattle.std.proofs.lemmas.Map.Lookups.{CmpEqualImpliesEq};
+ghost use Rattle.rr_graph.specs.Carried.{IsFound};
+ghost use Rattle.rr_graph.specs.Chain.{MoreThan};
+ghost use Rattle.rr_graph.specs.SettledParts.{HasEdges, IsAmong, IsFoundAmong, IsHeldOr, IsPassed, IsSettled, IsTallied, values_at};
+
+use crate::ReachFault;
+use crate::labels::{Edge, Labelled};
+use crate::settled::Settled;
+use crate::tails::{Tail, tails};
+use crate::waiting::Waiting;
+use std::alloc::{AllocError, Global};
+
+/// Those of the nodes that no ring of edges is reached from, each with the values that are found at it.
+pub fn settled<G: Labelled>(
+    alloc: Global,
+    graph: &G,
+    nodes: &[G::Node],
+    limit: usize,
+) -> Result<Settled<G>, ReachFault>
+    ensures settled { IfOk result (λ settled. IsSettled (G.edge graph.now) (G.own graph.now) G.passed G.Value.cmp (values_at G.Node.cmp settled.values)) }
+    ensures among { IfOk result (λ settled. IsAmong nodes.now (values_at G.Node.cmp settled.values)) }
+    ensures tallied { IfOk result (λ settled. IsTallied (values_at G.Node.cmp settled.values) limit settled.pairs) }
+    ensures many { result ≡ Err ReachFault.TooMany → MoreThan limit (IsFoundAmong (G.edge graph.now) (G.own graph.now) G.passed nodes.now) }
+{
+    let tails = tails(alloc, graph, nodes)?;
+    let mut waiting = Waiting::new(alloc, graph, &tails)?;
+    let mut settled = Settled::new(alloc);
+    for _turn in 0..tails.len() {
+        if let Some(place) = waiting.next()? {
+            if let Some(tail) = tails.get(place) {
+                settle(alloc, graph, &mut settled, tail, limit)?;
+            }
+        }
+    }
+    Ok(settled)
+}
+
+/// Settles the node, unless it is or one of those is not to which its edges lead.
+fn settle<G: Labelled>(
+    alloc: Global,
+    graph: &G,
+    settled: &mut Settled<G>,
+    tail: &Tail<'_, G::Node, G::Label>,
+    limit: usize,
+) -> Result<(), ReachFault>
+    requires edges { HasEdges (G.edge graph.now) tail.now.node.now tail.now.edges.items }
+    requires settled { IsSettled (G.edge graph.now) (G.own graph.now) G.passed G.Value.cmp (values_at G.Node.cmp settled.old.values) }
+    requires tallied { IsTallied (values_at G.Node.cmp settled.old.values) limit settled.old.pairs }
+    ensures settled { OnOk result (IsSettled (G.edge graph.now) (G.own graph.now) G.passed G.Value.cmp (values_at G.Node.cmp settled.new.values)) }
+    ensures tallied { OnOk result (IsTallied (values_at G.Node.cmp settled.new.values) limit settled.new.pairs) }
+    ensures only { OnOk result ((node : G.Node) → is_some (values_at G.Node.cmp settled.new.values node) ≡ true → (is_some (values_at G.Node.cmp settled.old.values node) ≡ true) ⊎ (tail.now.node.now ≡ node)) }
+    ensures many { result ≡ Err ReachFault.TooMany → MoreThan limit (IsHeldOr (values_at G.Node.cmp settled.old.values) tail.now.node.now (IsFound (G.edge graph.now) (G.own graph.now) G.passed tail.now.node.now)) }
+{
+    if settled.at(tail.node).is_some() {
+        return Ok(());
+    }
+    if let Some(values) = found_at(alloc, graph, settled, tail)? {
+        settled.enter(graph.copy(alloc, tail.node)?, values, limit)?;
+    }
+    Ok(())
+}
+
+/// The values that are found at the node, in ascending order, where those to which its edges lead are settled.
+fn found_at<G: Labelled>(
+    alloc: Global,
+    graph: &G,
+    settled: &Settled<G>,
+    tail: &Tail<'_, G::Node, G::Label>,
+) -> Result<Option<Vec<G::Value>>, AllocError>
+    requires edges { HasEdges (G.edge graph.now) tail.now.node.now tail.now.edges.items }
+    requires settled { IsSettled (G.edge graph.now) (G.own graph.now) G.passed G.Value.cmp (values_at G.Node.cmp settled.now.values) }
+    ensures found { IfOk result (λ found. IfSome found (λ values. (v : G.Value) → Contains values.items v ↔ IsFound (G.edge graph.now) (G.own graph.now) G.passed tail.now.node.now v)) }
+    ensures sorted { IfOk result (λ found. IfSome found (λ values. IsStrictlySortedBy G.Value.cmp values.items)) }
+{
+    let edges = tail.edges.as_slice();
+    if !are_settled(settled, edges) {
+        return Ok(None);
+    }
+    let mut values = graph.values(alloc, tail.node)?;
+    add_passed(graph, settled, edges, &mut values)?;
+    put_in_order(&mut values);
+    Ok(Some(values))
+}
+
+/// Whether the nodes are settled to which the edges lead.
+fn are_settled<G: Labelled>(settled: &Settled<G>, edges: &[Edge<G::Node, G::Label>]) -> bool
+    ensures { result ≡ true → (e : Edge G.Node G.Label) → Contains edges.now e → is_some (values_at G.Node.cmp settled.now.values e.to) ≡ true }
+{
+    edges.iter().all(|edge| settled.at(&edge.to).is_some())
+}
+
+/// Adds what the labels of the edges make of the values of settled nodes.
+fn add_passed<G: Labelled>(
+    graph: &G,
+    settled: &Settled<G>,
+    edges: &[Edge<G::Node, G::Label>],
+    values: &mut Vec<G::Value>,
+) -> Result<(), AllocError>
+    ensures { OnOk result ((v : G.Value) → Contains values.new.items v ↔ (Contains values.old.items v ⊎ IsPassed G.passed (values_at G.Node.cmp settled.now.values) edges.now v)) }
+{
+    for edge in edges {
+        if let Some(begun) = settled.at(&edge.to) {
+            pass_all(graph, edge.label, begun, values)?;
+        }
+    }
+    Ok(())
+}
+
+/// Adds what the label makes of the values.
+fn pass_all<G: Labelled>(
+    graph: &G,
+    label: G::Label,
+    begun: &[G::Value],
+    values: &mut Vec<G::Value>,
+) -> Result<(), AllocError>
+    ensures { OnOk result (values.new.items ≡ values.old.items ++ filter_map (G.passed label) begun.now) }
+{
+    for value in begun {
+        if let Some(passed) = graph.pass(label, *value) {
+            values.push(passed)?;
+        }
+    }
+    Ok(())
+}
+
+/// Puts the list in ascending order, without repeats.
+fn put_in_order<T: Ord + Drop>(list: &mut Vec<T>)
+    ensures sorted { IsStrictlySortedBy T.cmp list.new.items }
+    ensures same { CmpEqualImpliesEq T.cmp → (x : T) → Contains list.new.items x ↔ Contains list.old.items x }
+{
+    list.sort_unstable();
+    list.dedup();
+}

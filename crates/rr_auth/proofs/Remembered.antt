@@ -22,7 +22,7 @@ use Rattle.rr_auth.specs.declared.salted.Salted.{Salted}
 use Rattle.rr_auth.specs.declared.tried.Line.{Line}
 use Rattle.rr_auth.specs.declared.tried.Trial.{Trial}
 use Rattle.rr_auth.specs.Passing.{fits_line}
-use Rattle.rr_auth.specs.Trials.{AreDigests, AreTrials, IsTrial, line_cmp, parts_of}
+use Rattle.rr_auth.specs.TrialParts.{AreDigests, AreTrials, IsTrial, line_cmp, auth_of}
 
 abbrev Trials : Type 0
 Trials = BTreeMap Line Trial
@@ -68,41 +68,41 @@ trial_stays secrets more line trial is = record {
 -- what is remembered of secrets holds where others are added behind them
 pub trials_stay : (secrets more : List (List ℕ)) (trials : Trials) → AreTrials secrets trials → AreTrials (secrets ++ more) trials
 trials_stay secrets more trials are = λ line.
-    IfSome_then (get line_cmp trials line) (are line) (trial_stays secrets more (parts_of line))
+    IfSome_then (get line_cmp trials line) (are line) (trial_stays secrets more (auth_of line))
 
 -- of nothing that is remembered all is true
 pub none_tried : (secrets : List (List ℕ)) (trials : Trials) → trials.entries ≡ [] → AreTrials secrets trials
 none_tried secrets trials none = λ line.
-    subst (λ (es : List (Line × Trial)). IfSome (lookup (is_at (line_cmp line)) es) (IsTrial secrets (parts_of line))) (sym none) tt
+    subst (λ (es : List (Line × Trial)). IfSome (lookup (is_at (line_cmp line)) es) (IsTrial secrets (auth_of line))) (sym none) tt
 
 -- lines that tie are the same line
-same_line : (a b : Line) → is_at (line_cmp a) b ≡ true → parts_of a ≡ parts_of b
+same_line : (a b : Line) → is_at (line_cmp a) b ≡ true → auth_of a ≡ auth_of b
 same_line a b e =
     let p : List ℕ × List ℕ = (a.digest, a.salt.items) in
     let q : List ℕ × List ℕ = (b.digest, b.salt.items) in
     ap (λ (r : List ℕ × List ℕ). let parts : AuthParts = record { salt = r.1; digest = r.0 } in parts)
     (tells_apart (exact_pairs (slice_cmp nat_cmp) (slice_cmp nat_cmp) exact_bytes exact_bytes) p q e)
 
-put_at : (secrets : List (List ℕ)) (line other : Line) (trial : Trial) (b : Bool) (before : Option Trial) → (b ≡ true → parts_of line ≡ parts_of other)
-    → IsTrial secrets (parts_of line) trial → IfSome before (IsTrial secrets (parts_of other)) → IfSome (cond b (Some trial) before) (IsTrial secrets (parts_of other))
+put_at : (secrets : List (List ℕ)) (line other : Line) (trial : Trial) (b : Bool) (before : Option Trial) → (b ≡ true → auth_of line ≡ auth_of other)
+    → IsTrial secrets (auth_of line) trial → IfSome before (IsTrial secrets (auth_of other)) → IfSome (cond b (Some trial) before) (IsTrial secrets (auth_of other))
 put_at secrets line other trial true before same is were = subst (λ (l : AuthParts). IsTrial secrets l trial) (same refl) is
 put_at secrets line other trial false before same is were = were
 
 -- one more trial is remembered
 pub trial_put : (secrets : List (List ℕ)) (line : Line) (trial : Trial) (old new : Trials) → ((other : Line) → get line_cmp new other ≡ cond (is_at (line_cmp line) other) (Some trial) (get line_cmp old other))
-    → AreTrials secrets old → IsTrial secrets (parts_of line) trial → AreTrials secrets new
+    → AreTrials secrets old → IsTrial secrets (auth_of line) trial → AreTrials secrets new
 trial_put secrets line trial old new put were is = λ other.
-    subst (λ (o : Option Trial). IfSome o (IsTrial secrets (parts_of other))) (sym (put other))
+    subst (λ (o : Option Trial). IfSome o (IsTrial secrets (auth_of other))) (sym (put other))
     (put_at secrets line other trial (is_at (line_cmp line) other) (get line_cmp old other) (same_line line other) is (were other))
 
 -- where memory is wanting, what was remembered stays
 pub trials_kept : (secrets : List (List ℕ)) (old new : Trials) → new.entries ≡ old.entries → AreTrials secrets old → AreTrials secrets new
 trials_kept secrets old new same were = λ line.
-    subst (λ (es : List (Line × Trial)). IfSome (lookup (is_at (line_cmp line)) es) (IsTrial secrets (parts_of line))) (sym same) (were line)
+    subst (λ (es : List (Line × Trial)). IfSome (lookup (is_at (line_cmp line)) es) (IsTrial secrets (auth_of line))) (sym same) (were line)
 
 -- what is remembered after a trial was to be put in, as far as there was memory
 pub remembered : {E : Type 0} (r : Result (Option Trial) E) (secrets : List (List ℕ)) (line : Line) (trial : Trial) (old new : Trials) → OnOk r (Updates line_cmp old new line (Some trial)) → OnErr r (IsUnchanged old new)
-    → AreTrials secrets old → IsTrial secrets (parts_of line) trial → AreTrials secrets new
+    → AreTrials secrets old → IsTrial secrets (auth_of line) trial → AreTrials secrets new
 remembered (Ok before) secrets line trial old new put same were is = trial_put secrets line trial old new put.0 were is
 remembered (Err failed) secrets line trial old new put same were is = trials_kept secrets old new same were
 
@@ -136,12 +136,12 @@ pub not_unequal : (s t : List ℕ) (unequal : Bool) → unequal ≡ not (bytes_e
 not_unequal s t unequal is e = (bytes_eq-Decides s t).0 (not_false (bytes_eq s t) (sym e ∙ is))
 
 -- what the digests of its salt tell of a line that none of the secrets in front of them fits
-pub looked_up : (secrets : List (List ℕ)) (line : Line) (known : Trial) (wanted : BTreeSet (List ℕ)) (salted : Salted) → IsTrial secrets (parts_of line) known → known.fits ≡ false → salted.first ≤ known.tried
-    → line.salt.items ≡ salted.salt.items → contains (slice_cmp nat_cmp) wanted line.digest ≡ true → AreDigests wanted secrets salted → contains (slice_cmp nat_cmp) salted.digests line.digest ≡ list_any (fits_line (parts_of line)) secrets
+pub looked_up : (secrets : List (List ℕ)) (line : Line) (known : Trial) (wanted : BTreeSet (List ℕ)) (salted : Salted) → IsTrial secrets (auth_of line) known → known.fits ≡ false → salted.first ≤ known.tried
+    → line.salt.items ≡ salted.salt.items → contains (slice_cmp nat_cmp) wanted line.digest ≡ true → AreDigests wanted secrets salted → contains (slice_cmp nat_cmp) salted.digests line.digest ≡ list_any (fits_line (auth_of line)) secrets
 looked_up secrets line known wanted salted is fails le same in_wanted are =
     are line.digest in_wanted
     ∙ ap (λ (salt : List ℕ). list_any (fits_line (record { salt = salt; digest = line.digest })) (drop salted.first secrets)) (sym same)
-    ∙ later_decide secrets (parts_of line) known salted.first is fails le
+    ∙ later_decide secrets (auth_of line) known salted.first is fails le
 
 or_false : (b : Bool) → b ≡ (b || false)
 or_false true = refl

@@ -7,5 +7,5 @@ pub mod Private
 pub mod Registries
 pub mod SetParents
 pub mod Sources
-pub mod Trials
+pub mod TrialParts
 pub mod Verdicts

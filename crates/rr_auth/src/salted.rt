@@ -1,7 +1,7 @@
 //! The digests of secrets with one salt.
 
 ghost use Rattle.std.specs.Prelude.{◌≡◌, IfOk};
-ghost use Rattle.rr_auth.specs.Trials.{AreDigests, HasDigests};
+ghost use Rattle.rr_auth.specs.TrialParts.{AreDigests, HasDigests};
 
 use crate::secret::{Secret, salted_digest};
 use std::alloc::{AllocError, Global};

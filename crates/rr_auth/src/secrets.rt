@@ -23,7 +23,7 @@ impl Model for Secrets {
 
     ghost Value = { List (List ℕ) };
 
-    ghost use Rattle.rr_auth.specs.Trials.{AreTrials};
+    ghost use Rattle.rr_auth.specs.TrialParts.{AreTrials};
 
     ghost view = { λ a. a.list.items };
 

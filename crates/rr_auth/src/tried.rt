@@ -4,7 +4,7 @@
 ghost use Rattle.std.specs.Prelude.{◌≡◌, ◌&&◌, ℕ, List, IfOk, length, nat_lt, not};
 ghost use Rattle.std.specs.List.{list_any};
 ghost use Rattle.rr_auth.specs.Passing.{fits_line};
-ghost use Rattle.rr_auth.specs.Trials.{AreDigests, AreTrials, IsTrial, parts_of};
+ghost use Rattle.rr_auth.specs.TrialParts.{AreDigests, AreTrials, IsTrial, auth_of};
 
 use crate::salted::Salted;
 use crate::secret::{Secret, some_fits};
@@ -154,7 +154,7 @@ impl Tried {
 
     /// Whether one of the secrets fits the line: only those behind the ones that were tried are hashed with it.
     fn try_rest(&mut self, secrets: &[Secret], line: &Auth, under: Line) -> bool
-        requires is_line { parts_of under ≡ line.now }
+        requires is_line { auth_of under ≡ line.now }
         requires remembered { AreTrials secrets.now self.old.trials }
         ensures answer { result ≡ list_any (fits_line line.now) secrets.now }
         ensures remembers { AreTrials secrets.now self.new.trials }
@@ -171,7 +171,7 @@ impl Tried {
 
     /// What was tried with the line.
     fn known(&self, line: &Line) -> Trial
-        ensures { (secrets : List (List ℕ)) → AreTrials secrets self.now.trials → IsTrial secrets (parts_of line.now) result }
+        ensures { (secrets : List (List ℕ)) → AreTrials secrets self.now.trials → IsTrial secrets (auth_of line.now) result }
     {
         match self.trials.get(line) {
             Some(trial) => *trial,
@@ -184,7 +184,7 @@ impl Tried {
 
     /// Remembers what was tried with the line, unless memory is wanting.
     fn remember(&mut self, line: Line, trial: Trial)
-        ensures { (secrets : List (List ℕ)) → AreTrials secrets self.old.trials → IsTrial secrets (parts_of line) trial → AreTrials secrets self.new.trials }
+        ensures { (secrets : List (List ℕ)) → AreTrials secrets self.old.trials → IsTrial secrets (auth_of line) trial → AreTrials secrets self.new.trials }
     {
         let _ = self.trials.insert(line, trial);
     }
@@ -202,7 +202,7 @@ impl Trial {
 impl Line {
     /// The line; the error is want of memory.
     fn of(alloc: Global, line: &Auth) -> Result<Line, AllocError>
-        ensures { IfOk result (λ copy. parts_of copy ≡ line.now) }
+        ensures { IfOk result (λ copy. auth_of copy ≡ line.now) }
     {
         let salt = Vec::from_slice(alloc, line.salt())?;
         Ok(Line {

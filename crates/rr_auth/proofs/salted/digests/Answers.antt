@@ -8,7 +8,7 @@ use Rattle.std.proofs.lemmas.List.{take_all}
 use Rattle.sha2.specs.Sha256.{sha256}
 use Rattle.rr_auth.specs.Passing.{fits_line}
 use Rattle.rr_auth.proofs.Remembered.{one_image_less, one_image_more}
-use Rattle.rr_auth.specs.Trials.{HasDigests}
+use Rattle.rr_auth.specs.TrialParts.{HasDigests}
 use Rattle.rr_auth.proofs.salted.digests.Goals as goal
 use Rattle.rr_auth.proofs.salted.digests.Goals.{then-contains+in_ok-insert, else-contains}
 

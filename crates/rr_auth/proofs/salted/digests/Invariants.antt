@@ -1,5 +1,5 @@
 use Rattle.std.proofs.Common.{take}
-use Rattle.rr_auth.specs.Trials.{HasDigests}
+use Rattle.rr_auth.specs.TrialParts.{HasDigests}
 use Rattle.rr_auth.proofs.salted.digests.Given as goal
 
 abbrev pub invariant-loop-secret : goal.invariant-loop-secret

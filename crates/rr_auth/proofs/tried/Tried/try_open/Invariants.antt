@@ -1,4 +1,4 @@
-use Rattle.rr_auth.specs.Trials.{AreDigests, AreTrials}
+use Rattle.rr_auth.specs.TrialParts.{AreDigests, AreTrials}
 use Rattle.rr_auth.proofs.tried.Tried.try_open.Given as goal
 
 -- what is remembered was tried, and the digests are those of the salt

@@ -2,7 +2,7 @@ use Rattle.std.proofs.Common.{◌≡◌, ap, arith, subst, sym, ◌∙◌}
 use Rattle.std.specs.List.{list_any}
 use Rattle.rr_object.specs.Parts.{AuthParts}
 use Rattle.rr_auth.specs.Passing.{fits_line}
-use Rattle.rr_auth.specs.Trials.{IsTrial, parts_of}
+use Rattle.rr_auth.specs.TrialParts.{IsTrial, auth_of}
 use Rattle.rr_auth.proofs.Remembered.{all_tried, rest_decides, seen_to_fit, whole_trial}
 use Rattle.rr_auth.proofs.tried.Tried.try_rest.Goals as goal
 use Rattle.rr_auth.proofs.tried.Tried.try_rest.Goals.{then-known-via-then-known, then-known-via-else-known+then-known-secrets}
@@ -29,7 +29,7 @@ returns-clause-remembers c =
     let known = c.known-known.result in
     let is : IsTrial c.args.secrets.now c.args.line.now known =
     subst (λ (line : AuthParts). IsTrial c.args.secrets.now line known) c.requires.is_line (c.known-known.ensures c.args.secrets.now c.requires.remembered) in
-    let told : c.some_fits-fits.result ≡ list_any (fits_line (parts_of c.args.under)) c.args.secrets.now =
+    let told : c.some_fits-fits.result ≡ list_any (fits_line (auth_of c.args.under)) c.args.secrets.now =
     c.some_fits-fits.ensures ∙ rest_decides c.args.secrets.now c.args.line.now known is c.if-known.false
     ∙ ap (λ (line : AuthParts). list_any (fits_line line) c.args.secrets.now) (sym c.requires.is_line) in
-    c.remember.ensures c.args.secrets.now c.requires.remembered (whole_trial c.args.secrets.now (parts_of c.args.under) _ (omega arith) told)
+    c.remember.ensures c.args.secrets.now c.requires.remembered (whole_trial c.args.secrets.now (auth_of c.args.under) _ (omega arith) told)

@@ -14,8 +14,8 @@ use Rattle.rr_auth.specs.declared.tried.Trial.{Trial}
 use Rattle.rr_auth.specs.Passing.{fits_line}
 
 -- The line of `auth` under which something is remembered.
-abbrev pub parts_of : Line → AuthParts
-parts_of line = record { salt = line.salt.items; digest = line.digest }
+abbrev pub auth_of : Line → AuthParts
+auth_of line = record { salt = line.salt.items; digest = line.digest }
 
 -- The order of lines.
 abbrev pub line_cmp : Line → Line → Ordering
@@ -28,7 +28,7 @@ pub record IsTrial (secrets : List (List ℕ)) (line : AuthParts) (trial : Trial
 
 -- What is remembered under a line was tried with it.
 abbrev pub AreTrials : List (List ℕ) → BTreeMap Line Trial → Type 0
-AreTrials secrets trials = (line : Line) → IfSome (get line_cmp trials line) (IsTrial secrets (parts_of line))
+AreTrials secrets trials = (line : Line) → IfSome (get line_cmp trials line) (IsTrial secrets (auth_of line))
 
 -- The digests of the secrets with a salt, as far as they are wanted: one of the secrets fits a line of the salt and a
 -- wanted digest where this is among them.

@@ -1,8 +1,8 @@
 -- Lists of objects that are lent.
-use Rattle.std.proofs.Common.{◌≡◌, ℕ, Bool, true, false, cond, Bor, List, [], ◌∷◌, ◌++◌, refl, sym, ap, ◌∙◌}
+use Rattle.std.proofs.Common.{◌≡◌, ℕ, Bool, true, false, cond, Bor, List, [], ◌∷◌, ◌++◌, refl, ap, ◌∙◌}
 use Rattle.std.specs.Prelude.{Option, None, Some, filter, map}
-use Rattle.std.specs.List.{cons_option, flat_map, join_with_byte}
-use Rattle.std.proofs.lemmas.List.{append-nil, map-append}
+use Rattle.std.specs.List.{cons_option, flat_map}
+use Rattle.std.proofs.lemmas.List.{map-append}
 use Rattle.std.proofs.lemmas.List.Folds.{flat_map-map}
 use Rattle.rr_object.specs.Objects.{Obj}
 use Rattle.rr_sets.specs.Lists.{lent}
@@ -23,11 +23,6 @@ filtered test (object ∷ objects) =
 pub lent_behind : (o : Option Obj) (found routes : List (Bor Obj)) → lent found ≡ cons_option o [] → lent (found ++ routes) ≡ cons_option o (lent routes)
 lent_behind None found routes e = map-append (λ object. object.now) found routes ∙ ap (λ os. os ++ lent routes) e
 lent_behind (Some o) found routes e = map-append (λ object. object.now) found routes ∙ ap (λ os. os ++ lent routes) e
-
--- words with a space between each two are the first, and each other one behind a space
-pub joined_words : (first : List ℕ) (others : List (Bor (List ℕ))) → join_with_byte 32 (first ∷ map (λ word. word.now) others) ≡ first ++ flat_map (λ word. 32 ∷ word.now) others
-joined_words first [] = sym (append-nil first)
-joined_words first (word ∷ others) = ap (λ text. first ++ (32 ∷ text)) (joined_words word.now others)
 
 -- the texts of what is lent
 pub texts_lent : (text : Obj → List ℕ) (objects : List (Bor Obj)) → flat_map text (lent objects) ≡ flat_map (λ object. text object.now) objects

@@ -14,7 +14,7 @@ use Rattle.rr_number.specs.Numerals.{number_of}
 use Rattle.rr_number.specs.Prefixes.{masked_of, prefix_of}
 use Rattle.rr_number.specs.SetNames.{is_set_name, set_text}
 use Rattle.rr_object.specs.declared.key.Key.TheVariants.{AutNum, Mntner}
-use Rattle.rr_object.specs.Items.{words}
+use Rattle.rr_bytes.specs.Parts.{words}
 use Rattle.rr_object.specs.KeySpellings.{key_of_text}
 use Rattle.rr_object.specs.Objects.{Obj}
 use Rattle.rr_object.specs.Readings.{public_of}

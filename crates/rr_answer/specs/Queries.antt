@@ -1,9 +1,10 @@
 -- What a query asks for.
 use Rattle.std.specs.Prelude.{ℕ, Bool, ◌||◌, List, [], ◌∷◌, length, nat_lt, codes, Option, None, Some, Result, Ok, Err, if◌then◌else◌}
-use Rattle.std.specs.List.{join_with_byte, list_any}
+use Rattle.std.specs.List.{list_any}
 use Rattle.std.specs.Option.{option_and_then, option_map, option_or}
 use Rattle.rr_bytes.specs.Blanks.{is_line_feed}
 use Rattle.rr_bytes.specs.LetterCase.{is_keyword, lowered}
+use Rattle.rr_bytes.specs.Parts.{joined_by_space, words}
 use Rattle.rr_text.specs.Bytes.{is_refused}
 use Rattle.rr_number.specs.Addresses.{address_of}
 use Rattle.rr_number.specs.AsNumbers.{as_number_of}
@@ -13,7 +14,7 @@ use Rattle.rr_number.specs.SetNames.{set_name_of}
 use Rattle.rr_object.specs.declared.class.Class.TheVariants as class
 use Rattle.rr_object.specs.declared.key.Key.{Key}
 use Rattle.rr_object.specs.Classes.{class_named}
-use Rattle.rr_object.specs.Items.{only, words}
+use Rattle.rr_object.specs.Items.{only}
 use Rattle.rr_object.specs.KeySpellings.{key_of_text}
 use Rattle.rr_answer.specs.declared.fault.QueryFault.{QueryFault}
 use Rattle.rr_answer.specs.declared.fault.QueryFault.TheVariants.{Bad, TooLong}
@@ -29,12 +30,12 @@ abbrev pub is_unreadable : ℕ → Bool
 is_unreadable b = is_line_feed b || is_refused b
 
 -- A prefix, or an address, which stands for the prefix of it alone (profile).
-abbrev pub place_of : List ℕ → Option PrefixParts
-place_of word = option_or (prefix_of word) (option_map (λ address. masked address 32) (address_of word))
+abbrev pub prefix_spelled : List ℕ → Option PrefixParts
+prefix_spelled word = option_or (prefix_of word) (option_map (λ address. masked address 32) (address_of word))
 
 -- The words of a key, joined by one space, spell it as a text does; letter case is ignored in the class too (profile).
 abbrev pub key_of_words : List ℕ → List (List ℕ) → Option Key
-key_of_words class others = option_and_then (λ found. key_of_text found (join_with_byte 32 others)) (class_named (lowered class))
+key_of_words class others = option_and_then (λ found. key_of_text found (joined_by_space others)) (class_named (lowered class))
 
 -- The key of a set of either kind (RFC 2622, 5).
 abbrev pub set_key_of : List ℕ → Option Key
@@ -45,16 +46,16 @@ set_key_of word = option_or (key_of_text class.AsSet word) (key_of_text class.Ro
 abbrev pub query_of_word : List ℕ → Option Query
 query_of_word word =
     option_or (option_map Object (key_of_text class.AutNum word))
-    (option_or (option_map Closest (place_of word))
+    (option_or (option_map Closest (prefix_spelled word))
     (option_or (option_map Object (set_key_of word)) (option_map Object (key_of_text class.Mntner word))))
 
--- Two words: what is asked, and of which place or set (profile).
+-- Two words: what is asked, and of which prefix or set (profile).
 abbrev pub query_of_two : List ℕ → List ℕ → Option Query
 query_of_two verb word =
-    if is_keyword (codes "exact") verb then option_map Exact (place_of word)
-    else if is_keyword (codes "closest") verb then option_map Closest (place_of word)
-    else if is_keyword (codes "less") verb then option_map Less (place_of word)
-    else if is_keyword (codes "more") verb then option_map More (place_of word)
+    if is_keyword (codes "exact") verb then option_map Exact (prefix_spelled word)
+    else if is_keyword (codes "closest") verb then option_map Closest (prefix_spelled word)
+    else if is_keyword (codes "less") verb then option_map Less (prefix_spelled word)
+    else if is_keyword (codes "more") verb then option_map More (prefix_spelled word)
     else if is_keyword (codes "expand") verb then option_map Expand (set_name_of word)
     else if is_keyword (codes "prefixes") verb then option_map Prefixes (set_name_of word)
     else None
@@ -81,13 +82,13 @@ query_of_words (verb ∷ (word ∷ [])) = query_of_two verb word
 query_of_words (verb ∷ (second ∷ (third ∷ others))) = query_of_more verb second (third ∷ others)
 
 -- A query, or the error that there is none (profile).
-abbrev pub or_bad : Option Query → Result Query QueryFault
-or_bad None = Err Bad
-or_bad (Some query) = Ok query
+abbrev pub or_bad_query : Option Query → Result Query QueryFault
+or_bad_query None = Err Bad
+or_bad_query (Some query) = Ok query
 
 -- The query that a text is, or its first error: it is too long, or no query can be read (profile).
 unfoldable pub query_of : List ℕ → Result Query QueryFault
 query_of text =
     if is_too_long text then Err TooLong
     else if list_any is_unreadable text then Err Bad
-    else or_bad (query_of_words (words text))
+    else or_bad_query (query_of_words (words text))

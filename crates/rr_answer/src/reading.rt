@@ -1,16 +1,19 @@
 //! Queries read from texts.
 
-ghost use Rattle.std.specs.Prelude.{◌≡◌, ◌≢◌, ◌∷◌, Err, IfErr, IfOk, Ok, map};
-ghost use Rattle.std.specs.List.{join_with_byte, list_any};
-ghost use Rattle.rr_object.specs.Items.{words};
+ghost use Rattle.std.specs.Prelude.{◌≡◌, ◌≢◌, Err, IfErr, IfOk, Ok, map};
+ghost use Rattle.std.specs.List.{list_any};
+ghost use Rattle.std.specs.Option.{option_and_then};
+ghost use Rattle.rr_bytes.specs.Parts.{words};
+ghost use Rattle.rr_object.specs.Items.{only};
 ghost use Rattle.rr_answer.specs.declared.fault.QueryFault.TheVariants.{Memory};
 ghost use Rattle.rr_answer.specs.Queries as queries;
 
 use crate::fault::QueryFault;
 use crate::query::Query;
-use rr_bytes::{ByteSet, is_keyword, parts_between, to_lower};
+use rr_bytes::{is_keyword, joined_by_space, to_lower, words};
 use rr_number::{Address, AsNumber, Name, Prefix, SetName};
 use rr_object::{Class, Key};
+use rr_text::is_refused;
 use std::alloc::{AllocError, Global};
 
 /// The most bytes of a query.
@@ -51,7 +54,7 @@ fn has_unreadable(text: &[u8]) -> bool
 fn is_unreadable(b: u8) -> bool
     ensures { result ≡ queries.is_unreadable b }
 {
-    b == b'\n' || (b.is_ascii_control() && !ByteSet::BlanksAndLineFeeds.has(b))
+    b == b'\n' || is_refused(b)
 }
 
 /// The query of a text's words.
@@ -62,14 +65,6 @@ fn query_of_text(alloc: Global, text: &[u8]) -> Result<Option<Query>, AllocError
     query_of_words(alloc, &words)
 }
 
-/// The words of a text, which blanks separate.
-#[tactic(auto, unfolding(rr_object::specs::Items::words))]
-fn words(alloc: Global, text: &[u8]) -> Result<Vec<&[u8]>, AllocError>
-    ensures { IfOk result (λ found. map (λ word. word.now) found.items ≡ words text.now) }
-{
-    parts_between(alloc, text, ByteSet::Blanks)
-}
-
 /// The query that the words are, if they are one.
 fn query_of_words(alloc: Global, words: &[&[u8]]) -> Result<Option<Query>, AllocError>
     ensures { IfOk result (λ query. query ≡ queries.query_of_words (map (λ word. word.now) words.now)) }
@@ -78,7 +73,7 @@ fn query_of_words(alloc: Global, words: &[&[u8]]) -> Result<Option<Query>, Alloc
         [] => Ok(None),
         [word] => query_of_word(alloc, word),
         [verb, word] => query_of_two(alloc, verb, word),
-        [verb, second, third, others @ ..] => query_of_more(alloc, verb, second, third, others),
+        [verb, second, others @ ..] => query_of_more(alloc, verb, second, others),
     }
 }
 
@@ -89,8 +84,8 @@ fn query_of_word(alloc: Global, word: &[u8]) -> Result<Option<Query>, AllocError
     if let Some(key) = Key::read(alloc, Class::AutNum, word)? {
         return Ok(Some(Query::Object(key)));
     }
-    if let Some(place) = place_of(word) {
-        return Ok(Some(Query::Closest(place)));
+    if let Some(prefix) = prefix_spelled(word) {
+        return Ok(Some(Query::Closest(prefix)));
     }
     if let Some(key) = set_key_of(alloc, word)? {
         return Ok(Some(Query::Object(key)));
@@ -99,8 +94,8 @@ fn query_of_word(alloc: Global, word: &[u8]) -> Result<Option<Query>, AllocError
 }
 
 /// The prefix that a word spells, or that of the one address that it spells.
-fn place_of(word: &[u8]) -> Option<Prefix>
-    ensures { result ≡ queries.place_of word.now }
+fn prefix_spelled(word: &[u8]) -> Option<Prefix>
+    ensures { result ≡ queries.prefix_spelled word.now }
 {
     if let Some(prefix) = Prefix::read(word) {
         return Some(prefix);
@@ -124,13 +119,13 @@ fn query_of_two(alloc: Global, verb: &[u8], word: &[u8]) -> Result<Option<Query>
     ensures { IfOk result (λ query. query ≡ queries.query_of_two verb.now word.now) }
 {
     if is_keyword(verb, b"exact") {
-        Ok(place_of(word).map(Query::Exact))
+        Ok(prefix_spelled(word).map(Query::Exact))
     } else if is_keyword(verb, b"closest") {
-        Ok(place_of(word).map(Query::Closest))
+        Ok(prefix_spelled(word).map(Query::Closest))
     } else if is_keyword(verb, b"less") {
-        Ok(place_of(word).map(Query::Less))
+        Ok(prefix_spelled(word).map(Query::Less))
     } else if is_keyword(verb, b"more") {
-        Ok(place_of(word).map(Query::More))
+        Ok(prefix_spelled(word).map(Query::More))
     } else if is_keyword(verb, b"expand") {
         Ok(SetName::read(alloc, word)?.map(Query::Expand))
     } else if is_keyword(verb, b"prefixes") {
@@ -146,50 +141,31 @@ fn query_of_more(
     alloc: Global,
     verb: &[u8],
     second: &[u8],
-    third: &[u8],
     others: &[&[u8]],
 ) -> Result<Option<Query>, AllocError>
-    ensures { IfOk result (λ query. query ≡ queries.query_of_more verb.now second.now (third.now ∷ map (λ word. word.now) others.now)) }
+    ensures { IfOk result (λ query. query ≡ queries.query_of_more verb.now second.now (map (λ word. word.now) others.now)) }
 {
     if is_keyword(verb, b"object") {
-        Ok(key_of_words(alloc, second, third, others)?.map(Query::Object))
-    } else if is_keyword(verb, b"inverse") && others.is_empty() {
-        inverse_of(alloc, second, third)
+        Ok(key_of_words(alloc, second, others)?.map(Query::Object))
+    } else if is_keyword(verb, b"inverse") {
+        inverse_of_words(alloc, second, others)
     } else {
         Ok(None)
     }
 }
 
 /// The key of the class that the words spell.
-fn key_of_words(
-    alloc: Global,
-    class: &[u8],
-    first: &[u8],
-    others: &[&[u8]],
-) -> Result<Option<Key>, AllocError>
-    ensures { IfOk result (λ key. key ≡ queries.key_of_words class.now (first.now ∷ map (λ word. word.now) others.now)) }
+fn key_of_words(alloc: Global, class: &[u8], others: &[&[u8]]) -> Result<Option<Key>, AllocError>
+    ensures { IfOk result (λ key. key ≡ queries.key_of_words class.now (map (λ word. word.now) others.now)) }
 {
     let lowered = to_lower(alloc, class)?;
     match Class::named(&lowered) {
         Some(class) => {
-            let text = joined(alloc, first, others)?;
+            let text = joined_by_space(alloc, others)?;
             Key::read(alloc, class, &text)
         }
         None => Ok(None),
     }
-}
-
-/// The words with a space between each two.
-#[tactic(auto, using(crate::proofs::Lists::joined_words))]
-fn joined(alloc: Global, first: &[u8], others: &[&[u8]]) -> Result<Vec<u8>, AllocError>
-    ensures { IfOk result (λ text. text.items ≡ join_with_byte 32 (first.now ∷ map (λ word. word.now) others.now)) }
-{
-    let mut text = Vec::from_slice(alloc, first)?;
-    for word in others {
-        text.push(b' ')?;
-        text.extend_from_slice(word)?;
-    }
-    Ok(text)
 }
 
 /// The query that asks for what names a maintainer, or comes from an AS.
@@ -202,5 +178,19 @@ fn inverse_of(alloc: Global, attribute: &[u8], word: &[u8]) -> Result<Option<Que
         Ok(AsNumber::read(word).map(Query::Originated))
     } else {
         Ok(None)
+    }
+}
+
+/// The query that asks so of the words, which are one alone.
+fn inverse_of_words(
+    alloc: Global,
+    attribute: &[u8],
+    others: &[&[u8]],
+) -> Result<Option<Query>, AllocError>
+    ensures { IfOk result (λ query. query ≡ option_and_then (queries.inverse_of attribute.now) (only (map (λ word. word.now) others.now))) }
+{
+    match others {
+        [word] => inverse_of(alloc, attribute, word),
+        _ => Ok(None),
     }
 }

@@ -5,14 +5,14 @@ use Rattle.std.specs.List.{list_any}
 use Rattle.rr_number.specs.SetNames.{kind_of}
 use Rattle.rr_number.specs.declared.set_kind.SetKind.{SetKind}
 use Rattle.rr_number.specs.declared.set_kind.SetKind.TheVariants as kinds
-use Rattle.rr_object.specs.Items.{words}
+use Rattle.rr_bytes.specs.Parts.{words}
 use Rattle.rr_auth.specs.Registries.{Reg}
 use Rattle.rr_answer.specs.declared.fault.QueryFault.{QueryFault}
 use Rattle.rr_answer.specs.declared.fault.QueryFault.TheVariants.{Bad, TooLong, TooMany, Memory, Store, Stopped}
 use Rattle.rr_answer.specs.declared.query.Query.{Query}
 use Rattle.rr_answer.specs.declared.query.Query.TheVariants.{Object, Exact, Closest, Less, More, Naming, Originated, Expand, Prefixes}
 use Rattle.rr_answer.specs.Answers.{IsAnswer, IsAnswerOf, IsAnswerTo, IsExpanded}
-use Rattle.rr_answer.specs.Queries.{is_too_long, is_unreadable, or_bad, query_of, query_of_words}
+use Rattle.rr_answer.specs.Queries.{is_too_long, is_unreadable, or_bad_query, query_of, query_of_words}
 use Rattle.rr_desk.specs.Answering.{IsAnswered, IsAnswerWhere, IsRunningAnswer, is_store_fault, stops}
 use Rattle.rr_desk.specs.LookupParts.{IsUnfound, LooksUp}
 
@@ -21,7 +21,7 @@ abbrev stops_query : Result Query QueryFault → Bool
 stops_query (Ok query) = false
 stops_query (Err fault) = is_store_fault fault
 
-read_never_stops : (query : Option Query) → stops_query (or_bad query) ≡ false
+read_never_stops : (query : Option Query) → stops_query (or_bad_query query) ≡ false
 read_never_stops None = refl
 read_never_stops (Some query) = refl
 
@@ -29,9 +29,9 @@ read_never_stops (Some query) = refl
 query_never_stops : (text : List ℕ) → stops_query (query_of text) ≡ false
 unfolding query_of
 query_never_stops text =
-    elim (is_too_long text) as (λ b. stops_query (if b then Err TooLong else if list_any is_unreadable text then Err Bad else or_bad (query_of_words (words text))) ≡ false) [
+    elim (is_too_long text) as (λ b. stops_query (if b then Err TooLong else if list_any is_unreadable text then Err Bad else or_bad_query (query_of_words (words text))) ≡ false) [
       | true ↦ refl
-      | false ↦ elim (list_any is_unreadable text) as (λ b. stops_query (if b then Err Bad else or_bad (query_of_words (words text))) ≡ false) [
+      | false ↦ elim (list_any is_unreadable text) as (λ b. stops_query (if b then Err Bad else or_bad_query (query_of_words (words text))) ≡ false) [
         | true ↦ refl
         | false ↦ read_never_stops (query_of_words (words text))
       ]

@@ -14,7 +14,8 @@ use Rattle.rr_number.specs.Names.{IsUpperName, is_maintainer_name, is_reserved, 
 use Rattle.rr_number.proofs.NameLemmas.{name_of-kept}
 use Rattle.rr_text.specs.Bytes.{is_colon}
 use Rattle.rr_object.specs.Auths.{auth_item, auth_of_words, is_salt, is_sha256_pw, salted_digest_of}
-use Rattle.rr_object.specs.Items.{meant_by, only, words}
+use Rattle.rr_bytes.specs.Parts.{words}
+use Rattle.rr_object.specs.Items.{meant_by, only}
 use Rattle.rr_object.specs.Parts.{AuthParts}
 use Rattle.rr_desk.specs.declared.settings.Setting.{Setting}
 use Rattle.rr_desk.specs.declared.settings.Setting.TheVariants.{Source, Root, Auth, Limit}

@@ -14,12 +14,12 @@ use Rattle.hex.proofs.HexLemmas.{decode_of-encode_lower, decode_of-ok, decode_si
 use Rattle.rr_bytes.specs.Blanks.{is_blank, is_blank_or_comma}
 use Rattle.rr_bytes.specs.LetterCase.{is_keyword, upper}
 use Rattle.rr_bytes.specs.NameBytes.{begins_with_letter, ends_with_alphanumeric, is_name, is_name_byte}
-use Rattle.rr_bytes.specs.Parts.{is_filled}
+use Rattle.rr_bytes.specs.Parts.{is_filled, words}
 use Rattle.rr_number.specs.Names.{IsUpperName, is_maintainer_name, maintainer_name_of}
 use Rattle.rr_number.proofs.NameLemmas.{name_of-upper_name}
 use Rattle.rr_text.specs.Bytes.{is_colon}
 use Rattle.rr_object.specs.Auths.{auth_item, auth_of_words, is_salt, salted_digest_of}
-use Rattle.rr_object.specs.Items.{items, words}
+use Rattle.rr_object.specs.Items.{items}
 use Rattle.rr_object.specs.Parts.{AuthParts}
 use Rattle.rr_desk.specs.Settings.{IsDigest}
 use Rattle.rr_desk.specs.Opening.{auth_line}

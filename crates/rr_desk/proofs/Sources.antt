@@ -26,7 +26,7 @@ use Rattle.rr_rows.specs.Maps.{IsObjectOf}
 use Rattle.rr_submission.specs.declared.submission.DeskFault.{DeskFault}
 use Rattle.rr_submission.specs.declared.submission.DeskFault.TheVariants.{ReadFault, WriteFault, StoreFault, Memory, Stopped}
 use Rattle.rr_submission.specs.declared.submission.Done.{Done}
-use Rattle.rr_submission.specs.Served.{HaltsAt, ServesStopped}
+use Rattle.rr_submission.specs.Handled.{HaltsAt, HandlesStopped}
 use Rattle.rr_submission.specs.SubmissionItems.{submitted}
 use Rattle.rr_submission.specs.Submissions.{Submits}
 use Rattle.rr_submission.proofs.Keeping.{items_keep_the_source}
@@ -79,9 +79,9 @@ module _ {S : Type 0} (g : store.Ghosts S) (source : List ℕ) (old new : Stock 
   decided middle secrets (Ok item) halts = (halts.outcome, halts.step)
   decided middle secrets (Err code) halts = absurd halts
 
-  stopped_of_source : (start now before after : Told) (count : ℕ) → ServesStopped (stock_ledger g) source start now old new before after count → IsRegistryOf source old.registry → IsRegistryOf source new.registry
+  stopped_of_source : (start now before after : Told) (count : ℕ) → HandlesStopped (stock_ledger g) source start now old new before after count → IsRegistryOf source old.registry → IsRegistryOf source new.registry
   stopped_of_source start now before after count served of =
-      let s = served.serves in
+      let s = served.handles in
       let last = decided s.middle s.last.secrets s.last.request.action s.halts in
       let run = run_more old.registry s.middle.registry new.registry (map submitted s.told) (submitted s.last) s.outcomes last.0 s.runs last.1 in
       items_keep_the_source source (entries served.front) (s.told ++ s.last ∷ []) old.registry new.registry (s.outcomes ++ last.0 ∷ []) of s.are_items
@@ -94,7 +94,7 @@ module _ {S : Type 0} (g : store.Ghosts S) (source : List ℕ) (old new : Stock 
   kept_of_source start now before after (Ok done) h of = items_keep_the_source source (entries h.text) h.items old.registry new.registry h.outcomes of h.are_items h.runs
   kept_of_source start now before after (Err (ReadFault count)) h of = items_keep_the_source source (whole_entries h.text) h.items old.registry new.registry h.outcomes of h.are_items h.runs
   kept_of_source start now before after (Err (WriteFault count)) (inl h) of =
-      let s = h.serves in
+      let s = h.handles in
       items_keep_the_source source (entries h.front) (s.told ++ s.last ∷ []) old.registry new.registry (s.outcomes ++ s.outcome ∷ []) of s.are_items s.runs
   kept_of_source start now before after (Err (WriteFault count)) (inr h) of = items_keep_the_source source (entries h.text) h.items old.registry new.registry h.outcomes of h.are_items h.runs
   kept_of_source start now before after (Err (StoreFault count)) h of = stopped_of_source start now before after count h of

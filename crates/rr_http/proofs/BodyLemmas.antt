@@ -10,7 +10,7 @@ use Rattle.rr_submission.specs.declared.ledger.Ledger.{Ghosts}
 use Rattle.rr_submission.specs.declared.submission.Done.{Done}
 use Rattle.rr_submission.specs.declared.submission.DeskFault.{DeskFault}
 use Rattle.rr_submission.specs.declared.submission.DeskFault.TheVariants as fault
-use Rattle.rr_submission.specs.Served.{ReadsItems}
+use Rattle.rr_submission.specs.Handled.{ReadsItems}
 use Rattle.rr_submission.specs.Submissions.{Sides, Submits}
 use Rattle.rr_http.specs.declared.body.Body.{Body}
 use Rattle.rr_http.specs.BodyReaders.{body_aside, body_failed, body_missing, body_reads, body_rest, body_told}
@@ -147,7 +147,7 @@ module _ (body rest : List ℕ) (missing faults reads : ℕ) where
     submits_body (Err (fault.WriteFault items)) small fails (inl p) = made (Err (fault.WriteFault items)) (inl (record {
       front = p.front;
       reads = front_plain p.front p.reads;
-      serves = p.serves;
+      handles = p.handles;
     })) (front_whole p.front p.reads)
     submits_body (Err (fault.WriteFault items)) small fails (inr p) = made (Err (fault.WriteFault items)) (inr (record {
       text = p.text;
@@ -164,7 +164,7 @@ module _ (body rest : List ℕ) (missing faults reads : ℕ) where
     submits_body (Err (fault.StoreFault items)) small fails p = made (Err (fault.StoreFault items)) (record {
       front = p.front;
       reads = front_plain p.front p.reads;
-      serves = p.serves;
+      handles = p.handles;
     }) (front_whole p.front p.reads)
     submits_body (Err fault.Memory) small fails p = made (Err fault.Memory) (record {
       unread = same_plain p.unread;

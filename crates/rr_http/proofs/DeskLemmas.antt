@@ -10,7 +10,7 @@ use Rattle.rr_auth.specs.declared.item.Item.{Item}
 use Rattle.rr_submission.specs.declared.submission.Done.{Done}
 use Rattle.rr_submission.specs.declared.submission.DeskFault.{DeskFault}
 use Rattle.rr_submission.specs.declared.submission.DeskFault.TheVariants as fault
-use Rattle.rr_submission.specs.Served.{HaltsAt, ServesHalted}
+use Rattle.rr_submission.specs.Handled.{HaltsAt, HandlesHalted}
 use Rattle.rr_submission.specs.Submissions.{Sides, Submits}
 use Rattle.rr_desk.specs.declared.desk.Desk.{Desk}
 use Rattle.rr_desk.specs.Stocks.{stock_ledger}
@@ -22,7 +22,7 @@ halts_whole g middle new secrets (Ok item) halts = halts
 halts_whole g middle new secrets (Err code) halts = halts
 
 halted_whole : {S : Type 0} (g : store.Ghosts S) (source : List ℕ) (entries : List (Result (List Field) TextFault)) (old new : Desk S) (before after : Told) (count : ℕ) →
-    ServesHalted (stock_ledger g) source entries old.stored new.stored before after count → ServesHalted (desk_ledger g) source entries old new before after count
+    HandlesHalted (stock_ledger g) source entries old.stored new.stored before after count → HandlesHalted (desk_ledger g) source entries old new before after count
 halted_whole {S} g source entries old new before after count halted =
     let middle : Desk S = record { settings = old.settings; stored = halted.middle } in record {
       told = halted.told;
@@ -48,7 +48,7 @@ submits_whole g source sides old new (Err (fault.WriteFault items)) submits = su
 submits_whole g source sides old new (Err (fault.StoreFault items)) submits = record {
   front = submits.front;
   reads = submits.reads;
-  serves = halted_whole g source _ old new _ _ items submits.serves;
+  handles = halted_whole g source _ old new _ _ items submits.handles;
 }
 submits_whole g source sides old new (Err fault.Memory) submits = submits
 submits_whole g source sides old new (Err fault.Stopped) submits = submits

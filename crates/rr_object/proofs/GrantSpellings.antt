@@ -18,8 +18,8 @@ use Rattle.rr_number.specs.Prefixes.{prefix_of}
 use Rattle.rr_number.specs.Ranges.{RangeParts}
 use Rattle.rr_object.specs.declared.grants.Begun.{Begun}
 use Rattle.rr_object.specs.declared.grants.Begun.TheVariants.{Nothing, Named, Braced}
-use Rattle.rr_object.specs.Grants.{entries_behind, for_each_prefix, for_no_prefix, is_any, is_closing, is_opening, last_entry, next_entry, range_item, with_range}
-use Rattle.rr_object.specs.GrantTexts.{AreEntries, IsEntry, ReadGrantsAreSpelled, SpelledGrantsAreRead}
+use Rattle.rr_object.specs.Grants.{grants_behind, for_each_prefix, for_no_prefix, is_any, is_closing, is_opening, last_grant, next_grant, range_item, with_range}
+use Rattle.rr_object.specs.GrantTexts.{AreGrants, IsGrant, ReadGrantsAreSpelled, SpelledGrantsAreRead}
 use Rattle.rr_bytes.specs.LetterCase.{is_keyword, lowered}
 use Rattle.rr_object.specs.Items.{are_good, meant, meant_by}
 use Rattle.rr_object.specs.Parts.{GrantParts}
@@ -47,7 +47,7 @@ Begins (Braced grant) items = IsOpened items grant
 -- items that spell the entry that was ended, if one was
 abbrev Ends : Option GrantParts → List (List ℕ) → Type 0
 Ends None items = items ≡ []
-Ends (Some grant) items = IsEntry items grant
+Ends (Some grant) items = IsGrant items grant
 
 -- items cut in those of the entry that was ended and of what is begun
 record IsTurn (items : List (List ℕ)) (next : Option GrantParts × Begun) : Type 0 where
@@ -82,7 +82,7 @@ named_turn : (name item : List ℕ) (items : List (List ℕ)) (next : Option Gra
     → IsTurn (items ++ (item ∷ [])) next
 named_turn name item items next true c r begun any opening at e =
     let same : ended_next (for_each_prefix name) ≡ next = cc in
-    let entry : IsEntry (items ++ (item ∷ [])) (for_each_prefix name) =
+    let entry : IsGrant (items ++ (item ∷ [])) (for_each_prefix name) =
     inr (inl (record {
       item = begun.item;
       keyword = item;
@@ -108,7 +108,7 @@ named_turn name item items next false true r begun any opening at e =
 named_turn name item items next false false None begun any opening at e = cc
 named_turn name item items next false false (Some n) begun any opening at e =
     let same : also_named name n ≡ next = cc in
-    let entry : IsEntry items (for_each_prefix name) =
+    let entry : IsGrant items (for_each_prefix name) =
     inl (record { item = begun.item; spelled = begun.spelled; named = begun.named; value = refl }) in
     rw (← same)
     (record { done = items; left = item ∷ []; cut = refl; ended = entry; begun = record { item = item; spelled = refl; named = at } })
@@ -161,7 +161,7 @@ braced_turn : (grant : GrantParts) (item : List ℕ) (items : List (List ℕ)) (
 braced_turn grant item items next true r begun closing at e =
     let same : ended_next grant ≡ next = cc in
     let brace : item ≡ codes "}" = (bytes_eq-Decides item (codes "}")).0 closing in
-    let entry : IsEntry (items ++ (item ∷ [])) grant =
+    let entry : IsGrant (items ++ (item ∷ [])) grant =
     inr (inr (record {
       item = begun.item;
       listed = begun.listed;
@@ -178,8 +178,8 @@ braced_turn grant item items next false (Some range) begun closing at e =
     (record { done = []; left = items ++ (item ∷ []); cut = refl; ended = refl; begun = opened_more grant item items range begun at })
 
 turned : (begun : Begun) (item : List ℕ) (items : List (List ℕ)) (next : Option GrantParts × Begun) → Begins begun items
-    → next_entry begun item ≡ Some next → IsTurn (items ++ (item ∷ [])) next
-unfolding next_entry
+    → next_grant begun item ≡ Some next → IsTurn (items ++ (item ∷ [])) next
+unfolding next_grant
 turned Nothing item items next begins e = rw begins (nothing_turn item next (maintainer_name_of item) refl e)
 turned (Named name) item items next begins e =
     named_turn name item items next (is_any item) (is_opening item) (maintainer_name_of item) begins refl refl refl e
@@ -190,56 +190,56 @@ turned (Braced grant) item items next begins e =
 record IsStep (begun : Begun) (item : List ℕ) (others : List (List ℕ)) (grants : List GrantParts) : Type 0 where
   pub next : Option GrantParts × Begun
   pub entries : List GrantParts
-  pub is : next_entry begun item ≡ Some next
-  pub behind : entries_behind next.1 others ≡ Some entries
+  pub is : next_grant begun item ≡ Some next
+  pub behind : grants_behind next.1 others ≡ Some entries
   pub whole : option_to_list next.0 ++ entries ≡ grants
 
 step_behind : (begun : Begun) (item : List ℕ) (others : List (List ℕ)) (grants : List GrantParts) (next : Option GrantParts × Begun)
-    (read : Option (List GrantParts)) → next_entry begun item ≡ Some next → entries_behind next.1 others ≡ read
+    (read : Option (List GrantParts)) → next_grant begun item ≡ Some next → grants_behind next.1 others ≡ read
     → option_map (λ entries. option_to_list next.0 ++ entries) read ≡ Some grants → IsStep begun item others grants
 step_behind begun item others grants next None is at e = cc
 step_behind begun item others grants next (Some entries) is at e =
     record { next = next; entries = entries; is = is; behind = at; whole = cc }
 
 step_next : (begun : Begun) (item : List ℕ) (others : List (List ℕ)) (grants : List GrantParts)
-    (found : Option (Option GrantParts × Begun)) → next_entry begun item ≡ found
-    → option_and_then (λ next. option_map (λ entries. option_to_list next.0 ++ entries) (entries_behind next.1 others)) found ≡ Some grants
+    (found : Option (Option GrantParts × Begun)) → next_grant begun item ≡ found
+    → option_and_then (λ next. option_map (λ entries. option_to_list next.0 ++ entries) (grants_behind next.1 others)) found ≡ Some grants
     → IsStep begun item others grants
 step_next begun item others grants None is e = cc
 step_next begun item others grants (Some next) is e =
-    step_behind begun item others grants next (entries_behind next.1 others) is refl e
+    step_behind begun item others grants next (grants_behind next.1 others) is refl e
 
 stepped : (begun : Begun) (item : List ℕ) (others : List (List ℕ)) (grants : List GrantParts)
-    → entries_behind begun (item ∷ others) ≡ Some grants → IsStep begun item others grants
-unfolding entries_behind
-stepped begun item others grants e = step_next begun item others grants (next_entry begun item) refl e
+    → grants_behind begun (item ∷ others) ≡ Some grants → IsStep begun item others grants
+unfolding grants_behind
+stepped begun item others grants e = step_next begun item others grants (next_grant begun item) refl e
 
 -- at the end of the items
-ended : (begun : Begun) (items : List (List ℕ)) (grants : List GrantParts) → Begins begun items → last_entry begun ≡ Some grants
-    → AreEntries grants items
+ended : (begun : Begun) (items : List (List ℕ)) (grants : List GrantParts) → Begins begun items → last_grant begun ≡ Some grants
+    → AreGrants grants items
 ended Nothing items grants begins e = let same : [] ≡ grants = cc in rw (← same) begins
 ended (Named name) items grants begins e =
     let same : for_each_prefix name ∷ [] ≡ grants = cc in
-    let entry : IsEntry items (for_each_prefix name) =
+    let entry : IsGrant items (for_each_prefix name) =
     inl (record { item = begins.item; spelled = begins.spelled; named = begins.named; value = refl }) in
     rw (← same) (record { front = items; rest = []; cut = sym (append-nil items); first = entry; others = refl })
 ended (Braced grant) items grants begins e = cc
 
 -- the entry that was ended goes before those behind it
-put_before : (over : Option GrantParts) (done rest : List (List ℕ)) (entries : List GrantParts) → Ends over done → AreEntries entries rest
-    → AreEntries (option_to_list over ++ entries) (done ++ rest)
+put_before : (over : Option GrantParts) (done rest : List (List ℕ)) (entries : List GrantParts) → Ends over done → AreGrants entries rest
+    → AreGrants (option_to_list over ++ entries) (done ++ rest)
 put_before None done rest entries ends others = rw ends others
 put_before (Some grant) done rest entries ends others =
     record { front = done; rest = rest; cut = refl; first = ends; others = others }
 
 all_behind : (whole done left rest : List (List ℕ)) (over : Option GrantParts) (entries grants : List GrantParts)
     → whole ≡ done ++ (left ++ rest) → option_to_list over ++ entries ≡ grants
-    → AreEntries (option_to_list over ++ entries) (done ++ (left ++ rest)) → AreEntries grants whole
+    → AreGrants (option_to_list over ++ entries) (done ++ (left ++ rest)) → AreGrants grants whole
 all_behind whole done left rest over entries grants cut same all = rw (cut, ← same) all
 
 read_behind : (left : List (List ℕ)) (begun : Begun) (items : List (List ℕ)) (grants : List GrantParts) → Begins begun items
-    → entries_behind begun left ≡ Some grants → AreEntries grants (items ++ left)
-unfolding entries_behind
+    → grants_behind begun left ≡ Some grants → AreGrants grants (items ++ left)
+unfolding grants_behind
 read_behind [] begun items grants begins e = rw (append-nil items) (ended begun items grants begins e)
 read_behind (item ∷ left) begun items grants begins e =
     let step = stepped begun item left grants e in
@@ -261,7 +261,7 @@ record IsLed (items : List (List ℕ)) : Type 0 where
   pub spelled : items ≡ item ∷ others
   pub named : maintainer_name_of item ≡ Some name
 
-entry_led : (grant : GrantParts) (items rest : List (List ℕ)) → IsEntry items grant → IsLed (items ++ rest)
+entry_led : (grant : GrantParts) (items rest : List (List ℕ)) → IsGrant items grant → IsLed (items ++ rest)
 entry_led grant items rest (inl e) =
     record { item = e.item; name = grant.name; others = rest; spelled = ap (λ xs. xs ++ rest) e.spelled; named = e.named }
 entry_led grant items rest (inr (inl e)) =
@@ -275,7 +275,7 @@ entry_led grant items rest (inr (inr e)) =
       named = e.named;
     }
 
-entries_led : (grants : List GrantParts) (items : List (List ℕ)) → AreEntries grants items → (items ≡ []) ⊎ IsLed items
+entries_led : (grants : List GrantParts) (items : List (List ℕ)) → AreGrants grants items → (items ≡ []) ⊎ IsLed items
 entries_led [] items e = inl e
 entries_led (grant ∷ grants) items e = inr (rw e.cut (entry_led grant e.front e.rest e.first))
 
@@ -316,13 +316,13 @@ closing_no_range item range true at read =
 -- what is read behind an item's step
 abbrev after_next : List (List ℕ) → Option (Option GrantParts × Begun) → Option (List GrantParts)
 after_next others found =
-    option_and_then (λ next. option_map (λ entries. option_to_list next.0 ++ entries) (entries_behind next.1 others)) found
+    option_and_then (λ next. option_map (λ entries. option_to_list next.0 ++ entries) (grants_behind next.1 others)) found
 
 name_first : (item name : List ℕ) (others : List (List ℕ)) → maintainer_name_of item ≡ Some name
-    → entries_behind Nothing (item ∷ others) ≡ entries_behind (Named name) others
-unfolding entries_behind next_entry
+    → grants_behind Nothing (item ∷ others) ≡ grants_behind (Named name) others
+unfolding grants_behind next_grant
 name_first item name others named =
-    ap (λ r. after_next others (option_map named_next r)) named ∙ option_map_id (entries_behind (Named name) others)
+    ap (λ r. after_next others (option_map named_next r)) named ∙ option_map_id (grants_behind (Named name) others)
 
 next_named : (name n : List ℕ) (b c : Bool) (r : Option (List ℕ)) → b ≡ false → c ≡ false → r ≡ Some n
     → (if b then Some (ended_next (for_each_prefix name)) else if c then Some (opened_next name) else option_map (also_named name) r)
@@ -331,8 +331,8 @@ next_named name n b c r eb ec er = rw (eb, ec, er) refl
 
 -- a name ends before another name and at the end of the items
 name_ends : (name : List ℕ) (rest : List (List ℕ)) → (rest ≡ []) ⊎ IsLed rest
-    → entries_behind (Named name) rest ≡ option_map (λ es. for_each_prefix name ∷ es) (entries_behind Nothing rest)
-unfolding entries_behind next_entry
+    → grants_behind (Named name) rest ≡ option_map (λ es. for_each_prefix name ∷ es) (grants_behind Nothing rest)
+unfolding grants_behind next_grant
 name_ends name rest (inl e) = rw e refl
 name_ends name rest (inr led) =
     let no_any = any_no_name led.item led.name (is_any led.item) refl led.named in
@@ -343,17 +343,17 @@ name_ends name rest (inr led) =
     ∙ ap (option_map (λ es. for_each_prefix name ∷ es)) (sym (name_first led.item led.name led.others led.named)))
 
 any_ends : (name keyword : List ℕ) (rest : List (List ℕ)) → is_any keyword ≡ true
-    → entries_behind (Named name) (keyword ∷ rest) ≡ option_map (λ es. for_each_prefix name ∷ es) (entries_behind Nothing rest)
-unfolding entries_behind next_entry
+    → grants_behind (Named name) (keyword ∷ rest) ≡ option_map (λ es. for_each_prefix name ∷ es) (grants_behind Nothing rest)
+unfolding grants_behind next_grant
 any_ends name keyword rest any =
     ap
     (λ b. after_next rest
     (if b then Some (ended_next (for_each_prefix name)) else if is_opening keyword then Some (opened_next name) else option_map (also_named name) (maintainer_name_of keyword)))
     any
 
-brace_opens : (name : List ℕ) (rest : List (List ℕ)) → entries_behind (Named name) (codes "{" ∷ rest) ≡ entries_behind (Braced (for_no_prefix name)) rest
-unfolding entries_behind next_entry is_keyword
-brace_opens name rest = option_map_id (entries_behind (Braced (for_no_prefix name)) rest)
+brace_opens : (name : List ℕ) (rest : List (List ℕ)) → grants_behind (Named name) (codes "{" ∷ rest) ≡ grants_behind (Braced (for_no_prefix name)) rest
+unfolding grants_behind next_grant is_keyword
+brace_opens name rest = option_map_id (grants_behind (Braced (for_no_prefix name)) rest)
 
 abbrev with_ranges : GrantParts → List RangeParts → GrantParts
 with_ranges grant ranges = record { name = grant.name; any = grant.any; ranges = grant.ranges ++ ranges }
@@ -379,42 +379,42 @@ good_rest item listed None at good = absurd (let bad = rw at at good in cc bad)
 good_rest item listed (Some range) at good = (range, (refl, rw at at good))
 
 ranges_read : (listed rest : List (List ℕ)) (grant : GrantParts) → are_good range_item listed ≡ true
-    → entries_behind (Braced grant) (listed ++ (codes "}" ∷ rest))
-    ≡ option_map (λ es. with_ranges grant (meant range_item listed) ∷ es) (entries_behind Nothing rest)
-unfolding entries_behind next_entry
+    → grants_behind (Braced grant) (listed ++ (codes "}" ∷ rest))
+    ≡ option_map (λ es. with_ranges grant (meant range_item listed) ∷ es) (grants_behind Nothing rest)
+unfolding grants_behind next_grant
 ranges_read [] rest grant good =
-    ap (λ g. option_map (λ es. g ∷ es) (entries_behind Nothing rest))
+    ap (λ g. option_map (λ es. g ∷ es) (grants_behind Nothing rest))
     (λ i. record { name = grant.name; any = grant.any; ranges = sym (append-nil grant.ranges) i })
 ranges_read (item ∷ listed) rest grant good =
     let first = good_rest item listed (range_item item) refl good in
     let no_closing = closing_no_range item first.0 (is_closing item) refl first.1.0 in
     let next = next_range grant first.0 (is_closing item) (range_item item) no_closing first.1.0 in
     ap (after_next (listed ++ (codes "}" ∷ rest))) next
-    ∙ option_map_id (entries_behind (Braced (with_range grant first.0)) (listed ++ (codes "}" ∷ rest)))
+    ∙ option_map_id (grants_behind (Braced (with_range grant first.0)) (listed ++ (codes "}" ∷ rest)))
     ∙ ranges_read listed rest (with_range grant first.0) first.1.1
-    ∙ ap (λ g. option_map (λ es. g ∷ es) (entries_behind Nothing rest))
+    ∙ ap (λ g. option_map (λ es. g ∷ es) (grants_behind Nothing rest))
     (range_then grant first.0 (meant range_item listed) ∙ ap (with_ranges grant) (sym (meant_first item listed first.0 first.1.0)))
 
-entry_read : (grant : GrantParts) (items rest : List (List ℕ)) → IsEntry items grant → (rest ≡ []) ⊎ IsLed rest
-    → entries_behind Nothing (items ++ rest) ≡ option_map (λ es. grant ∷ es) (entries_behind Nothing rest)
+entry_read : (grant : GrantParts) (items rest : List (List ℕ)) → IsGrant items grant → (rest ≡ []) ⊎ IsLed rest
+    → grants_behind Nothing (items ++ rest) ≡ option_map (λ es. grant ∷ es) (grants_behind Nothing rest)
 entry_read grant items rest (inl e) led =
     rw e.spelled
     (name_first e.item grant.name rest e.named ∙ name_ends grant.name rest led
-    ∙ ap (λ g. option_map (λ es. g ∷ es) (entries_behind Nothing rest)) (sym e.value))
+    ∙ ap (λ g. option_map (λ es. g ∷ es) (grants_behind Nothing rest)) (sym e.value))
 entry_read grant items rest (inr (inl e)) led =
     rw e.spelled
     (name_first e.item grant.name (e.keyword ∷ rest) e.named ∙ any_ends grant.name e.keyword rest e.any
-    ∙ ap (λ g. option_map (λ es. g ∷ es) (entries_behind Nothing rest)) (sym e.value))
+    ∙ ap (λ g. option_map (λ es. g ∷ es) (grants_behind Nothing rest)) (sym e.value))
 entry_read grant items rest (inr (inr e)) led =
     rw e.spelled
     (name_first e.item grant.name (codes "{" ∷ ((e.listed ++ (codes "}" ∷ [])) ++ rest)) e.named
     ∙ brace_opens grant.name ((e.listed ++ (codes "}" ∷ [])) ++ rest)
-    ∙ ap (entries_behind (Braced (for_no_prefix grant.name))) (append_assoc e.listed (codes "}" ∷ []) rest)
+    ∙ ap (grants_behind (Braced (for_no_prefix grant.name))) (append_assoc e.listed (codes "}" ∷ []) rest)
     ∙ ranges_read e.listed rest (for_no_prefix grant.name) e.good
-    ∙ ap (λ g. option_map (λ es. g ∷ es) (entries_behind Nothing rest)) (sym e.value))
+    ∙ ap (λ g. option_map (λ es. g ∷ es) (grants_behind Nothing rest)) (sym e.value))
 
-spelled_behind : (grants : List GrantParts) (items : List (List ℕ)) → AreEntries grants items → entries_behind Nothing items ≡ Some grants
-unfolding entries_behind
+spelled_behind : (grants : List GrantParts) (items : List (List ℕ)) → AreGrants grants items → grants_behind Nothing items ≡ Some grants
+unfolding grants_behind
 spelled_behind [] items e = rw e refl
 spelled_behind (grant ∷ grants) items e =
     rw e.cut

@@ -30,7 +30,8 @@ use Rattle.rr_object.specs.declared.key.Key.{Key}
 use Rattle.rr_object.specs.declared.key.Key.TheVariants.{Mntner, AsBlock, AutNum, Inetnum, Route, AsSet, RouteSet}
 use Rattle.rr_object.specs.declared.kind.Kind.TheVariants.{Origin}
 use Rattle.rr_object.specs.Classes.{class_named}
-use Rattle.rr_object.specs.Items.{only, values_of, words}
+use Rattle.rr_bytes.specs.Parts.{words}
+use Rattle.rr_object.specs.Items.{only, values_of}
 use Rattle.rr_object.specs.KeyOrders.{HasKeyParts, IsKeyValue, IsSetKey}
 use Rattle.rr_object.specs.KeySpellings.{as_set_key_of, key_at, key_in, key_of, key_of_text, or_bad_key, route_key_of, route_key_of_words, route_set_key_of}
 use Rattle.rr_object.specs.Kinds.{kind_name}

@@ -7,7 +7,8 @@ use Rattle.std.specs.Result.{result_ok}
 use Rattle.hex.specs.Hex.{decode_sized}
 use Rattle.rr_text.specs.Bytes.{is_colon}
 use Rattle.rr_bytes.specs.LetterCase.{is_keyword}
-use Rattle.rr_object.specs.Items.{only, words}
+use Rattle.rr_bytes.specs.Parts.{words}
+use Rattle.rr_object.specs.Items.{only}
 use Rattle.rr_object.specs.Parts.{AuthParts}
 
 -- a salt is 0 to 16 letters or digits (profile)

@@ -32,11 +32,11 @@ pub record IsNameWithRanges (items : List (List ℕ)) (grant : GrantParts) : Typ
   pub value : grant ≡ record { name = grant.name; any = false; ranges = meant range_item listed }
 
 -- an entry is spelled in one of these three ways (RFC 2725, 10; profile)
-abbrev pub IsEntry : List (List ℕ) → GrantParts → Type 0
-IsEntry items grant = IsNameAlone items grant ⊎ (IsNameWithAny items grant ⊎ IsNameWithRanges items grant)
+abbrev pub IsGrant : List (List ℕ) → GrantParts → Type 0
+IsGrant items grant = IsNameAlone items grant ⊎ (IsNameWithAny items grant ⊎ IsNameWithRanges items grant)
 
 -- items spell entries where they are those of the first and, behind them, those of the others (RFC 2725, 10)
-pub record IsCut (Front Rest : List (List ℕ) → Type 0) (items : List (List ℕ)) : Type 0 where
+pub record IsFrontThenRest (Front Rest : List (List ℕ) → Type 0) (items : List (List ℕ)) : Type 0 where
   pub front : List (List ℕ)
   pub rest : List (List ℕ)
   pub cut : items ≡ front ++ rest
@@ -44,16 +44,16 @@ pub record IsCut (Front Rest : List (List ℕ) → Type 0) (items : List (List �
   pub others : Rest rest
 
 -- items that spell these entries, one behind another (RFC 2725, 10)
-abbrev pub AreEntries : List GrantParts → List (List ℕ) → Type 0
-AreEntries [] items = items ≡ []
-AreEntries (grant ∷ grants) items = IsCut (λ front. IsEntry front grant) (AreEntries grants) items
+abbrev pub AreGrants : List GrantParts → List (List ℕ) → Type 0
+AreGrants [] items = items ≡ []
+AreGrants (grant ∷ grants) items = IsFrontThenRest (λ front. IsGrant front grant) (AreGrants grants) items
 
 -- what is read of items is what they spell (RFC 2725, 10)
 abbrev pub ReadGrantsAreSpelled : Type 0
 ReadGrantsAreSpelled =
-    (items : List (List ℕ)) (grants : List GrantParts) → grants_of items ≡ Some grants → AreEntries grants items
+    (items : List (List ℕ)) (grants : List GrantParts) → grants_of items ≡ Some grants → AreGrants grants items
 
 -- what items spell is read of them (RFC 2725, 10)
 abbrev pub SpelledGrantsAreRead : Type 0
 SpelledGrantsAreRead =
-    (items : List (List ℕ)) (grants : List GrantParts) → AreEntries grants items → grants_of items ≡ Some grants
+    (items : List (List ℕ)) (grants : List GrantParts) → AreGrants grants items → grants_of items ≡ Some grants

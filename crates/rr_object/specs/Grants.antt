@@ -4,8 +4,7 @@ use Rattle.std.specs.Option.{option_map, option_and_then, option_to_list}
 use Rattle.std.specs.Str.{bytes_eq}
 use Rattle.rr_number.specs.Names.{maintainer_name_of}
 use Rattle.rr_number.specs.Ranges.{RangeParts, bare}
-use Rattle.rr_number.specs.Applied.{ranged_of}
-use Rattle.rr_number.specs.Applied.{applied}
+use Rattle.rr_number.specs.Applied.{applied, ranged_of}
 use Rattle.rr_object.specs.declared.grants.Begun.{Begun}
 use Rattle.rr_object.specs.declared.grants.Begun.TheVariants.{Nothing, Named, Braced}
 use Rattle.rr_bytes.specs.LetterCase.{is_keyword}
@@ -44,28 +43,28 @@ with_range grant (Some range) =
 
 -- what an item adds to the entry that was begun: the entry that it ends, if it ends one, and what is begun then. An
 -- entry is a maintainer's name, then `ANY`, ranges in braces, or nothing, which means `ANY` (RFC 2725, 10; profile)
-unfoldable pub next_entry : Begun → List ℕ → Option (Option GrantParts × Begun)
-next_entry Nothing item = option_map (λ name. (None, Named name)) (maintainer_name_of item)
-next_entry (Named name) item =
+unfoldable pub next_grant : Begun → List ℕ → Option (Option GrantParts × Begun)
+next_grant Nothing item = option_map (λ name. (None, Named name)) (maintainer_name_of item)
+next_grant (Named name) item =
     if is_any item then Some (Some (for_each_prefix name), Nothing)
     else if is_opening item then Some (None, Braced (for_no_prefix name))
     else option_map (λ next. (Some (for_each_prefix name), Named next)) (maintainer_name_of item)
-next_entry (Braced grant) item =
+next_grant (Braced grant) item =
     if is_closing item then Some (Some grant, Nothing)
     else option_map (λ range. (None, Braced (with_range grant range))) (range_item item)
 
 -- the entry that the end of the list ends; braces have to be closed (RFC 2725, 10)
-abbrev pub last_entry : Begun → Option (List GrantParts)
-last_entry Nothing = Some []
-last_entry (Named name) = Some (for_each_prefix name ∷ [])
-last_entry (Braced grant) = None
+abbrev pub last_grant : Begun → Option (List GrantParts)
+last_grant Nothing = Some []
+last_grant (Named name) = Some (for_each_prefix name ∷ [])
+last_grant (Braced grant) = None
 
 -- the entries of a list of items behind what was begun; nothing where one is badly spelled (RFC 2725, 10)
-unfoldable pub entries_behind : Begun → List (List ℕ) → Option (List GrantParts)
-entries_behind begun [] = last_entry begun
-entries_behind begun (item ∷ others) =
-    option_and_then (λ next. option_map (λ entries. option_to_list next.0 ++ entries) (entries_behind next.1 others)) (next_entry begun item)
+unfoldable pub grants_behind : Begun → List (List ℕ) → Option (List GrantParts)
+grants_behind begun [] = last_grant begun
+grants_behind begun (item ∷ others) =
+    option_and_then (λ next. option_map (λ grants. option_to_list next.0 ++ grants) (grants_behind next.1 others)) (next_grant begun item)
 
 -- the entries of a list of items (RFC 2725, 10)
 abbrev pub grants_of : List (List ℕ) → Option (List GrantParts)
-grants_of listed = entries_behind Nothing listed
+grants_of listed = grants_behind Nothing listed

@@ -1,7 +1,7 @@
 -- The values of a paragraph's attributes, and the items of lists.
 use Rattle.std.specs.Prelude.{ℕ, Bool, ◌==◌, ◌||◌, List, [], ◌∷◌, ◌++◌, Option, Some, None, is_some, filter, map, if◌then◌else◌}
 use Rattle.std.specs.List.{flat_map, filter_map, list_all}
-use Rattle.rr_bytes.specs.Blanks.{is_blank, is_blank_or_comma}
+use Rattle.rr_bytes.specs.Blanks.{is_blank_or_comma}
 use Rattle.rr_bytes.specs.Parts.{parts_at}
 use Rattle.rr_text.specs.Fields.{Field, has_name}
 use Rattle.rr_text.specs.Meanings.{value_meaning}
@@ -19,10 +19,6 @@ only (value ∷ (other ∷ others)) = None
 -- the items of a list; empty ones are ignored (RFC 2622, 2; profile)
 unfoldable pub items : List ℕ → List (List ℕ)
 items text = parts_at is_blank_or_comma text
-
--- the words of a text, which blanks separate (profile)
-unfoldable pub words : List ℕ → List (List ℕ)
-words text = parts_at is_blank text
 
 -- the values of an attribute that is repeated are one list (RFC 2622, 2): a comma ends each
 abbrev pub joined : List (List ℕ) → List ℕ

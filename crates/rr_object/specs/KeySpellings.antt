@@ -17,7 +17,8 @@ use Rattle.rr_object.specs.declared.fault.ObjectFault.{ObjectFault}
 use Rattle.rr_object.specs.declared.fault.ObjectFault.TheVariants.{UnknownClass, BadKey}
 use Rattle.rr_object.specs.declared.kind.Kind.TheVariants.{Origin}
 use Rattle.rr_object.specs.Classes.{class_named}
-use Rattle.rr_object.specs.Items.{only, values_of, words}
+use Rattle.rr_bytes.specs.Parts.{words}
+use Rattle.rr_object.specs.Items.{only, values_of}
 use Rattle.rr_object.specs.Kinds.{kind_name}
 use Rattle.rr_object.specs.Members.{is_as_set_kind}
 

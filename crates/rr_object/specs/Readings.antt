@@ -60,12 +60,12 @@ unfoldable pub items_read : Kind → Class → List Field → List (List ℕ)
 items_read kind class fields = if is_read kind class then items_of kind fields else []
 
 -- how many attributes have this name (RFC 2622, 2)
-abbrev pub count_of : List ℕ → List Field → ℕ
-count_of name fields = count_by (has_name name) fields
+abbrev pub count_named : List ℕ → List Field → ℕ
+count_named name fields = count_by (has_name name) fields
 
 -- an attribute stands more or less often than it may, or has no item where it needs one (RFC 2622, 2; profile)
 abbrev pub breaks : Occurs → Kind → List Field → Bool
-breaks Once kind fields = not (count_of (kind_name kind) fields == 1) || not (is_filled (items_of kind fields))
+breaks Once kind fields = not (count_named (kind_name kind) fields == 1) || not (is_filled (items_of kind fields))
 breaks WithItems kind fields = not (is_filled (items_of kind fields))
 breaks Freely kind fields = false
 breaks AsText kind fields = false
@@ -78,7 +78,7 @@ is_miscounted_in class kind fields = breaks (occurs kind class) kind fields
 -- repeated; the `origin` of a route is a part of its key and judged there (profile)
 unfoldable pub is_miscounted : Class → List Field → Bool
 is_miscounted class fields =
-    not (count_of (class_name class) fields == 1)
+    not (count_named (class_name class) fields == 1)
     || (is_miscounted_in class MntBy fields || (is_miscounted_in class Source fields || is_miscounted_in class Auth fields))
 
 -- an item of `members` in an object of a class: as-sets have their own rule, route-sets the other; the other classes

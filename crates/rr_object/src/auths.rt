@@ -8,8 +8,7 @@ ghost use Rattle.rr_object.specs.declared.fault.ObjectFault.TheVariants.{BadValu
 
 use crate::auth::{Auth, DIGEST_BYTES};
 use crate::fault::ObjectFault;
-use crate::lists::words;
-use rr_bytes::{cut_around, is_keyword};
+use rr_bytes::{cut_around, is_keyword, words};
 use std::alloc::Global;
 
 /// The most bytes of a salt (profile).

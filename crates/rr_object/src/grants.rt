@@ -3,7 +3,7 @@
 ghost use Rattle.std.specs.Prelude.{◌≡◌, ◌≢◌, ◌++◌, map, IfErr, IfOk, None, OnOk, Some};
 ghost use Rattle.std.specs.Option.{option_to_list};
 ghost use Rattle.rr_number.specs.Names.{maintainer_name_of};
-ghost use Rattle.rr_object.specs.Grants.{grants_of, is_any, last_entry, next_entry, range_item};
+ghost use Rattle.rr_object.specs.Grants.{grants_of, is_any, last_grant, next_grant, range_item};
 ghost use Rattle.rr_object.specs.declared.fault.ObjectFault.TheVariants.{BadValue, Memory};
 ghost use Rattle.rr_object.specs.declared.grants.Begun.TheVariants.{Braced, Named};
 
@@ -25,7 +25,7 @@ pub(crate) enum Begun {
 }
 
 /// The entries that the items spell.
-#[tactic(auto, unfolding(crate::specs::Grants::entries_behind))]
+#[tactic(auto, unfolding(crate::specs::Grants::grants_behind))]
 pub(crate) fn read_grants(alloc: Global, listed: &[&[u8]]) -> Result<Vec<Grant>, ObjectFault>
     ensures good { IfOk result (λ read. grants_of (map (λ item. item.now) listed.now) ≡ Some read.items) }
     ensures bad { IfErr result (λ fault. fault ≢ Memory
@@ -34,11 +34,11 @@ pub(crate) fn read_grants(alloc: Global, listed: &[&[u8]]) -> Result<Vec<Grant>,
     let mut read = Vec::new(alloc);
     let mut begun = Begun::Nothing;
     'items: for item in listed {
-        let (ended, next) = next_entry(alloc, begun, item)?;
+        let (ended, next) = next_grant(alloc, begun, item)?;
         push_ended(&mut read, ended)?;
         begun = next;
     }
-    let ended = last_entry(alloc, begun)?;
+    let ended = last_grant(alloc, begun)?;
     push_ended(&mut read, ended)?;
     Ok(read)
 }
@@ -54,9 +54,9 @@ fn push_ended(read: &mut Vec<Grant>, ended: Option<Grant>) -> Result<(), AllocEr
 }
 
 /// The entry that the end of the items ends, if it ends one.
-fn last_entry(alloc: Global, begun: Begun) -> Result<Option<Grant>, ObjectFault>
-    ensures good { IfOk result (λ ended. last_entry begun ≡ Some (option_to_list ended)) }
-    ensures bad { IfErr result (λ fault. (fault ≡ BadValue) × (last_entry begun ≡ None)) }
+fn last_grant(alloc: Global, begun: Begun) -> Result<Option<Grant>, ObjectFault>
+    ensures good { IfOk result (λ ended. last_grant begun ≡ Some (option_to_list ended)) }
+    ensures bad { IfErr result (λ fault. (fault ≡ BadValue) × (last_grant begun ≡ None)) }
 {
     match begun {
         Begun::Nothing => Ok(None),
@@ -66,14 +66,14 @@ fn last_entry(alloc: Global, begun: Begun) -> Result<Option<Grant>, ObjectFault>
 }
 
 /// The entry that an item ends, if it ends one, and what is begun then.
-#[tactic(auto, unfolding(crate::specs::Grants::next_entry))]
-fn next_entry(
+#[tactic(auto, unfolding(crate::specs::Grants::next_grant))]
+fn next_grant(
     alloc: Global,
     begun: Begun,
     item: &[u8],
 ) -> Result<(Option<Grant>, Begun), ObjectFault>
-    ensures good { IfOk result (λ next. next_entry begun item.now ≡ Some next) }
-    ensures bad { IfErr result (λ fault. fault ≢ Memory → (fault ≡ BadValue) × (next_entry begun item.now ≡ None)) }
+    ensures good { IfOk result (λ next. next_grant begun item.now ≡ Some next) }
+    ensures bad { IfErr result (λ fault. fault ≢ Memory → (fault ≡ BadValue) × (next_grant begun item.now ≡ None)) }
 {
     match begun {
         Begun::Nothing => Ok((None, Begun::Named(read_maintainer(alloc, item)?))),
@@ -82,14 +82,14 @@ fn next_entry(
     }
 }
 
-#[tactic(auto, unfolding(crate::specs::Grants::next_entry))]
+#[tactic(auto, unfolding(crate::specs::Grants::next_grant))]
 fn behind_name(
     alloc: Global,
     name: Name,
     item: &[u8],
 ) -> Result<(Option<Grant>, Begun), ObjectFault>
-    ensures good { IfOk result (λ next. next_entry (Named name) item.now ≡ Some next) }
-    ensures bad { IfErr result (λ fault. fault ≢ Memory → (fault ≡ BadValue) × (next_entry (Named name) item.now ≡ None)) }
+    ensures good { IfOk result (λ next. next_grant (Named name) item.now ≡ Some next) }
+    ensures bad { IfErr result (λ fault. fault ≢ Memory → (fault ≡ BadValue) × (next_grant (Named name) item.now ≡ None)) }
 {
     if is_any(item) {
         Ok((
@@ -110,10 +110,10 @@ fn behind_name(
     }
 }
 
-#[tactic(auto, unfolding(crate::specs::Grants::next_entry))]
+#[tactic(auto, unfolding(crate::specs::Grants::next_grant))]
 fn in_braces(grant: Grant, item: &[u8]) -> Result<(Option<Grant>, Begun), ObjectFault>
-    ensures good { IfOk result (λ next. next_entry (Braced grant) item.now ≡ Some next) }
-    ensures bad { IfErr result (λ fault. fault ≢ Memory → (fault ≡ BadValue) × (next_entry (Braced grant) item.now ≡ None)) }
+    ensures good { IfOk result (λ next. next_grant (Braced grant) item.now ≡ Some next) }
+    ensures bad { IfErr result (λ fault. fault ≢ Memory → (fault ≡ BadValue) × (next_grant (Braced grant) item.now ≡ None)) }
 {
     if item == b"}".as_slice() {
         Ok((Some(grant), Begun::Nothing))

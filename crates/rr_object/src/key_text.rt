@@ -6,8 +6,8 @@ ghost use Rattle.rr_object.specs.declared.class.Class.TheVariants as class;
 
 use crate::class::Class;
 use crate::key::Key;
-use crate::lists::words;
 use crate::members::is_as_set_kind;
+use rr_bytes::words;
 use rr_number::{AsNumber, AsSpan, Name, Prefix, SetName, Span};
 use std::alloc::{AllocError, Global};
 

@@ -2,8 +2,8 @@
 
 ghost use Rattle.std.specs.Prelude.{◌≡◌, IfOk, count_by, map};
 ghost use Rattle.rr_text.specs.Fields.{has_name};
-ghost use Rattle.rr_object.specs.Items.{items, joined, spaced, values_of, words};
-ghost use Rattle.rr_object.specs.Readings.{count_of};
+ghost use Rattle.rr_object.specs.Items.{items, joined, spaced, values_of};
+ghost use Rattle.rr_object.specs.Readings.{count_named};
 
 use rr_bytes::{ByteSet, parts_between};
 use rr_text::{Attribute, Paragraph, Text, meaning};
@@ -11,7 +11,7 @@ use std::alloc::{AllocError, Global};
 
 /// How many attributes have this name.
 pub(crate) fn count_named(paragraph: &Paragraph, name: &[u8]) -> usize
-    ensures { result ≡ count_of name.now paragraph.now }
+    ensures { result ≡ count_named name.now paragraph.now }
 {
     count_among(paragraph.attributes(), name)
 }
@@ -21,7 +21,7 @@ fn count_among(attributes: &[Attribute], name: &[u8]) -> usize
 {
     attributes
         .iter()
-        .filter(|attribute| attribute.name() == name)
+        .filter(|attribute| attribute.has_name(name))
         .count()
 }
 
@@ -45,7 +45,7 @@ fn values_among(
 {
     let mut values = Vec::new(alloc);
     'attributes: for attribute in attributes {
-        if attribute.name() == name {
+        if attribute.has_name(name) {
             values.push(meaning(alloc, attribute)?)?;
         }
     }
@@ -85,12 +85,4 @@ pub(crate) fn items(alloc: Global, text: &[u8]) -> Result<Vec<&[u8]>, AllocError
     ensures { IfOk result (λ listed. map (λ item. item.now) listed.items ≡ items text.now) }
 {
     parts_between(alloc, text, ByteSet::BlanksAndCommas)
-}
-
-/// The words of a text, which are separated by blanks.
-#[tactic(auto, unfolding(crate::specs::Items::words))]
-pub(crate) fn words(alloc: Global, text: &[u8]) -> Result<Vec<&[u8]>, AllocError>
-    ensures { IfOk result (λ found. map (λ word. word.now) found.items ≡ words text.now) }
-{
-    parts_between(alloc, text, ByteSet::Blanks)
 }

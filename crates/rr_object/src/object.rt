@@ -190,7 +190,7 @@ fn read_of_any_source(alloc: Global, key: Key, paragraph: Paragraph) -> Result<S
     ensures fault { IfErr result (λ fault. fault ≢ Memory → obj_of paragraph ≡ Err fault) }
 {
     let said = read_said(alloc, &key, &paragraph)?;
-    let object = joined(key, paragraph, said.authority, said.membership);
+    let object = made_of(key, paragraph, said.authority, said.membership);
     let source = said.source;
     Ok(Sourced { object, source })
 }
@@ -227,8 +227,8 @@ fn read_said(alloc: Global, key: &Key, paragraph: &Paragraph) -> Result<Said, Ob
     })
 }
 
-/// The object of what was read.
-fn joined(key: Key, paragraph: Paragraph, authority: Authority, membership: Membership) -> Object
+/// The object that is made of what was read.
+fn made_of(key: Key, paragraph: Paragraph, authority: Authority, membership: Membership) -> Object
     requires { obj_of paragraph ≡ Ok (record { key = key; paragraph = paragraph; maintainers = authority.maintainers.items; lower = authority.lower.items; routes = authority.routes.items; auths = authority.auths.items; members = membership.members.items; by_ref = membership.by_ref; member_of = membership.member_of.items }) }
     ensures { obj_of paragraph ≡ Ok result }
 {

@@ -77,7 +77,7 @@ fn has_kept_out(attributes: &[Attribute]) -> bool
 fn is_kept_out(attribute: &Attribute) -> bool
     ensures { result ≡ is_kept_out attribute.now }
 {
-    attribute.name() == b"password".as_slice() || attribute.name() == b"delete".as_slice()
+    attribute.has_name(b"password") || attribute.has_name(b"delete")
 }
 
 fn source_among(alloc: Global, values: &[Text]) -> Result<Option<Name>, AllocError>

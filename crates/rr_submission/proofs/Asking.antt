@@ -111,5 +111,5 @@ AreItems-read source at_end = tt
 AreItems-read source (secrets_alone alone rest) = AreItems-read source rest
 AreItems-read source (asked request other is rest) =
     (read_item source request.key request.action (IsTied-request source _ request is), AreItems-read source rest)
-AreItems-read source (faulty fault rest) = (tt, AreItems-read source rest)
+AreItems-read source (faulty fault code is rest) = (tt, AreItems-read source rest)
 AreItems-read source (unread_for_memory entry rest) = (tt, AreItems-read source rest)

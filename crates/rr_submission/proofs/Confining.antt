@@ -1,21 +1,16 @@
 -- The items of a text are well formed, so that a run of them confines what is foreign.
 use Rattle.std.proofs.Common.{ℕ, List, [], ◌∷◌, ◌++◌, Ok, Err}
 use Rattle.std.specs.Prelude.{Result, IfOk, map}
-use Rattle.rr_text.specs.Fields.{Field}
-use Rattle.rr_text.specs.declared.fault.TextFault.{TextFault}
 use Rattle.rr_object.specs.declared.code.Code.{Code}
 use Rattle.rr_auth.specs.declared.item.Item.{Item}
 use Rattle.rr_auth.specs.Laws.{IsItem}
 use Rattle.rr_auth.specs.Registries.{Reg, Sound}
 use Rattle.rr_auth.specs.Sources.{IsReadIn}
 use Rattle.rr_auth.proofs.Steps.{read_item}
-use Rattle.rr_registry.specs.Confined.{Confines}
 use Rattle.rr_registry.specs.RunLaws.{AreFormed, AreReadIn}
-use Rattle.rr_registry.specs.Runs.{Run}
-use Rattle.rr_registry.specs.declared.outcome.Outcome.{Outcome}
 use Rattle.rr_registry.proofs.Confined.{runs_confine}
 use Rattle.rr_submission.proofs.Asking.{AreItems-read}
-use Rattle.rr_submission.specs.SubmissionItems.{AreItems, Asked, submitted}
+use Rattle.rr_submission.specs.SubmissionItems.{Asked, submitted}
 use Rattle.rr_submission.specs.SubmissionLaws.{ConfinesTexts}
 
 -- an item that is read is well formed

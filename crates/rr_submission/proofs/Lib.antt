@@ -2,7 +2,6 @@ pub mod Asking
 pub mod Confining
 pub mod Exits
 pub mod Giving
-pub mod Joins
 pub mod Keeping
 pub mod LineSizes
 pub mod Passing

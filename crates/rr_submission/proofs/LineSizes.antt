@@ -1,5 +1,5 @@
 -- How long the parts of a line are.
-use Rattle.std.proofs.Common.{◌≡◌, ℕ, ◌≤◌, length, List, lit≤, arith}
+use Rattle.std.proofs.Common.{ℕ, ◌≤◌, length, List, lit≤, arith}
 use Rattle.std.proofs.lemmas.Bool.{and_parts, leb-true}
 use Rattle.rr_bytes.specs.NameBytes.{is_name}
 use Rattle.rr_number.specs.Names.{IsUpperName}

@@ -1,6 +1,5 @@
 -- Paragraphs that were passed and are no items, and those that are.
-use Rattle.std.proofs.Common.{◌≡◌, ◌≢◌, ◌<◌, ◌≤◌, ◌+◌, ℕ, true, false, List, [], ◌∷◌, ◌++◌, length, length-append, append_assoc, Option, Some, None, Ok, Err, arith, ap, sym, subst, refl, ◌∙◌}
-use Rattle.std.specs.Prelude.{Result}
+use Rattle.std.proofs.Common.{◌≡◌, ℕ, true, List, [], ◌∷◌, ◌++◌, length-append, append_assoc, Ok, Err, arith, sym, subst}
 use Rattle.std.proofs.lemmas.List.{append-nil}
 use Rattle.rr_io.specs.Told.{Told}
 use Rattle.rr_io.specs.declared.receiving.ReadEnd.{ReadEnd}
@@ -9,14 +8,15 @@ use Rattle.rr_text.specs.Fields.{Field}
 use Rattle.rr_text.specs.declared.fault.TextFault.{TextFault}
 use Rattle.rr_text.specs.declared.fault.TextFault.TheVariants.{TooLarge, BadByte, FirstContinues, NoColon, BadName, Memory, Read, Endless}
 use Rattle.rr_text.specs.declared.paragraphs.Paragraphs.{Paragraphs}
-use Rattle.rr_text.specs.ParagraphReaders.{Entry, GivesNext, HasEnded, HasGiven, Nearer}
+use Rattle.rr_text.specs.ParagraphReaders.{Entry, GivesNext, HasEnded, HasGiven}
+use Rattle.rr_object.specs.declared.code.Code.{Code}
 use Rattle.rr_object.specs.declared.code.Code.TheVariants.{E90}
 use Rattle.rr_submission.specs.declared.request.Request.{Request}
 use Rattle.rr_submission.specs.SubmissionTexts.{secrets_of, is_secrets_alone}
 use Rattle.rr_submission.specs.SubmissionItems.{AreItems, Asked}
-use Rattle.rr_submission.specs.SubmissionItems.AreItems.{at_end, secrets_alone, asked, faulty, unread_for_memory}
-use Rattle.rr_submission.specs.Requests.{IsRequest, unread, text_code}
-use Rattle.rr_submission.specs.ItemReaders.{Finds, FindsItem, FindsNone, end_of}
+use Rattle.rr_submission.specs.SubmissionItems.AreItems.{at_end, secrets_alone, faulty, unread_for_memory}
+use Rattle.rr_submission.specs.Requests.{unread, text_code}
+use Rattle.rr_submission.specs.ItemReaders.{FindsItem, FindsNone}
 
 -- these entries more were given, and none of them is an item
 pub record IsPassing (source : List ℕ) (start now : Told) (p : Paragraphs) (given : List Entry) (before after : List (List ℕ)) : Type 0 where
@@ -69,7 +69,7 @@ passing_end source start now then p given before after ended so all = record {
 
 -- a fault ends the reading, or is that of a paragraph
 pub passing_fault : (source : List ℕ) (start now then : Told) (p q : Paragraphs) (given : List Entry) (before after : List (List ℕ)) (fault : TextFault) (ended : ReadEnd)
-    → (so : IsPassing source start now p given before after) → GivesNext start then q (given ++ so.added) (Err fault) → end_of fault ≡ Some ended → FindsNone source start then given before ended
+    → (so : IsPassing source start now p given before after) → GivesNext start then q (given ++ so.added) (Err fault) → text_code fault ≡ Err ended → FindsNone source start then given before ended
 passing_fault source start now then p q given before after TooLarge ended so next e = cc
 passing_fault source start now then p q given before after BadByte ended so next e = cc
 passing_fault source start now then p q given before after FirstContinues ended so next e = cc
@@ -83,25 +83,17 @@ passing_fault source start now then p q given before after Endless ended so next
     let is : end.Endless ≡ ended = cc in
     subst (FindsNone source start then given before) is (passing_end source start now then p given before after end.Endless so next.1)
 
-pub passing_faulty : (source : List ℕ) (start now then : Told) (p q : Paragraphs) (given : List Entry) (before after : List (List ℕ)) (fault : TextFault)
-    → (so : IsPassing source start now p given before after) → GivesNext start then q (given ++ so.added) (Err fault) → end_of fault ≡ None
-    → FindsItem source start then q given before after (unread (text_code fault))
-passing_faulty source start now then p q given before after TooLarge so next e = passing_item source start now then p q given before after after (Err TooLarge) (unread (text_code TooLarge)) so next (λ more items h. faulty TooLarge h)
-passing_faulty source start now then p q given before after BadByte so next e = passing_item source start now then p q given before after after (Err BadByte) (unread (text_code BadByte)) so next (λ more items h. faulty BadByte h)
-passing_faulty source start now then p q given before after FirstContinues so next e = passing_item source start now then p q given before after after (Err FirstContinues) (unread (text_code FirstContinues)) so next (λ more items h. faulty FirstContinues h)
-passing_faulty source start now then p q given before after NoColon so next e = passing_item source start now then p q given before after after (Err NoColon) (unread (text_code NoColon)) so next (λ more items h. faulty NoColon h)
-passing_faulty source start now then p q given before after BadName so next e = passing_item source start now then p q given before after after (Err BadName) (unread (text_code BadName)) so next (λ more items h. faulty BadName h)
-passing_faulty source start now then p q given before after Memory so next e = passing_item source start now then p q given before after after next.0 (unread E90) so next.1 (λ more items h. unread_for_memory next.0 h)
-passing_faulty source start now then p q given before after Read so next e = cc
-passing_faulty source start now then p q given before after Endless so next e = cc
-
--- a fault that does not end the reading leaves fewer answers
-pub nearer_faulty : (before after : ℕ) (fault : TextFault) → Nearer before after (Err fault) → end_of fault ≡ None → after < before
-nearer_faulty before after TooLarge nearer e = nearer
-nearer_faulty before after BadByte nearer e = nearer
-nearer_faulty before after FirstContinues nearer e = nearer
-nearer_faulty before after NoColon nearer e = nearer
-nearer_faulty before after BadName nearer e = nearer
-nearer_faulty before after Memory nearer e = nearer
-nearer_faulty before after Read nearer e = cc
-nearer_faulty before after Endless nearer e = cc
+pub passing_faulty : (source : List ℕ) (start now then : Told) (p q : Paragraphs) (given : List Entry) (before after : List (List ℕ)) (fault : TextFault) (code : Code)
+    → (so : IsPassing source start now p given before after) → GivesNext start then q (given ++ so.added) (Err fault) → text_code fault ≡ Ok code
+    → FindsItem source start then q given before after (unread code)
+passing_faulty source start now then p q given before after TooLarge code so next e = passing_item source start now then p q given before after after (Err TooLarge) (unread code) so next (λ more items h. faulty TooLarge code e h)
+passing_faulty source start now then p q given before after BadByte code so next e = passing_item source start now then p q given before after after (Err BadByte) (unread code) so next (λ more items h. faulty BadByte code e h)
+passing_faulty source start now then p q given before after FirstContinues code so next e = passing_item source start now then p q given before after after (Err FirstContinues) (unread code) so next (λ more items h. faulty FirstContinues code e h)
+passing_faulty source start now then p q given before after NoColon code so next e = passing_item source start now then p q given before after after (Err NoColon) (unread code) so next (λ more items h. faulty NoColon code e h)
+passing_faulty source start now then p q given before after BadName code so next e = passing_item source start now then p q given before after after (Err BadName) (unread code) so next (λ more items h. faulty BadName code e h)
+passing_faulty source start now then p q given before after Memory code so next e =
+    let is : E90 ≡ code = cc in
+    subst (λ other. FindsItem source start then q given before after (unread other)) is
+    (passing_item source start now then p q given before after after next.0 (unread E90) so next.1 (λ more items h. unread_for_memory next.0 h))
+passing_faulty source start now then p q given before after Read code so next e = cc
+passing_faulty source start now then p q given before after Endless code so next e = cc

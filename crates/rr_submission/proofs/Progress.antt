@@ -1,6 +1,6 @@
 -- How far a submission has come.
-use Rattle.std.proofs.Common.{◌≡◌, ℕ, ◌+◌, ◌<◌, ◌≤◌, Bool, true, false, List, [], ◌∷◌, ◌++◌, length, cond, refl, ap, sym, subst, ◌∙◌, inl, inr, append_assoc, length-append, Ok, Err, arith, drop, suc, zero-add}
-use Rattle.std.specs.Prelude.{Result, map, ◌^◌, ◌*◌, ◌⊎◌}
+use Rattle.std.proofs.Common.{◌≡◌, ℕ, ◌+◌, ◌≤◌, Bool, true, false, List, [], ◌∷◌, ◌++◌, length, cond, refl, ap, sym, subst, ◌∙◌, inl, inr, append_assoc, length-append, Err, arith, suc, zero-add}
+use Rattle.std.specs.Prelude.{map, ◌^◌, ◌⊎◌}
 use Rattle.std.proofs.lemmas.List.Sums.{sum_by-append}
 use Rattle.std.proofs.lemmas.List.{append-nil}
 use Rattle.rr_io.specs.Told.{Told}
@@ -15,8 +15,6 @@ use Rattle.rr_text.specs.declared.paragraphs.ReaderState.TheVariants.{Open, Ende
 use Rattle.rr_text.specs.WholePart.{whole_part}
 use Rattle.rr_text.proofs.ReaderLemmas.{held_few, within_limit}
 use Rattle.rr_submission.specs.ItemReaders.{FindsItem}
-use Rattle.rr_text.specs.Fields.{Field}
-use Rattle.rr_text.specs.declared.fault.TextFault.{TextFault}
 use Rattle.rr_auth.specs.Registries.{Reg}
 use Rattle.rr_registry.specs.declared.outcome.Outcome.{Outcome}
 use Rattle.rr_registry.specs.Runs.{Decides, Run}
@@ -25,14 +23,12 @@ use Rattle.rr_submission.specs.declared.stop.Stop.{Stop}
 use Rattle.rr_submission.specs.declared.stop.Stop.TheVariants.{Unwritten, Halted}
 use Rattle.rr_submission.specs.declared.submission.Done.{Done}
 use Rattle.rr_submission.specs.declared.request.Request.{Request}
-use Rattle.rr_submission.specs.SubmissionTexts.{is_secrets_alone, secrets_of}
-use Rattle.rr_submission.specs.Requests.{request_of}
 use Rattle.rr_submission.specs.SubmissionItems.{AreItems, Asked, submitted}
-use Rattle.rr_submission.specs.SubmissionItems.AreItems.{at_end, secrets_alone, asked, faulty}
+use Rattle.rr_submission.specs.SubmissionItems.AreItems.{at_end}
 use Rattle.rr_submission.specs.Refusals.{is_refusal, refusals}
 use Rattle.rr_submission.specs.Reports.{item_line, lines_from, stop_lines}
-use Rattle.rr_submission.specs.Served.{HaltsAt, ReadsItems, ServesHalted, ServesSome, ServesStopped, ServesUnwritten}
-use Rattle.rr_submission.specs.ServedParts.{ServesItems, ServesAll, ServesOne, ServesRead}
+use Rattle.rr_submission.specs.Handled.{HaltsAt, ReadsItems, HandlesStopped, HandlesUnwritten}
+use Rattle.rr_submission.specs.HandledParts.{HandlesItems, HandlesAll, HandlesOne}
 
 -- one item more is decided
 pub Run-more : (old between new : Reg) (items : List Asked) (outcomes : List Outcome) (item : Asked) (outcome : Outcome) →
@@ -126,9 +122,9 @@ given_few start now p given has =
     omega (arith, all, has.few, has.bounded, p.few)
 
 -- no item is left behind what was given
-pub ServesAll-end : {source : List ℕ} {given : List Entry} {old new : Reg} {before after : Told} {secrets : List (List ℕ)} {done : Done} (added : List Entry) →
-    ComesTo source given old new before after secrets done → AreItems source secrets added [] → ServesAll source (given ++ added) old new before after done
-ServesAll-end added so none = record {
+pub HandlesAll-end : {source : List ℕ} {given : List Entry} {old new : Reg} {before after : Told} {secrets : List (List ℕ)} {done : Done} (added : List Entry) →
+    ComesTo source given old new before after secrets done → AreItems source secrets added [] → HandlesAll source (given ++ added) old new before after done
+HandlesAll-end added so none = record {
   items = so.items;
   outcomes = so.outcomes;
   are_items = rw append-nil at (so.are_items added [] none);
@@ -166,18 +162,18 @@ last_items {source} {given} start now p then_secrets request so found =
     subst (λ es. AreItems source [] es (so.items ++ item ∷ [])) (sym same) all
 
 -- a line could not be written
-pub ServesSome-cut : {source : List ℕ} {given : List Entry} {old between : Reg} {before middle : Told} {secrets : List (List ℕ)} {done : Done}
+pub HandlesSome-cut : {source : List ℕ} {given : List Entry} {old between : Reg} {before middle : Told} {secrets : List (List ℕ)} {done : Done}
     (start now : Told) (p : Paragraphs) (new : Reg) (after : Told) (then_secrets : List (List ℕ)) (count : ℕ) (request : Request) (outcome : Outcome) →
     ComesTo source given old between before middle secrets done → FindsItem source start now p given secrets then_secrets request →
     Decides between then_secrets request.action outcome new → count ≡ done.items + 1 →
     TakesFront middle after (item_line count request.key outcome) →
-    ServesUnwritten source start now old new before after count
-ServesSome-cut {source} {middle} start now p new after then_secrets count request outcome so found decides items line =
+    HandlesUnwritten source start now old new before after count
+HandlesSome-cut {source} {middle} start now p new after then_secrets count request outcome so found decides items line =
     let item : Asked = record { secrets = then_secrets; request = request } in
     record {
       front = found.has.front;
       reads = front_read start now p _ found.has;
-      serves = record {
+      handles = record {
         told = so.items;
         last = item;
         outcomes = so.outcomes;
@@ -192,17 +188,17 @@ ServesSome-cut {source} {middle} start now p new after then_secrets count reques
     }
 
 -- the ledger came to a halt
-pub ServesHalted-cut : {L : Type 0} (g : Ghosts L) {source : List ℕ} {given : List Entry} (old between new : L) {before middle : Told} {secrets : List (List ℕ)} {done : Done}
+pub HandlesHalted-cut : {L : Type 0} (g : Ghosts L) {source : List ℕ} {given : List Entry} (old between new : L) {before middle : Told} {secrets : List (List ℕ)} {done : Done}
     (start now : Told) (p : Paragraphs) (after : Told) (then_secrets : List (List ℕ)) (count : ℕ) (request : Request) →
     ComesTo source given (g.registry old) (g.registry between) before middle secrets done → g.Ready between → FindsItem source start now p given secrets then_secrets request →
     HaltsAt g between then_secrets request.action new → count ≡ done.items → TakesSome middle after (stop_lines count request.key) →
-    ServesStopped g source start now old new before after count
-ServesHalted-cut g {source} old between new {before} {middle} start now p after then_secrets count request so ready found halts items line =
+    HandlesStopped g source start now old new before after count
+HandlesHalted-cut g {source} old between new {before} {middle} start now p after then_secrets count request so ready found halts items line =
     let item : Asked = record { secrets = then_secrets; request = request } in
     record {
       front = found.has.front;
       reads = front_read start now p _ found.has;
-      serves = record {
+      handles = record {
         told = so.items;
         last = item;
         outcomes = so.outcomes;
@@ -218,12 +214,12 @@ ServesHalted-cut g {source} old between new {before} {middle} start now p after 
       };
     }
 
--- an item could not be served
-pub Serves-cut : {L : Type 0} (g : Ghosts L) {source : List ℕ} {given : List Entry} (old between new : L) {before middle : Told} {secrets : List (List ℕ)} {done : Done}
+-- an item could not be handled
+pub Handles-cut : {L : Type 0} (g : Ghosts L) {source : List ℕ} {given : List Entry} (old between new : L) {before middle : Told} {secrets : List (List ℕ)} {done : Done}
     (start now : Told) (p : Paragraphs) (after : Told) (then_secrets : List (List ℕ)) (request : Request) (stop : Stop) →
     ComesTo source given (g.registry old) (g.registry between) before middle secrets done → g.Ready between → FindsItem source start now p given secrets then_secrets request →
-    ServesOne g then_secrets request done between new middle after (Err stop) → ServesItems g source start now old new before after (Err stop)
-Serves-cut g old between new start now p after then_secrets request (Unwritten count) so ready found one =
-    ServesSome-cut start now p _ after then_secrets count request one.outcome so found one.decides one.items one.writes
-Serves-cut g old between new start now p after then_secrets request (Halted count) so ready found one =
-    ServesHalted-cut g old between new start now p after then_secrets count request so ready found one.halts one.items one.writes
+    HandlesOne g then_secrets request done between new middle after (Err stop) → HandlesItems g source start now old new before after (Err stop)
+Handles-cut g old between new start now p after then_secrets request (Unwritten count) so ready found one =
+    HandlesSome-cut start now p _ after then_secrets count request one.outcome so found one.decides one.items one.writes
+Handles-cut g old between new start now p after then_secrets request (Halted count) so ready found one =
+    HandlesHalted-cut g old between new start now p after then_secrets count request so ready found one.halts one.items one.writes

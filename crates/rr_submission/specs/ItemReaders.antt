@@ -1,11 +1,7 @@
 -- The next item of a text that is read paragraph by paragraph.
-use Rattle.std.specs.Prelude.{ℕ, ◌<◌, List, [], ◌∷◌, ◌++◌, length, Option, Some, None, Result, Ok, Err}
+use Rattle.std.specs.Prelude.{ℕ, ◌<◌, List, [], ◌∷◌, ◌++◌, length, Result, Ok, Err}
 use Rattle.rr_io.specs.Told.{Told}
 use Rattle.rr_io.specs.declared.receiving.ReadEnd.{ReadEnd}
-use Rattle.rr_io.specs.declared.receiving.ReadEnd.TheVariants as end
-use Rattle.rr_text.specs.Fields.{Field}
-use Rattle.rr_text.specs.declared.fault.TextFault.{TextFault}
-use Rattle.rr_text.specs.declared.fault.TextFault.TheVariants.{TooLarge, BadByte, FirstContinues, NoColon, BadName, Memory, Read, Endless}
 use Rattle.rr_text.specs.declared.paragraphs.Paragraphs.{Paragraphs}
 use Rattle.rr_text.specs.ParagraphReaders.{Entry, HasEnded, HasGiven}
 use Rattle.rr_submission.specs.declared.request.Request.{Request}
@@ -29,14 +25,3 @@ pub record FindsNone (source : List ℕ) (start now : Told) (given : List Entry)
 abbrev pub Finds : List ℕ → Told → Told → Paragraphs → List Entry → List (List ℕ) → List (List ℕ) → Result Request ReadEnd → Type 0
 Finds source start now p given before after (Ok request) = FindsItem source start now p given before after request
 Finds source start now p given before after (Err ended) = FindsNone source start now given before ended
-
--- how a fault ends the reading, if it does
-abbrev pub end_of : TextFault → Option ReadEnd
-end_of TooLarge = None
-end_of BadByte = None
-end_of FirstContinues = None
-end_of NoColon = None
-end_of BadName = None
-end_of Memory = None
-end_of Read = Some end.Broken
-end_of Endless = Some end.Endless

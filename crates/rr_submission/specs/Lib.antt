@@ -4,8 +4,8 @@ pub mod Refusals
 pub mod Endings
 pub mod Reports
 pub mod ItemReaders
-pub mod Served
-pub mod ServedParts
+pub mod Handled
+pub mod HandledParts
 pub mod Submissions
 pub mod SubmissionLaws
 pub mod SubmissionTexts

@@ -1,5 +1,7 @@
 -- What a paragraph of a submission asks (profile).
 use Rattle.std.specs.Prelude.{◌≡◌, ℕ, Bool, true, false, List, Some, None, Result, Ok, Err, IfOk, IfSome, ◌⊎◌}
+use Rattle.rr_io.specs.declared.receiving.ReadEnd.{ReadEnd}
+use Rattle.rr_io.specs.declared.receiving.ReadEnd.TheVariants as end
 use Rattle.rr_text.specs.Fields.{Field}
 use Rattle.rr_text.specs.declared.fault.TextFault.{TextFault}
 use Rattle.rr_text.specs.declared.fault.TextFault.TheVariants.{TooLarge, BadByte, FirstContinues, NoColon, BadName, Memory, Read, Endless}
@@ -18,16 +20,16 @@ use Rattle.rr_auth.specs.Sources.{IsReadIn}
 use Rattle.rr_submission.specs.declared.request.Request.{Request}
 use Rattle.rr_submission.specs.SubmissionTexts.{own_fields, asks_deletion}
 
--- the code of a paragraph that could not be read as text; a fault of the reading itself is none of a paragraph
-abbrev pub text_code : TextFault → Code
-text_code TooLarge = E07
-text_code BadByte = E01
-text_code FirstContinues = E01
-text_code NoColon = E01
-text_code BadName = E01
-text_code Memory = E90
-text_code Read = E01
-text_code Endless = E01
+-- the code of a paragraph that could not be read as text; a fault that is none of a paragraph ends the reading
+abbrev pub text_code : TextFault → Result Code ReadEnd
+text_code TooLarge = Ok E07
+text_code BadByte = Ok E01
+text_code FirstContinues = Ok E01
+text_code NoColon = Ok E01
+text_code BadName = Ok E01
+text_code Memory = Ok E90
+text_code Read = Err end.Broken
+text_code Endless = Err end.Endless
 
 -- refused before its class and key were read: the report shows no key
 abbrev pub unread : Code → Request

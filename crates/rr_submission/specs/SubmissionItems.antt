@@ -2,6 +2,7 @@
 use Rattle.std.specs.Prelude.{◌≡◌, ℕ, true, false, List, [], ◌∷◌, ◌++◌, Result, Ok, Err}
 use Rattle.rr_text.specs.Fields.{Field}
 use Rattle.rr_text.specs.declared.fault.TextFault.{TextFault}
+use Rattle.rr_object.specs.declared.code.Code.{Code}
 use Rattle.rr_object.specs.declared.code.Code.TheVariants.{E90}
 use Rattle.rr_registry.specs.declared.run.Submitted.{Submitted}
 use Rattle.rr_submission.specs.declared.request.Request.{Request}
@@ -32,8 +33,8 @@ pub data AreItems (source : List ℕ) : List (List ℕ) → List (Result (List F
       AreItems source secrets (Ok fields ∷ entries) (record { secrets = secrets ++ secrets_of fields; request = request } ∷ items)
   -- a paragraph that could not be read as text is an item refused, and gives no secrets
   faulty : {secrets : List (List ℕ)} {entries : List (Result (List Field) TextFault)} {items : List Asked} →
-      (fault : TextFault) → AreItems source secrets entries items →
-      AreItems source secrets (Err fault ∷ entries) (record { secrets = secrets; request = unread (text_code fault) } ∷ items)
+      (fault : TextFault) (code : Code) → text_code fault ≡ Ok code → AreItems source secrets entries items →
+      AreItems source secrets (Err fault ∷ entries) (record { secrets = secrets; request = unread code } ∷ items)
   -- so is one for whose reading as text or secrets memory was refused
   unread_for_memory : {secrets : List (List ℕ)} {entries : List (Result (List Field) TextFault)} {items : List Asked} →
       (entry : Result (List Field) TextFault) → AreItems source secrets entries items →

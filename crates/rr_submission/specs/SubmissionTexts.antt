@@ -1,6 +1,7 @@
 -- What the paragraph of a submission holds beside an object (profile).
 use Rattle.std.specs.Prelude.{ℕ, Bool, not, List, codes, filter, map}
-use Rattle.std.specs.List.{list_all, list_any, join_with_byte}
+use Rattle.std.specs.List.{list_all, list_any}
+use Rattle.rr_bytes.specs.Parts.{joined_by_space}
 use Rattle.rr_text.specs.Fields.{Field, has_name}
 
 -- `password` gives a secret
@@ -17,7 +18,7 @@ own_fields fields = filter (λ field. not (is_delete field)) (filter (λ field. 
 
 -- a secret is the lines of its value joined by one space, `#` kept
 abbrev pub secret_of : Field → List ℕ
-secret_of field = join_with_byte 32 field.lines
+secret_of field = joined_by_space field.lines
 
 -- the secrets that a paragraph gives, in order
 abbrev pub secrets_of : List Field → List (List ℕ)

@@ -19,7 +19,7 @@ use Rattle.rr_submission.specs.SubmissionItems.{AreItems, Asked, submitted}
 use Rattle.rr_submission.specs.Refusals.{refusals}
 use Rattle.rr_submission.specs.Endings.{last_line}
 use Rattle.rr_submission.specs.Reports.{lines_from, report}
-use Rattle.rr_submission.specs.Served.{ServesStopped, ServesUnwritten}
+use Rattle.rr_submission.specs.Handled.{HandlesStopped, HandlesUnwritten}
 
 -- a reader and a writer, and a registry, before and after
 pub record Sides : Type 0 where
@@ -61,7 +61,7 @@ pub record IsReadFault (source : List ℕ) (sides : Sides) (count : ℕ) : Type 
 -- a write failed in the line of an item: the items up to that one were read and decided and no others
 abbrev pub IsLineFault : List ℕ → Sides → ℕ → Type 0
 IsLineFault source sides count =
-    ServesUnwritten source sides.reader_before sides.reader_after sides.before sides.after sides.writer_before sides.writer_after count
+    HandlesUnwritten source sides.reader_before sides.reader_after sides.before sides.after sides.writer_before sides.writer_after count
 
 -- the text was read to its end, and a write failed in the last line: all items were decided and their lines written
 -- whole
@@ -83,7 +83,7 @@ IsWriteFault source sides count = IsLineFault source sides count ⊎ IsLastLineF
 
 -- the ledger came to a halt at an item: the items before it were decided, and none behind it was read
 abbrev pub IsStoreFault : {L : Type 0} → Ghosts L → List ℕ → Sides → L → L → ℕ → Type 0
-IsStoreFault g source sides old new count = ServesStopped g source sides.reader_before sides.reader_after old new sides.writer_before sides.writer_after count
+IsStoreFault g source sides old new count = HandlesStopped g source sides.reader_before sides.reader_after old new sides.writer_before sides.writer_after count
 
 -- memory was refused before the first item: nothing was read or decided
 pub record IsUnread (sides : Sides) : Type 0 where

@@ -3,7 +3,8 @@
 ghost use Rattle.std.specs.Prelude.{◌≡◌, ◌∷◌, ◌++◌, ◌<◌, [], List, IfOk, OnOk, OnErr};
 ghost use Rattle.rr_io.specs.Told.{Told};
 ghost use Rattle.rr_text.specs.ParagraphReaders.{Entry, HasGiven, left_of};
-ghost use Rattle.rr_submission.specs.ItemReaders.{Finds, end_of};
+ghost use Rattle.rr_submission.specs.ItemReaders.{Finds};
+ghost use Rattle.rr_submission.specs.Requests.{text_code};
 ghost use Rattle.rr_submission.specs.SubmissionTexts.{secrets_of};
 
 use crate::request::Request;
@@ -42,29 +43,22 @@ pub fn next_item<R: Source>(
                     return Ok(Request::read(alloc, paragraph, source));
                 }
             }
-            Err(fault) => {
-                return match read_end(fault) {
-                    Some(end) => Err(end),
-                    None => Ok(Request::unread_text(fault)),
-                };
-            }
+            Err(fault) => return Ok(Request::unread(text_code(fault)?)),
         }
     }
 }
 
-/// How a fault ends the reading, if it does.
-fn read_end(fault: TextFault) -> Option<ReadEnd>
-    ensures { result ≡ end_of fault }
+/// The code of a paragraph that could not be read as text; a fault that is none of a paragraph ends the reading.
+fn text_code(fault: TextFault) -> Result<Code, ReadEnd>
+    ensures { result ≡ text_code fault }
 {
     match fault {
-        TextFault::Read => Some(ReadEnd::Broken),
-        TextFault::Endless => Some(ReadEnd::Endless),
-        TextFault::TooLarge
-        | TextFault::BadByte
-        | TextFault::FirstContinues
-        | TextFault::NoColon
-        | TextFault::BadName
-        | TextFault::Memory => None,
+        TextFault::TooLarge => Ok(Code::E07),
+        TextFault::BadByte | TextFault::FirstContinues | TextFault::NoColon | TextFault::BadName =>
+            Ok(Code::E01),
+        TextFault::Memory => Ok(Code::E90),
+        TextFault::Read => Err(ReadEnd::Broken),
+        TextFault::Endless => Err(ReadEnd::Endless),
     }
 }
 

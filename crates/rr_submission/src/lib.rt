@@ -2,6 +2,7 @@
 #![tactic(auto)]
 
 mod ending;
+mod handling;
 mod items;
 pub mod laws;
 mod ledger;
@@ -9,17 +10,16 @@ mod line;
 mod report_keys;
 mod request;
 mod secret;
-mod serving;
 mod short_text;
 mod stop;
 mod submission;
 mod submission_text;
 
 pub use ending::{Ending, write_last_line};
+pub use handling::submit;
 pub use items::next_item;
 pub use ledger::{Halted, Ledger};
 pub use line::write_item_line;
 pub use request::Request;
-pub use serving::submit;
 pub use short_text::{SHORT_SIZE, ShortText};
 pub use submission::{DeskFault, Done};

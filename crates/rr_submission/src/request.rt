@@ -7,7 +7,7 @@ use crate::submission_text::{asks_deletion, own_paragraph};
 use rr_auth::Item;
 use rr_number::Name;
 use rr_object::{Code, Key, Object, key_of};
-use rr_text::{Paragraph, TextFault};
+use rr_text::Paragraph;
 use std::alloc::Global;
 
 /// What a paragraph of a submission asks.
@@ -20,8 +20,7 @@ pub struct Request {
 }
 
 impl Request {
-    ghost use Rattle.rr_submission.specs.ItemReaders.{end_of};
-    ghost use Rattle.rr_submission.specs.Requests.{IsRequest, IsTied, action_of, text_code, unread};
+    ghost use Rattle.rr_submission.specs.Requests.{IsRequest, IsTied, action_of, unread};
 
     /// The request of a paragraph that was refused before its class and key were read.
     pub fn unread(code: Code) -> Request
@@ -31,22 +30,6 @@ impl Request {
             key: None,
             action: Err(code),
         }
-    }
-
-    /// The request of a paragraph that could not be read as text: the fault is one of it, and not of the reading.
-    pub fn unread_text(fault: TextFault) -> Request
-        requires { end_of fault ≡ None }
-        ensures { result ≡ unread (text_code fault) }
-    {
-        Request::unread(match fault {
-            TextFault::TooLarge => Code::E07,
-            TextFault::BadByte
-            | TextFault::FirstContinues
-            | TextFault::NoColon
-            | TextFault::BadName => Code::E01,
-            TextFault::Memory => Code::E90,
-            TextFault::Read | TextFault::Endless => unreachable!(),
-        })
     }
 
     /// What a paragraph asks of a registry of this source. Want of memory is the refusal E90.

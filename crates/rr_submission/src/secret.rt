@@ -1,9 +1,9 @@
 //! Secrets of submissions.
 
-ghost use Rattle.std.specs.Prelude.{◌≡◌, ◌∷◌, IfOk};
-ghost use Rattle.std.specs.List.{join_with_byte};
+ghost use Rattle.std.specs.Prelude.{◌≡◌, IfOk, map};
 ghost use Rattle.rr_submission.specs.SubmissionTexts.{secret_of};
 
+use rr_bytes::joined_by_space;
 use rr_text::{Attribute, Text};
 use std::alloc::{AllocError, Global};
 
@@ -12,20 +12,17 @@ use std::alloc::{AllocError, Global};
 pub fn secret_of(alloc: Global, attribute: &Attribute) -> Result<Vec<u8>, AllocError>
     ensures { IfOk result (λ secret. secret.items ≡ secret_of attribute.now) }
 {
-    match attribute.lines().split_first() {
-        Some((first, further)) => joined(alloc, first.as_slice(), further),
-        None => Ok(Vec::new(alloc)),
-    }
+    let lines = bytes_of(alloc, attribute.lines())?;
+    joined_by_space(alloc, &lines)
 }
 
-/// The first line and the further ones, with a space before each of these.
-fn joined(alloc: Global, first: &[u8], further: &[Text]) -> Result<Vec<u8>, AllocError>
-    ensures { IfOk result (λ secret. secret.items ≡ join_with_byte 32 (first.now ∷ further.now)) }
+/// The bytes of the lines, not copied.
+fn bytes_of(alloc: Global, lines: &[Text]) -> Result<Vec<&[u8]>, AllocError>
+    ensures { IfOk result (λ slices. map (λ line. line.now) slices.items ≡ lines.now) }
 {
-    let mut secret = Vec::from_slice(alloc, first)?;
-    'further: for line in further {
-        secret.push(b' ')?;
-        secret.extend_from_slice(line.as_slice())?;
+    let mut slices = Vec::with_capacity(alloc, lines.len())?;
+    'lines: for line in lines {
+        slices.push(line.as_slice())?;
     }
-    Ok(secret)
+    Ok(slices)
 }

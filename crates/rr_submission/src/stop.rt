@@ -1,11 +1,11 @@
-//! What keeps items from being served.
+//! What keeps items from being handled.
 
 ghost use Rattle.std.specs.Prelude.{◌≡◌};
-ghost use Rattle.rr_submission.specs.ServedParts.{fault_of};
+ghost use Rattle.rr_submission.specs.HandledParts.{stop_fault};
 
 use crate::submission::DeskFault;
 
-/// Why the serving of items stopped before the last of them.
+/// Why the handling of items stopped before the last of them.
 #[derive(Clone, Copy, Debug, PartialEq, Eq)]
 pub enum Stop {
     /// The line of an item could not be written; that item is the last of so many that were decided.
@@ -23,7 +23,7 @@ pub enum Stop {
 impl Stop {
     /// The fault of the submission.
     pub fn fault(self) -> DeskFault
-        ensures { result ≡ fault_of self }
+        ensures { result ≡ stop_fault self }
     {
         match self {
             Stop::Unwritten { items } => DeskFault::WriteFault { items },

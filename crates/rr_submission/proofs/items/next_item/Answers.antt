@@ -1,8 +1,9 @@
 -- Paragraphs of passwords are passed up to one that is an item, or to the end.
 use Rattle.std.proofs.Common.{◌∙◌, ◌++◌, refl, sym, arith}
+use Rattle.std.proofs.lemmas.Result.{err_from_is_err_and}
 use Rattle.rr_io.specs.declared.receiving.ReadEnd.TheVariants.{Whole}
 use Rattle.rr_submission.specs.SubmissionItems.AreItems.{asked, unread_for_memory}
-use Rattle.rr_submission.proofs.Passing.{passing_none, passing_more, passing_item, passing_end, passing_fault, passing_faulty, nearer_faulty}
+use Rattle.rr_submission.proofs.Passing.{passing_none, passing_more, passing_item, passing_end, passing_fault, passing_faulty}
 use Rattle.rr_submission.proofs.items.next_item.Goals as goal
 
 pub paragraphs-init : goal.paragraphs-init
@@ -46,12 +47,13 @@ paragraphs-preserved g c =
       aside = c.next.ensures.aside ∙ c.paragraphs.invariant.aside;
     }
 
-pub returns-in-Some-clause-finds : goal.returns-in-Some-clause-finds
-returns-in-Some-clause-finds g c = λ start given has.
+pub returns-in_err-text_code-in-Err-clause-finds : goal.returns-in_err-text_code-in-Err-clause-finds
+returns-in_err-text_code-in-Err-clause-finds g c = λ start given has.
     let so = c.paragraphs.invariant.passing start given has in
-    passing_fault _ start _ _ c.paragraphs.paragraphs _ given _ _ c.in-Err.fault c.in-Some.end so (c.in-Err.ensures.given start (given ++ so.added) so.has) (sym c.read_end.ensures ∙ c.in-Some.is)
+    let exit = err_from_is_err_and c.from_residual.result c.from_residual.ensures.1 in
+    rw (exit.1, exit.2) (passing_fault _ start _ _ c.paragraphs.paragraphs _ given _ _ c.in-Err.fault c.in_err-text_code-in-Err.field-0.0 so (c.in-Err.ensures.given start (given ++ so.added) so.has) (sym c.text_code.ensures ∙ c.in_err-text_code-in-Err.was))
 
-pub returns-in-None-clause-finds : goal.returns-in-None-clause-finds
-returns-in-None-clause-finds g c = λ start given has.
+pub returns-in-Err-clause-finds : goal.returns-in-Err-clause-finds
+returns-in-Err-clause-finds g c = λ start given has.
     let so = c.paragraphs.invariant.passing start given has in
-    rw c.unread_text.ensures (passing_faulty _ start _ _ c.paragraphs.paragraphs _ given _ _ c.in-Err.fault so (c.in-Err.ensures.given start (given ++ so.added) so.has) (sym c.read_end.ensures ∙ c.in-None.is))
+    rw c.unread-in-Err.ensures (passing_faulty _ start _ _ c.paragraphs.paragraphs _ given _ _ c.in-Err.fault c.in_ok-text_code-in-Err.field-0 so (c.in-Err.ensures.given start (given ++ so.added) so.has) (sym c.text_code.ensures ∙ c.in_ok-text_code-in-Err.was))

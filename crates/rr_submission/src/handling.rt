@@ -6,8 +6,8 @@ ghost use Rattle.rr_text.specs.ParagraphReaders.{HasGiven};
 ghost use Rattle.rr_registry.specs.Runs.{Decides};
 ghost use Rattle.rr_submission.specs.Refusals.{is_refusal};
 ghost use Rattle.rr_submission.specs.Reports.{stop_lines};
-ghost use Rattle.rr_submission.specs.Served.{HaltsAt};
-ghost use Rattle.rr_submission.specs.ServedParts.{ServesItems, ServesOne, UnlessHalted};
+ghost use Rattle.rr_submission.specs.Handled.{HaltsAt};
+ghost use Rattle.rr_submission.specs.HandledParts.{HandlesItems, HandlesOne, UnlessHalted};
 ghost use Rattle.rr_submission.specs.SubmissionLaws.{ConfinesTexts};
 ghost use Rattle.rr_submission.specs.Submissions.{Submits, UnlessStoreFault};
 
@@ -87,7 +87,7 @@ fn report<L: Ledger, R: Source, W: Sink>(
     ensures reader_aside { R.aside reader.new ≡ R.aside reader.old }
     ensures writer_aside { W.aside writer.new ≡ W.aside writer.old }
 {
-    match serve_all(alloc, ledger, source, paragraphs, reader, writer) {
+    match handle_items(alloc, ledger, source, paragraphs, reader, writer) {
         Ok((done, end)) => {
             if end.is_whole() {
                 match write_last_line(writer, Ending::Complete, done.items) {
@@ -104,7 +104,7 @@ fn report<L: Ledger, R: Source, W: Sink>(
 }
 
 /// Reads, decides and reports the items of a text one by one: each line is written before the next item is read.
-fn serve_all<L: Ledger, R: Source, W: Sink>(
+fn handle_items<L: Ledger, R: Source, W: Sink>(
     alloc: Global,
     ledger: &mut L,
     source: &Name,
@@ -114,7 +114,7 @@ fn serve_all<L: Ledger, R: Source, W: Sink>(
 ) -> Result<(Done, ReadEnd), Stop>
     requires ready { L.Ready ledger.old }
     requires unread { HasGiven (R.told reader.old) (R.told reader.old) paragraphs.old [] }
-    ensures serves { ServesItems L.Ledger source.now (R.told reader.old) (R.told reader.new) ledger.old ledger.new (W.told writer.old) (W.told writer.new) result }
+    ensures handles { HandlesItems L.Ledger source.now (R.told reader.old) (R.told reader.new) ledger.old ledger.new (W.told writer.old) (W.told writer.new) result }
     ensures ready { UnlessHalted result (L.Ready ledger.new) }
     ensures reader_aside { R.aside reader.new ≡ R.aside reader.old }
     ensures writer_aside { W.aside writer.new ≡ W.aside writer.old }
@@ -126,14 +126,14 @@ fn serve_all<L: Ledger, R: Source, W: Sink>(
     };
     'items: loop {
         match next_item(alloc, paragraphs, reader, source, &mut secrets) {
-            Ok(request) => done = serve_one(alloc, ledger, &mut secrets, request, done, writer)?,
+            Ok(request) => done = handle_item(alloc, ledger, &mut secrets, request, done, writer)?,
             Err(end) => return Ok((done, end)),
         }
     }
 }
 
 /// Decides an item and writes its line.
-fn serve_one<L: Ledger, W: Sink>(
+fn handle_item<L: Ledger, W: Sink>(
     alloc: Global,
     ledger: &mut L,
     secrets: &mut Secrets,
@@ -144,7 +144,7 @@ fn serve_one<L: Ledger, W: Sink>(
     requires items { done.items + 1 < 2 ^ 64 }
     requires refused { done.refused + 1 < 2 ^ 64 }
     requires ready { L.Ready ledger.old }
-    ensures serves { ServesOne L.Ledger secrets.old request done ledger.old ledger.new (W.told writer.old) (W.told writer.new) result }
+    ensures handles { HandlesOne L.Ledger secrets.old request done ledger.old ledger.new (W.told writer.old) (W.told writer.new) result }
     ensures ready { UnlessHalted result (L.Ready ledger.new) }
     ensures same_secrets { secrets.new ≡ secrets.old }
     ensures aside { W.aside writer.new ≡ W.aside writer.old }

@@ -1,7 +1,7 @@
 use Rattle.std.proofs.Common.{◌≡◌, List}
 use Rattle.rr_text.specs.ParagraphReaders.{Entry, HasGiven, left_of}
 use Rattle.rr_submission.proofs.Progress.{ComesTo}
-use Rattle.rr_submission.proofs.serving.serve_all.Given as goal
+use Rattle.rr_submission.proofs.handling.handle_items.Given as goal
 
 abbrev pub invariant-items : goal.invariant-items
 invariant-items g l =

@@ -1,42 +1,42 @@
 -- Reading moves what was given, and a line moves how far the items have come.
 use Rattle.std.proofs.Common.{[], ◌++◌, ◌∙◌, refl, arith}
 use Rattle.std.proofs.lemmas.Result.{err_from_is_err_and}
-use Rattle.rr_submission.proofs.Progress.{ComesTo-start, ComesTo-more, Serves-cut, ServesAll-end, given_few}
-use Rattle.rr_submission.proofs.serving.serve_all.Goals as goal
+use Rattle.rr_submission.proofs.Progress.{ComesTo-start, ComesTo-more, Handles-cut, HandlesAll-end, given_few}
+use Rattle.rr_submission.proofs.handling.handle_items.Goals as goal
 
 pub items-init : goal.items-init
 items-init g c = (([], c.requires.unread, rw c.new-secrets.ensures (ComesTo-start _ _ _)), c.requires.ready, refl, refl)
 
-pub serve_one-requires-clause-items : goal.serve_one-requires-clause-items
-serve_one-requires-clause-items g c =
+pub handle_item-requires-clause-items : goal.handle_item-requires-clause-items
+handle_item-requires-clause-items g c =
     let so = c.items.invariant.0 in
     omega (arith, so.2.few, given_few _ _ c.items.paragraphs so.0 so.1)
 
-pub serve_one-requires-clause-refused : goal.serve_one-requires-clause-refused
-serve_one-requires-clause-refused g c =
+pub handle_item-requires-clause-refused : goal.handle_item-requires-clause-refused
+handle_item-requires-clause-refused g c =
     let so = c.items.invariant.0 in
     omega (arith, so.2.fewer, so.2.few, given_few _ _ c.items.paragraphs so.0 so.1)
 
-pub returns-in_err-done-in-Ok-clause-serves : goal.returns-in_err-done-in-Ok-clause-serves
-returns-in_err-done-in-Ok-clause-serves g c =
+pub returns-in_err-done-in-Ok-clause-handles : goal.returns-in_err-done-in-Ok-clause-handles
+returns-in_err-done-in-Ok-clause-handles g c =
     let exit = err_from_is_err_and c.from_residual.result c.from_residual.ensures.1 in
     let so = c.items.invariant.0 in
     let found = c.in-Ok.ensures.finds _ so.0 so.1 in
-    rw (exit.1, exit.2) (Serves-cut g.L.Ledger _ _ _ _ _ _ _ _ _ _ so.2 c.items.invariant.1 found c.in_err-done-in-Ok.ensures.serves)
+    rw (exit.1, exit.2) (Handles-cut g.L.Ledger _ _ _ _ _ _ _ _ _ _ so.2 c.items.invariant.1 found c.in_err-done-in-Ok.ensures.handles)
 
 pub items-preserved : goal.items-preserved
 items-preserved g c =
     let so = c.items.invariant.0 in
     let found = c.in-Ok.ensures.finds _ so.0 so.1 in
-    let one = c.in_ok-done-in-Ok.ensures.serves in (
+    let one = c.in_ok-done-in-Ok.ensures.handles in (
       (so.0 ++ found.added, found.has, rw c.in_ok-done-in-Ok.ensures.same_secrets (ComesTo-more _ _ _ _ _ _ _ _ one.outcome so.2 found one.decides one.items one.refused one.writes)),
       c.in_ok-done-in-Ok.ensures.ready,
       c.in-Ok.ensures.aside ∙ c.items.invariant.2,
       c.in_ok-done-in-Ok.ensures.aside ∙ c.items.invariant.3,
     )
 
-pub returns-in-Err-clause-serves : goal.returns-in-Err-clause-serves
-returns-in-Err-clause-serves g c =
+pub returns-in-Err-clause-handles : goal.returns-in-Err-clause-handles
+returns-in-Err-clause-handles g c =
     let so = c.items.invariant.0 in
     let none = c.in-Err.ensures.finds _ so.0 so.1 in
-    record { given = so.0 ++ none.added; ended = none.all; serves = ServesAll-end none.added so.2 none.none }
+    record { given = so.0 ++ none.added; ended = none.all; handles = HandlesAll-end none.added so.2 none.none }

@@ -1,6 +1,6 @@
 use Rattle.rr_submission.specs.Reports.{stop_lines}
 use Rattle.rr_submission.proofs.Writings.{Writes-then}
-use Rattle.rr_submission.proofs.serving.write_stop.Goals as goal
+use Rattle.rr_submission.proofs.handling.write_stop.Goals as goal
 
 pub returns-clause-writes : goal.returns-clause-writes
 unfolding stop_lines

@@ -1,9 +1,8 @@
--- What private functions that serve the items of a text promise each other. No public clause cites these.
+-- What private functions that handle the items of a text promise each other. No public clause cites these.
 use Rattle.std.specs.Prelude.{◌≡◌, ℕ, ◌+◌, List, [], length, map, Result, Ok, Err, if◌then◌else◌}
 use Rattle.rr_io.specs.Told.{Told}
 use Rattle.rr_io.specs.Sending.{Takes, TakesFront, TakesSome}
 use Rattle.rr_io.specs.declared.receiving.ReadEnd.{ReadEnd}
-use Rattle.rr_text.specs.Entries.{entries}
 use Rattle.rr_text.specs.ParagraphReaders.{HasEnded}
 use Rattle.rr_text.specs.Fields.{Field}
 use Rattle.rr_text.specs.declared.fault.TextFault.{TextFault}
@@ -20,10 +19,10 @@ use Rattle.rr_submission.specs.SubmissionItems.{AreItems, Asked, submitted}
 use Rattle.rr_submission.specs.Refusals.{is_refusal, refusals}
 use Rattle.rr_submission.specs.Reports.{item_line, lines_from, stop_lines}
 use Rattle.rr_submission.specs.declared.request.Request.{Request}
-use Rattle.rr_submission.specs.Served.{HaltsAt, ServesStopped, ServesUnwritten}
+use Rattle.rr_submission.specs.Handled.{HaltsAt, HandlesStopped, HandlesUnwritten}
 
 -- each item was decided, and its line was written
-pub record ServesAll (source : List ℕ) (entries : List (Result (List Field) TextFault)) (old new : Reg) (before after : Told) (done : Done) : Type 0 where
+pub record HandlesAll (source : List ℕ) (entries : List (Result (List Field) TextFault)) (old new : Reg) (before after : Told) (done : Done) : Type 0 where
   pub items : List Asked
   pub outcomes : List Outcome
   pub are_items : AreItems source [] entries items
@@ -33,17 +32,17 @@ pub record ServesAll (source : List ℕ) (entries : List (Result (List Field) Te
   pub refused : done.refused ≡ refusals outcomes
 
 -- the text was read to its end, or to a failed read or the limit of reads, and these of its entries count
-pub record ServesRead (source : List ℕ) (start now : Told) (end : ReadEnd) (old new : Reg) (before after : Told) (done : Done) : Type 0 where
+pub record HandlesRead (source : List ℕ) (start now : Told) (end : ReadEnd) (old new : Reg) (before after : Told) (done : Done) : Type 0 where
   pub given : List (Result (List Field) TextFault)
   pub ended : HasEnded start now end given
-  pub serves : ServesAll source given old new before after done
+  pub handles : HandlesAll source given old new before after done
 
 -- all of the items, with what is counted; those up to the one whose line could not be written, with their number; or
 -- those before the one at which the ledger came to a halt
-abbrev pub ServesItems : {L : Type 0} → Ghosts L → List ℕ → Told → Told → L → L → Told → Told → Result (Done × ReadEnd) Stop → Type 0
-ServesItems g source start now old new before after (Ok served) = ServesRead source start now served.1 (g.registry old) (g.registry new) before after served.0
-ServesItems g source start now old new before after (Err (Unwritten count)) = ServesUnwritten source start now (g.registry old) (g.registry new) before after count
-ServesItems g source start now old new before after (Err (Halted count)) = ServesStopped g source start now old new before after count
+abbrev pub HandlesItems : {L : Type 0} → Ghosts L → List ℕ → Told → Told → L → L → Told → Told → Result (Done × ReadEnd) Stop → Type 0
+HandlesItems g source start now old new before after (Ok handled) = HandlesRead source start now handled.1 (g.registry old) (g.registry new) before after handled.0
+HandlesItems g source start now old new before after (Err (Unwritten count)) = HandlesUnwritten source start now (g.registry old) (g.registry new) before after count
+HandlesItems g source start now old new before after (Err (Halted count)) = HandlesStopped g source start now old new before after count
 
 -- a fact that holds unless the ledger came to a halt
 abbrev pub UnlessHalted : {T : Type 0} → Result T Stop → Type 0 → Type 0
@@ -73,12 +72,12 @@ pub record HasHalted {L : Type 0} (g : Ghosts L) (secrets : List (List ℕ)) (re
   pub writes : TakesSome before after (stop_lines count request.key)
 
 -- an item was decided, and its line was written or not, or the ledger came to a halt
-abbrev pub ServesOne : {L : Type 0} → Ghosts L → List (List ℕ) → Request → Done → L → L → Told → Told → Result Done Stop → Type 0
-ServesOne g secrets request done old new before after (Ok counted) = IsCounted secrets request done (g.registry old) (g.registry new) before after counted
-ServesOne g secrets request done old new before after (Err (Unwritten count)) = IsUntold secrets request done (g.registry old) (g.registry new) before after count
-ServesOne g secrets request done old new before after (Err (Halted count)) = HasHalted g secrets request done old new before after count
+abbrev pub HandlesOne : {L : Type 0} → Ghosts L → List (List ℕ) → Request → Done → L → L → Told → Told → Result Done Stop → Type 0
+HandlesOne g secrets request done old new before after (Ok counted) = IsCounted secrets request done (g.registry old) (g.registry new) before after counted
+HandlesOne g secrets request done old new before after (Err (Unwritten count)) = IsUntold secrets request done (g.registry old) (g.registry new) before after count
+HandlesOne g secrets request done old new before after (Err (Halted count)) = HasHalted g secrets request done old new before after count
 
--- the fault of a submission whose items could not all be served
-abbrev pub fault_of : Stop → DeskFault
-fault_of (Unwritten items) = fault.WriteFault items
-fault_of (Halted items) = fault.StoreFault items
+-- the fault of a submission whose items could not all be handled
+abbrev pub stop_fault : Stop → DeskFault
+stop_fault (Unwritten items) = fault.WriteFault items
+stop_fault (Halted items) = fault.StoreFault items

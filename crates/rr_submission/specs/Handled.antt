@@ -18,7 +18,7 @@ use Rattle.rr_submission.specs.Reports.{item_line, lines_from, stop_lines}
 
 -- the line of the last item could not be written: it was decided, the items told before it had been decided and their
 -- lines written whole
-pub record ServesSome (source : List ℕ) (entries : List (Result (List Field) TextFault)) (old new : Reg) (before after : Told) (count : ℕ) : Type 0 where
+pub record HandlesSome (source : List ℕ) (entries : List (Result (List Field) TextFault)) (old new : Reg) (before after : Told) (count : ℕ) : Type 0 where
   pub told : List Asked
   pub last : Asked
   pub outcomes : List Outcome
@@ -37,7 +37,7 @@ HaltsAt g old secrets (Err code) new = ⊥
 
 -- the ledger came to a halt at the last item: the items told before it had been decided and their lines written whole,
 -- and it has its line with the code E91 and the last line behind that, as far as they could be written
-pub record ServesHalted {L : Type 0} (g : Ghosts L) (source : List ℕ) (entries : List (Result (List Field) TextFault)) (old new : L) (before after : Told) (count : ℕ) : Type 0 where
+pub record HandlesHalted {L : Type 0} (g : Ghosts L) (source : List ℕ) (entries : List (Result (List Field) TextFault)) (old new : L) (before after : Told) (count : ℕ) : Type 0 where
   pub told : List Asked
   pub last : Asked
   pub outcomes : List Outcome
@@ -61,13 +61,13 @@ pub record ReadsItems (start now : Told) (front : List ℕ) : Type 0 where
   pub few : now.reads ≤ start.reads + 2 ^ 24
 
 -- a front of the text was read, up to the item whose line could not be written
-pub record ServesUnwritten (source : List ℕ) (start now : Told) (old new : Reg) (before after : Told) (count : ℕ) : Type 0 where
+pub record HandlesUnwritten (source : List ℕ) (start now : Told) (old new : Reg) (before after : Told) (count : ℕ) : Type 0 where
   pub front : List ℕ
   pub reads : ReadsItems start now front
-  pub serves : ServesSome source (entries front) old new before after count
+  pub handles : HandlesSome source (entries front) old new before after count
 
 -- a front of the text was read, up to the item at which the ledger came to a halt
-pub record ServesStopped {L : Type 0} (g : Ghosts L) (source : List ℕ) (start now : Told) (old new : L) (before after : Told) (count : ℕ) : Type 0 where
+pub record HandlesStopped {L : Type 0} (g : Ghosts L) (source : List ℕ) (start now : Told) (old new : L) (before after : Told) (count : ℕ) : Type 0 where
   pub front : List ℕ
   pub reads : ReadsItems start now front
-  pub serves : ServesHalted g source (entries front) old new before after count
+  pub handles : HandlesHalted g source (entries front) old new before after count

@@ -1,5 +1,5 @@
 -- What statements in a row do.
-use Rattle.std.proofs.Common.{◌≡◌, ◌≢◌, ℕ, List, [], ◌∷◌, ◌++◌, map, filter, not, Ok, Err, Result, OnOk, sym, ap, subst, subst₂, ◌∙◌, arith, IsPermutation}
+use Rattle.std.proofs.Common.{◌≡◌, ◌≢◌, ℕ, List, [], ◌∷◌, ◌++◌, map, filter, Ok, Err, Result, OnOk, sym, ap, subst, subst₂, ◌∙◌, arith, IsPermutation}
 use Rattle.std.specs.List.{AllByRecursion}
 use Rattle.sqlite.specs.Effect.{Database}
 use Rattle.rr_rows.specs.Contents.{Alters, Adds, Removes, contents, is_name_among, is_object_of, is_named_of, object_values, named_values}

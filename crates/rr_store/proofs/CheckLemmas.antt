@@ -1,5 +1,5 @@
 -- What an answer in order says of the rows of a table.
-use Rattle.std.proofs.Common.{◌≡◌, List, [], ◌∷◌, Ok, Err, Result, IfErr, sym, subst, ◌∙◌, codes, IsPermutation}
+use Rattle.std.proofs.Common.{◌≡◌, List, [], ◌∷◌, Ok, Err, Result, IfErr, IfOk, subst, IsPermutation}
 use Rattle.std.proofs.lemmas.List.Sorted.{IsPermutation-sym, Contains-permutation}
 use Rattle.sqlite_value.specs.Order.{Row}
 use Rattle.sqlite.proofs.Callers.{one_permutation}
@@ -11,6 +11,10 @@ use Rattle.rr_store.specs.CheckParts.{IsVersionFault}
 pub each_err : {X E : Type 0} (r : Result X E) (P Q : E → Type 0) → IfErr r P → ((e : E) → P e → Q e) → IfErr r Q
 each_err (Ok x) P Q h f = tt
 each_err (Err e) P Q h f = f e h
+
+pub both_ok : {X E : Type 0} (r : Result X E) (P Q R : X → Type 0) → IfOk r P → IfOk r Q → ((x : X) → P x → Q x → R x) → IfOk r R
+both_ok (Ok x) P Q R p q f = f x p q
+both_ok (Err e) P Q R p q f = tt
 
 pub only_row : (x : Row) (rows held : List Row) → IsPermutation held rows → rows ≡ x ∷ [] → held ≡ x ∷ []
 only_row x rows held same is = one_permutation x held (subst (λ l. IsPermutation l held) is (IsPermutation-sym held rows same))

@@ -1,5 +1,5 @@
 -- Tables whose rows are all taken out, and the objects that migration keeps.
-use Rattle.std.proofs.Common.{◌≡◌, ◌⊎◌, inl, inr, arith, ℕ, Bool, true, false, not, List, [], ◌∷◌, map, filter, refl, sym, ap, ◌∙◌}
+use Rattle.std.proofs.Common.{◌≡◌, inl, inr, arith, ℕ, true, false, not, List, [], ◌∷◌, refl, ◌∙◌}
 use Rattle.sqlite_value.specs.Order.{Row}
 use Rattle.sqlite_trees.proofs.ListLemmas.{all_of, filter_none}
 use Rattle.sqlite.specs.Effect.{Database}

@@ -1,12 +1,11 @@
 -- What migration makes of tables of version 1 is a list of objects of the source.
-use Rattle.std.proofs.Common.{◌≡◌, ◌≢◌, ℕ, Bool, true, false, List, [], ◌∷◌, ◌++◌, codes, Option, None, Some, Ok, Result, refl, sym, ap, subst, ◌∙◌}
+use Rattle.std.proofs.Common.{◌≡◌, ◌≢◌, ℕ, true, false, List, [], ◌∷◌, ◌++◌, None, Ok, Result, refl, sym, ap, ◌∙◌}
 use Rattle.std.specs.Prelude.{is_some}
 use Rattle.std.specs.List.{AllByRecursion}
 use Rattle.sqlite_trees.proofs.ListLemmas.{all-append, all_of, all_weaker, ascending-append}
 use Rattle.sqlite.specs.Effect.{Database}
 use Rattle.rr_bytes.specs.Cuts.{cut_at}
 use Rattle.rr_bytes.specs.Trims.{trim_end, trim_start}
-use Rattle.rr_text.specs.Fields.{Field}
 use Rattle.rr_text.specs.Meanings.{value_meaning}
 use Rattle.rr_number.specs.AsNumbers.{as_number_of}
 use Rattle.rr_number.specs.AsSpans.{as_span_of}
@@ -22,7 +21,7 @@ use Rattle.rr_object.specs.Objects.{Obj}
 use Rattle.rr_object.specs.OldKeys.{old_key_bytes}
 use Rattle.rr_object.specs.Readings.{object_of}
 use Rattle.rr_object.proofs.Parsed.{kept_its_key, of_any_source}
-use Rattle.rr_rows.specs.Maps.{AreOldStored, AreStored, IsObjectOf, this_form}
+use Rattle.rr_rows.specs.Maps.{AreOldStored, IsObjectOf, this_form}
 use Rattle.rr_store.specs.Migrating.{IsMigrated, has_mntner, upper_block}
 use Rattle.rr_store.specs.MigratingParts.{IsRewritten}
 

@@ -1,5 +1,5 @@
 -- The order of namings is that of their rows, in which only equal rows tie.
-use Rattle.std.proofs.Common.{◌≡◌, ℕ, ◌+◌, pos, List, [], ◌∷◌, map, get_or, refl, sym, ap, subst₂, ◌∙◌, arith, Ordering, Equal, nat_cmp, int_cmp, is_lt, IsPermutation, IsSorted}
+use Rattle.std.proofs.Common.{◌≡◌, ℕ, ◌+◌, pos, Option, Some, None, IfSome, List, [], ◌∷◌, map, get_or, refl, sym, ap, subst₂, ◌∙◌, arith, Equal, nat_cmp, int_cmp, is_lt, IsPermutation, IsSorted}
 use Rattle.std.specs.List.{AllByRecursion}
 use Rattle.std.specs.Ordering.{ordering_then}
 use Rattle.std.specs.Cmp.{IsTotalOrder}
@@ -55,3 +55,7 @@ all_rows (naming ∷ namings) = ((naming, refl), all_rows namings)
 -- rows in order that are those of namings in another order are those of the namings in order
 pub rows_in_order : (namings : List Naming) (rows : List Row) → IsPermutation (map naming_row namings) rows → IsSorted by_three (map naming_row namings) → IsSorted by_three rows → rows ≡ map naming_row namings
 rows_in_order namings rows same one two = sym (sorted_once by_three by_three_total IsNamingRow told (map naming_row namings) rows (all_rows namings) same one two)
+
+pub each_some : {X : Type 0} (r : Option X) (P Q : X → Type 0) → IfSome r P → ((x : X) → P x → Q x) → IfSome r Q
+each_some (Some x) P Q h f = f x h
+each_some None P Q h f = tt

@@ -1,5 +1,5 @@
 -- Rows and the objects that they are read as.
-use Rattle.std.proofs.Common.{◌≡◌, Option, Some, None, Result, IfOk, IfSome, IsSome, ℕ, zero, suc, ◌<◌, List, [], ◌∷◌, ◌++◌, length, get_or, Ok, Err, refl, sym, ap, subst, ◌∙◌, arith}
+use Rattle.std.proofs.Common.{◌≡◌, Option, Some, None, Result, IfSome, ℕ, zero, suc, ◌<◌, List, [], ◌∷◌, ◌++◌, length, get_or, Ok, refl, sym, ap, subst, ◌∙◌, arith}
 use Rattle.sqlite_value.specs.Order.{Row}
 use Rattle.rr_text.specs.Fields.{Field, AreFields}
 use Rattle.rr_text.specs.CanonicalText.{canonical}

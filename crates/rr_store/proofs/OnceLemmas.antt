@@ -1,5 +1,5 @@
 -- Names that are gone through from the last to the first, each kept once.
-use Rattle.std.proofs.Common.{◌≡◌, ℕ, Bool, true, false, not, cond, ◌||◌, List, [], ◌∷◌, ◌++◌, map, reverse, refl, sym, ap, ◌∙◌, Bor, Ordering, bytes_eq, nat_cmp}
+use Rattle.std.proofs.Common.{◌≡◌, ◌<◌, ℕ, Bool, true, false, not, cond, ◌||◌, List, [], ◌∷◌, ◌++◌, length, map, reverse, refl, sym, ap, ◌∙◌, arith, Bor, Ordering, bytes_eq, nat_cmp}
 use Rattle.std.specs.Prelude.{if◌then◌else◌}
 use Rattle.std.specs.BTreeSet.{BTreeSet, contains, Updates}
 use Rattle.std.specs.Cmp.{eq_by_cmp_equiv}
@@ -70,3 +70,9 @@ passed_over done kept name old new before update again =
 -- the names that were gone through, with the one before them
 pub turned : (names : List Lent) (name : Lent) → reverse (map (λ n. n.now) (names ++ name ∷ [])) ≡ name.now ∷ reverse (map (λ n. n.now) names)
 turned names name = ap reverse (map-append (λ n. n.now) names (name ∷ [])) ∙ reverse-append (map (λ n. n.now) names) (name.now ∷ [])
+
+-- up to one name stands once
+pub once_few : (names : List (List ℕ)) → length names < 2 → once names ≡ names
+once_few [] few = refl
+once_few (name ∷ []) few = refl
+once_few (a ∷ b ∷ names) few = absurd (omega (arith, few))

@@ -1,69 +1,35 @@
 -- When the tables hold the rows of objects of one source, and when of none.
-use Rattle.std.proofs.Common.{◌≡◌, ◌≢◌, ℕ, ◌<◌, ◌^◌, pos, Bool, true, false, List, [], ◌∷◌, map, Option, Some, None, Result, Ok, Err, IfErr, refl, sym, ap, subst, ◌∙◌, arith, codes, Ordering, Less, Equal, Greater, is_gt, IsPermutation}
+use Rattle.std.proofs.Common.{◌≡◌, ℕ, ◌<◌, ◌^◌, true, List, [], ◌∷◌, map, Option, Some, None, Result, Ok, Err, IfErr, refl, sym, ap, subst, ◌∙◌, arith, codes, IsPermutation}
 use Rattle.std.specs.Prelude.{Contains, decimal, is_some, slice_index_or, unwrap_or}
 use Rattle.std.specs.Fmt.{digits}
 use Rattle.std.specs.List.{AllByRecursion, flat_map}
-use Rattle.std.specs.Ordering.{ordering_then}
-use Rattle.std.specs.Cmp.{IsTotalOrder}
 use Rattle.std.proofs.lemmas.Fmt.{decimal_injective}
-use Rattle.std.proofs.lemmas.List.Sorted.{IsPermutation-cons, IsPermutation-map, IsPermutation-middle, IsPermutation-refl, IsPermutation-sym, IsPermutation-trans}
-use Rattle.sqlite_value.specs.declared.keys.Collation.TheVariants.{Binary}
-use Rattle.sqlite_value.specs.Keys.{ascending}
+use Rattle.std.proofs.lemmas.List.Sorted.{IsPermutation-map, IsPermutation-sym, IsPermutation-trans}
 use Rattle.sqlite_value.specs.Order.{Row}
-use Rattle.sqlite_value.proofs.OrderLemmas.{value_cmp-Int, value_cmp-Text, then-Equal}
-use Rattle.sqlite_sql.proofs.QueryLemmas.{key_cmp_total}
-use Rattle.sqlite_trees.specs.Tree.{IsAscending}
-use Rattle.sqlite_trees.proofs.ListLemmas.{along_permutation, all-permutation, map-map, pull_back, IsPermutation-flat_map}
+use Rattle.sqlite_trees.proofs.ListLemmas.{all-permutation, map-map, pull_back, IsPermutation-flat_map}
 use Rattle.sqlite.specs.Effect.{Database}
 use Rattle.rr_text.specs.CanonicalText.{canonical}
 use Rattle.rr_object.specs.Objects.{Obj}
-use Rattle.rr_object.specs.KeyOrders.{key_cmp, IsKeyValue}
 use Rattle.rr_object.specs.Classes.{class_number}
 use Rattle.rr_object.specs.Keys.{class_of}
-use Rattle.rr_rows.specs.Contents.{IsTidy, by_two, contents, object_values, setting, settings}
+use Rattle.rr_rows.specs.Contents.{IsTidy, contents, object_values, setting, settings}
 use Rattle.rr_rows.specs.Entries.{named_rows, object_row}
 use Rattle.rr_rows.specs.Maps.{AreApart, AreInOrder, AreStoredIn, HasVersion, IsObjectOf, KeyForm, entry_in}
-use Rattle.rr_rows.proofs.MapKeys.{KeepsOrder, keys_exact, old_form_keeps_order, this_form_keeps_order}
-use Rattle.rr_rows.proofs.MapLists.{formed_key, in_order_apart, of_any}
+use Rattle.rr_rows.proofs.MapLists.{in_order_apart}
 use Rattle.rr_store.specs.CheckParts.{HoldsNone, HoldsObjects, IsVersionFault}
 use Rattle.rr_store.specs.Opening.{HoldNone, SaysNoOther, SaysOther}
 use Rattle.rr_store.specs.ReadingParts.{AreRead}
-use Rattle.rr_store.specs.Versions.{SaysVersion, form_of, version_number, version_text}
+use Rattle.rr_store.specs.Versions.{SaysVersion, version_number, version_text}
 use Rattle.rr_store.specs.declared.fault.OpenFault.{OpenFault}
 use Rattle.rr_store.specs.declared.fault.OpenFault.TheVariants.{WrongVersion, BadRow, Store, Memory}
 use Rattle.rr_store.specs.declared.version.Version.{Version}
 use Rattle.rr_store.specs.declared.version.Version.TheVariants.{Old, This}
-use Rattle.rr_store.proofs.NamingLemmas.{numbers_compare}
 use Rattle.rr_store.proofs.ObjectLemmas.{one_list}
-use Rattle.rr_store.proofs.SortedLemmas.{rises}
-
-abbrev StaysApart : List Obj → List Obj → Type 0
-StaysApart xs ys = IsPermutation xs ys × (AreApart xs → AreApart ys)
-
--- objects whose keys differ have such keys in any order
-apart_permutes : (xs ys : List Obj) → IsPermutation xs ys → StaysApart xs ys
-apart_permutes = along_permutation StaysApart
-    (λ xs. (IsPermutation-refl xs, λ up. up))
-    (λ x xs ys h. (IsPermutation-cons x xs ys h.0, λ up. (all-permutation (λ y. x.key ≢ y.key) xs ys h.0 up.0, h.1 up.1)))
-    (λ x y xs. (IsPermutation-middle (x ∷ []) y xs, λ up. ((λ same. up.0.0 (sym same), up.1.0), (up.0.1, up.1.1))))
-    (λ xs ys zs h k. (IsPermutation-trans xs ys zs h.0 k.0, λ up. k.1 (h.1 up)))
-
-by_two_total : IsTotalOrder by_two
-by_two_total = key_cmp_total (ascending Binary ∷ ascending Binary ∷ []) 0
-
-below : (o : Ordering) → is_gt o ≡ false → (o ≡ Equal → ⊥) → o ≡ Less
-below Less h k = refl
-below Equal h k = absurd (k refl)
-below Greater h k = absurd (cc)
+use Rattle.rr_store.proofs.OrderLemmas.{apart_permutes}
 
 some_of : (o : Option (List ℕ)) → is_some o ≡ true → o ≡ Some (unwrap_or o [])
 some_of None h = absurd (cc)
 some_of (Some key) h = refl
-
--- each form of keys keeps their order
-pub keeps : (version : Version) → KeepsOrder (form_of version)
-keeps Old = old_form_keeps_order
-keeps This = this_form_keeps_order
 
 -- tables whose version is told amiss hold the rows of no objects
 pub unversioned : (version : Version) (source : List ℕ) (db : Database) (fault : OpenFault) → IsVersionFault version (settings (db.trees 0)) fault → fault ≡ BadRow → HoldNone version source db
@@ -148,59 +114,49 @@ module _ (form : KeyForm) (source : List ℕ) where
     relisted_read = subst (λ l. AreRead form source l relisted.0) (sym relisted.2)
         (reads relisted.0 (all-permutation (IsObjectOf source) objects relisted.0 relisted.1 stored.of_source) (all-permutation (λ o. is_some (form o.key) ≡ true) objects relisted.0 relisted.1 stored.formed))
 
-  row_order : KeepsOrder form → (a b : Obj) → IsObjectOf source a → IsObjectOf source b → is_some (form a.key) ≡ true → is_some (form b.key) ≡ true → by_two (object_row (entry_in form a)) (object_row (entry_in form b)) ≡ key_cmp a.key b.key
-  row_order keep a b is_a is_b formed_a formed_b =
-      let m = class_number (class_of a.key) in
-      let n = class_number (class_of b.key) in
-      let x = unwrap_or (form a.key) [] in
-      let y = unwrap_or (form b.key) [] in
-      (λ i. ordering_then ((value_cmp-Int (pos m) (pos n) ∙ numbers_compare m n) i) ((ap (λ o. ordering_then o Equal) (value_cmp-Text x y) ∙ then-Equal _) i))
-      ∙ sym (keep a.key b.key x y (formed_key a (of_any source a is_a)) (formed_key b (of_any source b is_b)) (some_of (form a.key) formed_a) (some_of (form b.key) formed_b))
+  -- where rows are those of no objects, the tables hold the rows of none
+  pub none_read : (number : List ℕ) (db : Database) → HoldsNone form source (contents (db.trees 2)) → (objects : List Obj) → AreStoredIn form number source objects db → ⊥
+  none_read number db held objects stored = held.none (relisted number held.rows objects db stored held.same).0 (relisted_read number held.rows objects db stored held.same)
 
-  module _ (keep : KeepsOrder form) where
-    each_above : (o : Obj) (os : List Obj) → IsObjectOf source o → is_some (form o.key) ≡ true → AllByRecursion (IsObjectOf source) os → AllByRecursion (λ o. is_some (form o.key) ≡ true) os → AllByRecursion (λ x. o.key ≢ x.key) os
-        → AllByRecursion (λ r. is_gt (by_two (object_row (entry_in form o)) r) ≡ false) (map (λ o. object_row (entry_in form o)) os) → AllByRecursion (λ x. key_cmp o.key x.key ≡ Less) os
-    each_above o [] is formed all each apart up = tt
-    each_above o (x ∷ os) is formed all each apart up =
-        (below (key_cmp o.key x.key) (ap is_gt (sym (row_order keep o x is all.0 formed each.0)) ∙ up.0) (λ tie. apart.0 (keys_exact o.key x.key tie)), each_above o os is formed all.1 each.1 apart.1 up.1)
+  -- where two of the objects that were read have the same key, too
+  pub none_apart : (number : List ℕ) (read : List Obj) (db : Database) → HoldsObjects form source read (contents (db.trees 2)) → (AreApart read → ⊥) → (objects : List Obj) → AreStoredIn form number source objects db → ⊥
+  unfolding relisted
+  none_apart number read db held tied objects stored =
+      let l = relisted number held.rows objects db stored held.same in
+      let one = one_list form source held.rows read l.0 held.read (relisted_read number held.rows objects db stored held.same) in
+      tied (subst AreApart (sym one) ((apart_permutes objects l.0 l.1).1 stored.apart))
 
-    rising : (os : List Obj) → AllByRecursion (IsObjectOf source) os → AllByRecursion (λ o. is_some (form o.key) ≡ true) os → AreApart os
-        → IsAscending (λ a b. is_gt (by_two a b) ≡ false) (map (λ o. object_row (entry_in form o)) os) → AreInOrder os
-    rising [] all formed apart up = tt
-    rising (o ∷ os) all formed apart up = (each_above o os all.0 formed.0 all.1 formed.1 apart.0 up.0, rising os all.1 formed.1 apart.1 up.1)
-
-    -- where rows in order are those of no objects in order, the tables hold the rows of none
-    pub none_stored : (number : List ℕ) (db : Database) → HoldsNone form source (contents (db.trees 2)) → (objects : List Obj) → AreStoredIn form number source objects db → ⊥
-    unfolding relisted
-    none_stored number db held objects stored =
-        let l = relisted number held.rows objects db stored held.listing.same in
-        let all = all-permutation (IsObjectOf source) objects l.0 l.1 stored.of_source in
-        let formed = all-permutation (λ o. is_some (form o.key) ≡ true) objects l.0 l.1 stored.formed in
-        let apart = (apart_permutes objects l.0 l.1).1 stored.apart in
-        let up = subst (IsAscending (λ a b. is_gt (by_two a b) ≡ false)) l.2 (rises by_two by_two_total held.rows held.listing.sorted) in
-        held.none l.0 (relisted_read number held.rows objects db stored held.listing.same) (rising l.0 all formed apart up)
-
-  -- where the names are not those of the objects that were read, the tables hold the rows of none
+  -- and where the names are not those of the objects that were read
   pub none_named : (number : List ℕ) (read : List Obj) (db : Database) → HoldsObjects form source read (contents (db.trees 2)) → (IsPermutation (flat_map named_rows (map (entry_in form) read)) (contents (db.trees 4)) → ⊥)
       → (objects : List Obj) → AreStoredIn form number source objects db → ⊥
   unfolding relisted
   none_named number read db held other objects stored =
-      let l = relisted number held.rows objects db stored held.listing.same in
-      let one = one_list form source held.rows read l.0 held.read (relisted_read number held.rows objects db stored held.listing.same) in
+      let l = relisted number held.rows objects db stored held.same in
+      let one = one_list form source held.rows read l.0 held.read (relisted_read number held.rows objects db stored held.same) in
       let same = subst (IsPermutation objects) (sym one) l.1 in
       other (IsPermutation-trans _ _ _ (IsPermutation-flat_map named_rows _ _ (IsPermutation-map (entry_in form) _ _ (IsPermutation-sym _ _ same))) stored.rows.named)
 
-  -- the tables hold the rows of the objects that were read of them
-  pub stored : (number : List ℕ) (objects : List Obj) (db : Database) → IsTidy db → HasVersion number db → HoldsObjects form source objects (contents (db.trees 2))
-      → IsPermutation (flat_map named_rows (map (entry_in form) objects)) (contents (db.trees 4)) → AreStoredIn form number source objects db
-  stored number objects db tidy version held named = record {
-    rows = record {
-      tidy = tidy;
-      objects = subst (λ l. IsPermutation l (contents (db.trees 2))) (read_rows held.rows objects held.read ∙ sym (map-map object_row (entry_in form) objects)) (IsPermutation-sym _ _ held.listing.same);
-      named = named;
-    };
-    version = version;
-    formed = read_formed held.rows objects held.read;
-    of_source = read_objects held.rows objects held.read;
-    apart = in_order_apart objects held.order;
+  -- what holds of objects holds of them in another order
+  pub reordered : (objects ordered : List Obj) (held : List Row) → HoldsObjects form source objects held → IsPermutation objects ordered → HoldsObjects form source ordered held
+  reordered objects ordered held h same = record {
+    rows = map (λ o. object_row (entry_in form o)) ordered;
+    same = IsPermutation-trans _ _ _ (subst (IsPermutation held) (read_rows h.rows objects h.read) h.same) (IsPermutation-map (λ o. object_row (entry_in form o)) objects ordered same);
+    read = reads ordered (all-permutation (IsObjectOf source) objects ordered same (read_objects h.rows objects h.read)) (all-permutation (λ o. is_some (form o.key) ≡ true) objects ordered same (read_formed h.rows objects h.read));
   }
+
+  -- the tables hold the rows of the objects that were read of them, in whatever order these were read
+  pub stored : (number : List ℕ) (objects ordered : List Obj) (db : Database) → IsTidy db → HasVersion number db → HoldsObjects form source objects (contents (db.trees 2))
+      → IsPermutation (flat_map named_rows (map (entry_in form) objects)) (contents (db.trees 4)) → IsPermutation objects ordered → AreInOrder ordered → AreStoredIn form number source ordered db
+  stored number objects ordered db tidy version held named same order =
+      let now = reordered objects ordered (contents (db.trees 2)) held same in
+      record {
+        rows = record {
+          tidy = tidy;
+          objects = subst (λ l. IsPermutation l (contents (db.trees 2))) (read_rows now.rows ordered now.read ∙ sym (map-map object_row (entry_in form) ordered)) (IsPermutation-sym _ _ now.same);
+          named = IsPermutation-trans _ _ _ (IsPermutation-sym _ _ (IsPermutation-flat_map named_rows _ _ (IsPermutation-map (entry_in form) objects ordered same))) named;
+        };
+        version = version;
+        formed = read_formed now.rows ordered now.read;
+        of_source = read_objects now.rows ordered now.read;
+        apart = in_order_apart ordered order;
+      }

@@ -1,11 +1,12 @@
 -- What the numbers of the rows say of the rows.
-use Rattle.std.proofs.Common.{◌≡◌, Bool, false, List, [], ◌∷◌, length, Ok, Err, Result, IfOk, IsTrue, map, refl, sym, ap, ◌∙◌, arith, IsPermutation}
+use Rattle.std.proofs.Common.{◌≡◌, Bool, List, [], ◌∷◌, length, Ok, Err, Result, IfOk, IsTrue, map, refl, sym, ap, subst, ◌∙◌, arith, IsPermutation}
 use Rattle.std.specs.Prelude.{◌==◌}
 use Rattle.std.proofs.lemmas.Bool.{both_ways, eqb-true}
 use Rattle.std.proofs.lemmas.List.{length-map}
-use Rattle.std.proofs.lemmas.List.Sorted.{length_permutation}
+use Rattle.std.proofs.lemmas.List.Sorted.{IsPermutation-map, IsPermutation-sym, length_permutation}
 use Rattle.sqlite_value.specs.Order.{Row}
-use Rattle.rr_rows.specs.Contents.{AreKeyed, number}
+use Rattle.sqlite_trees.proofs.ListLemmas.{map-map}
+use Rattle.rr_rows.specs.Contents.{AreKeyed, columns, contents, number, numbered}
 use Rattle.rr_rows.proofs.NumberLemmas.{keyed_by}
 use Rattle.rr_store.specs.VacancyParts.{SaysEmpty}
 
@@ -27,3 +28,11 @@ empty_as is rows answer same told = record {
   empty = λ on. none_of_length rows (sym (as_many rows answer same) ∙ eqb-true (length answer) 0 (sym told ∙ on));
   filled = λ off none. absurd (both_ways is off (told ∙ ap (λ n. n == 0) (as_many rows answer same ∙ ap length none)));
 }
+
+-- what rows with their numbers hold
+pub contents_of : (held rows : List Row) → IsPermutation (map numbered held) rows → IsPermutation (contents held) (contents rows)
+contents_of held rows same = subst (λ l. IsPermutation l (contents rows)) (map-map columns numbered held) (IsPermutation-map columns (map numbered held) rows same)
+
+-- and where that is a list, the rows of this list are there
+pub listed : (held rows list : List Row) → IsPermutation (map numbered held) rows → contents rows ≡ list → IsPermutation list (contents held)
+listed held rows list same is = subst (λ l. IsPermutation l (contents held)) is (IsPermutation-sym _ _ (contents_of held rows same))

@@ -1,19 +1,14 @@
 -- The block that migration adds: its lines are good ones, and its key has no old bytes.
-use Rattle.std.proofs.Common.{◌≡◌, ℕ, Bool, true, false, not, ◌&&◌, List, [], ◌∷◌, codes, Option, None, Ok, refl, sym, ap, subst, ◌∙◌, arith}
+use Rattle.std.proofs.Common.{◌≡◌, ℕ, Bool, true, false, not, ◌&&◌, List, [], ◌∷◌, codes, Ok, refl, sym, ap, subst, ◌∙◌, arith}
 use Rattle.std.specs.List.{list_all, list_any}
 use Rattle.std.proofs.lemmas.Bool.{and_parts}
 use Rattle.std.proofs.lemmas.Bool.Decides.{nat_tests}
 use Rattle.rr_bytes.specs.Blanks.{is_blank_or_line_feed, is_line_feed}
 use Rattle.rr_bytes.specs.NameBytes.{begins_with_letter, ends_with_alphanumeric, is_name, is_name_byte}
-use Rattle.rr_bytes.specs.Trims.{before_trimmed, trim, trim_end, trim_start}
+use Rattle.rr_bytes.specs.Trims.{before_trimmed, trim_end, trim_start}
 use Rattle.rr_text.specs.Bytes.{is_refused}
-use Rattle.rr_text.specs.Fields.{AreFields, Field, IsField, IsLine}
-use Rattle.rr_text.specs.Meanings.{value_meaning}
+use Rattle.rr_text.specs.Fields.{AreFields, Field, IsLine}
 use Rattle.rr_number.specs.Names.{IsUpperName}
-use Rattle.rr_number.specs.AsNumbers.{as_number_of}
-use Rattle.rr_number.specs.AsSpans.{as_span_of}
-use Rattle.rr_object.specs.declared.key.Key.TheVariants.{AsBlock}
-use Rattle.rr_object.specs.KeySpellings.{key_at, key_of, key_of_text}
 use Rattle.rr_object.specs.Objects.{Obj}
 use Rattle.rr_object.specs.Readings.{object_of}
 use Rattle.rr_object.proofs.Parsed.{kept_paragraph, of_any_source}

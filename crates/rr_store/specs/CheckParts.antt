@@ -1,10 +1,12 @@
 -- What private functions that check the rows of tables promise each other. No public clause cites these.
-use Rattle.std.specs.Prelude.{◌≡◌, ◌≢◌, ℕ, ◌<◌, ◌^◌, List, [], ◌∷◌, codes}
+use Rattle.std.specs.Prelude.{◌≡◌, ◌≢◌, ℕ, ◌<◌, ◌^◌, List, [], ◌∷◌, IsPermutation, codes}
 use Rattle.sqlite_value.specs.Order.{Row}
 use Rattle.rr_object.specs.Objects.{Obj}
-use Rattle.rr_rows.specs.Contents.{IsInRank, by_two, setting}
-use Rattle.rr_rows.specs.Maps.{AreInOrder, KeyForm}
-use Rattle.rr_store.specs.ReadingParts.{AreRead}
+use Rattle.sqlite.specs.Effect.{Database}
+use Rattle.rr_rows.specs.Contents.{AreKeyed, setting}
+use Rattle.rr_rows.specs.Maps.{KeyForm}
+use Rattle.rr_rows.specs.Tables.{HasTables}
+use Rattle.rr_store.specs.ReadingParts.{AreNone, AreRead}
 use Rattle.rr_store.specs.Versions.{SaysVersion, version_number, version_text}
 use Rattle.rr_store.specs.declared.version.Version.{Version}
 use Rattle.rr_store.specs.declared.fault.OpenFault.{OpenFault}
@@ -22,19 +24,19 @@ IsVersionFault version rows BadRow = IsBadVersion version rows
 IsVersionFault version rows Store = Unit {0}
 IsVersionFault version rows Memory = Unit {0}
 
--- rows are those of no objects of a source in order (profile)
-abbrev pub AreNone : KeyForm → List ℕ → List Row → Type 0
-AreNone form source rows = (objects : List Obj) → AreRead form source rows objects → AreInOrder objects → ⊥
+-- the three tables are there, and the rows of `meta` have numbers of their own (profile)
+pub record HasSettings (db : Database) : Type 0 where
+  pub tables : HasTables db.schema
+  pub keyed : AreKeyed (db.trees 0)
 
--- rows, in some order of classes and keys, are those of these objects (profile)
+-- rows, in some order, are those of these objects (profile)
 pub record HoldsObjects (form : KeyForm) (source : List ℕ) (objects : List Obj) (held : List Row) : Type 0 where
   pub rows : List Row
-  pub listing : IsInRank by_two held rows
+  pub same : IsPermutation held rows
   pub read : AreRead form source rows objects
-  pub order : AreInOrder objects
 
 -- and are those of none
 pub record HoldsNone (form : KeyForm) (source : List ℕ) (held : List Row) : Type 0 where
   pub rows : List Row
-  pub listing : IsInRank by_two held rows
+  pub same : IsPermutation held rows
   pub none : AreNone form source rows

@@ -2,6 +2,7 @@
 use Rattle.std.specs.Prelude.{◌≡◌, ℕ, List, [], ◌∷◌, Option, Some, ⊤, Bool, true}
 use Rattle.std.specs.List.{find}
 use Rattle.std.specs.Option.{option_and_then}
+use Rattle.std.specs.declared.cmp.Ordering.{Ordering}
 use Rattle.std.specs.Ordering.{is_lt}
 use Rattle.sqlite_value.specs.Order.{Row}
 use Rattle.rr_number.specs.Names.{name_of}
@@ -33,6 +34,14 @@ AreRead form source [] [] = ⊤
 AreRead form source (row ∷ rows) [] = ⊥
 AreRead form source [] (object ∷ objects) = ⊥
 AreRead form source (row ∷ rows) (object ∷ objects) = (IsObjectOf source object × IsRowOf form object row) × AreRead form source rows objects
+
+-- rows are those of no objects of a source (profile)
+abbrev pub AreNone : KeyForm → List ℕ → List Row → Type 0
+AreNone form source rows = (objects : List Obj) → AreRead form source rows objects → ⊥
+
+-- objects in the order of their keys
+abbrev pub by_key : Obj → Obj → Ordering
+by_key a b = key_cmp a.key b.key
 
 -- the key of an object is below that of the first of others, if there is one
 abbrev pub is_below : Obj → List Obj → Bool

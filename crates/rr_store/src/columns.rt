@@ -1,15 +1,14 @@
 //! What the columns of a row hold.
 
-ghost use Rattle.std.specs.Prelude.{◌≡◌, ◌<◌, length, pos, IfSome, IsTrue, None};
+ghost use Rattle.std.specs.Prelude.{◌≡◌, pos, IfSome, IsTrue, None};
 ghost use Rattle.sqlite_value.specs.declared.value.Value.TheVariants.{Blob, Int, Text};
 ghost use Rattle.sqlite_value.specs.Order.{column};
-ghost use Rattle.rr_rows.specs.Contents.{named_values, object_values, setting};
+ghost use Rattle.rr_rows.specs.Contents.{columns, named_values, object_values, setting};
 
 use sqlite::Row;
 use sqlite_value::value::ValueRef;
 
 fn has_number(row: &Row, at: usize, number: u8) -> bool
-    requires { at < length row.now }
     ensures is { IsTrue result → column row.now at ≡ Int (pos number) }
     ensures only { column row.now at ≡ Int (pos number) → IsTrue result }
 {
@@ -20,7 +19,6 @@ fn has_number(row: &Row, at: usize, number: u8) -> bool
 }
 
 fn has_text(row: &Row, at: usize, text: &[u8]) -> bool
-    requires { at < length row.now }
     ensures is { IsTrue result → column row.now at ≡ Text text.now }
     ensures only { column row.now at ≡ Text text.now → IsTrue result }
 {
@@ -31,7 +29,6 @@ fn has_text(row: &Row, at: usize, text: &[u8]) -> bool
 }
 
 fn has_blob(row: &Row, at: usize, bytes: &[u8]) -> bool
-    requires { at < length row.now }
     ensures is { IsTrue result → column row.now at ≡ Blob bytes.now }
     ensures only { column row.now at ≡ Blob bytes.now → IsTrue result }
 {
@@ -41,12 +38,12 @@ fn has_blob(row: &Row, at: usize, bytes: &[u8]) -> bool
     }
 }
 
-/// The bytes of the third column, if it has some.
-pub(crate) fn third_bytes(row: &Row) -> Option<&[u8]>
-    ensures found { IfSome result (λ bytes. column row.now 2 ≡ Blob bytes.now) }
-    ensures none { (bytes : _) → result ≡ None → column row.now 2 ≡ Blob bytes → ⊥ }
+/// The bytes of a column, if it has some.
+pub(crate) fn bytes_at(row: &Row, at: usize) -> Option<&[u8]>
+    ensures found { IfSome result (λ bytes. column row.now at ≡ Blob bytes.now) }
+    ensures none { (bytes : _) → result ≡ None → column row.now at ≡ Blob bytes → ⊥ }
 {
-    match row.get_ref(2) {
+    match row.get_ref(at) {
         Ok(ValueRef::Blob(held)) => Some(held),
         _ => None,
     }
@@ -63,19 +60,24 @@ pub(crate) fn second_text(row: &Row) -> Option<&[u8]>
     }
 }
 
-/// Whether a row is that of an object.
+/// Whether a row with its number is that of an object.
 pub(crate) fn is_object_row(row: &Row, class: u8, key: &[u8], body: &[u8]) -> bool
-    ensures is { IsTrue result → row.now ≡ object_values class key.now body.now }
-    ensures only { row.now ≡ object_values class key.now body.now → IsTrue result }
+    ensures is { IsTrue result → columns row.now ≡ object_values class key.now body.now }
+    ensures only { columns row.now ≡ object_values class key.now body.now → IsTrue result }
 {
-    row.column_count() == 3
-        && has_number(row, 0, class)
-        && has_text(row, 1, key)
-        && has_blob(row, 2, body)
+    has_number(row, 1, class) && has_text(row, 2, key) && has_blob(row, 3, body)
 }
 
-/// Whether a row is that of a maintainer and an object that names it.
+/// Whether a row with its number is that of a maintainer and an object that names it.
 pub(crate) fn is_named_row(row: &Row, name: &[u8], class: u8, key: &[u8]) -> bool
+    ensures is { IsTrue result → columns row.now ≡ named_values name.now class key.now }
+    ensures only { columns row.now ≡ named_values name.now class key.now → IsTrue result }
+{
+    has_text(row, 1, name) && has_number(row, 2, class) && has_text(row, 3, key)
+}
+
+/// Whether a row without a number is that of a maintainer and an object that names it.
+pub(crate) fn is_naming(row: &Row, name: &[u8], class: u8, key: &[u8]) -> bool
     ensures is { IsTrue result → row.now ≡ named_values name.now class key.now }
     ensures only { row.now ≡ named_values name.now class key.now → IsTrue result }
 {

@@ -40,5 +40,8 @@ pub(crate) fn maintainers_of(alloc: Global, object: &Object) -> Result<Vec<Name>
     ensures { IfOk result (λ names. names.items ≡ once (names_of object.now)) }
 {
     let all = named(alloc, object)?;
+    if all.len() < 2 {
+        return Ok(all);
+    }
     each_once(alloc, &all)
 }

@@ -1,14 +1,14 @@
 //! Which objects name which maintainers, as the rows of `named` have it.
 
-ghost use Rattle.std.specs.Prelude.{◌≡◌, ◌++◌, [], IfOk, IsPermutation, IsSorted, IsTrue, OnOk, map, unwrap_or};
+ghost use Rattle.std.specs.Prelude.{◌≡◌, ◌++◌, [], IfOk, IfSome, IsPermutation, IsSorted, IsTrue, OnOk, map, unwrap_or};
 ghost use Rattle.std.specs.List.{flat_map};
-ghost use Rattle.rr_rows.specs.Contents.{by_three, named_values};
+ghost use Rattle.rr_rows.specs.Contents.{by_three, contents, named_values};
 ghost use Rattle.rr_rows.specs.Entries.{named_rows};
 ghost use Rattle.rr_rows.specs.Maps.{entry_in};
 ghost use Rattle.rr_store.specs.NamingParts.{naming_row};
 ghost use Rattle.rr_store.specs.Versions.{form_of};
 
-use crate::columns::is_named_row;
+use crate::columns::{is_named_row, is_naming};
 use crate::names::maintainers_of;
 use crate::version::Version;
 use rr_number::Name;
@@ -32,6 +32,56 @@ fn key_text(alloc: Global, key: &Key, version: Version) -> Result<Vec<u8>, Alloc
         Some(bytes) => Ok(bytes),
         None => Ok(Vec::new(alloc)),
     }
+}
+
+/// The rows behind those of the names of an object, where these come first.
+fn behind_names<'a>(rows: &'a [Row], names: &[Name], class: u8, key: &[u8]) -> Option<&'a [Row]>
+    ensures { IfSome result (λ later. contents rows.now ≡ map (λ name. named_values name class key.now) names.now ++ contents later.now) }
+{
+    let mut rest = rows;
+    for name in names {
+        let [row, later @ ..] = rest else {
+            return None;
+        };
+        if !is_named_row(row, name.as_bytes(), class, key) {
+            return None;
+        }
+        rest = later;
+    }
+    Some(rest)
+}
+
+fn behind_object<'a>(
+    alloc: Global,
+    rows: &'a [Row],
+    object: &Object,
+    version: Version,
+) -> Result<Option<&'a [Row]>, AllocError>
+    ensures { IfOk result (λ found. IfSome found (λ later. contents rows.now ≡ named_rows (entry_in (form_of version) object.now) ++ contents later.now)) }
+{
+    let names = maintainers_of(alloc, object)?;
+    let key = key_text(alloc, object.key(), version)?;
+    Ok(behind_names(rows, &names, object.key().class().number(), &key))
+}
+
+/// Whether rows with their numbers are those of the maintainers that the objects name, in the order of the objects. So they
+/// stand where each object's were written with the object's own. The error is want of memory.
+pub(crate) fn are_in_turn(
+    alloc: Global,
+    rows: &[Row],
+    objects: &[Object],
+    version: Version,
+) -> Result<bool, AllocError>
+    ensures { IfOk result (λ are. IsTrue are → contents rows.now ≡ flat_map named_rows (map (entry_in (form_of version)) objects.now)) }
+{
+    let mut rest = rows;
+    for object in objects {
+        match behind_object(alloc, rest, object, version)? {
+            Some(later) => rest = later,
+            None => return Ok(false),
+        }
+    }
+    Ok(rest.is_empty())
 }
 
 fn push_namings(
@@ -99,7 +149,7 @@ fn are_rows_of(rows: &[Row], namings: &[Naming]) -> bool
     let mut rest = rows;
     let mut left = namings;
     while let ([row, later @ ..], [naming, others @ ..]) = (rest, left) {
-        if !is_named_row(row, naming.maintainer.as_bytes(), naming.class, &naming.key) {
+        if !is_naming(row, naming.maintainer.as_bytes(), naming.class, &naming.key) {
             return false;
         }
         rest = later;
@@ -108,7 +158,7 @@ fn are_rows_of(rows: &[Row], namings: &[Naming]) -> bool
     rest.is_empty() && left.is_empty()
 }
 
-/// Whether rows in their order are those of the maintainers that the objects name; the error is want of memory.
+/// Whether rows without numbers, in their order, are those of the maintainers that the objects name; the error is want of memory.
 pub(crate) fn are_named(
     alloc: Global,
     rows: &[Row],

@@ -1,18 +1,20 @@
 //! The objects of rows.
 
-ghost use Rattle.std.specs.Prelude.{◌≡◌, IfOk, IfSome, IsSome, IsTrue, Some};
+ghost use Rattle.std.specs.Prelude.{◌≡◌, IfErr, IfOk, IfSome, IsPermutation, IsSome, IsSorted, IsTrue, Some, ℕ};
 ghost use Rattle.std.specs.List.{AllByRecursion};
 ghost use Rattle.rr_text.specs.CanonicalText.{canonical};
 ghost use Rattle.rr_object.specs.Classes.{class_number};
 ghost use Rattle.rr_object.specs.Keys.{class_of};
 ghost use Rattle.rr_object.specs.Readings.{ReadsAs};
-ghost use Rattle.rr_rows.specs.Contents.{object_values};
-ghost use Rattle.rr_rows.specs.Maps.{AreInOrder, IsObject, IsObjectOf};
+ghost use Rattle.rr_rows.specs.Contents.{columns, contents, object_values};
+ghost use Rattle.rr_rows.specs.Maps.{AreApart, AreInOrder, IsObject, IsObjectOf};
 ghost use Rattle.rr_store.specs.Lent.{lent};
-ghost use Rattle.rr_store.specs.ReadingParts.{AreRead, IsRowOf, is_below};
+ghost use Rattle.rr_store.specs.ReadingParts.{AreNone, AreRead, IsRowOf, by_key, is_below};
 ghost use Rattle.rr_store.specs.Versions.{form_of};
+ghost use Rattle.rr_store.specs.declared.fault.OpenFault.TheVariants.{BadRow, WrongVersion};
 
-use crate::columns::{is_object_row, third_bytes};
+use crate::columns::{bytes_at, is_object_row};
+use crate::fault::OpenFault;
 use crate::version::Version;
 use rr_number::Name;
 use rr_object::laws::keys_compare_by_their_parts;
@@ -49,7 +51,7 @@ fn read_text(alloc: Global, text: &[u8], source: &Name) -> Result<Option<Object>
     }
 }
 
-/// Whether a row is that of the object, with this text.
+/// Whether a row with its number is that of the object, with this text.
 fn is_row_of(
     alloc: Global,
     row: &Row,
@@ -57,8 +59,8 @@ fn is_row_of(
     text: &[u8],
     version: Version,
 ) -> Result<bool, AllocError>
-    ensures is { IfOk result (λ is. IsTrue is → (key : _) × (form_of version object.now.key ≡ Some key) × (row.now ≡ object_values (class_number (class_of object.now.key)) key text.now)) }
-    ensures only { IfOk result (λ is. (key : _) → form_of version object.now.key ≡ Some key → row.now ≡ object_values (class_number (class_of object.now.key)) key text.now → IsTrue is) }
+    ensures is { IfOk result (λ is. IsTrue is → (key : _) × (form_of version object.now.key ≡ Some key) × (columns row.now ≡ object_values (class_number (class_of object.now.key)) key text.now)) }
+    ensures only { IfOk result (λ is. (key : _) → form_of version object.now.key ≡ Some key → columns row.now ≡ object_values (class_number (class_of object.now.key)) key text.now → IsTrue is) }
 {
     let class = object.key().class().number();
     match version.key_bytes(alloc, object.key())? {
@@ -67,17 +69,17 @@ fn is_row_of(
     }
 }
 
-/// The object of the source whose row this is, if it is that of one.
+/// The object of the source whose row, with its number, this is, if it is that of one.
 fn read_object(
     alloc: Global,
     row: &Row,
     source: &Name,
     version: Version,
 ) -> Result<Option<Object>, AllocError>
-    ensures found { IfOk result (λ read. IfSome read (λ object. IsObjectOf source.now object × IsRowOf (form_of version) object row.now)) }
-    ensures only { IfOk result (λ read. (object : _) → IsObjectOf source.now object → IsRowOf (form_of version) object row.now → IsSome read) }
+    ensures found { IfOk result (λ read. IfSome read (λ object. IsObjectOf source.now object × IsRowOf (form_of version) object (columns row.now))) }
+    ensures only { IfOk result (λ read. (object : _) → IsObjectOf source.now object → IsRowOf (form_of version) object (columns row.now) → IsSome read) }
 {
-    let Some(text) = third_bytes(row) else {
+    let Some(text) = bytes_at(row, 3) else {
         return Ok(None);
     };
     let Some(object) = read_text(alloc, text, source)? else {
@@ -90,15 +92,15 @@ fn read_object(
     }
 }
 
-/// The objects of the source whose rows these are, if they are those of some.
-pub(crate) fn read_objects(
+/// The objects of the source whose rows, with their numbers, these are, if they are those of some.
+fn read_objects(
     alloc: Global,
     rows: &[Row],
     source: &Name,
     version: Version,
 ) -> Result<Option<Vec<Object>>, AllocError>
-    ensures found { IfOk result (λ read. IfSome read (λ objects. AreRead (form_of version) source.now rows.now objects.items)) }
-    ensures only { IfOk result (λ read. (objects : _) → AreRead (form_of version) source.now rows.now objects → IsSome read) }
+    ensures found { IfOk result (λ read. IfSome read (λ objects. AreRead (form_of version) source.now (contents rows.now) objects.items)) }
+    ensures only { IfOk result (λ read. (objects : _) → AreRead (form_of version) source.now (contents rows.now) objects → IsSome read) }
 {
     let mut objects = Vec::new(alloc);
     for row in rows {
@@ -108,6 +110,25 @@ pub(crate) fn read_objects(
         }
     }
     Ok(Some(objects))
+}
+
+/// The objects of rows with their numbers, in turn.
+pub(crate) fn objects_of_rows(
+    alloc: Global,
+    rows: &[Row],
+    source: &Name,
+    version: Version,
+) -> Result<Vec<Object>, OpenFault>
+    ensures ok { IfOk result (λ objects. AreRead (form_of version) source.now (contents rows.now) objects.items) }
+    ensures of_source { IfOk result (λ objects. AllByRecursion (IsObjectOf source.now) objects.items) }
+    ensures fault { IfErr result (λ fault. fault ≡ BadRow → AreNone (form_of version) source.now (contents rows.now)) }
+    ensures no_other { IfErr result (λ fault. (number : ℕ) → fault ≡ WrongVersion number → ⊥) }
+{
+    match read_objects(alloc, rows, source, version) {
+        Ok(Some(objects)) => Ok(objects),
+        Ok(None) => Err(OpenFault::BadRow),
+        Err(_) => Err(OpenFault::Memory),
+    }
 }
 
 /// Tells a caller's proof that the object is such as readers make; it does nothing.
@@ -148,7 +169,7 @@ fn is_below(object: &Object, others: &[Object]) -> bool
 }
 
 /// Whether the objects stand in the order of their keys.
-pub(crate) fn are_in_order(objects: &[Object]) -> bool
+fn are_in_order(objects: &[Object]) -> bool
     ensures is { IsTrue result → AreInOrder objects.now }
     ensures only { AreInOrder objects.now → IsTrue result }
 {
@@ -160,4 +181,36 @@ pub(crate) fn are_in_order(objects: &[Object]) -> bool
         rest = later;
     }
     true
+}
+
+/// The objects sorted by their keys; the error is want of memory.
+fn sorted(mut objects: Vec<Object>) -> Result<Vec<Object>, AllocError>
+    ensures same { IfOk result (λ sorted. IsPermutation objects.items sorted.items) }
+    ensures order { IfOk result (λ sorted. IsSorted by_key sorted.items) }
+{
+    keys_compare_by_their_parts();
+    objects.sort_by(|a, b| a.key().cmp(b.key()))?;
+    Ok(objects)
+}
+
+/// The objects in the order of their keys, of which no two are the same. Those that stand so already are not sorted.
+pub(crate) fn in_order(objects: Vec<Object>) -> Result<Vec<Object>, OpenFault>
+    ensures same { IfOk result (λ ordered. IsPermutation objects.items ordered.items) }
+    ensures order { IfOk result (λ ordered. AreInOrder ordered.items) }
+    ensures fault { IfErr result (λ fault. fault ≡ BadRow → AreApart objects.items → ⊥) }
+    ensures no_other { IfErr result (λ fault. (number : ℕ) → fault ≡ WrongVersion number → ⊥) }
+{
+    if are_in_order(&objects) {
+        return Ok(objects);
+    }
+    match sorted(objects) {
+        Ok(sorted) => {
+            if are_in_order(&sorted) {
+                Ok(sorted)
+            } else {
+                Err(OpenFault::BadRow)
+            }
+        }
+        Err(_) => Err(OpenFault::Memory),
+    }
 }

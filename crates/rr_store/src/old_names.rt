@@ -10,7 +10,7 @@ ghost use Rattle.rr_object.specs.declared.kind.Kind.TheVariants.{Source};
 ghost use Rattle.rr_rows.specs.Maps.{AreNamesOf, IsObject};
 ghost use Rattle.rr_store.specs.ReadingParts.{first_source};
 
-use crate::columns::third_bytes;
+use crate::columns::bytes_at;
 use crate::fault::StoreFault;
 use crate::names::maintainers_of;
 use crate::objects::read_paragraph;
@@ -54,7 +54,7 @@ fn read_any(alloc: Global, text: &[u8]) -> Result<Option<Object>, AllocError>
 fn names_of_row(alloc: Global, row: &Row) -> Result<Vec<Name>, StoreFault>
     ensures { IfOk result (λ names. AreNamesOf names.items row.now) }
 {
-    let Some(text) = third_bytes(row) else {
+    let Some(text) = bytes_at(row, 2) else {
         return Err(StoreFault::Store);
     };
     match read_any(alloc, text)? {

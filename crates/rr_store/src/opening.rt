@@ -4,16 +4,17 @@ ghost use Rattle.std.specs.Prelude.{◌≡◌, ℕ, false, IfErr, IfOk, IsTrue, 
 ghost use Rattle.std.specs.List.{AllByRecursion};
 ghost use Rattle.sqlite.specs.Held.{state};
 ghost use Rattle.sqlite.specs.State.{HasCleanDisk, IsUnchanged, Survives};
-ghost use Rattle.rr_rows.specs.Contents.{IsTidy};
 ghost use Rattle.rr_rows.specs.Maps.{AreInOrder, AreStoredIn, HasVersion, IsObjectOf};
 ghost use Rattle.rr_rows.specs.Tables.{HasTables};
+ghost use Rattle.rr_store.specs.CheckParts.{HasSettings};
 ghost use Rattle.rr_store.specs.Opening.{HoldNone, IsOfRows, SaysNoOther, SaysOther};
 ghost use Rattle.rr_store.specs.Versions.{form_of, version_text};
 ghost use Rattle.rr_store.specs.declared.fault.OpenFault.TheVariants.{BadRow, WrongVersion};
 
 use crate::checks::{check_names, check_objects, check_version};
 use crate::fault::OpenFault;
-use crate::tidy::is_tidy;
+use crate::objects::in_order;
+use crate::tidy::has_settings;
 use crate::version::Version;
 use rr_number::Name;
 use rr_object::Object;
@@ -28,7 +29,7 @@ fn checked_objects<S: Alter>(
     version: Version,
 ) -> Result<Vec<Object>, OpenFault>
     requires autocommit { conn.old.in_transaction ≡ false }
-    requires tidy { HasCleanDisk (state S.Store conn.old) → IsTrue (state S.Store conn.old).is_open → IsTidy (state S.Store conn.old).now }
+    requires settings { HasCleanDisk (state S.Store conn.old) → IsTrue (state S.Store conn.old).is_open → HasSettings (state S.Store conn.old).now }
     ensures autocommit { conn.new.in_transaction ≡ false }
     ensures ok { HasCleanDisk (state S.Store conn.new) → IfOk result (λ objects. HasVersion (version_text version) (state S.Store conn.old).now → AreStoredIn (form_of version) (version_text version) source.now objects.items (state S.Store conn.old).now) }
     ensures order { IfOk result (λ objects. AreInOrder objects.items) }
@@ -41,18 +42,18 @@ fn checked_objects<S: Alter>(
 {
     let objects = check_objects(conn, alloc, source, version)?;
     check_names(conn, alloc, &objects, version)?;
-    Ok(objects)
+    in_order(objects)
 }
 
-/// The objects of the source that tables with numbers of their own for their rows hold.
-fn read_tidy<S: Alter>(
+/// The objects of the source that tables hold whose settings have numbers of their own.
+fn read_tables<S: Alter>(
     conn: &mut Connection<S>,
     alloc: Global,
     source: &Name,
     version: Version,
 ) -> Result<Vec<Object>, OpenFault>
     requires autocommit { conn.old.in_transaction ≡ false }
-    requires tidy { HasCleanDisk (state S.Store conn.old) → IsTrue (state S.Store conn.old).is_open → IsTidy (state S.Store conn.old).now }
+    requires settings { HasCleanDisk (state S.Store conn.old) → IsTrue (state S.Store conn.old).is_open → HasSettings (state S.Store conn.old).now }
     ensures autocommit { conn.new.in_transaction ≡ false }
     ensures ok { HasCleanDisk (state S.Store conn.new) → IfOk result (λ objects. AreStoredIn (form_of version) (version_text version) source.now objects.items (state S.Store conn.old).now) }
     ensures order { IfOk result (λ objects. AreInOrder objects.items) }
@@ -88,8 +89,8 @@ pub(crate) fn stored_objects<S: Alter>(
     ensures tables { HasCleanDisk (state S.Store conn.new) → IfErr result (λ fault. IsOfRows fault → HasTables (state S.Store conn.old).now.schema) }
     ensures crash { Survives (state S.Store conn.old) (state S.Store conn.new) (λ _. (state S.Store conn.old).is_open ≡ false) }
 {
-    match is_tidy(conn) {
-        Ok(true) => read_tidy(conn, alloc, source, version),
+    match has_settings(conn) {
+        Ok(true) => read_tables(conn, alloc, source, version),
         Ok(false) => Err(OpenFault::Store),
         Err(_) => Err(OpenFault::Store),
     }

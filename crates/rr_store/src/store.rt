@@ -25,7 +25,7 @@ ghost use Rattle.rr_store.specs.declared.fault.MigrateFault.TheVariants.{BadRow 
 ghost use Rattle.rr_store.specs.declared.fault.OpenFault.TheVariants.{BadRow, WrongVersion};
 ghost use Rattle.rr_store.specs.declared.fault.StoreFault.TheVariants.{Memory};
 
-use crate::checks::{check_objects, naming_objects};
+use crate::checks::{all_objects, naming_objects};
 use crate::creating::create_where_vacant;
 use crate::fault::{CreateFault, MigrateFault, OpenFault, StoreFault};
 use crate::migrating::migrate_rows;
@@ -283,7 +283,7 @@ impl<S: Alter> Store<S> {
         ensures err { HasCleanDisk (state S.Store self.new) → IsTrue (state S.Store self.new).is_open → OnErr result ((state S.Store self.new).now ≡ (state S.Store self.old).now) }
         ensures crash { Survives (state S.Store self.old) (state S.Store self.new) (λ _. (state S.Store self.old).is_open ≡ false) }
     {
-        match check_objects(&mut self.conn, alloc, source, Version::This) {
+        match all_objects(&mut self.conn, alloc, source) {
             Ok(objects) => Ok(objects),
             Err(OpenFault::Memory) => Err(StoreFault::Memory),
             Err(_) => Err(StoreFault::Store),

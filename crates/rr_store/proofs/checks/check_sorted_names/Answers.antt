@@ -1,7 +1,7 @@
 use Rattle.std.proofs.lemmas.List.Sorted.{IsPermutation-sym, IsPermutation-trans}
 use Rattle.rr_store.proofs.BodyLemmas.{then_ok}
 use Rattle.rr_store.proofs.CheckLemmas.{each_err}
-use Rattle.rr_store.proofs.checks.check_names.Goals as goal
+use Rattle.rr_store.proofs.checks.check_sorted_names.Goals as goal
 
 pub returns-in-Ok-clause-ok : goal.returns-in-Ok-clause-ok
 returns-in-Ok-clause-ok g c clean =

@@ -1,4 +1,4 @@
-use Rattle.std.proofs.Common.{◌≡◌, Some, None, sym, ap, subst, ◌∙◌}
+use Rattle.std.proofs.Common.{◌≡◌, sym, subst}
 use Rattle.rr_object.specs.Readings.{ReadsAs}
 use Rattle.rr_store.proofs.ObjectLemmas.{each_whole, has_attribute}
 use Rattle.rr_store.proofs.objects.read_text.Goals as goal

@@ -3,7 +3,7 @@ use Rattle.std.proofs.lemmas.Result.{err_from_is_err_and}
 use Rattle.sqlite.specs.Held.{state}
 use Rattle.sqlite.specs.State.{HasCleanDisk}
 use Rattle.rr_store.proofs.StoredLemmas.{no_other_told, of_any_fault, only_said, says_other, unversioned}
-use Rattle.rr_store.proofs.opening.read_tidy.Goals as goal
+use Rattle.rr_store.proofs.opening.read_tables.Goals as goal
 
 pub returns-in_err-check_version-clause-bad_row : goal.returns-in_err-check_version-clause-bad_row
 returns-in_err-check_version-clause-bad_row g c clean =

@@ -5,7 +5,7 @@ use Rattle.rr_store.proofs.store.Store.naming.Goals.{in-Ok, in-Err-Memory, in-Er
 pub returns-clause-ok : goal.returns-clause-ok
 returns-clause-ok g c clean =
     elim c.match-naming_objects.branch [
-      | in-Ok w ↦ rw w.result-is (λ objects has. those_told c.args.source.now _ c.args.name.now objects _ has (rw c.self.view_is at (w.in-Ok.ensures.ok clean)))
+      | in-Ok w ↦ rw w.result-is (λ objects has. those_told c.args.source.now _ c.args.name.now objects _ has (rw c.self.view_is at (w.in-Ok.ensures.ok clean)) w.in-Ok.ensures.order)
       | in-Err-Memory w ↦ rw w.result-is tt
       | in-Err w ↦ rw w.result-is tt
     ]

@@ -1,10 +1,8 @@
 //! What a desk keeps after submissions, and after faults of readers, writers and the store.
-use crate::desks::{created, desk_of, expect_kept, expect_report, new_desk, opened, reopened};
+use crate::desks::{Office, expect_kept, expect_report, new_desk};
 use crate::stopped::expect_stopped;
 use crate::texts::{THREE, THREE_ADDED};
-use rr_desk::{CreateFault, Desk, DeskFault, Done};
-use rr_io::{Counted, Cut};
-use sqlite::{Alter, Connection};
+use rr_desk::{CreateFault, DeskFault, Done};
 use std::process::Abort;
 use std::test::Fail;
 
@@ -31,48 +29,42 @@ const ALL: Result<Done, DeskFault> = Ok(Done {
 
 /// Submits the three to a desk, whose reads fail after so many bytes; asserts the answer, the report, and how many of
 /// them the desk keeps.
-fn expect_submitted<S: Alter + Drop, R: Abort + AllocGlobal>(
+fn expect_submitted<D: Office, R: Abort + AllocGlobal>(
     rt: &R,
-    desk: &mut Desk<S>,
+    desk: &mut D,
     given: usize,
     wanted: (Result<Done, DeskFault>, &str, usize),
 ) -> Result<(), Fail> {
     let (answer, report, added) = wanted;
-    let mut reader = Cut::new(Counted::new(THREE.as_bytes()), 7, given);
-    expect_report(rt, desk, &mut reader, answer, report)?;
-    assert!(rt; !desk.stopped());
+    expect_report(rt, desk, (THREE, given), answer, report)?;
+    assert!(rt; !desk.is_stopped());
     expect_kept(rt, desk, added)
 }
 
-/// Asserts that no other desk is made in the place of one.
-fn expect_taken<S: Alter + Drop, R: Abort + AllocGlobal>(
-    rt: &R,
-    conn: Connection<S>,
-) -> Result<(), Fail> {
-    let fault = desk_of(created(rt.alloc(), conn)?).err();
+/// Submits the three to a desk that the tables keep, and asserts what they keep of them.
+fn expect_rest<D: Office + Drop, R: Abort + AllocGlobal>(rt: &R, mut desk: D) -> Result<(), Fail> {
+    expect_submitted(rt, &mut desk, usize::MAX, (ALL, REST, 3))?;
+    let desk = desk.after(rt.alloc(), &[])?;
+    expect_kept(rt, &desk, 3)?;
+    let fault = desk.refused_another(rt.alloc())?;
     assert_eq!(rt; fault, Some(CreateFault::NotEmpty));
     Ok(())
 }
 
 /// Submits the three to a new desk, with a read that fails inside the last of them, and then whole, each time to the
-/// desk that the tables keep.
-fn expect_filled<S: Alter + Drop, R: Abort + AllocGlobal>(
+/// desk that the tables keep. No other desk is made in its place.
+fn expect_filled<D: Office + Drop, R: Abort + AllocGlobal>(
     rt: &R,
-    conn: Connection<S>,
+    mut desk: D,
 ) -> Result<(), Fail> {
-    let mut desk = new_desk(rt.alloc(), conn)?;
     let unread = Err(DeskFault::ReadFault { items: 2 });
     expect_submitted(rt, &mut desk, THREE.len() - 5, (unread, UNREAD, 2))?;
-    let mut desk = opened(rt.alloc(), desk.close())?;
-    expect_submitted(rt, &mut desk, usize::MAX, (ALL, REST, 3))?;
-    let desk = opened(rt.alloc(), desk.close())?;
-    expect_kept(rt, &desk, 3)?;
-    expect_taken(rt, desk.close())
+    expect_rest(rt, desk.after(rt.alloc(), &[])?)
 }
 
 #[test]
 fn a_desk_keeps_what_it_told(rt: HostRuntime) -> Result<(), Fail> {
-    expect_filled(&rt, Connection::open_in_memory(rt.alloc())?)
+    expect_filled(&rt, new_desk(rt.alloc())?)
 }
 
 /// For how many bytes of the report there is room, and how many items are decided by then.
@@ -80,31 +72,27 @@ const ROOMS: &[(usize, u64)] = &[(0, 1), (42, 1), (43, 2), (85, 2), (86, 3), (13
 
 /// Submits the three to a new desk, with a writer that fails after so many bytes. Asserts the answer, that the front
 /// of the report was written, and how many of the three stand in the tables.
-fn expect_cut<S: Alter + Drop, R: Abort + AllocGlobal>(
+fn expect_cut<D: Office + Drop, R: Abort + AllocGlobal>(
     rt: &R,
-    conn: Connection<S>,
+    mut desk: D,
     room: usize,
     items: u64,
 ) -> Result<(), Fail> {
-    let mut desk = new_desk(rt.alloc(), conn)?;
-    let mut reader = Counted::new(THREE.as_bytes());
-    let mut writer = Cut::new(Counted::new(Vec::new(rt.alloc())), 5, room);
-    let done = desk.submit(rt.alloc(), &mut reader, &mut writer);
+    let found = desk.submitted(rt.alloc(), THREE, usize::MAX, room);
     assert_eq!(rt;
-        done,
+        found.answer,
         Err(DeskFault::WriteFault { items }),
         "with room for {room} bytes"
     );
-    let told = writer.into_inner().into_inner();
-    assert_eq!(rt; told.len(), room);
-    assert!(rt; THREE_ADDED.as_bytes().starts_with(&told));
-    expect_kept(rt, &reopened(rt.alloc(), desk)?, items as usize)
+    assert_eq!(rt; found.report.len(), room);
+    assert!(rt; THREE_ADDED.as_bytes().starts_with(&found.report));
+    expect_kept(rt, &desk.begun_again(rt.alloc())?, items as usize)
 }
 
 #[test]
 fn a_failed_write_leaves_the_items_told(rt: HostRuntime) -> Result<(), Fail> {
     for (room, items) in ROOMS {
-        expect_cut(&rt, Connection::open_in_memory(rt.alloc())?, *room, *items)?;
+        expect_cut(&rt, new_desk(rt.alloc())?, *room, *items)?;
     }
     Ok(())
 }
@@ -144,35 +132,32 @@ const BEGUN_AGAIN: &str = "\
 % items 3
 ";
 
-/// A desk that the second of its items stopped.
-fn stopped<S: Alter + Drop, R: Abort + AllocGlobal>(
-    rt: &R,
-    conn: Connection<S>,
-) -> Result<Desk<S>, Fail> {
-    let mut conn = new_desk(rt.alloc(), conn)?.close();
-    conn.execute(ONE_KEY, &[])?;
-    let mut desk = opened(rt.alloc(), conn)?;
-    let mut reader = Counted::new(SECOND_REFUSED.as_bytes());
+/// Asserts that the second of its items stops a desk whose database has that index.
+fn expect_refused<D: Office, R: Abort + AllocGlobal>(rt: &R, desk: &mut D) -> Result<(), Fail> {
     let wanted = Err(DeskFault::StoreFault { items: 1 });
-    expect_report(rt, &mut desk, &mut reader, wanted, STOPPED)?;
-    expect_stopped(rt, &mut desk)?;
-    Ok(desk)
+    expect_report(rt, desk, (SECOND_REFUSED, usize::MAX), wanted, STOPPED)?;
+    expect_stopped(rt, desk)
 }
 
-/// Asserts that a desk that was stopped begins again at what its tables hold.
-fn expect_begun_again<S: Alter + Drop, R: Abort + AllocGlobal>(
+/// Asserts that a desk which was stopped begins again at what its tables hold.
+fn expect_begun_again<D: Office + Drop, R: Abort + AllocGlobal>(
     rt: &R,
-    conn: Connection<S>,
+    desk: D,
 ) -> Result<(), Fail> {
-    let mut desk = reopened(rt.alloc(), stopped(rt, conn)?)?;
-    assert!(rt; !desk.stopped());
+    let mut desk = desk.begun_again(rt.alloc())?;
+    assert!(rt; !desk.is_stopped());
     expect_kept(rt, &desk, 1)?;
-    let mut reader = Counted::new(THREE.as_bytes());
-    expect_report(rt, &mut desk, &mut reader, ALL, BEGUN_AGAIN)?;
-    expect_kept(rt, &desk, 3)
+    expect_submitted(rt, &mut desk, usize::MAX, (ALL, BEGUN_AGAIN, 3))
+}
+
+/// Asserts what becomes of a desk once its database refuses a second row of one key.
+fn expect_stop<D: Office + Drop, R: Abort + AllocGlobal>(rt: &R, desk: D) -> Result<(), Fail> {
+    let mut desk = desk.after(rt.alloc(), &[ONE_KEY])?;
+    expect_refused(rt, &mut desk)?;
+    expect_begun_again(rt, desk)
 }
 
 #[test]
 fn a_stopped_desk_begins_again_at_its_tables(rt: HostRuntime) -> Result<(), Fail> {
-    expect_begun_again(&rt, Connection::open_in_memory(rt.alloc())?)
+    expect_stop(&rt, new_desk(rt.alloc())?)
 }

@@ -1,23 +1,111 @@
-//! Desks over any database: made, and asked.
+//! What the tests do with a desk, and desks over databases in memory.
 ghost use Rattle.std.specs.Prelude.{◌≡◌, false, IfOk};
 
 use crate::texts::full_dump;
-use rr_desk::{CreateFault, Desk, DeskFault, Done, Settings};
-use rr_io::{Counted, Source};
-use sqlite::{Alter, Connection};
+use rr_desk::{CreateFault, Desk, DeskFault, Done, DumpFault, OpenFault, Settings};
+use rr_io::{Counted, Cut};
+use sqlite::{Alter, Connection, MemStore};
 use std::alloc::Global;
 use std::process::Abort;
 use std::test::Fail;
 
-/// A desk over a database, or why there is none, with the database.
-pub type Made<S, F> = Result<Desk<S>, (F, Connection<S>)>;
+/// What comes of a submission: the answer, the bytes of the report, and how many reads there were.
+#[derive(Drop)]
+pub struct Submitted {
+    pub answer: Result<Done, DeskFault>,
+    pub report: Vec<u8>,
+    pub reads: u64,
+}
 
-/// The desk, or why there is none.
-pub fn desk_of<S: Alter + Drop, F>(made: Made<S, F>) -> Result<Desk<S>, F> {
-    match made {
-        Ok(desk) => Ok(desk),
-        Err((fault, _conn)) => Err(fault),
+/// What the tests do with a desk. No call promises anything, so what uses a desk by this trait is soon proved.
+pub trait Office: Sized {
+    /// Submits a text whose reads fail after so many bytes, with a report whose writes fail after others.
+    fn submitted(&mut self, alloc: Global, text: &str, given: usize, room: usize) -> Submitted;
+
+    /// The number of the error that is answered to a query, and the answer.
+    fn answered(&mut self, alloc: Global, query: &str) -> Result<(u8, Vec<u8>), Fail>;
+
+    /// What is answered to the full dump, and the bytes of it.
+    fn dumped(&self, alloc: Global) -> (Result<usize, DumpFault>, Vec<u8>);
+
+    /// Whether a fault of the store stopped it.
+    fn is_stopped(&self) -> bool;
+
+    /// The same desk, begun again.
+    fn begun_again(self, alloc: Global) -> Result<Self, Fail>;
+
+    /// The desk that its database keeps, closed and opened again, after these statements.
+    fn after(self, alloc: Global, statements: &[&str]) -> Result<Self, Fail>;
+
+    /// Why no other desk is made in its place.
+    fn refused_another(self, alloc: Global) -> Result<Option<CreateFault>, Fail>;
+}
+
+impl<S: Alter + Drop> Office for Desk<S> {
+    fn submitted(&mut self, alloc: Global, text: &str, given: usize, room: usize) -> Submitted {
+        let mut reader = Cut::new(Counted::new(text.as_bytes()), 7, given);
+        let mut writer = Cut::new(Counted::new(Vec::new(alloc)), 5, room);
+        let answer = self.submit(alloc, &mut reader, &mut writer);
+        let reads = reader.into_inner().reads();
+        let report = writer.into_inner().into_inner();
+        Submitted {
+            answer,
+            report,
+            reads,
+        }
     }
+
+    fn answered(&mut self, alloc: Global, query: &str) -> Result<(u8, Vec<u8>), Fail> {
+        let mut writer = Counted::new(Vec::new(alloc));
+        let answered = self.answer(alloc, query.as_bytes(), &mut writer)?;
+        Ok((answered.error, writer.into_inner()))
+    }
+
+    fn dumped(&self, alloc: Global) -> (Result<usize, DumpFault>, Vec<u8>) {
+        let mut writer = Counted::new(Vec::new(alloc));
+        let count = self.dump(alloc, &mut writer, true);
+        (count, writer.into_inner())
+    }
+
+    fn is_stopped(&self) -> bool {
+        self.stopped()
+    }
+
+    fn begun_again(self, alloc: Global) -> Result<Desk<S>, Fail> {
+        desk_of(self.reopen(alloc))
+    }
+
+    fn after(self, alloc: Global, statements: &[&str]) -> Result<Desk<S>, Fail> {
+        opened(alloc, executed(self.close(), statements)?)
+    }
+
+    fn refused_another(self, alloc: Global) -> Result<Option<CreateFault>, Fail> {
+        match Desk::create(alloc, self.close(), Settings::built_in(alloc)?) {
+            Ok(_desk) => Ok(None),
+            Err((fault, _conn)) => Ok(Some(fault)),
+        }
+    }
+}
+
+/// The desk, or why it is not opened.
+fn desk_of<S: Alter + Drop>(
+    opened: Result<Desk<S>, (OpenFault, Connection<S>)>,
+) -> Result<Desk<S>, Fail> {
+    match opened {
+        Ok(desk) => Ok(desk),
+        Err((fault, _conn)) => Err(fault.into()),
+    }
+}
+
+/// The database after these statements.
+fn executed<S: Alter + Drop>(
+    mut conn: Connection<S>,
+    statements: &[&str],
+) -> Result<Connection<S>, Fail> {
+    for statement in statements {
+        let _count = conn.execute(statement, &[])?;
+    }
+    Ok(conn)
 }
 
 /// The database, which is in no transaction.
@@ -31,82 +119,53 @@ fn settled<S: Alter + Drop>(conn: Connection<S>) -> Result<Connection<S>, Fail>
     }
 }
 
-/// The desk that is made in this database.
-pub fn created<S: Alter + Drop>(
-    alloc: Global,
-    conn: Connection<S>,
-) -> Result<Made<S, CreateFault>, Fail> {
+/// The desk that this database keeps.
+fn opened<S: Alter + Drop>(alloc: Global, conn: Connection<S>) -> Result<Desk<S>, Fail> {
     let settings = Settings::built_in(alloc)?;
-    Ok(Desk::create(alloc, settled(conn)?, settings))
-}
-
-/// The desk that the database keeps.
-pub fn opened<S: Alter + Drop>(alloc: Global, conn: Connection<S>) -> Result<Desk<S>, Fail> {
-    let settings = Settings::built_in(alloc)?;
-    Ok(desk_of(Desk::open(alloc, settled(conn)?, settings))?)
+    desk_of(Desk::open(alloc, settled(conn)?, settings))
 }
 
 /// A new desk in this database.
-pub fn new_desk<S: Alter + Drop>(alloc: Global, conn: Connection<S>) -> Result<Desk<S>, Fail> {
-    Ok(desk_of(created(alloc, conn)?)?)
+fn created<S: Alter + Drop>(alloc: Global, conn: Connection<S>) -> Result<Desk<S>, Fail> {
+    let settings = Settings::built_in(alloc)?;
+    match Desk::create(alloc, settled(conn)?, settings) {
+        Ok(desk) => Ok(desk),
+        Err((fault, _conn)) => Err(fault.into()),
+    }
 }
 
-/// The same desk, opened anew.
-pub fn reopened<S: Alter + Drop>(alloc: Global, desk: Desk<S>) -> Result<Desk<S>, Fail> {
-    Ok(desk_of(desk.reopen(alloc))?)
+/// A new desk over a database in memory.
+pub fn new_desk(alloc: Global) -> Result<Desk<MemStore>, Fail> {
+    created(alloc, Connection::open_in_memory(alloc)?)
 }
 
-/// What a desk answers to the submission that a reader gives, and the report.
-pub fn submitted<S: Alter, R: Source>(
-    alloc: Global,
-    desk: &mut Desk<S>,
-    reader: &mut R,
-) -> (Result<Done, DeskFault>, Vec<u8>) {
-    let mut writer = Counted::new(Vec::new(alloc));
-    let done = desk.submit(alloc, reader, &mut writer);
-    (done, writer.into_inner())
+/// Asserts that these are the bytes of a text.
+pub fn expect_text<R: Abort>(rt: &R, found: &[u8], wanted: &str) -> Result<(), Fail> {
+    assert_eq!(rt; str::from_utf8(found)?, wanted);
+    Ok(())
 }
 
-/// Asserts what a desk answers to the submission that a reader gives, and the report.
-pub fn expect_report<S: Alter, T: Source, R: Abort + AllocGlobal>(
+/// Asserts what is answered to a text whose reads fail after so many bytes, and the report.
+pub fn expect_report<D: Office, R: Abort + AllocGlobal>(
     rt: &R,
-    desk: &mut Desk<S>,
-    reader: &mut T,
+    desk: &mut D,
+    (text, given): (&str, usize),
     wanted: Result<Done, DeskFault>,
     report: &str,
 ) -> Result<(), Fail> {
-    let (done, told) = submitted(rt.alloc(), desk, reader);
-    assert_eq!(rt; done, wanted);
-    assert_eq!(rt; str::from_utf8(&told)?, report);
-    Ok(())
-}
-
-/// The number of the error that a desk answers to a query, and the answer.
-pub fn answered<S: Alter>(
-    alloc: Global,
-    desk: &mut Desk<S>,
-    query: &str,
-) -> Result<(u8, Vec<u8>), Fail> {
-    let mut writer = Counted::new(Vec::new(alloc));
-    let answered = desk.answer(alloc, query.as_bytes(), &mut writer)?;
-    Ok((answered.error, writer.into_inner()))
-}
-
-/// The full dump of a desk.
-fn dumped<S: Alter>(alloc: Global, desk: &Desk<S>) -> Result<Vec<u8>, Fail> {
-    let mut writer = Counted::new(Vec::new(alloc));
-    let _count = desk.dump(alloc, &mut writer, true)?;
-    Ok(writer.into_inner())
+    let found = desk.submitted(rt.alloc(), text, given, usize::MAX);
+    assert_eq!(rt; found.answer, wanted);
+    expect_text(rt, &found.report, report)
 }
 
 /// Asserts that a desk keeps the opening objects, and so many of the three inetnums.
-pub fn expect_kept<S: Alter, R: Abort + AllocGlobal>(
+pub fn expect_kept<D: Office, R: Abort + AllocGlobal>(
     rt: &R,
-    desk: &Desk<S>,
+    desk: &D,
     added: usize,
 ) -> Result<(), Fail> {
-    let text = dumped(rt.alloc(), desk)?;
+    let (count, dump) = desk.dumped(rt.alloc());
+    assert_eq!(rt; count, Ok(added.saturating_add(4)));
     let wanted = full_dump(rt.alloc(), added)?;
-    assert_eq!(rt; str::from_utf8(&text)?, wanted.as_str());
-    Ok(())
+    expect_text(rt, &dump, wanted.as_str())
 }

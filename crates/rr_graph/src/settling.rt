@@ -103,9 +103,11 @@ fn add_passed<G: Labelled>(
 ) -> Result<(), AllocError>
     ensures { OnOk result ((v : G.Value) → Contains values.new.items v ↔ (Contains values.old.items v ⊎ IsPassed G.passed (values_at G.Node.cmp settled.now.values) edges.now v)) }
 {
+    let mut last = values.len();
     for edge in edges {
         if let Some(begun) = settled.at(&edge.to) {
             pass_all(graph, edge.label, begun, values)?;
+            last = freed_of_repeats(values, last);
         }
     }
     Ok(())
@@ -126,6 +128,18 @@ fn pass_all<G: Labelled>(
         }
     }
     Ok(())
+}
+
+/// Frees the list of repeats where it has more than twice as many values as when it last was, and gives how many it then had. So
+/// edges that carry the same values, as often as they come, never take more than three times the memory of what is found.
+fn freed_of_repeats<T: Ord + Drop>(list: &mut Vec<T>, last: usize) -> usize
+    ensures { CmpEqualImpliesEq T.cmp → (x : T) → Contains list.new.items x ↔ Contains list.old.items x }
+{
+    if list.len() / 2 <= last {
+        return last;
+    }
+    put_in_order(list);
+    list.len()
 }
 
 /// Puts the list in ascending order, without repeats.

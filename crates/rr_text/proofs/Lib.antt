@@ -6,6 +6,7 @@ pub mod PlaceLemmas
 pub mod SoundLemmas
 pub mod FieldLemmas
 pub mod MeaningLemmas
+pub mod ComparingLemmas
 pub mod PrintLemmas
 pub mod RoundTrip
 pub mod LineSoFarLemmas

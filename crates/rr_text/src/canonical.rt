@@ -5,6 +5,7 @@ ghost use Rattle.rr_text.specs.Fields.{Field, AreFields, with_value};
 ghost use Rattle.rr_text.specs.CanonicalText as canon;
 
 use crate::attribute::Attribute;
+use crate::comparing::is_canonical_text;
 use crate::entry::read_paragraph;
 use crate::inspect::block_fault;
 use crate::paragraph::Paragraph;
@@ -12,18 +13,20 @@ use crate::text::Text;
 use std::alloc::{AllocError, Global};
 
 /// The column in which values begin.
-const VALUE_COLUMN: usize = 16;
+pub(crate) const VALUE_COLUMN: usize = 16;
 
-fn push_blanks(out: &mut Vec<u8>, count: usize) -> Result<(), AllocError>
+/// So many blanks.
+#[inline]
+pub(crate) fn blanks(count: usize) -> &'static [u8]
     requires { count ≤ 16 }
-    ensures { OnOk result (out.new.items ≡ out.old.items ++ replicate count 32) }
+    ensures { result.now ≡ replicate count 32 }
 {
-    let blanks = [b' '; 16];
-    out.extend_from_slice(&blanks[..count])
+    let (blanks, _) = b"                ".split_at(count);
+    blanks
 }
 
 /// The blanks between the colon after a name of this length and its value.
-fn blanks_after(name_len: usize) -> usize
+pub(crate) fn blanks_after(name_len: usize) -> usize
     requires { name_len < 2 ^ 63 }
     ensures bound { result ≤ 16 }
     ensures value { result ≡ max 1 (canon.value_column - (name_len + 1)) }
@@ -32,14 +35,14 @@ fn blanks_after(name_len: usize) -> usize
 }
 
 /// The first line of a value behind its blanks, or nothing where it is empty.
-fn push_first_line(out: &mut Vec<u8>, blanks: usize, line: &[u8]) -> Result<(), AllocError>
-    requires { blanks ≤ 16 }
-    ensures { OnOk result (out.new.items ≡ out.old.items ++ canon.behind_blanks blanks line.now) }
+fn push_first_line(out: &mut Vec<u8>, count: usize, line: &[u8]) -> Result<(), AllocError>
+    requires { count ≤ 16 }
+    ensures { OnOk result (out.new.items ≡ out.old.items ++ canon.behind_blanks count line.now) }
 {
     if line.is_empty() {
         return Ok(());
     }
-    push_blanks(out, blanks)?;
+    out.extend_from_slice(blanks(count))?;
     out.extend_from_slice(line)
 }
 
@@ -59,7 +62,7 @@ fn push_further(out: &mut Vec<u8>, line: &[u8]) -> Result<(), AllocError>
     if line.is_empty() {
         out.extend_from_slice(b"+\n")
     } else {
-        push_blanks(out, VALUE_COLUMN)?;
+        out.extend_from_slice(blanks(VALUE_COLUMN))?;
         out.extend_from_slice(line)?;
         out.push(b'\n')?;
         Ok(())
@@ -147,8 +150,7 @@ pub fn read_canonical(alloc: Global, text: &[u8]) -> Result<Option<Paragraph>, A
     if paragraph.attributes().is_empty() {
         return Ok(None);
     }
-    let printed = print(alloc, &paragraph)?;
-    if printed.as_slice() == text {
+    if is_canonical_text(text, &paragraph) {
         Ok(Some(paragraph))
     } else {
         Ok(None)

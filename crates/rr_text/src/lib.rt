@@ -4,6 +4,7 @@
 pub mod attribute;
 mod block;
 pub mod canonical;
+mod comparing;
 mod draft;
 mod entry;
 pub mod fault;

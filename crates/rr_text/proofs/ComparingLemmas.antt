@@ -1,0 +1,101 @@
+-- What stands in a text behind a front.
+use Rattle.std.proofs.Common.{◌≡◌, ◌≢◌, ◌==◌, ◌<◌, ◌+◌, ℕ, Bool, true, false, List, [], ◌∷◌, ◌++◌, length, take, drop, refl, sym, ap, ◌∙◌, arith, cond, Option, Some, None, get_or, Bor}
+use Rattle.std.specs.Prelude.{MatchOption}
+use Rattle.std.specs.Cmp.Lexicographic.{pointwise}
+use Rattle.std.specs.List.{flat_map}
+use Rattle.std.specs.Option.{option_and_then, option_map}
+use Rattle.std.proofs.lemmas.Bool.Decides.{nat_tests, Decides-eqb}
+use Rattle.std.proofs.Math.Dec.{eqb}
+use Rattle.std.proofs.lemmas.List.{append-nil}
+use Rattle.std.proofs.lemmas.Slice.Eq.{strip_prefix_is}
+use Rattle.rr_io.proofs.Transfers.{flat_map-next}
+use Rattle.rr_text.specs.CanonicalText.{value_column, behind_blanks, further_line}
+use Rattle.rr_text.specs.PrivateParts.{left_behind}
+
+same_first : (b c : ℕ) (front text left : List ℕ) (t : Bool) → (b == c) ≡ t → (left_behind front text ≡ Some left → text ≡ front ++ left)
+    → cond t (left_behind front text) None ≡ Some left → c ∷ text ≡ b ∷ (front ++ left)
+same_first b c front text left true e more h = let same : b ≡ c = grind (arith, nat_tests) in let rest = more h in cc
+same_first b c front text left false e more h = cc
+
+-- what is left stands behind the front
+pub left_is : (front text left : List ℕ) → left_behind front text ≡ Some left → text ≡ front ++ left
+unfolding left_behind
+left_is [] text left h = cc
+left_is (b ∷ front) [] left h = cc
+left_is (b ∷ front) (c ∷ text) left h = same_first b c front text left (b == c) refl (left_is front text left) h
+
+-- and it is what stands there
+pub left_found : (front left : List ℕ) → left_behind front (front ++ left) ≡ Some left
+unfolding left_behind
+left_found [] left = refl
+left_found (b ∷ front) left = let same : (b == b) ≡ true = grind (arith, nat_tests) in rw same (left_found front left)
+
+left_none : (front text : List ℕ) (found : Option (List ℕ)) → left_behind front text ≡ found → ((left : List ℕ) → text ≢ front ++ left) → found ≡ None
+left_none front text None is none = refl
+left_none front text (Some left) is none = absurd (none left (left_is front text left is))
+
+stripped_by : (bytes text : List ℕ) (result : Option (Bor (List ℕ)))
+    → MatchOption result ((left : List ℕ) → text ≢ bytes ++ left) (λ left. text ≡ bytes ++ left.now)
+    → option_map (λ left. left.now) result ≡ left_behind bytes text
+stripped_by bytes text None none = sym (left_none bytes text _ refl none)
+stripped_by bytes text (Some left) is = sym (ap (left_behind bytes) is ∙ left_found bytes left.now)
+
+-- by what `strip_prefix` says of bytes
+pub stripped : (bytes text : List ℕ) (result : Option (Bor (List ℕ)))
+    → MatchOption result (pointwise eqb (take (length bytes) text) bytes ≡ false)
+    (λ left. (pointwise eqb (take (length bytes) text) bytes ≡ true) × (left.now ≡ drop (length bytes) text) × (length left.now + length bytes ≡ length text))
+    → option_map (λ left. left.now) result ≡ left_behind bytes text
+stripped bytes text result cases = stripped_by bytes text result (strip_prefix_is Decides-eqb text bytes result cases)
+
+-- one front behind another
+joined_first : (front back text : List ℕ) (t : Bool)
+    → left_behind (front ++ back) text ≡ option_and_then (left_behind back) (left_behind front text)
+    → cond t (left_behind (front ++ back) text) None ≡ option_and_then (left_behind back) (cond t (left_behind front text) None)
+joined_first front back text true h = h
+joined_first front back text false h = refl
+
+pub left_joined : (front back text : List ℕ) → left_behind (front ++ back) text ≡ option_and_then (left_behind back) (left_behind front text)
+unfolding left_behind
+left_joined [] back text = refl
+left_joined (b ∷ front) back [] = refl
+left_joined (b ∷ front) back (c ∷ text) = joined_first front back text (b == c) (left_joined front back text)
+
+-- nothing is left behind all of a text
+pub all_left : (form text : List ℕ) → form ≡ text → left_behind form text ≡ Some []
+all_left form text same = ap (λ t. left_behind form t) (sym same ∙ sym (append-nil form)) ∙ left_found form []
+
+pub whole_text : (form text left : List ℕ) → left_behind form text ≡ Some left → left ≡ [] → form ≡ text
+whole_text form text left h none = sym (left_is form text left h ∙ (ap (λ l. form ++ l) none ∙ append-nil form))
+
+-- a further line that is not empty
+pub further_is : (line : List ℕ) → 0 < length line → further_line line ≡ behind_blanks value_column line
+further_is [] some = absurd (omega arith)
+further_is (b ∷ bs) some = refl
+
+-- the form of the next element, and those of the elements behind it
+next_joined : {X : Type 0} (form : X → List ℕ) (xs : List X) (i : ℕ) (x : X) (text : List ℕ) → i < length xs → x ≡ get_or xs i x
+    → left_behind (flat_map form (drop i xs)) text ≡ option_and_then (left_behind (flat_map form (drop (i + 1) xs))) (left_behind (form x) text)
+next_joined form xs i x text h is =
+    ap (λ front. left_behind front text) (flat_map-next form xs i x h ∙ ap (λ y. form y ++ flat_map form (drop (i + 1) xs)) (sym is))
+    ∙ left_joined (form x) (flat_map form (drop (i + 1) xs)) text
+
+-- where the next element's form does not stand, those of all elements do not
+pub next_missing : {X : Type 0} (form : X → List ℕ) (xs : List X) (i : ℕ) (x : X) (rest text : List ℕ) (found : Option (Bor (List ℕ)))
+    → i < length xs → x ≡ get_or xs i x
+    → left_behind (flat_map form (drop i xs)) rest ≡ left_behind (flat_map form xs) text
+    → option_map (λ left. left.now) found ≡ left_behind (form x) rest → found ≡ None → left_behind (flat_map form xs) text ≡ None
+next_missing form xs i x rest text found h is so_far here none =
+    let next = next_joined form xs i x rest h is in
+    let missing : left_behind (form x) rest ≡ None = sym here ∙ ap (option_map (λ left. left.now)) none in
+    sym so_far ∙ (next ∙ ap (option_and_then (left_behind (flat_map form (drop (i + 1) xs)))) missing)
+
+-- behind it, those of the others are looked for
+pub next_passed : {X : Type 0} (form : X → List ℕ) (xs : List X) (i : ℕ) (x : X) (rest text : List ℕ) (found : Option (Bor (List ℕ))) (left : Bor (List ℕ))
+    → i < length xs → x ≡ get_or xs i x
+    → left_behind (flat_map form (drop i xs)) rest ≡ left_behind (flat_map form xs) text
+    → option_map (λ left. left.now) found ≡ left_behind (form x) rest → found ≡ Some left
+    → left_behind (flat_map form (drop (i + 1) xs)) left.now ≡ left_behind (flat_map form xs) text
+next_passed form xs i x rest text found left h is so_far here some =
+    let next = next_joined form xs i x rest h is in
+    let passed : left_behind (form x) rest ≡ Some left.now = sym here ∙ ap (option_map (λ left. left.now)) some in
+    sym (next ∙ ap (option_and_then (left_behind (flat_map form (drop (i + 1) xs)))) passed) ∙ so_far

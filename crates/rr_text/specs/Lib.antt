@@ -5,6 +5,7 @@ pub mod Faults
 pub mod Fields
 pub mod FieldEquality
 pub mod Entries
+pub mod HeldLines
 pub mod PrivateParts
 pub mod Meanings
 pub mod CanonicalText

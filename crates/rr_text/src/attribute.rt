@@ -1,8 +1,9 @@
 //! Attributes: a name, and a value of one line or more.
 
-ghost use Rattle.std.specs.Prelude.{◌≡◌, IfOk};
+ghost use Rattle.std.specs.Prelude.{◌≡◌, ◌∷◌, IfOk};
 
 use crate::text::Text;
+use crate::value_lines::ValueLines;
 use std::alloc::{AllocError, Global};
 use std::marker::Model;
 
@@ -11,7 +12,7 @@ use std::marker::Model;
 #[derive(Debug, Drop)]
 pub struct Attribute {
     name: Text,
-    lines: Vec<Text>,
+    lines: ValueLines,
 }
 
 impl Model for Attribute {
@@ -19,7 +20,7 @@ impl Model for Attribute {
 
     ghost Value = { Field };
 
-    ghost view = { λ a. record { name = a.name; lines = a.lines.items } };
+    ghost view = { λ a. record { name = a.name; lines = a.lines } };
 }
 
 impl Attribute {
@@ -30,7 +31,24 @@ impl Attribute {
         ensures name { result.name ≡ name }
         ensures lines { result.lines ≡ lines.items }
     {
-        Attribute { name, lines }
+        Attribute {
+            name,
+            lines: ValueLines::from_vec(lines),
+        }
+    }
+
+    /// The attribute of this name, this first line and these that follow it, which are taken as they are; the error is
+    /// want of memory.
+    pub(crate) fn of_lines(
+        name: Text,
+        first: Text,
+        further: Vec<Text>,
+    ) -> Result<Attribute, AllocError>
+        ensures name { IfOk result (λ made. made.name ≡ name) }
+        ensures lines { IfOk result (λ made. made.lines ≡ first ∷ further.items) }
+    {
+        let lines = ValueLines::joined(first, further)?;
+        Ok(Attribute { name, lines })
     }
 
     /// The attribute of this name whose value is this line, which are taken as they are; the error is want of memory.
@@ -38,8 +56,7 @@ impl Attribute {
         ensures { IfOk result (λ made. made ≡ one_line name.now line.now) }
     {
         let name = Text::from_slice(alloc, name)?;
-        let mut lines = Vec::with_capacity(alloc, 1)?;
-        lines.push(Text::from_slice(alloc, line)?)?;
+        let lines = ValueLines::of_one(Text::from_slice(alloc, line)?);
         Ok(Attribute { name, lines })
     }
 
@@ -69,7 +86,7 @@ impl Attribute {
         ensures { IfOk result (λ copy. copy ≡ self.now) }
     {
         let name = self.name.copy(alloc)?;
-        let lines = copy_lines(alloc, self.lines())?;
+        let lines = self.lines.copy(alloc)?;
         Ok(Attribute { name, lines })
     }
 
@@ -90,16 +107,6 @@ impl PartialEq for Attribute {
     ghost laws = { field_eq-laws };
 
     fn eq(&self, other: &Attribute) -> bool {
-        self.name == other.name && self.lines == other.lines
+        self.name == other.name && self.lines() == other.lines()
     }
-}
-
-fn copy_lines(alloc: Global, lines: &[Text]) -> Result<Vec<Text>, AllocError>
-    ensures { IfOk result (λ copy. copy.items ≡ lines.now) }
-{
-    let mut copy = Vec::with_capacity(alloc, lines.len())?;
-    for line in lines {
-        copy.push(line.copy(alloc)?)?;
-    }
-    Ok(copy)
 }

@@ -55,18 +55,13 @@ fn push_added(
     }
 }
 
-/// The first line of a value with the lines that continue it, and the text from the next attribute on.
-fn value_lines<'t>(
-    alloc: Global,
-    first: Text,
-    text: &'t [u8],
-) -> Result<(Vec<Text>, &'t [u8]), AllocError>
-    ensures lines { IfOk result (λ read. read.0.items ≡ first ∷ entries.continued (text_lines text.now)) }
+/// The lines that continue a value, and the text from the next attribute on.
+fn further_lines(alloc: Global, text: &[u8]) -> Result<(Vec<Text>, &[u8]), AllocError>
+    ensures lines { IfOk result (λ read. read.0.items ≡ entries.continued (text_lines text.now)) }
     ensures rest { IfOk result (λ read. entries.block_fields (text_lines read.1.now) ≡ entries.block_fields (text_lines text.now)) }
     ensures shorter { IfOk result (λ read. length read.1.now ≤ length text.now) }
 {
-    let mut lines = Vec::with_capacity(alloc, 1)?;
-    lines.push(first)?;
+    let mut lines = Vec::new(alloc);
     let mut rest = text;
     'lines: while !rest.is_empty() {
         let (line, after) = split_line(rest);
@@ -93,8 +88,9 @@ fn read_attribute<'t>(
     let (name, value) = cut_around(line, b':');
     let name = lower_name(alloc, trim_end(name, ByteSet::BlanksAndLineFeeds))?;
     let first = Text::from_slice(alloc, trim(value, ByteSet::BlanksAndLineFeeds))?;
-    let (lines, rest) = value_lines(alloc, first, after)?;
-    Ok((Attribute::new(name, lines), rest))
+    let (further, rest) = further_lines(alloc, after)?;
+    let attribute = Attribute::of_lines(name, first, further)?;
+    Ok((attribute, rest))
 }
 
 /// Adds the attribute that a line opens, and gives the text that is left; a line that opens none is

@@ -18,6 +18,7 @@ pub mod paragraphs;
 pub mod reader;
 pub mod text;
 pub mod value;
+mod value_lines;
 
 pub use attribute::Attribute;
 pub use canonical::{print, print_onto, print_onto_with_values, read_canonical};

@@ -3,7 +3,7 @@ use Rattle.std.proofs.Common.{◌≡◌, ◌∙◌, length, sym, ap, arith}
 use Rattle.std.proofs.lemmas.Bool.Decides.{nat_tests}
 use Rattle.rr_text.specs.Entries as entries
 use Rattle.rr_text.proofs.EntryLemmas.{continued_step, continued_end, further, opened, entries_none}
-use Rattle.rr_text.proofs.entry.value_lines.Goals as goal
+use Rattle.rr_text.proofs.entry.further_lines.Goals as goal
 
 pub returns-then-opens_attribute-clause-lines : goal.returns-then-opens_attribute-clause-lines
 returns-then-opens_attribute-clause-lines c =

@@ -1,11 +1,11 @@
-use Rattle.std.proofs.Common.{◌≡◌, ◌≤◌, ◌++◌, ◌∷◌, length}
+use Rattle.std.proofs.Common.{◌≡◌, ◌≤◌, ◌++◌, length}
 use Rattle.rr_text.specs.Lines.{text_lines}
 use Rattle.rr_text.specs.Entries.{continued, block_fields}
-use Rattle.rr_text.proofs.entry.value_lines.Given as goal
+use Rattle.rr_text.proofs.entry.further_lines.Given as goal
 
 abbrev pub invariant-lines : goal.invariant-lines
 invariant-lines l = record {
-  lines : l.lines.items ++ continued (text_lines l.rest) ≡ l.fn.first ∷ continued (text_lines l.text);
+  lines : l.lines.items ++ continued (text_lines l.rest) ≡ continued (text_lines l.text);
   rest : block_fields (text_lines l.rest) ≡ block_fields (text_lines l.text);
   shorter : length l.rest ≤ length l.text;
 }

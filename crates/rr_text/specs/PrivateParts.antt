@@ -1,8 +1,8 @@
 -- What private functions alone speak of: no rule of RPSL stands here.
-use Rattle.std.specs.Prelude.{ℕ, Bool, true, false, ◌==◌, List, [], ◌∷◌, Option, Some, None, if◌then◌else◌}
+use Rattle.std.specs.Prelude.{◌≡◌, ◌⊎◌, ℕ, Bool, true, false, ◌==◌, List, [], ◌∷◌, Option, Some, None, if◌then◌else◌}
 use Rattle.rr_text.specs.declared.line.LineKind.{LineKind}
 use Rattle.rr_text.specs.declared.line.LineKind.TheVariants.{Blank, Skipped, Continuation, Opening}
-use Rattle.rr_text.specs.Lines.{is_blank_line, is_paragraph_line}
+use Rattle.rr_text.specs.Lines.{is_blank_line, is_paragraph_line, line_kind}
 use Rattle.rr_text.specs.Entries.{added_value}
 
 -- a line of the last kind alone opens an attribute
@@ -11,6 +11,10 @@ opens_attribute Blank = false
 opens_attribute Skipped = false
 opens_attribute Continuation = false
 opens_attribute Opening = true
+
+-- a line that opens an attribute and the text behind it, or nothing at the end of a text
+abbrev pub OpensOrEnds : List ℕ → List ℕ → Type 0
+OpensOrEnds line after = (line_kind line ≡ Opening) ⊎ ((line ≡ []) × (after ≡ []))
 
 -- the first line is neither blank nor skipped
 abbrev pub starts_block : List (List ℕ) → Bool

@@ -1,12 +1,12 @@
 //! Blocks read as paragraphs.
 
-ghost use Rattle.std.specs.Prelude.{◌≡◌, ◌≢◌, ◌<◌, ◌≤◌, ◌++◌, ◌∷◌, IfOk, IfErr, OnOk, None, Ok, Err, length, true};
+ghost use Rattle.std.specs.Prelude.{◌≡◌, ◌≢◌, ◌<◌, ◌≤◌, ◌+◌, ◌++◌, ◌∷◌, IfOk, IfErr, OnOk, None, Ok, Err, length, true};
 ghost use Rattle.rr_bytes.specs.LetterCase.{lowered};
 ghost use Rattle.rr_text.specs.Lines.{text_lines};
 ghost use Rattle.rr_text.specs.Faults as faults;
 ghost use Rattle.rr_text.specs.Fields.{AreFields};
 ghost use Rattle.rr_text.specs.Entries as entries;
-ghost use Rattle.rr_text.specs.PrivateParts.{added_lines, starts_block};
+ghost use Rattle.rr_text.specs.PrivateParts.{added_lines, starts_block, OpensOrEnds};
 
 use crate::attribute::Attribute;
 use crate::fault::TextFault;
@@ -55,11 +55,13 @@ fn push_added(
     }
 }
 
-/// The lines that continue a value, and the text from the next attribute on.
-fn further_lines(alloc: Global, text: &[u8]) -> Result<(Vec<Text>, &[u8]), AllocError>
+/// The lines that continue a value, the line that opens the next attribute, and the text behind it; no line and no text
+/// where there is none.
+fn further_lines(alloc: Global, text: &[u8]) -> Result<(Vec<Text>, &[u8], &[u8]), AllocError>
     ensures lines { IfOk result (λ read. read.0.items ≡ entries.continued (text_lines text.now)) }
-    ensures rest { IfOk result (λ read. entries.block_fields (text_lines read.1.now) ≡ entries.block_fields (text_lines text.now)) }
-    ensures shorter { IfOk result (λ read. length read.1.now ≤ length text.now) }
+    ensures fields { IfOk result (λ read. entries.block_fields (read.1.now ∷ text_lines read.2.now) ≡ entries.block_fields (text_lines text.now)) }
+    ensures next { IfOk result (λ read. OpensOrEnds read.1.now read.2.now) }
+    ensures shorter { IfOk result (λ read. length read.1.now + length read.2.now ≤ length text.now) }
 {
     let mut lines = Vec::new(alloc);
     let mut rest = text;
@@ -67,61 +69,44 @@ fn further_lines(alloc: Global, text: &[u8]) -> Result<(Vec<Text>, &[u8]), Alloc
         let (line, after) = split_line(rest);
         let kind = LineKind::of(line);
         if kind.opens_attribute() {
-            return Ok((lines, rest));
+            return Ok((lines, line, after));
         }
         push_added(alloc, &mut lines, line, kind)?;
         rest = after;
     }
-    Ok((lines, rest))
+    Ok((lines, rest, rest))
 }
 
-/// The attribute that a line opens, and the text from the next one on.
+/// The attribute that a line opens, the line that opens the next one, and the text behind it.
 fn read_attribute<'t>(
     alloc: Global,
     line: &[u8],
     after: &'t [u8],
-) -> Result<(Attribute, &'t [u8]), AllocError>
+) -> Result<(Attribute, &'t [u8], &'t [u8]), AllocError>
     ensures value { IfOk result (λ read. read.0 ≡ entries.opened_field line.now (entries.continued (text_lines after.now))) }
-    ensures rest { IfOk result (λ read. entries.block_fields (text_lines read.1.now) ≡ entries.block_fields (text_lines after.now)) }
-    ensures shorter { IfOk result (λ read. length read.1.now ≤ length after.now) }
+    ensures fields { IfOk result (λ read. entries.block_fields (read.1.now ∷ text_lines read.2.now) ≡ entries.block_fields (text_lines after.now)) }
+    ensures next { IfOk result (λ read. OpensOrEnds read.1.now read.2.now) }
+    ensures shorter { IfOk result (λ read. length read.1.now + length read.2.now ≤ length after.now) }
 {
     let (name, value) = cut_around(line, b':');
     let name = lower_name(alloc, trim_end(name, ByteSet::BlanksAndLineFeeds))?;
     let first = Text::from_slice(alloc, trim(value, ByteSet::BlanksAndLineFeeds))?;
-    let (further, rest) = further_lines(alloc, after)?;
+    let (further, next, behind) = further_lines(alloc, after)?;
     let attribute = Attribute::of_lines(name, first, further)?;
-    Ok((attribute, rest))
+    Ok((attribute, next, behind))
 }
 
-/// Adds the attribute that a line opens, and gives the text that is left; a line that opens none is
-/// passed.
-fn push_opened<'t>(
-    alloc: Global,
-    fields: &mut Vec<Attribute>,
-    line: &[u8],
-    after: &'t [u8],
-) -> Result<&'t [u8], AllocError>
-    ensures fields { IfOk result (λ rest. fields.new.items ++ entries.block_fields (text_lines rest.now)
-        ≡ fields.old.items ++ entries.block_fields (line.now ∷ text_lines after.now)) }
-    ensures shorter { IfOk result (λ rest. length rest.now ≤ length after.now) }
-{
-    if !LineKind::of(line).opens_attribute() {
-        return Ok(after);
-    }
-    let (attribute, rest) = read_attribute(alloc, line, after)?;
-    fields.push(attribute)?;
-    Ok(rest)
-}
-
-/// The attributes of a block.
+/// The attributes of a block. Lines before the first one that opens an attribute are passed.
 fn read_fields(alloc: Global, block: &[u8]) -> Result<Vec<Attribute>, AllocError>
     ensures { IfOk result (λ fields. fields.items ≡ entries.block_fields (text_lines block.now)) }
 {
     let mut fields = Vec::new(alloc);
-    let mut rest = block;
-    'lines: while !rest.is_empty() {
-        let (line, after) = split_line(rest);
-        rest = push_opened(alloc, &mut fields, line, after)?;
+    let (_passed, mut line, mut after) = further_lines(alloc, block)?;
+    'attributes: while !line.is_empty() {
+        let (attribute, next, behind) = read_attribute(alloc, line, after)?;
+        fields.push(attribute)?;
+        line = next;
+        after = behind;
     }
     Ok(fields)
 }

@@ -2,7 +2,7 @@
 use Rattle.std.proofs.Common.{◌≡◌, ◌∙◌, length, sym, ap, arith}
 use Rattle.std.proofs.lemmas.Bool.Decides.{nat_tests}
 use Rattle.rr_text.specs.Entries as entries
-use Rattle.rr_text.proofs.EntryLemmas.{continued_step, continued_end, further, opened, entries_none}
+use Rattle.rr_text.proofs.EntryLemmas.{continued_step, continued_end, further, opened, entries_none, no_line}
 use Rattle.rr_text.proofs.entry.further_lines.Goals as goal
 
 pub returns-then-opens_attribute-clause-lines : goal.returns-then-opens_attribute-clause-lines
@@ -21,3 +21,8 @@ pub returns-clause-lines : goal.returns-clause-lines
 returns-clause-lines c =
     let none : length c.lines.rest.now ≡ 0 = grind (arith, nat_tests) in
     continued_end _ _ _ c.lines.invariant.lines (entries_none c.lines.rest.now none).0
+
+pub returns-clause-fields : goal.returns-clause-fields
+returns-clause-fields c =
+    let none : length c.lines.rest.now ≡ 0 = grind (arith, nat_tests) in
+    no_line c.lines.rest.now none ∙ c.lines.invariant.rest

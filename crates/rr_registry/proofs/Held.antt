@@ -1,14 +1,10 @@
 -- Objects under their keys, and their spans, as objects are put together.
 use Rattle.std.proofs.Common.{◌≡◌, ◌⊎◌, ℕ, Bool, true, false, cond, ◌||◌, inl, inr, List, [], ◌∷◌, refl, sym, ap, subst, ◌∙◌}
-use Rattle.std.specs.Prelude.{Err, None, Ok, OnOk, Option, Result, Some, is_some, map, take}
-use Rattle.std.specs.BTreeMap.{BTreeMap, insert_entry, is_at, values}
-use Rattle.std.specs.BTreeSet.{BTreeSet, Updates, contains}
-use Rattle.std.specs.Cmp.Lexicographic.{slice_cmp}
-use Rattle.std.specs.declared.cmp.Ordering.{Ordering}
+use Rattle.std.specs.Prelude.{Err, Ok, OnOk, Option, Result, Some, is_some, map}
+use Rattle.std.specs.BTreeMap.{insert_entry, is_at, values}
 use Rattle.std.specs.declared.cmp.Ordering.TheVariants.{Less, Equal, Greater}
 use Rattle.std.specs.FinMap.{contains_key, empty, get-empty, get-insert, insert}
 use Rattle.std.specs.FinMap.Entries.{by_order}
-use Rattle.std.specs.List.{list_any}
 use Rattle.std.specs.Map.{lookup, values_of}
 use Rattle.std.specs.Ordering.{eq_by_cmp, is_eq, match_ordering, nat_cmp, ordering_then}
 use Rattle.rr_number.proofs.SpanOrder.{span_cmp_total}
@@ -81,7 +77,7 @@ blocks_tie s t = ap is_eq (ap (ordering_then (nat_cmp s.first t.first)) (then_eq
 spans_in : (m : SpanMap (Unit {0})) (s t : Ends) → contains_key (insert m s tt) t ≡ (eq_by_cmp span_cmp t s || contains_key m t)
 spans_in m s t = ap is_some (get-insert span_cmp_total m s tt t) ∙ some_or (eq_by_cmp span_cmp t s) tt _
 
-crossing_inetnum : (k : Key) (s : Ends) → keys_cross k (Inetnum s) ≡ true → (t : Ends) × ((k ≡ Inetnum t) × (crosses t s ≡ true))
+pub crossing_inetnum : (k : Key) (s : Ends) → keys_cross k (Inetnum s) ≡ true → (t : Ends) × ((k ≡ Inetnum t) × (crosses t s ≡ true))
 crossing_inetnum (Mntner n) s e = cc
 crossing_inetnum (AsBlock t) s e = cc
 crossing_inetnum (AutNum n) s e = cc
@@ -90,7 +86,7 @@ crossing_inetnum (Route p n) s e = cc
 crossing_inetnum (AsSet n) s e = cc
 crossing_inetnum (RouteSet n) s e = cc
 
-crossing_block : (k : Key) (s : Ends) → keys_cross k (AsBlock s) ≡ true → (t : Ends) × ((k ≡ AsBlock t) × (crosses t s ≡ true))
+pub crossing_block : (k : Key) (s : Ends) → keys_cross k (AsBlock s) ≡ true → (t : Ends) × ((k ≡ AsBlock t) × (crosses t s ≡ true))
 crossing_block (Mntner n) s e = cc
 crossing_block (AsBlock t) s e = (t, (refl, e))
 crossing_block (AutNum n) s e = cc

@@ -2,4 +2,6 @@ pub mod Confined
 pub mod Gathering
 pub mod Held
 pub mod Mntners
+pub mod Open
+pub mod Rising
 pub mod Running

@@ -1,9 +1,9 @@
 -- What the private functions of src promise each other on the way to a registry. No public clause cites these.
-use Rattle.std.specs.Prelude.{◌≡◌, ◌||◌, ℕ, Bool, true, false, List, [], None, Some, map}
+use Rattle.std.specs.Prelude.{◌≡◌, ◌||◌, ℕ, Bool, true, false, List, [], ◌∷◌, None, Some, map}
 use Rattle.std.specs.BTreeMap.{values}
 use Rattle.std.specs.List.{list_any}
 use Rattle.std.specs.FinMap.{contains_key, empty, get, insert}
-use Rattle.std.specs.Ordering.{eq_by_cmp}
+use Rattle.std.specs.Ordering.{eq_by_cmp, is_lt}
 use Rattle.rr_number.specs.Spans.{Ends}
 use Rattle.rr_object.specs.declared.key.Key.{Key}
 use Rattle.rr_object.specs.declared.key.Key.TheVariants.{AsBlock, Inetnum}
@@ -34,6 +34,11 @@ pub record IsGathered (os : List Obj) (grown : List Obj) : Type 0 where
   pub free : clash [] 1 os ≡ None
   pub apart : IsApart grown
   pub whole : book_of grown ≡ gathered empty os
+
+-- The key of an object is below that of the first of others, if there is one.
+abbrev pub is_below : Obj → List Obj → Bool
+is_below o [] = true
+is_below o (x ∷ xs) = is_lt (key_cmp o.key x.key)
 
 -- The objects that were gathered, in the order of their keys.
 abbrev pub objects_of : Gathered → List Obj

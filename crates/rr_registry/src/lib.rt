@@ -2,8 +2,10 @@
 #![tactic(auto)]
 
 mod gathered;
+mod in_order;
 pub mod laws;
 mod load;
+mod open_spans;
 mod outcome;
 mod registry;
 mod run;

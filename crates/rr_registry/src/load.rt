@@ -11,6 +11,7 @@ ghost use Rattle.rr_registry.specs.Loading.{clash};
 ghost use Rattle.rr_registry.specs.Private.{IsGathered};
 
 use crate::gathered::Gathered;
+use crate::in_order::are_gathered;
 use crate::registry::Registry;
 use rr_book::Keeper;
 use rr_number::Name;
@@ -125,9 +126,22 @@ fn names_nobody(object: &Object, mntners: &BTreeSet<Name>) -> bool
         .any(|name| !mntners.contains(name))
 }
 
+/// The objects in order, or the first whose key stands twice or whose span crosses one before it. Those that stand so
+/// already are not put together.
+fn gather(alloc: Global, objects: Vec<Object>) -> Result<Vec<Object>, LoadFault>
+    ensures { MatchResult result
+        (λ gathered. IsGathered objects.items gathered.items)
+        (λ fault. (fault ≡ LoadFault.Memory) ⊎ (clash [] 1 objects.items ≡ Some fault)) }
+{
+    if are_gathered(alloc, &objects)? {
+        return Ok(objects);
+    }
+    put_in_order(alloc, objects)
+}
+
 /// The objects in order, or the first whose key stands twice or whose span crosses one before it.
 #[tactic(auto, using(crate::proofs::Gathering::clash_next))]
-fn gather(alloc: Global, objects: Vec<Object>) -> Result<Vec<Object>, LoadFault>
+fn put_in_order(alloc: Global, objects: Vec<Object>) -> Result<Vec<Object>, LoadFault>
     ensures { MatchResult result
         (λ gathered. IsGathered objects.items gathered.items)
         (λ fault. (fault ≡ LoadFault.Memory) ⊎ (clash [] 1 objects.items ≡ Some fault)) }

@@ -4,7 +4,7 @@ use Rattle.std.specs.Vec.Iter.{into_iter_items, into_iter_len}
 use Rattle.rr_book.specs.Books.{book_of}
 use Rattle.rr_registry.specs.Loading.{clash, gathered}
 use Rattle.rr_registry.specs.Private.{IsConsistent, objects_of}
-use Rattle.rr_registry.proofs.load.gather.Given as goal
+use Rattle.rr_registry.proofs.load.put_in_order.Given as goal
 
 abbrev pub invariant-loop-object : goal.invariant-loop-object
 invariant-loop-object l =

@@ -1,7 +1,7 @@
 use Rattle.std.proofs.Common.{◌≡◌, length, arith, rules}
 use Rattle.std.specs.Vec.Iter.{into_iter_items, into_iter_len}
 use Rattle.rr_registry.proofs.Gathering.{start}
-use Rattle.rr_registry.proofs.load.gather.Goals as goal
+use Rattle.rr_registry.proofs.load.put_in_order.Goals as goal
 
 pub loop-object-init : goal.loop-object-init
 loop-object-init c =

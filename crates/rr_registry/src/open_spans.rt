@@ -1,0 +1,93 @@
+//! Spans that are gone over in their order.
+
+ghost use Rattle.std.specs.Prelude.{◌≡◌, ◌≤◌, ℕ, Bool, false, IfOk, IsTrue, OnOk};
+ghost use Rattle.rr_number.specs.Spans.{Ends};
+ghost use Rattle.rr_auth.proofs.Members.{IsIn};
+ghost use Rattle.rr_registry.specs.OpenSpans.{HasPassed, IsFalling, IsJoined, IsKept, IsShortened, Passes, Rises, ends_below};
+
+use rr_number::Span;
+use std::alloc::{AllocError, Global};
+
+/// What is kept of spans that are gone over in their order, no two of which cross: where those end that one behind them
+/// can still cross.
+#[derive(Drop)]
+pub(crate) struct OpenSpans {
+    /// The first number of the span that came last.
+    first: u32,
+    /// The last numbers of the spans that begin below `first` and reach it: no number is above one before it.
+    outer: Vec<u32>,
+    /// The last numbers of the spans that begin at `first`: no number is below one before it.
+    level: Vec<u32>,
+}
+
+impl OpenSpans {
+    /// No spans.
+    pub(crate) fn new(alloc: Global) -> OpenSpans
+        ensures { (gone : Ends → Bool) → ((t : Ends) → gone t ≡ false) → HasPassed gone result }
+    {
+        OpenSpans {
+            first: 0,
+            outer: Vec::new(alloc),
+            level: Vec::new(alloc),
+        }
+    }
+
+    /// Goes on to a span that comes behind those before it, and says whether it crosses none of them. n spans take O(n)
+    /// steps together, and the error is want of memory.
+    pub(crate) fn pass(&mut self, span: Span) -> Result<bool, AllocError>
+        ensures { IfOk result (λ free. (gone more : Ends → Bool) → HasPassed gone self.old → Rises gone span → IsJoined gone span more → IsTrue free
+            → Passes gone span more self.new) }
+    {
+        self.move_on(span.first())?;
+        if !reach(&self.outer, span.last()) {
+            return Ok(false);
+        }
+        self.level.push(span.last())?;
+        Ok(true)
+    }
+
+    /// Goes on to spans that begin at this number.
+    fn move_on(&mut self, first: u32) -> Result<(), AllocError>
+        ensures kept { OnOk result ((gone : Ends → Bool) → self.old.first ≤ first → IsKept gone self.old.first self.old.outer.items self.old.level.items
+            → IsKept gone first self.new.outer.items self.new.level.items) }
+        ensures first { OnOk result (self.new.first ≡ first) }
+    {
+        if first == self.first {
+            return Ok(());
+        }
+        self.level.reverse();
+        self.outer.append(&mut self.level)?;
+        shorten(&mut self.outer, first);
+        self.first = first;
+        Ok(())
+    }
+}
+
+/// Takes numbers below this one away from the end.
+fn shorten(lasts: &mut Vec<u32>, first: u32)
+    ensures { IsShortened first lasts.old.items lasts.new.items }
+{
+    while ends_below(lasts, first) {
+        lasts.pop();
+    }
+}
+
+/// Whether the last of the numbers is below this one.
+fn ends_below(lasts: &[u32], first: u32) -> bool
+    ensures { result ≡ ends_below lasts.now first }
+{
+    match lasts.last() {
+        Some(last) => *last < first,
+        None => false,
+    }
+}
+
+/// Whether falling numbers all reach this one.
+fn reach(lasts: &[u32], last: u32) -> bool
+    ensures { IsTrue result → IsFalling lasts.now → (x : ℕ) → IsIn x lasts.now → last ≤ x }
+{
+    match lasts.last() {
+        Some(least) => last <= *least,
+        None => true,
+    }
+}

@@ -2,12 +2,14 @@
 //! keys under the set.
 
 ghost use Rattle.std.specs.Prelude.{◌≡◌, IfOk, filter};
+ghost use Rattle.std.specs.List.{filter_map};
 ghost use Rattle.rr_book.specs.SetLists.{is_of_class};
+ghost use Rattle.rr_sets.specs.KeyParts.{prefix_from};
 ghost use Rattle.rr_sets.specs.Lists.{is_originated, lent};
 
 use crate::plain_book::PlainBook;
 use rr_auth::Book;
-use rr_number::{AsNumber, SetName};
+use rr_number::{AsNumber, Prefix, SetName};
 use rr_object::{Class, Key, Object};
 use rr_sets::SetBook;
 use std::alloc::{AllocError, Global};
@@ -25,6 +27,10 @@ impl SetBook for PlainBook {
 
     fn routes_of(&self, alloc: Global, origin: AsNumber) -> Result<Vec<&Object>, AllocError> {
         objects_originated(alloc, self.as_slice(), origin)
+    }
+
+    fn prefixes_of(&self, alloc: Global, origin: AsNumber) -> Result<Vec<Prefix>, AllocError> {
+        prefixes_from(alloc, self.as_slice(), origin)
     }
 
     fn referrers(&self, alloc: Global, name: &SetName) -> Result<Vec<&Object>, AllocError> {
@@ -75,5 +81,29 @@ fn is_originated(object: &Object, origin: AsNumber) -> bool
     match object.key() {
         Key::Route(_, own) => *own == origin,
         _ => false,
+    }
+}
+
+/// The prefixes of the routes of the origin.
+fn prefixes_from(
+    alloc: Global,
+    objects: &[Object],
+    origin: AsNumber,
+) -> Result<Vec<Prefix>, AllocError>
+    ensures { IfOk result (λ found. found.items ≡ filter_map (λ o. prefix_from origin o.key) objects.now) }
+{
+    objects
+        .iter()
+        .filter_map(|object| prefix_from(object.key(), origin))
+        .collect(alloc)
+}
+
+/// The prefix of the key, where it is that of a route of the origin.
+fn prefix_from(key: &Key, origin: AsNumber) -> Option<Prefix>
+    ensures { result ≡ prefix_from origin key.now }
+{
+    match key {
+        Key::Route(prefix, own) => { if *own == origin { Some(*prefix) } else { None } }
+        _ => None,
     }
 }

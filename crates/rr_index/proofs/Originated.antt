@@ -1,6 +1,6 @@
 -- The routes of a registry by origin, as objects come and go, and the objects to which those of an origin lead.
 use Rattle.std.proofs.Common.{◌≡◌, ◌≤◌, ℕ, Bool, true, false, cond, not, ◌&&◌, ◌||◌, List, [], ◌∷◌, map, arith, refl, sym, ap, subst, ◌∙◌}
-use Rattle.std.specs.Prelude.{Option, Some, is_some, ◌==◌}
+use Rattle.std.specs.Prelude.{Option, None, Some, is_some, ◌==◌}
 use Rattle.std.specs.BTreeSet.{BTreeSet, Updates}
 use Rattle.std.specs.Cmp.{Equal-is, IsTotalOrder, nat_cmp_total, on_total, then_total, tied_itself}
 use Rattle.std.specs.FinMap.{contains_key, empty, get, get-empty, insert, nat_cmp-IsAntisymmetric, remove, values}
@@ -10,7 +10,7 @@ use Rattle.std.specs.Option.{option_map_or}
 use Rattle.std.specs.declared.cmp.Ordering.{Ordering}
 use Rattle.std.specs.declared.cmp.Ordering.TheVariants.{Less, Equal, Greater}
 use Rattle.std.specs.Ordering.{eq_by_cmp, is_eq, is_le, is_lt, nat_cmp, ordering_then}
-use Rattle.std.proofs.lemmas.Bool.{and_parts, eqb-true}
+use Rattle.std.proofs.lemmas.Bool.{and_parts, eq-eqb, eqb-true}
 use Rattle.rr_number.proofs.NumberOrders.{prefixes_ordered, ties}
 use Rattle.rr_number.specs.Prefixes.{IsMasked, PrefixParts, masked, prefix_cmp}
 use Rattle.rr_object.proofs.Digits.{then_equal}
@@ -21,11 +21,11 @@ use Rattle.rr_object.specs.KeyOrders.{key_cmp}
 use Rattle.rr_object.specs.Objects.{Obj}
 use Rattle.rr_auth.proofs.Members.{both_or_none}
 use Rattle.rr_auth.specs.Registries.{Reg, Sound}
-use Rattle.rr_sets.specs.KeyParts.{origin_of}
+use Rattle.rr_sets.specs.KeyParts.{origin_of, prefix_from}
 use Rattle.rr_sets.specs.Lists.{is_originated}
 use Rattle.rr_index.proofs.Choices.{any_mapped, eq_swap, led_to}
 use Rattle.rr_index.proofs.Kept.{one_order}
-use Rattle.rr_index.proofs.Ranges.{both_so, greatest, least, tied, within}
+use Rattle.rr_index.proofs.Ranges.{both_so, given_kept, greatest, least, tied, within}
 use Rattle.rr_index.proofs.Spans.{keys_in, keys_out}
 use Rattle.rr_index.specs.OriginIndexes.{HasOrigins, origin_cmp}
 use Rattle.rr_index.specs.Private.{is_from}
@@ -214,6 +214,24 @@ no_route k apart (x ∷ xs) = ap (λ b. b || list_any (eq_by_cmp key_cmp k) (map
 abbrev is_key_from : ℕ → Key → Bool
 is_key_from n k = option_map_or (λ origin. origin == n) (origin_of k) false
 
+-- it is where the key has a prefix of the origin's
+prefix_there : (n : ℕ) (k : Key) → is_key_from n k ≡ is_some (prefix_from n k)
+prefix_there n (Mntner m) = refl
+prefix_there n (AsBlock s) = refl
+prefix_there n (AutNum m) = refl
+prefix_there n (Inetnum s) = refl
+prefix_there n (Route p m) = elim (m == n) as (λ b. b ≡ is_some (cond b (Some p) None)) [ true ↦ refl | false ↦ refl ]
+prefix_there n (AsSet m) = refl
+prefix_there n (RouteSet m) = refl
+
+or_so : (b : Bool) → (b || true) ≡ true
+or_so true = refl
+or_so false = refl
+
+object_there : (v : Option Obj) → is_some v ≡ true → (o : Obj) × (v ≡ Some o)
+object_there None there = cc
+object_there (Some o) there = (o, refl)
+
 module _ (r : Reg) (sound : Sound r) (routes : BTreeSet RouteParts) (has : HasOrigins r routes) where
   chosen : (n : ℕ) (k : Key) (o : Obj) → get r k ≡ Some o → list_any (eq_by_cmp key_cmp k) (map key_of (filter (is_from n) routes.keys)) ≡ is_key_from n k
   chosen n (Mntner m) o at = no_route (Mntner m) (λ x. refl) (filter (is_from n) routes.keys)
@@ -238,3 +256,36 @@ module _ (r : Reg) (sound : Sound r) (routes : BTreeSet RouteParts) (has : HasOr
       ∙ led_to r sound (is_key_from n) keys
       (subst (λ (cmp : Key → Key → Ordering). IsStrictlySortedBy cmp (map key_of (filter (is_from n) routes.keys))) (sym one_order) (keys_rise n routes.keys rise))
       (chosen n)
+
+  -- a route that stands there leads to an object
+  stands_there : (x : RouteParts) → list_any (eq_by_cmp origin_cmp x) routes.keys ≡ true → (o : Obj) × (get r (key_of x) ≡ Some o)
+  stands_there x is = object_there (get r (key_of x)) (sym (has x.0 x.1) ∙ is)
+
+  -- whose prefix is that of the route
+  prefix_first : (n : ℕ) (x : RouteParts) (o : Obj) (os : List Obj) → x.0 ≡ n → get r (key_of x) ≡ Some o
+      → filter_map (λ o. prefix_from n o.key) (cons_option (get r (key_of x)) os) ≡ x.1 ∷ filter_map (λ o. prefix_from n o.key) os
+  prefix_first n x o os own at =
+      ap (λ v. filter_map (λ o. prefix_from n o.key) (cons_option v os)) at
+      ∙ ap (λ v. cons_option v (filter_map (λ o. prefix_from n o.key) os)) (ap (prefix_from n) (sound.keyed (key_of x) o at) ∙ ap (λ b. cond b (Some x.1) None) (eq-eqb x.0 n own))
+
+  prefixes_led_to : (n : ℕ) (xs : List RouteParts) → ((x : RouteParts) → list_any (eq_by_cmp origin_cmp x) xs ≡ true → (o : Obj) × (get r (key_of x) ≡ Some o))
+      → map (λ route. route.1) (filter (is_from n) xs) ≡ filter_map (λ o. prefix_from n o.key) (filter_map (λ route. get r (Route route.1 route.0)) (filter (is_from n) xs))
+  prefixes_led_to n [] there = refl
+  prefixes_led_to n (x ∷ xs) there =
+      let rest = prefixes_led_to n xs (λ y is. there y (ap (λ b. eq_by_cmp origin_cmp y x || b) is ∙ or_so (eq_by_cmp origin_cmp y x))) in
+      elim (is_from n x) as (λ b. is_from n x ≡ b → map (λ (route : RouteParts). route.1) (cond b (x ∷ filter (is_from n) xs) (filter (is_from n) xs))
+      ≡ filter_map (λ (o : Obj). prefix_from n o.key) (filter_map (λ (route : RouteParts). get r (Route route.1 route.0)) (cond b (x ∷ filter (is_from n) xs) (filter (is_from n) xs)))) [
+        | true ↦ λ e.
+            let found = there x (ap (λ b. b || list_any (eq_by_cmp origin_cmp x) xs) (tied_route x)) in
+            ap (λ ps. x.1 ∷ ps) rest ∙ sym (prefix_first n x found.0 (filter_map (λ route. get r (Route route.1 route.0)) (filter (is_from n) xs)) (of_origin n x e) found.1)
+        | false ↦ λ e. rest
+      ] refl
+
+  -- the prefixes of the routes of an origin are those of the objects that are routes from it
+  pub prefixes_listed : (n : ℕ) → IsStrictlySortedBy origin_cmp routes.keys
+      → map (λ route. route.1) (filter (is_from n) routes.keys) ≡ filter_map (λ o. prefix_from n o.key) (values r)
+  prefixes_listed n rise =
+      prefixes_led_to n routes.keys stands_there
+      ∙ ap (filter_map (λ o. prefix_from n o.key)) (listed_from n rise)
+      ∙ (λ i. filter_map (λ o. prefix_from n o.key) (filter (λ o. prefix_there n o.key i) (values r)))
+      ∙ given_kept (λ o. prefix_from n o.key) (values r)

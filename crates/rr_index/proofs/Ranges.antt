@@ -133,7 +133,7 @@ pub same_picked : (p q : Obj → Bool) (os : List Obj) → ((o : Obj) → IsIn o
 same_picked p q [] same = refl
 same_picked p q (o ∷ os) same = λ i. cond (same o (inl refl) i) (o ∷ same_picked p q os (λ x at. same x (inr at)) i) (same_picked p q os (λ x at. same x (inr at)) i)
 
-given_kept : {X : Type 0} (f : Obj → Option X) (os : List Obj) → filter_map f (filter (λ o. is_some (f o)) os) ≡ filter_map f os
+pub given_kept : {X : Type 0} (f : Obj → Option X) (os : List Obj) → filter_map f (filter (λ o. is_some (f o)) os) ≡ filter_map f os
 given_kept f [] = refl
 given_kept f (o ∷ os) =
     elim (f o) as (λ v. f o ≡ v → filter_map f (cond (is_some v) (o ∷ filter (λ x. is_some (f x)) os) (filter (λ x. is_some (f x)) os)) ≡ cons_option v (filter_map f os)) [

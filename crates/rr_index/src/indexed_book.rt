@@ -19,7 +19,7 @@ use std::marker::Model;
 /// the routes by origin, the names of the maintainers and how often each is named, and the keys under the sets that the
 /// objects name in `member-of`; contracts see the finite map from keys to objects. It is always sound. A key, a maintainer
 /// and whether it is named, a closest inetnum, as-block or route, and a crossing are found in O(log n) steps for n objects;
-/// k objects of any list, or k origins, in O(k log n).
+/// k objects of any list, or k origins, in O(k log n); k prefixes of an origin in O(k + log n).
 #[derive(Drop)]
 pub struct IndexedBook {
     objects: ObjectMap,
@@ -150,6 +150,10 @@ impl SetBook for IndexedBook {
 
     fn routes_of(&self, alloc: Global, origin: AsNumber) -> Result<Vec<&Object>, AllocError> {
         self.objects.routes_of(alloc, &self.indexes.origins, origin)
+    }
+
+    fn prefixes_of(&self, alloc: Global, origin: AsNumber) -> Result<Vec<Prefix>, AllocError> {
+        self.indexes.origins.prefixes_of(alloc, origin)
     }
 
     fn referrers(&self, alloc: Global, name: &SetName) -> Result<Vec<&Object>, AllocError> {

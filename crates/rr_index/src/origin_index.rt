@@ -1,6 +1,6 @@
 //! The routes of a registry, by origin.
 
-ghost use Rattle.std.specs.Prelude.{◌≡◌, OnErr, OnOk, filter};
+ghost use Rattle.std.specs.Prelude.{◌≡◌, IfOk, OnErr, OnOk, filter, map};
 ghost use Rattle.std.specs.FinMap.{empty, insert, remove};
 ghost use Rattle.std.specs.List.Sorted.{IsStrictlySortedBy};
 ghost use Rattle.rr_object.specs.Objects.{Obj};
@@ -58,5 +58,21 @@ impl OriginIndex {
         let least = Prefix::new(Address::from_bits(0), 0);
         let greatest = Prefix::new(Address::from_bits(u32::MAX), 32);
         self.routes.range((origin, least)..=(origin, greatest))
+    }
+
+    /// The prefixes of the routes of the origin, in order; the error is want of memory.
+    pub(crate) fn prefixes_of(
+        &self,
+        alloc: Global,
+        origin: AsNumber,
+    ) -> Result<Vec<Prefix>, AllocError>
+        ensures found { IfOk result (λ found. found.items ≡ map (λ route. route.1) (filter (is_from origin) self.now.routes.keys)) }
+        ensures ordered { IsStrictlySortedBy origin_cmp self.now.routes.keys }
+    {
+        let mut found = Vec::new(alloc);
+        for route in self.routes_of(origin) {
+            found.push(route.1)?;
+        }
+        Ok(found)
     }
 }

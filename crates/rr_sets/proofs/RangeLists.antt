@@ -1,9 +1,8 @@
 -- The ranges in a set itself, from the lists of a registry.
-use Rattle.std.proofs.Common.{◌≡◌, ℕ, true, false, ◌⊎◌, ◌↔◌, List, [], ◌∷◌, ◌++◌, Contains, IsTrue, None, Some, Bor, refl, sym, ap, ◌∙◌, subst, inl, inr}
+use Rattle.std.proofs.Common.{◌≡◌, ℕ, Bool, true, false, cond, map, ◌⊎◌, ◌↔◌, List, [], ◌∷◌, ◌++◌, Contains, IsTrue, None, Some, Bor, refl, sym, ap, ◌∙◌, subst, inl, inr}
 use Rattle.std.specs.Prelude.{◌==◌}
 use Rattle.std.specs.FinMap.{get, values}
-use Rattle.std.specs.List.{filter, filter_map}
-use Rattle.std.specs.Option.{option_map_or}
+use Rattle.std.specs.List.{filter_map}
 use Rattle.std.proofs.lemmas.Bool.{eq-eqb, eqb-true}
 use Rattle.rr_auth.proofs.Members.{IsIn, found_in, stands_at}
 use Rattle.rr_auth.specs.Registries.{Reg, Sound}
@@ -18,12 +17,12 @@ use Rattle.rr_object.specs.declared.key.Key.TheVariants as key
 use Rattle.rr_object.specs.declared.member.Member.{Member}
 use Rattle.rr_object.specs.declared.member.Member.TheVariants as member
 use Rattle.rr_object.specs.declared.member.MemberSet.TheVariants.{Set}
-use Rattle.rr_sets.specs.Lists.{IsReferrer, IsRegisteredRoute, ListsOnce, is_originated, lent}
-use Rattle.rr_sets.specs.KeyParts.{origin_of, range_of_key}
+use Rattle.rr_sets.specs.Lists.{IsReferrer, IsRegisteredRoute, ListsOnce, lent}
+use Rattle.rr_sets.specs.KeyParts.{prefix_from, range_of_key}
 use Rattle.rr_sets.specs.MemberParts.{range_listed}
 use Rattle.rr_sets.specs.RouteSets.{HasRange, IsAnyRange, IsByReference, IsOriginated, IsRangeTaken, ListsRange, registered_set}
 use Rattle.rr_sets.specs.SetObjects.{takes}
-use Rattle.rr_sets.proofs.Numbers.{Contains-both, Contains-filter}
+use Rattle.rr_sets.proofs.Numbers.{Contains-both}
 
 -- a key with a range is a route's, whose prefix alone it is
 key_of_range : (k : Key) (range : RangeParts) → range_of_key k ≡ Some range → (p : PrefixParts) × (n : ℕ) × (k ≡ key.Route p n) × (range ≡ bare p)
@@ -35,15 +34,18 @@ key_of_range (key.Route prefix origin) range is = (prefix, origin, refl, cc)
 key_of_range (key.AsSet name) range is = cc
 key_of_range (key.RouteSet name) range is = cc
 
--- a key with an origin is that of a route from it
-key_of_origin : (n : ℕ) (k : Key) → IsTrue (option_map_or (λ m. m == n) (origin_of k) false) → (p : PrefixParts) × (k ≡ key.Route p n)
-key_of_origin n (key.Mntner name) is = cc
-key_of_origin n (key.AsBlock span) is = cc
-key_of_origin n (key.AutNum m) is = cc
-key_of_origin n (key.Inetnum span) is = cc
-key_of_origin n (key.Route prefix m) is = (prefix, ap (key.Route prefix) (eqb-true m n is))
-key_of_origin n (key.AsSet name) is = cc
-key_of_origin n (key.RouteSet name) is = cc
+-- a key with a prefix of an origin's is that of a route of both
+key_of_prefix : (n : ℕ) (k : Key) (p : PrefixParts) → prefix_from n k ≡ Some p → k ≡ key.Route p n
+key_of_prefix n (key.Mntner name) p is = cc
+key_of_prefix n (key.AsBlock span) p is = cc
+key_of_prefix n (key.AutNum m) p is = cc
+key_of_prefix n (key.Inetnum span) p is = cc
+key_of_prefix n (key.Route q m) p is = on (m == n) refl is where
+  on : (b : Bool) → (m == n) ≡ b → cond b (Some q) None ≡ Some p → key.Route q m ≡ key.Route p n
+  on true own some = let same : q ≡ p = cc in λ i. key.Route (same i) (eqb-true m n own i)
+  on false other none = cc
+key_of_prefix n (key.AsSet name) p is = cc
+key_of_prefix n (key.RouteSet name) p is = cc
 
 -- what is among a list's elements is in it, and the other way round
 has : {X : Type 0} (x : X) (xs : List X) → IsIn x xs → Contains xs x
@@ -91,26 +93,21 @@ module _ (r : Reg) (sound : Sound r) where
         (Contains-filter_map (λ (x : Bor Obj). range_of_key x.now.key) objects range).1 (b.0, b.1, ap (λ (x : Obj). range_of_key x.key) b.2 ∙ range_of_route o p n is ∙ ap Some (sym same)),
   )
 
-  -- the ranges of the routes of an origin
-  pub ranges_originated : (n : ℕ) (objects : List (Bor Obj)) → lent objects ≡ filter (is_originated n) (values r) → (range : RangeParts) → Contains (filter_map (λ o. range_of_key o.now.key) objects) range ↔ IsOriginated r n range
-  ranges_originated n objects is range = (on, from) where
-    on : Contains (filter_map (λ o. range_of_key o.now.key) objects) range → IsOriginated r n range
+  -- the ranges of the prefixes of an origin's routes
+  pub ranges_originated : (n : ℕ) (prefixes : List PrefixParts) → prefixes ≡ filter_map (λ o. prefix_from n o.key) (values r) → (range : RangeParts) → Contains (map bare prefixes) range ↔ IsOriginated r n range
+  ranges_originated n prefixes is range = (on, from) where
+    on : Contains (map bare prefixes) range → IsOriginated r n range
     on some =
-        let f = (Contains-filter_map (λ (o : Bor Obj). range_of_key o.now.key) objects range).0 some in
-        let listed : Contains (lent objects) f.0.now = (Contains-map (λ (o : Bor Obj). o.now) objects f.0.now).1 (f.0, f.1, refl) in
-        let both = (Contains-filter (is_originated n) (values r) f.0.now).0 (subst (λ (os : List Obj). Contains os f.0.now) is listed) in
-        let at = stands_at r f.0.now sound (among f.0.now (values r) both.0) in
-        let route = key_of_origin n f.0.now.key both.1 in
-        let told : Some (bare route.0) ≡ Some range = ap range_of_key (sym route.1) ∙ f.2 in
-        let same : range ≡ bare route.0 = cc in
-        (route.0, f.0.now, subst (λ (k : Key). get r k ≡ Some f.0.now) route.1 at, same)
+        let f = (Contains-map bare prefixes range).0 some in
+        let g = (Contains-filter_map (λ (o : Obj). prefix_from n o.key) (values r) f.0).0 (subst (λ (l : List PrefixParts). Contains l f.0) is f.1) in
+        let at = stands_at r g.0 sound (among g.0 (values r) g.1) in
+        (f.0, g.0, subst (λ (k : Key). get r k ≡ Some g.0) (key_of_prefix n g.0.key f.0 g.2) at, sym f.2)
 
-    from : IsOriginated r n range → Contains (filter_map (λ o. range_of_key o.now.key) objects) range
+    from : IsOriginated r n range → Contains (map bare prefixes) range
     from (p, o, at, same) =
-        let own : is_originated n o ≡ true = ap (λ k. option_map_or (λ m. m == n) (origin_of k) false) (sound.keyed (key.Route p n) o at) ∙ eq-eqb n n refl in
-        let listed = (Contains-filter (is_originated n) (values r) o).1 (has o (values r) (found_in r (key.Route p n) o at), own) in
-        let b = (Contains-map (λ (x : Bor Obj). x.now) objects o).0 (subst (λ (os : List Obj). Contains os o) (sym is) listed) in
-        (Contains-filter_map (λ (x : Bor Obj). range_of_key x.now.key) objects range).1 (b.0, b.1, ap (λ (x : Obj). range_of_key x.key) b.2 ∙ range_of_route o p n at ∙ ap Some (sym same))
+        let own : prefix_from n o.key ≡ Some p = ap (prefix_from n) (sound.keyed (key.Route p n) o at) ∙ ap (λ b. cond b (Some p) None) (eq-eqb n n refl) in
+        let listed = (Contains-filter_map (λ (x : Obj). prefix_from n x.key) (values r) p).1 (o, has o (values r) (found_in r (key.Route p n) o at), own) in
+        (Contains-map bare prefixes range).1 (p, subst (λ (l : List PrefixParts). Contains l p) (sym is) listed, sym same)
 
   -- the ranges of the routes whose word is taken
   pub ranges_that_are_taken : (by_ref : ByRefParts) (name : List ℕ) (objects : List (Bor Obj)) → ((o : Obj) → Contains (lent objects) o ↔ (IsReferrer r name o × IsTrue (takes by_ref o))) → (range : RangeParts) → Contains (filter_map (λ o. range_of_key o.now.key) objects) range ↔ IsRangeTaken r by_ref name range

@@ -1,5 +1,6 @@
 -- The parts of keys that an expansion looks for.
-use Rattle.std.specs.Prelude.{ℕ, Option, None, Some}
+use Rattle.std.specs.Prelude.{ℕ, ◌==◌, Option, None, Some, if◌then◌else◌}
+use Rattle.rr_number.specs.Prefixes.{PrefixParts}
 use Rattle.rr_number.specs.Ranges.{RangeParts, bare}
 use Rattle.rr_object.specs.declared.key.Key.{Key}
 use Rattle.rr_object.specs.declared.key.Key.TheVariants.{AutNum, Route}
@@ -13,6 +14,11 @@ number_of_key _ = None
 abbrev pub origin_of : Key → Option ℕ
 origin_of (Route prefix origin) = Some origin
 origin_of _ = None
+
+-- the prefix of a route's key, where its origin is this one (RFC 2622, 4)
+abbrev pub prefix_from : ℕ → Key → Option PrefixParts
+prefix_from n (Route prefix origin) = if origin == n then Some prefix else None
+prefix_from n _ = None
 
 -- the range of a route's prefix alone
 abbrev pub range_of_key : Key → Option RangeParts

@@ -2,14 +2,16 @@
 
 ghost use Rattle.std.specs.Prelude.{◌≡◌, IfOk, filter};
 ghost use Rattle.std.specs.FinMap.{values};
+ghost use Rattle.std.specs.List.{filter_map};
 
 use rr_auth::Book;
-use rr_number::{AsNumber, SetName};
+use rr_number::{AsNumber, Prefix, SetName};
 use rr_object::Object;
 use std::alloc::{AllocError, Global};
 
 /// A registry that can be asked for the objects that speak of sets. The errors are want of memory.
 pub trait SetBook: Book {
+    ghost use Rattle.rr_sets.specs.KeyParts.{prefix_from};
     ghost use Rattle.rr_sets.specs.Lists.{IsAutNum, IsReferrer, IsRegisteredRoute, ListsOnce, is_originated, lent};
 
     /// Lists the aut-nums, each once, in any order.
@@ -20,10 +22,14 @@ pub trait SetBook: Book {
     fn routes(&self, alloc: Global) -> Result<Vec<&Object>, AllocError>
         ensures { IfOk result (λ objects. ListsOnce (IsRegisteredRoute (Self.contents self.now)) objects.items) };
 
-    /// Lists the routes of the origin, in the order of class and key. An expansion asks for those of each AS number that
-    /// it reaches, so a book should not look at all its objects for them.
+    /// Lists the routes of the origin, in the order of class and key.
     fn routes_of(&self, alloc: Global, origin: AsNumber) -> Result<Vec<&Object>, AllocError>
         ensures { IfOk result (λ objects. lent objects.items ≡ filter (is_originated origin) (values (Self.contents self.now))) };
+
+    /// Lists the prefixes of the routes of the origin, in the order of class and key. An expansion asks for those of
+    /// each AS number that it reaches, so a book should find them without a look at each object.
+    fn prefixes_of(&self, alloc: Global, origin: AsNumber) -> Result<Vec<Prefix>, AllocError>
+        ensures { IfOk result (λ prefixes. prefixes.items ≡ filter_map (λ o. prefix_from origin o.key) (values (Self.contents self.now))) };
 
     /// Lists the objects whose `member-of` names the set, each once, in any order. An expansion asks for those of each
     /// set that it reaches and that has `mbrs-by-ref`, so a book should not look at all its objects for them.

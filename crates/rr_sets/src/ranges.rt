@@ -1,9 +1,9 @@
 //! The ranges that are in a set itself.
 
-ghost use Rattle.std.specs.Prelude.{◌≡◌, ◌↔◌, ◌⊎◌, Contains, IfOk};
+ghost use Rattle.std.specs.Prelude.{◌≡◌, ◌↔◌, ◌⊎◌, Contains, IfOk, map};
 ghost use Rattle.std.specs.List.{filter_map};
 ghost use Rattle.std.specs.Option.{option_copied};
-ghost use Rattle.rr_number.specs.Ranges.{RangeParts};
+ghost use Rattle.rr_number.specs.Ranges.{RangeParts, bare};
 ghost use Rattle.rr_sets.specs.KeyParts.{range_of_key};
 ghost use Rattle.rr_sets.specs.MemberParts.{range_listed};
 ghost use Rattle.rr_sets.specs.RouteSets.{HasRange, IsAnyRange, IsByReference, IsOriginated, IsRangeTaken, ListsRange, has_set, registered_set};
@@ -11,7 +11,7 @@ ghost use Rattle.rr_object.specs.declared.member.MemberSet.{MemberSet};
 
 use crate::book::SetBook;
 use crate::by_reference::belonging;
-use rr_number::{AsNumber, Range, SetName};
+use rr_number::{AsNumber, Prefix, Range, SetName};
 use rr_object::{ByRef, Key, Member, Object};
 use std::alloc::{AllocError, Global};
 
@@ -37,7 +37,7 @@ pub fn ranges_of_origin<B: SetBook>(
     ensures { IfOk result (λ ranges. (range : RangeParts) → Contains ranges.items range ↔ IsOriginated (B.contents book.now) origin range) }
 {
     book.sound();
-    ranges_of(alloc, &book.routes_of(alloc, origin)?)
+    bare_ranges(alloc, &book.prefixes_of(alloc, origin)?)
 }
 
 /// The ranges that a registered set lists, and those of routes that belong to it by their own word.
@@ -122,6 +122,16 @@ fn range_listed(member: &Member) -> Option<Range>
         Member::Range(range) => Some(*range),
         Member::Set(_, _) => None,
     }
+}
+
+/// The ranges of the prefixes alone.
+fn bare_ranges(alloc: Global, prefixes: &[Prefix]) -> Result<Vec<Range>, AllocError>
+    ensures { IfOk result (λ ranges. ranges.items ≡ map bare prefixes.now) }
+{
+    prefixes
+        .iter()
+        .map(|prefix| Range::of(*prefix))
+        .collect(alloc)
 }
 
 /// The ranges of those objects that are routes.

@@ -8,7 +8,7 @@ use Rattle.std.proofs.lemmas.Bool.Decides.{nat_tests}
 use Rattle.std.proofs.lemmas.List.{append-nil, reverse-append}
 use Rattle.rr_number.specs.Spans.{Ends, crosses}
 use Rattle.rr_auth.proofs.Members.{IsIn}
-use Rattle.rr_registry.specs.OpenSpans.{IsBegun, IsFalling, IsJoined, IsKept, IsRising, IsShortened, Rises, ends_below}
+use Rattle.rr_registry.specs.OpenSpanParts.{IsBegun, IsFalling, IsJoined, IsKept, IsRising, IsShortened, Rises, ends_below}
 
 -- before any span
 pub none_kept : (gone : Ends → Bool) (first : ℕ) (outer level : List ℕ) → first ≡ 0 → outer ≡ [] → level ≡ [] → ((t : Ends) → gone t ≡ false) → IsKept gone first outer level × IsBegun gone first

@@ -27,7 +27,7 @@ use Rattle.rr_registry.proofs.Gathering.{clash_next, none_apart, taken_in}
 use Rattle.rr_registry.proofs.Held.{crossing_block, crossing_inetnum}
 use Rattle.rr_registry.specs.declared.open_spans.OpenSpans.{OpenSpans}
 use Rattle.rr_registry.specs.Loading.{clash, gathered, is_crossed_by_some, is_key_of_some}
-use Rattle.rr_registry.specs.OpenSpans.{ArePassed, HasPassed, IsJoined, IsPassed, Passes, Rises}
+use Rattle.rr_registry.specs.OpenSpanParts.{ArePassed, HasPassed, IsJoined, IsPassed, Passes, Rises}
 use Rattle.rr_registry.specs.Private.{IsApart, IsGathered, is_below}
 
 less : (r : Ordering) → is_lt r ≡ true → r ≡ Less

@@ -1,6 +1,6 @@
 pub mod Confined
 pub mod Loading
-pub mod OpenSpans
+pub mod OpenSpanParts
 pub mod Private
 pub mod RunLaws
 pub mod Runs

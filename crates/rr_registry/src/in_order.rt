@@ -3,7 +3,7 @@
 ghost use Rattle.std.specs.Prelude.{◌≡◌, [], ◌∷◌, ◌++◌, IfOk, IsTrue, List, true};
 ghost use Rattle.rr_object.specs.Objects.{Obj};
 ghost use Rattle.rr_book.specs.Books.{is_in_order};
-ghost use Rattle.rr_registry.specs.OpenSpans.{ArePassed, IsPassed};
+ghost use Rattle.rr_registry.specs.OpenSpanParts.{ArePassed, IsPassed};
 ghost use Rattle.rr_registry.specs.Private.{IsGathered, is_below};
 
 use crate::open_spans::OpenSpans;
@@ -41,8 +41,8 @@ impl Passed {
     }
 }
 
-/// Whether the objects stand as they are gathered: their keys strictly rise, and no two spans cross. It takes O(n) steps
-/// for n objects, and the error is want of memory.
+/// Whether the objects stand as they are gathered: their keys strictly rise, and no two spans cross. It takes O(n)
+/// steps for n objects, and the error is want of memory.
 pub(crate) fn are_gathered(alloc: Global, objects: &[Object]) -> Result<bool, AllocError>
     ensures { IfOk result (λ gathered. IsTrue gathered → IsGathered objects.now objects.now) }
 {

@@ -3,7 +3,7 @@
 ghost use Rattle.std.specs.Prelude.{◌≡◌, ◌≤◌, ℕ, Bool, false, IfOk, IsTrue, OnOk};
 ghost use Rattle.rr_number.specs.Spans.{Ends};
 ghost use Rattle.rr_auth.proofs.Members.{IsIn};
-ghost use Rattle.rr_registry.specs.OpenSpans.{HasPassed, IsFalling, IsJoined, IsKept, IsShortened, Passes, Rises, ends_below};
+ghost use Rattle.rr_registry.specs.OpenSpanParts.{HasPassed, IsFalling, IsJoined, IsKept, IsShortened, Passes, Rises, ends_below};
 
 use rr_number::Span;
 use std::alloc::{AllocError, Global};

@@ -1,7 +1,7 @@
 use Rattle.std.proofs.Common.{◌++◌, ◌-◌, get_or, length, sym, ap, ◌∙◌}
 use Rattle.std.specs.Option.{option_to_list}
 use Rattle.rr_registry.proofs.Open.{ending, shortened_more}
-use Rattle.rr_registry.specs.OpenSpans.{ends_below}
+use Rattle.rr_registry.specs.OpenSpanParts.{ends_below}
 use Rattle.rr_registry.proofs.open_spans.shorten.Goals as goal
 
 pub loop-lasts-preserved : goal.loop-lasts-preserved

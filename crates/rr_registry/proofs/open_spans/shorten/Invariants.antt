@@ -1,5 +1,5 @@
 use Rattle.std.proofs.Common.{length}
-use Rattle.rr_registry.specs.OpenSpans.{IsShortened}
+use Rattle.rr_registry.specs.OpenSpanParts.{IsShortened}
 use Rattle.rr_registry.proofs.open_spans.shorten.Given as goal
 
 abbrev pub invariant-loop-lasts : goal.invariant-loop-lasts

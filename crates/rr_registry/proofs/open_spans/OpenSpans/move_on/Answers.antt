@@ -1,6 +1,6 @@
 use Rattle.std.proofs.Common.{ℕ, List, ◌++◌, sym, subst, ap, ◌∙◌}
 use Rattle.rr_registry.proofs.Open.{moved_on}
-use Rattle.rr_registry.specs.OpenSpans.{IsKept, IsShortened}
+use Rattle.rr_registry.specs.OpenSpanParts.{IsKept, IsShortened}
 use Rattle.rr_registry.proofs.open_spans.OpenSpans.move_on.Goals as goal
 
 pub returns-clause-kept : goal.returns-clause-kept

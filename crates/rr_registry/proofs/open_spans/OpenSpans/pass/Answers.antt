@@ -1,7 +1,7 @@
 use Rattle.std.proofs.Common.{◌≡◌, ℕ, ◌≤◌, List, [], ◌∷◌, ◌++◌, refl, sym, subst, ap, ◌∙◌}
 use Rattle.rr_auth.proofs.Members.{IsIn}
 use Rattle.rr_registry.proofs.Open.{passed}
-use Rattle.rr_registry.specs.OpenSpans.{IsFalling, IsKept}
+use Rattle.rr_registry.specs.OpenSpanParts.{IsFalling, IsKept}
 use Rattle.rr_registry.proofs.open_spans.OpenSpans.pass.Goals as goal
 
 pub returns : goal.returns

@@ -1,4 +1,4 @@
--- What is kept of spans that are gone over in their order. No public clause cites these.
+-- What is kept of spans that are gone over in their order, for private functions of src. No public clause cites these.
 use Rattle.std.specs.Prelude.{◌≡◌, ◌⊎◌, ℕ, ◌<◌, ◌≤◌, ◌-◌, Bool, true, false, List, [], ◌∷◌, ◌++◌, length, nat_lt, slice_get}
 use Rattle.std.specs.Option.{option_map_or}
 use Rattle.rr_number.specs.Spans.{Ends, crosses}

@@ -13,6 +13,12 @@ use rr_object::{Object, print_public};
 use rr_text::{Paragraph, print_onto};
 use std::alloc::{AllocError, Global};
 
+/// The bytes of the longest line with an AS number, `AS4294967295`.
+const NUMBER_LINE: usize = 13;
+
+/// The bytes of the longest line with a range, as `192.168.128.128/25^26-30`.
+const RANGE_LINE: usize = 25;
+
 /// The objects as they are answered: the public canonical text of each and an empty line, or `% no entries` where there
 /// is none (profile). The error is want of memory.
 #[tactic(auto, unfolding(crate::specs::Texts::objects_text))]
@@ -97,7 +103,7 @@ pub(crate) fn numbers_text(
 fn number_lines(alloc: Global, found: &[AsNumber]) -> Result<Vec<u8>, AllocError>
     ensures { IfOk result (λ text. text.items ≡ flat_map (λ n. ended (as_number_text n)) found.now) }
 {
-    let mut text = Vec::new(alloc);
+    let mut text = Vec::with_capacity(alloc, found.len().saturating_mul(NUMBER_LINE))?;
     for number in found {
         push_line(&mut text, number.text().as_bytes())?;
     }
@@ -121,7 +127,7 @@ pub(crate) fn ranges_text(
 fn range_lines(alloc: Global, found: &[Range]) -> Result<Vec<u8>, AllocError>
     ensures { IfOk result (λ text. text.items ≡ flat_map (λ range. ended (range_text range)) found.now) }
 {
-    let mut text = Vec::new(alloc);
+    let mut text = Vec::with_capacity(alloc, found.len().saturating_mul(RANGE_LINE))?;
     for range in found {
         push_line(&mut text, range.text().as_bytes())?;
     }

@@ -281,6 +281,8 @@ fn expect_lists<B: SetBook, R: Abort + AllocGlobal>(rt: &R, book: &B) -> Result<
     let of_first = keys(rt.alloc(), &book.routes_of(rt.alloc(), AsNumber::new(1))?)?;
     assert_eq!(rt; of_first.as_slice(), b"10.1.0.0/16 AS1|".as_slice());
     let prefix = Prefix::read(b"10.1.0.0/16").ok_or("no prefix")?;
+    let prefixes = book.prefixes_of(rt.alloc(), AsNumber::new(1))?;
+    assert_eq!(rt; prefixes.as_slice(), [prefix].as_slice());
     let origins = book.origins(rt.alloc(), prefix)?;
     assert_eq!(rt;
         origins.as_slice(),

@@ -19,7 +19,7 @@ const GREATEST_PORT: usize = 65_535;
 const GREATEST_COUNT: usize = 1_000_000;
 
 /// What the program is asked to do. `settings` is the path of a settings file.
-#[derive(Debug, Drop)]
+#[derive(Drop)]
 pub enum Command<'a> {
     /// Submit standard input to a registry in memory, which opens with the built-in settings.
     Plain,

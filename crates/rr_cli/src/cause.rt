@@ -9,7 +9,7 @@ use std::io;
 use std::io::ErrorKind;
 
 /// Why the system refused a file or a socket.
-#[derive(Clone, Copy, Debug, PartialEq, Eq)]
+#[derive(Clone, Copy)]
 pub enum Cause {
     /// There is none of that name.
     Missing,
@@ -60,7 +60,7 @@ impl Cause {
 }
 
 /// Why a database could not be opened.
-#[derive(Clone, Copy, Debug, PartialEq, Eq)]
+#[derive(Clone, Copy)]
 pub enum DatabaseCause {
     /// The file is missing.
     Missing,

@@ -1,21 +1,51 @@
-//! Databases in files.
+//! Databases in files, and what is done in them.
 
 ghost use Rattle.std.specs.Prelude.{◌≡◌, IfOk, false};
 
 use crate::cause::DatabaseCause;
-use crate::fault::ProgramFault;
-use crate::progress::Opening;
-use crate::settings_reading::read_settings_file;
 use crate::trouble::Trouble;
-use rr_desk::{Desk, Settings};
-use sqlite::Connection;
+use sqlite::{Alter, Connection};
 use sqlite_std_file::File;
 use sqlite_store::FileStore;
 use std::fs;
 use std::io::ErrorKind;
 
+/// What is done in a database, wherever that is kept.
+pub trait DatabaseTask {
+    /// Does it, and gives the connection back, with the status or what went wrong.
+    fn perform<S: Alter>(self, conn: Connection<S>) -> (Connection<S>, Result<u8, Trouble>)
+        requires { conn.in_transaction ≡ false };
+}
+
+/// Does a task in the database at a path. What can go wrong is that there is no file, that it cannot be opened, and what
+/// goes wrong in the task.
+pub fn perform_in<T: DatabaseTask + Drop>(
+    rt: &HostRuntime,
+    store: &str,
+    task: T,
+) -> Result<u8, Trouble> {
+    if is_missing(rt, store) {
+        Err(Trouble::Database(DatabaseCause::Missing))
+    } else {
+        perform_making(rt, store, task)
+    }
+}
+
+/// Does a task in the database at a path, whose file is made where there is none. What can go wrong is that it cannot be
+/// opened or made, and what goes wrong in the task.
+pub fn perform_making<T: DatabaseTask + Drop>(
+    rt: &HostRuntime,
+    store: &str,
+    task: T,
+) -> Result<u8, Trouble> {
+    match open_or_make(rt, store) {
+        Ok(conn) => perform_over(conn, task),
+        Err(trouble) => Err(trouble),
+    }
+}
+
 /// Opens the database at a path, and makes the file where there is none.
-pub fn open_or_make(rt: &HostRuntime, store: &str) -> Result<Connection<FileStore<File>>, Trouble>
+fn open_or_make(rt: &HostRuntime, store: &str) -> Result<Connection<FileStore<File>>, Trouble>
     ensures { IfOk result (λ conn. conn.in_transaction ≡ false) }
 {
     match Connection::open(rt, store) {
@@ -24,63 +54,28 @@ pub fn open_or_make(rt: &HostRuntime, store: &str) -> Result<Connection<FileStor
     }
 }
 
-/// Opens the database at a path where there is a file.
-pub fn open_database(rt: &HostRuntime, store: &str) -> Result<Connection<FileStore<File>>, Trouble>
-    ensures { IfOk result (λ conn. conn.in_transaction ≡ false) }
+/// Does a task in a database, and closes that. What the commits left in its log goes into its file; where that fails it stays
+/// in the log, from which the next opening takes it.
+fn perform_over<T: DatabaseTask>(conn: Connection<FileStore<File>>, task: T) -> Result<u8, Trouble>
+    requires { conn.in_transaction ≡ false }
 {
-    match fs::metadata(rt, store) {
-        Err(error) if error.kind() == ErrorKind::NotFound => {
-            Err(Trouble::Database(DatabaseCause::Missing))
-        }
-        _ => open_or_make(rt, store),
-    }
-}
-
-/// Closes a database. What the commits left in its log goes into its file; where that fails it stays in the log, from which the
-/// next opening takes it.
-pub fn close(conn: Connection<FileStore<File>>) {
+    let (conn, answer) = task.perform(conn);
     let _ = conn.close();
+    answer
 }
 
-/// Opens the desk of the registry that the settings file names. The fault is about that file, or about the database.
-pub fn open_desk<'a>(
-    rt: &HostRuntime,
-    settings: &'a str,
-) -> Result<(Desk<FileStore<File>>, String), ProgramFault<'a>>
-    ensures { IfOk result (λ opened. opened.0.stored.stopped ≡ false) }
-{
-    let (read, store) = read_settings_file(rt, settings)?;
-    let opening = Opening::begin(rt, size_of(rt, store.as_str()));
-    let opened = open_desk_at(rt, read, store.as_str());
-    opening.end();
-    match opened {
-        Ok(desk) => Ok((desk, store)),
-        Err(trouble) => Err(ProgramFault::named(store, trouble)),
+/// Whether there is no file at a path; where that cannot be told, its opening says why.
+fn is_missing(rt: &HostRuntime, store: &str) -> bool {
+    match fs::metadata(rt, store) {
+        Ok(_) => false,
+        Err(error) => error.kind() == ErrorKind::NotFound,
     }
 }
 
 /// How many bytes the file at a path has; none where that cannot be told.
-fn size_of(rt: &HostRuntime, store: &str) -> u64 {
+pub fn size_of(rt: &HostRuntime, store: &str) -> u64 {
     match fs::metadata(rt, store) {
         Ok(found) => found.len(),
         Err(_) => 0,
-    }
-}
-
-/// Opens the desk of the registry in the database at a path.
-fn open_desk_at(
-    rt: &HostRuntime,
-    settings: Settings,
-    store: &str,
-) -> Result<Desk<FileStore<File>>, Trouble>
-    ensures { IfOk result (λ desk. desk.stored.stopped ≡ false) }
-{
-    let conn = open_database(rt, store)?;
-    match Desk::open(rt.alloc(), conn, settings) {
-        Ok(desk) => Ok(desk),
-        Err((fault, conn)) => {
-            close(conn);
-            Err(Trouble::Opening(fault))
-        }
     }
 }

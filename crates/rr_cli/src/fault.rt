@@ -12,7 +12,7 @@ use rr_io::{Sink, write_all, write_pieces};
 use std::io;
 
 /// What a fault is about.
-#[derive(Debug, Drop)]
+#[derive(Drop)]
 pub enum About<'a> {
     /// Nothing that has a name.
     Nothing,
@@ -23,7 +23,7 @@ pub enum About<'a> {
 }
 
 /// Why the program fails: what it is about, and what went wrong with it.
-#[derive(Debug, Drop)]
+#[derive(Drop)]
 pub struct ProgramFault<'a> {
     about: About<'a>,
     trouble: Trouble,

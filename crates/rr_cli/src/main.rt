@@ -5,6 +5,7 @@ mod arguments;
 mod cause;
 mod commands;
 mod database;
+mod desk_task;
 mod fault;
 mod help;
 mod listener;

@@ -18,7 +18,7 @@ const CLEARED: &[u8] = b"\r\x1b[K";
 const LARGE: u64 = 8_388_608;
 
 /// What is counted of the bytes that pass.
-#[derive(Clone, Copy, Debug, PartialEq, Eq)]
+#[derive(Clone, Copy)]
 pub enum Things {
     /// The items of a report: each has a line, and the last line, which begins with `%`, is that of none.
     Items,
@@ -284,8 +284,9 @@ impl<'a> Opening<'a> {
     }
 
     /// Takes the line away.
-    pub fn end(self) {
+    pub fn end(&mut self) {
         if self.is_shown {
+            self.is_shown = false;
             let _ = self.rt.stderr().write_all(CLEARED);
         }
     }

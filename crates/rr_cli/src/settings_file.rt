@@ -12,7 +12,7 @@ use std::alloc::{AllocError, Global};
 use toml::Table;
 
 /// A key of the settings.
-#[derive(Clone, Copy, Debug, PartialEq, Eq)]
+#[derive(Clone, Copy)]
 pub enum SettingKey {
     /// The name of the registry.
     Source,
@@ -54,7 +54,7 @@ impl SettingKey {
 }
 
 /// Why a text is no settings.
-#[derive(Clone, Copy, Debug, PartialEq, Eq)]
+#[derive(Clone, Copy)]
 pub enum SettingsFault {
     /// The text is no TOML.
     BadToml,

@@ -27,7 +27,7 @@ const VERSION: u32 = 2;
 const OLD_VERSION: u32 = 1;
 
 /// What went wrong.
-#[derive(Clone, Copy, Debug, PartialEq, Eq)]
+#[derive(Clone, Copy)]
 pub enum Trouble {
     /// The arguments are none of a command.
     BadWords,

@@ -7,7 +7,7 @@ ghost use Rattle.rr_store.specs.Kept.{IsLeft};
 ghost use Rattle.rr_desk.specs.Opened.{HasOpeningRows};
 ghost use Rattle.rr_cli.specs.Created.{Creates};
 
-use crate::database::{close, open_or_make};
+use crate::database::{DatabaseTask, perform_making};
 use crate::fault::ProgramFault;
 use crate::output::{STANDARD_OUTPUT, tell};
 use crate::settings_reading::read_settings_file;
@@ -24,7 +24,12 @@ pub fn init<'a, W: Sink>(
     output: &mut W,
 ) -> Result<u8, ProgramFault<'a>> {
     let (read, store) = read_settings_file(rt, settings)?;
-    match create_at(rt, read, store.as_str(), output) {
+    let creation = Creation {
+        alloc: rt.alloc(),
+        settings: read,
+        output,
+    };
+    match perform_making(rt, store.as_str(), creation) {
         Ok(status) => Ok(status),
         Err(trouble) => Err(located(trouble, store)),
     }
@@ -39,17 +44,23 @@ fn located<'a>(trouble: Trouble, store: String) -> ProgramFault<'a> {
     }
 }
 
-/// Makes a registry in the database at a path.
-fn create_at<W: Sink>(
-    rt: &HostRuntime,
+/// The making of the registry that opens with these settings, of which this writer is told.
+#[derive(Drop)]
+struct Creation<'a, W> {
+    alloc: Global,
     settings: Settings,
-    store: &str,
-    output: &mut W,
-) -> Result<u8, Trouble> {
-    let conn = open_or_make(rt, store)?;
-    let (conn, answer) = create_to(rt.alloc(), conn, settings, output);
-    close(conn);
-    answer
+    output: &'a mut W,
+}
+
+impl<W: Sink> DatabaseTask for Creation<'_, W> {
+    fn perform<S: Alter>(self, conn: Connection<S>) -> (Connection<S>, Result<u8, Trouble>) {
+        let Creation {
+            alloc,
+            settings,
+            output,
+        } = self;
+        create_to(alloc, conn, settings, output)
+    }
 }
 
 /// Makes the registry that opens with these settings in a database, and writes that it did. The connection is given back.

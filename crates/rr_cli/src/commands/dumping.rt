@@ -4,10 +4,11 @@ ghost use Rattle.std.specs.Prelude.{◌≡◌, false};
 ghost use Rattle.rr_answer.specs.Dumps as dumps;
 ghost use Rattle.rr_cli.specs.Dumped.{HasDumped};
 
-use crate::database::{close, open_desk};
+use crate::desk_task::{DeskTask, perform_at_desk};
 use crate::fault::ProgramFault;
 use crate::output::STANDARD_OUTPUT;
 use crate::progress::{Progress, Things};
+use crate::settings_reading::read_settings_file;
 use crate::trouble::Trouble;
 use rr_desk::{Desk, DumpFault};
 use rr_io::Sink;
@@ -22,12 +23,9 @@ pub fn dump<'a, W: Sink>(
     full: bool,
     output: &mut W,
 ) -> Result<u8, ProgramFault<'a>> {
-    let (desk, store) = open_desk(rt, settings)?;
-    let mut report = Progress::new(rt, Things::Objects, output);
-    let answer = dump_to(rt.alloc(), &desk, full, &mut report);
-    report.end();
-    close(desk.close());
-    match answer {
+    let (read, store) = read_settings_file(rt, settings)?;
+    let dumping = Dumping { rt, full, output };
+    match perform_at_desk(rt, read, store.as_str(), dumping) {
         Ok(status) => Ok(status),
         Err(trouble) => Err(located(trouble, store)),
     }
@@ -37,8 +35,28 @@ pub fn dump<'a, W: Sink>(
 fn located<'a>(trouble: Trouble, store: String) -> ProgramFault<'a> {
     match trouble {
         Trouble::Dumping(DumpFault::Write) => ProgramFault::of(STANDARD_OUTPUT, trouble),
-        Trouble::Dumping(DumpFault::Stopped) => ProgramFault::named(store, trouble),
+        Trouble::Database(_) | Trouble::Opening(_) | Trouble::Dumping(DumpFault::Stopped) => {
+            ProgramFault::named(store, trouble)
+        }
         _ => ProgramFault::plain(trouble),
+    }
+}
+
+/// A dump of all of each object or of the public forms, for this writer.
+#[derive(Drop)]
+struct Dumping<'a, 'b, W> {
+    rt: &'a HostRuntime,
+    full: bool,
+    output: &'b mut W,
+}
+
+impl<W: Sink> DeskTask for Dumping<'_, '_, W> {
+    fn perform<S: Alter>(self, desk: &mut Desk<S>) -> Result<u8, Trouble> {
+        let Dumping { rt, full, output } = self;
+        let mut report = Progress::new(rt, Things::Objects, output);
+        let answer = dump_to(rt.alloc(), desk, full, &mut report);
+        report.end();
+        answer
     }
 }
 

@@ -11,7 +11,7 @@ ghost use Rattle.rr_cli.specs.Printed.{Tells};
 
 use crate::commands::files::open_file;
 use crate::commands::places::about_paragraph;
-use crate::database::{close, open_or_make};
+use crate::database::{DatabaseTask, perform_making};
 use crate::fault::ProgramFault;
 use crate::output::{STANDARD_OUTPUT, tell};
 use crate::progress::{Progress, Reading, Things};
@@ -24,6 +24,7 @@ use rr_io::{Counted, Sink, Source, write_pieces};
 use rr_registry::Registry;
 use sqlite::{Alter, Connection};
 use std::alloc::{AllocError, Global};
+use std::fs::File;
 
 /// Makes the registry of a dump in the database that the settings name, which is to be new or without rows, and says how many
 /// objects it has.
@@ -34,7 +35,13 @@ pub fn load<'a, W: Sink>(
     output: &mut W,
 ) -> Result<u8, ProgramFault<'a>> {
     let (read, store) = read_settings_file(rt, settings)?;
-    match load_file(rt, read, store.as_str(), file, output) {
+    let loading = Loading {
+        rt,
+        settings: read,
+        file,
+        output,
+    };
+    match perform_making(rt, store.as_str(), loading) {
         Ok(status) => Ok(status),
         Err(trouble) => Err(located(rt, trouble, file, store)),
     }
@@ -61,30 +68,46 @@ fn located<'a>(
     }
 }
 
-/// Loads the dump in a file into the database at a path.
-fn load_file<W: Sink>(
-    rt: &HostRuntime,
+/// The load of the dump in a file, whose source these settings say, and of which this writer is told.
+#[derive(Drop)]
+struct Loading<'a, 'b, W> {
+    rt: &'a HostRuntime,
     settings: Settings,
-    store: &str,
-    file: &str,
-    output: &mut W,
-) -> Result<u8, Trouble> {
-    let conn = open_or_make(rt, store)?;
-    match open_file(rt, file) {
-        Ok(file) => {
-            let mut reader = Counted::new(file);
-            let mut reading = Reading::new(rt, &mut reader);
-            let mut report = Progress::behind(rt, output);
-            let (conn, answer) = load_to(rt.alloc(), conn, settings, &mut reading, &mut report);
-            reading.end();
-            close(conn);
-            answer
-        }
-        Err(trouble) => {
-            close(conn);
-            Err(trouble)
+    file: &'a str,
+    output: &'b mut W,
+}
+
+impl<W: Sink> DatabaseTask for Loading<'_, '_, W> {
+    fn perform<S: Alter>(self, conn: Connection<S>) -> (Connection<S>, Result<u8, Trouble>) {
+        let Loading {
+            rt,
+            settings,
+            file,
+            output,
+        } = self;
+        match open_file(rt, file) {
+            Ok(file) => load_file(rt, conn, settings, file, output),
+            Err(trouble) => (conn, Err(trouble)),
         }
     }
+}
+
+/// Loads the dump in a file into a database, whose connection is given back.
+fn load_file<S: Alter, W: Sink>(
+    rt: &HostRuntime,
+    conn: Connection<S>,
+    settings: Settings,
+    file: File,
+    output: &mut W,
+) -> (Connection<S>, Result<u8, Trouble>)
+    requires { conn.in_transaction ≡ false }
+{
+    let mut reader = Counted::new(file);
+    let mut reading = Reading::new(rt, &mut reader);
+    let mut report = Progress::behind(rt, output);
+    let loaded = load_to(rt.alloc(), conn, settings, &mut reading, &mut report);
+    reading.end();
+    loaded
 }
 
 /// Makes the registry of the dump that a reader gives in a database, and writes how many objects it has. The connection is

@@ -7,7 +7,7 @@ ghost use Rattle.rr_store.specs.Kept.{IsLeft};
 ghost use Rattle.rr_store.specs.Migrating.{IsMigrated};
 ghost use Rattle.rr_cli.specs.Migrated.{Migrates};
 
-use crate::database::{close, open_database};
+use crate::database::{DatabaseTask, perform_in};
 use crate::fault::ProgramFault;
 use crate::output::{STANDARD_OUTPUT, tell};
 use crate::settings_reading::read_settings_file;
@@ -24,7 +24,12 @@ pub fn migrate<'a, W: Sink>(
     output: &mut W,
 ) -> Result<u8, ProgramFault<'a>> {
     let (read, store) = read_settings_file(rt, settings)?;
-    match migrate_at(rt, read, store.as_str(), output) {
+    let migration = Migration {
+        alloc: rt.alloc(),
+        settings: read,
+        output,
+    };
+    match perform_in(rt, store.as_str(), migration) {
         Ok(status) => Ok(status),
         Err(trouble) => Err(located(trouble, store)),
     }
@@ -39,17 +44,23 @@ fn located<'a>(trouble: Trouble, store: String) -> ProgramFault<'a> {
     }
 }
 
-/// Migrates the database at a path.
-fn migrate_at<W: Sink>(
-    rt: &HostRuntime,
+/// The migration to tables of which these settings say the source and the root, and of which this writer is told.
+#[derive(Drop)]
+struct Migration<'a, W> {
+    alloc: Global,
     settings: Settings,
-    store: &str,
-    output: &mut W,
-) -> Result<u8, Trouble> {
-    let conn = open_database(rt, store)?;
-    let (conn, answer) = migrate_to(rt.alloc(), conn, settings, output);
-    close(conn);
-    answer
+    output: &'a mut W,
+}
+
+impl<W: Sink> DatabaseTask for Migration<'_, W> {
+    fn perform<S: Alter>(self, conn: Connection<S>) -> (Connection<S>, Result<u8, Trouble>) {
+        let Migration {
+            alloc,
+            settings,
+            output,
+        } = self;
+        migrate_to(alloc, conn, settings, output)
+    }
 }
 
 /// Migrates the tables of version 1 of a database, and writes that it did. The connection is given back.

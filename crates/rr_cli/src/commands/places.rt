@@ -5,7 +5,7 @@ ghost use Rattle.std.specs.Prelude.{◌≤◌, length};
 use crate::commands::files::open_file;
 use crate::fault::ProgramFault;
 use crate::trouble::Trouble;
-use rr_io::Counted;
+use rr_io::{Counted, Source};
 use rr_object::{Key, key_of};
 use rr_text::{Paragraphs, TextFault, next_paragraph};
 use std::alloc::Global;
@@ -59,15 +59,29 @@ fn find_paragraph(alloc: Global, lines: &mut Lines, number: u64) -> Option<Optio
     let mut paragraphs = Paragraphs::new(alloc).ok()?;
     let mut found = None;
     for _ in 0..number {
-        found = next_key(alloc, &mut paragraphs, lines)?;
+        found = next_of_file(alloc, &mut paragraphs, lines)?;
     }
     Some(found)
 }
 
-/// Reads the next paragraph, and gives its key, where it has one; `None` at the end, or where the file cannot be read.
-fn next_key(alloc: Global, paragraphs: &mut Paragraphs, lines: &mut Lines) -> Option<Option<Key>> {
+/// Reads the next paragraph of a file, notes where it begins, and gives its key, where it has one; `None` at the end, or where
+/// the file cannot be read.
+fn next_of_file(
+    alloc: Global,
+    paragraphs: &mut Paragraphs,
+    lines: &mut Lines,
+) -> Option<Option<Key>> {
     lines.begun = None;
-    match paragraphs.next(alloc, &mut Counted::new(lines)) {
+    next_key(alloc, paragraphs, &mut Counted::new(lines))
+}
+
+/// Reads the next paragraph, and gives its key, where it has one; `None` at the end, or where it cannot be read.
+fn next_key<R: Source>(
+    alloc: Global,
+    paragraphs: &mut Paragraphs,
+    reader: &mut R,
+) -> Option<Option<Key>> {
+    match paragraphs.next(alloc, reader) {
         Ok(Some(paragraph)) => Some(key_of(alloc, &paragraph).ok()),
         Ok(None) | Err(TextFault::Read | TextFault::Endless) => None,
         Err(_) => Some(None),

@@ -4,10 +4,11 @@ ghost use Rattle.std.specs.Prelude.{◌≡◌, ◌+◌, ◌<◌, ◌^◌};
 ghost use Rattle.rr_cli.specs.Serving.{reply_status};
 
 use crate::cause::Cause;
-use crate::database::{close, open_desk};
+use crate::desk_task::{DeskTask, perform_at_desk};
 use crate::fault::ProgramFault;
 use crate::listener::Listener;
 use crate::output::print;
+use crate::settings_reading::read_settings_file;
 use crate::trouble::Trouble;
 use rr_desk::{Desk, Peers, serve_all};
 use rr_http::Both;
@@ -32,15 +33,47 @@ pub fn probe<'a, W: Sink>(
     settings: &'a str,
     output: &mut W,
 ) -> Result<u8, ProgramFault<'a>> {
-    let (mut desk, _store) = open_desk(rt, settings)?;
-    let answer = ask_for_root(rt, &mut desk);
-    close(desk.close());
-    match answer {
-        Ok(reply) => {
+    let (read, store) = read_settings_file(rt, settings)?;
+    let mut reply = Vec::new(rt.alloc());
+    let probing = Probing {
+        rt,
+        reply: &mut reply,
+    };
+    match perform_at_desk(rt, read, store.as_str(), probing) {
+        Ok(status) => {
             print(output, reply.as_slice())?;
-            Ok(reply_status(reply.as_slice()))
+            Ok(status)
         }
-        Err(trouble) => Err(ProgramFault::plain(trouble)),
+        Err(trouble) => Err(located(trouble, store)),
+    }
+}
+
+/// A fault of a probe, about the database where that is not opened.
+fn located<'a>(trouble: Trouble, store: String) -> ProgramFault<'a> {
+    match trouble {
+        Trouble::Database(_) | Trouble::Opening(_) => ProgramFault::named(store, trouble),
+        _ => ProgramFault::plain(trouble),
+    }
+}
+
+/// The question, whose reply is kept here.
+#[derive(Drop)]
+struct Probing<'a, 'b> {
+    rt: &'a HostRuntime,
+    reply: &'b mut Vec<u8>,
+}
+
+impl DeskTask for Probing<'_, '_> {
+    fn perform<S: Alter>(self, desk: &mut Desk<S>) -> Result<u8, Trouble> {
+        let Probing { rt, reply } = self;
+        match ask_for_root(rt, desk) {
+            Ok(read) => {
+                let status = reply_status(read.as_slice());
+                *reply = read;
+                Ok(status)
+            }
+            Err(trouble) => Err(trouble),
+        }
     }
 }
 
@@ -64,14 +97,21 @@ fn serve_asked<S: Alter, P: Peers>(
 ) -> Result<Vec<u8>, Trouble>
     requires { P.counted peers.old + 1 < 2 ^ 64 }
 {
-    let served = serve_all(alloc, desk, peers, &Both, 1);
-    if served.failed > 0 {
-        return Err(Trouble::ProbeFailed(Cause::Other));
+    if is_served(alloc, desk, peers) {
+        match read_reply(alloc, peer) {
+            Ok(reply) => Ok(reply),
+            Err(error) => Err(trouble_of(&error)),
+        }
+    } else {
+        Err(Trouble::ProbeFailed(Cause::Other))
     }
-    match read_reply(alloc, peer) {
-        Ok(reply) => Ok(reply),
-        Err(error) => Err(trouble_of(&error)),
-    }
+}
+
+/// Takes a turn of a listener, and says whether it was served.
+fn is_served<S: Alter, P: Peers>(alloc: Global, desk: &mut Desk<S>, peers: &mut P) -> bool
+    requires { P.counted peers.old + 1 < 2 ^ 64 }
+{
+    serve_all(alloc, desk, peers, &Both, 1).failed == 0
 }
 
 fn trouble_of(error: &io::Error) -> Trouble {

@@ -6,9 +6,10 @@ ghost use Rattle.sqlite.specs.State.{HasCleanDisk};
 ghost use Rattle.rr_desk.specs.Rows.{KeepsRows};
 ghost use Rattle.rr_cli.specs.Asked.{HasAsked, error_status};
 
-use crate::database::{close, open_desk};
+use crate::desk_task::{DeskTask, perform_at_desk};
 use crate::fault::ProgramFault;
 use crate::output::STANDARD_OUTPUT;
+use crate::settings_reading::read_settings_file;
 use crate::trouble::Trouble;
 use rr_desk::{Answered, Desk};
 use rr_io::Sink;
@@ -25,12 +26,42 @@ pub fn query<'a, W: Sink>(
     query: &str,
     output: &mut W,
 ) -> Result<u8, ProgramFault<'a>> {
-    let (mut desk, _store) = open_desk(rt, settings)?;
-    let answer = answer_to(rt.alloc(), &mut desk, query.as_bytes(), output);
-    close(desk.close());
-    match answer {
+    let (read, store) = read_settings_file(rt, settings)?;
+    let asking = Asking {
+        alloc: rt.alloc(),
+        query: query.as_bytes(),
+        output,
+    };
+    match perform_at_desk(rt, read, store.as_str(), asking) {
         Ok(status) => Ok(status),
-        Err(trouble) => Err(ProgramFault::of(STANDARD_OUTPUT, trouble)),
+        Err(trouble) => Err(located(trouble, store)),
+    }
+}
+
+/// A fault of a query, about the database or standard output.
+fn located<'a>(trouble: Trouble, store: String) -> ProgramFault<'a> {
+    match trouble {
+        Trouble::Database(_) | Trouble::Opening(_) => ProgramFault::named(store, trouble),
+        _ => ProgramFault::of(STANDARD_OUTPUT, trouble),
+    }
+}
+
+/// A query, whose answer this writer is given.
+#[derive(Drop)]
+struct Asking<'a, 'b, W> {
+    alloc: Global,
+    query: &'a [u8],
+    output: &'b mut W,
+}
+
+impl<W: Sink> DeskTask for Asking<'_, '_, W> {
+    fn perform<S: Alter>(self, desk: &mut Desk<S>) -> Result<u8, Trouble> {
+        let Asking {
+            alloc,
+            query,
+            output,
+        } = self;
+        answer_to(alloc, desk, query, output)
     }
 }
 

@@ -8,10 +8,11 @@ ghost use Rattle.rr_desk.specs.Rows.{Holds};
 ghost use Rattle.rr_cli.specs.Serving.{HasServed, served_line};
 
 use crate::cause::Cause;
-use crate::database::{close, open_desk};
+use crate::desk_task::{DeskTask, perform_at_desk};
 use crate::fault::ProgramFault;
 use crate::listener::Listener;
 use crate::output::STANDARD_OUTPUT;
+use crate::settings_reading::read_settings_file;
 use crate::trouble::Trouble;
 use itoa::Buffer;
 use rr_desk::{Desk, Peers, Served, Service, serve_all};
@@ -30,24 +31,50 @@ pub fn serve<'a, W: Sink>(
     count: u64,
     output: &mut W,
 ) -> Result<u8, ProgramFault<'a>> {
-    let (mut desk, _store) = open_desk(rt, settings)?;
-    let answer = serve_at(rt, &mut desk, port, count, output);
-    close(desk.close());
-    match answer {
+    let (read, store) = read_settings_file(rt, settings)?;
+    let serving = Serving {
+        rt,
+        port,
+        count,
+        output,
+    };
+    match perform_at_desk(rt, read, store.as_str(), serving) {
         Ok(status) => Ok(status),
-        Err(trouble) => Err(located(rt.alloc(), trouble, port)),
+        Err(trouble) => Err(located(rt.alloc(), trouble, store, port)),
     }
 }
 
-/// A fault of serving, about standard output or the address.
-fn located<'a>(alloc: Global, trouble: Trouble, port: u16) -> ProgramFault<'a> {
+/// A fault of serving, about the database, standard output or the address.
+fn located<'a>(alloc: Global, trouble: Trouble, store: String, port: u16) -> ProgramFault<'a> {
     match trouble {
+        Trouble::Database(_) | Trouble::Opening(_) => ProgramFault::named(store, trouble),
         Trouble::Unwritten => ProgramFault::of(STANDARD_OUTPUT, trouble),
         Trouble::ListenerUnopened(_) => match format!(in alloc; "127.0.0.1:{port}") {
             Ok(address) => ProgramFault::named(address, trouble),
             Err(_) => ProgramFault::plain(trouble),
         },
         _ => ProgramFault::plain(trouble),
+    }
+}
+
+/// The serving of so many connections to this port, of which this writer is told.
+#[derive(Drop)]
+struct Serving<'a, 'b, W> {
+    rt: &'a HostRuntime,
+    port: u16,
+    count: u64,
+    output: &'b mut W,
+}
+
+impl<W: Sink> DeskTask for Serving<'_, '_, W> {
+    fn perform<S: Alter>(self, desk: &mut Desk<S>) -> Result<u8, Trouble> {
+        let Serving {
+            rt,
+            port,
+            count,
+            output,
+        } = self;
+        serve_at(rt, desk, port, count, output)
     }
 }
 

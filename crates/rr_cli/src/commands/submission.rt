@@ -10,14 +10,15 @@ ghost use Rattle.rr_desk.specs.Settings.{built_in};
 ghost use Rattle.rr_cli.specs.Submitted.{HasSubmitted, RunsPlain, done_status};
 
 use crate::commands::files::open_file;
-use crate::database::{close, open_desk};
+use crate::desk_task::{DeskTask, perform_at_desk};
 use crate::fault::ProgramFault;
 use crate::output::STANDARD_OUTPUT;
 use crate::progress::{Progress, Things};
+use crate::settings_reading::read_settings_file;
 use crate::trouble::Trouble;
 use rr_desk::{Desk, DeskFault, Done, Settings};
 use rr_io::{Counted, Sink, Source};
-use sqlite::{Alter, Connection, MemStore};
+use sqlite::{Alter, Connection};
 use std::alloc::Global;
 
 /// The status where an item was refused.
@@ -57,10 +58,9 @@ pub fn submit<'a, W: Sink>(
     file: &'a str,
     output: &mut W,
 ) -> Result<u8, ProgramFault<'a>> {
-    let (mut desk, store) = open_desk(rt, settings)?;
-    let answer = submit_file(rt, &mut desk, file, output);
-    close(desk.close());
-    match answer {
+    let (read, store) = read_settings_file(rt, settings)?;
+    let submission = Submission { rt, file, output };
+    match perform_at_desk(rt, read, store.as_str(), submission) {
         Ok(status) => Ok(status),
         Err(trouble) => Err(located(trouble, file, store)),
     }
@@ -72,11 +72,28 @@ fn located<'a>(trouble: Trouble, file: &'a str, store: String) -> ProgramFault<'
         Trouble::Submission(DeskFault::WriteFault { .. }) => {
             ProgramFault::of(STANDARD_OUTPUT, trouble)
         }
-        Trouble::Submission(DeskFault::StoreFault { .. } | DeskFault::Stopped) => {
+        Trouble::Database(_)
+        | Trouble::Opening(_)
+        | Trouble::Submission(DeskFault::StoreFault { .. } | DeskFault::Stopped) => {
             ProgramFault::named(store, trouble)
         }
         Trouble::Submission(DeskFault::Memory) | Trouble::Memory => ProgramFault::plain(trouble),
         _ => ProgramFault::of(file, trouble),
+    }
+}
+
+/// The submission of a file, whose report this writer is given.
+#[derive(Drop)]
+struct Submission<'a, 'b, W> {
+    rt: &'a HostRuntime,
+    file: &'a str,
+    output: &'b mut W,
+}
+
+impl<W: Sink> DeskTask for Submission<'_, '_, W> {
+    fn perform<S: Alter>(self, desk: &mut Desk<S>) -> Result<u8, Trouble> {
+        let Submission { rt, file, output } = self;
+        submit_file(rt, desk, file, output)
     }
 }
 
@@ -104,20 +121,34 @@ fn submit_plain<R: Source, W: Sink>(
 ) -> Result<u8, Trouble>
     ensures { RunsPlain over_memory (R.told input.old) (R.told input.new) (W.told output.old) (W.told output.new) result }
 {
-    let mut desk = plain_desk(alloc)?;
+    match Connection::open_in_memory(alloc) {
+        Ok(conn) => submit_new(alloc, conn, input, output),
+        Err(_) => Err(Trouble::Memory),
+    }
+}
+
+/// Submits `input` to a new desk over a database with nothing in it, which is let go then.
+fn submit_new<S: Alter + Drop, R: Source, W: Sink>(
+    alloc: Global,
+    conn: Connection<S>,
+    input: &mut R,
+    output: &mut W,
+) -> Result<u8, Trouble>
+    requires { conn.in_transaction ≡ false }
+    ensures { RunsPlain S.Store (R.told input.old) (R.told input.new) (W.told output.old) (W.told output.new) result }
+{
+    let mut desk = plain_desk(alloc, conn)?;
     submit_to(alloc, &mut desk, input, output)
 }
 
-/// A new desk over a database in memory.
-fn plain_desk(alloc: Global) -> Result<Desk<MemStore>, Trouble>
+/// A new desk with the built-in settings over a database with nothing in it.
+fn plain_desk<S: Alter + Drop>(alloc: Global, conn: Connection<S>) -> Result<Desk<S>, Trouble>
+    requires { conn.in_transaction ≡ false }
     ensures running { IfOk result (λ desk. desk.stored.stopped ≡ false) }
     ensures settings { IfOk result (λ desk. desk.settings ≡ built_in) }
     ensures opened { IfOk result (λ desk. IsOpened built_in desk.stored.registry) }
 {
     let Ok(settings) = Settings::built_in(alloc) else {
-        return Err(Trouble::Memory);
-    };
-    let Ok(conn) = Connection::open_in_memory(alloc) else {
         return Err(Trouble::Memory);
     };
     match Desk::create(alloc, conn, settings) {

@@ -13,7 +13,7 @@ use std::time::Duration;
 const LONGEST_WAIT: u64 = 10;
 
 /// How much of its time a peer has taken. Time passes while a call waits for the peer, and not while the desk works.
-#[derive(Clone, Copy, Debug)]
+#[derive(Clone, Copy)]
 pub struct Deadline {
     taken: Duration,
     timeout: Option<Duration>,

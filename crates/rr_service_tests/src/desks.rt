@@ -2,10 +2,14 @@
 ghost use Rattle.std.specs.Prelude.{◌≡◌, false, IfOk};
 
 use crate::texts::full_dump;
-use rr_desk::{CreateFault, Desk, DeskFault, Done, DumpFault, OpenFault, Settings};
-use rr_io::{Counted, Cut};
+use rr_desk::{
+    ConnFault, CreateFault, Desk, DeskFault, Done, DumpFault, MemoryInput, MemoryPeers, OpenFault,
+    Served, Settings, serve_all,
+};
+use rr_http::{Both, Registrar, serve_one};
+use rr_io::{Counted, Cut, Joined};
 use sqlite::{Alter, Connection, MemStore};
-use std::alloc::Global;
+use std::alloc::{AllocError, Global};
 use std::process::Abort;
 use std::test::Fail;
 
@@ -27,6 +31,17 @@ pub trait Office: Sized {
 
     /// What is answered to the full dump, and the bytes of it.
     fn dumped(&self, alloc: Global) -> (Result<usize, DumpFault>, Vec<u8>);
+
+    /// How the serving of a connection ends, and what it is answered.
+    fn served(&mut self, alloc: Global, input: MemoryInput<'_>) -> (Result<(), ConnFault>, Vec<u8>);
+
+    /// Takes so many turns of these connections: how many were served and failed, and the connections.
+    fn turned<'a>(
+        &mut self,
+        alloc: Global,
+        inputs: &'a [MemoryInput<'a>],
+        count: u64,
+    ) -> Result<(Served, MemoryPeers<'a>), AllocError>;
 
     /// Whether a fault of the store stopped it.
     fn is_stopped(&self) -> bool;
@@ -67,6 +82,25 @@ impl<S: Alter + Drop> Office for Desk<S> {
         (count, writer.into_inner())
     }
 
+    fn served(
+        &mut self,
+        alloc: Global,
+        input: MemoryInput<'_>,
+    ) -> (Result<(), ConnFault>, Vec<u8>) {
+        connected(alloc, self, input)
+    }
+
+    fn turned<'a>(
+        &mut self,
+        alloc: Global,
+        inputs: &'a [MemoryInput<'a>],
+        count: u64,
+    ) -> Result<(Served, MemoryPeers<'a>), AllocError> {
+        let mut peers = MemoryPeers::new(alloc, inputs)?;
+        let served = serve_all(alloc, self, &mut peers, &Both, count);
+        Ok((served, peers))
+    }
+
     fn is_stopped(&self) -> bool {
         self.stopped()
     }
@@ -85,6 +119,21 @@ impl<S: Alter + Drop> Office for Desk<S> {
             Err((fault, _conn)) => Ok(Some(fault)),
         }
     }
+}
+
+/// How the serving of a connection ends, and what it is answered.
+fn connected<D: Registrar>(
+    alloc: Global,
+    desk: &mut D,
+    input: MemoryInput<'_>,
+) -> (Result<(), ConnFault>, Vec<u8>) {
+    let step = input.step.max(1);
+    let reader = Cut::new(Counted::new(input.bytes), step, input.reads);
+    let writer = Cut::new(Counted::new(Vec::new(alloc)), step, input.writes);
+    let mut connection = Joined::new(reader, writer);
+    let answer = serve_one(alloc, desk, &mut connection);
+    let (_, writer) = connection.into_parts();
+    (answer, writer.into_inner().into_inner())
 }
 
 /// The desk, or why it is not opened.
@@ -126,7 +175,7 @@ fn opened<S: Alter + Drop>(alloc: Global, conn: Connection<S>) -> Result<Desk<S>
 }
 
 /// A new desk in this database.
-fn created<S: Alter + Drop>(alloc: Global, conn: Connection<S>) -> Result<Desk<S>, Fail> {
+pub fn created<S: Alter + Drop>(alloc: Global, conn: Connection<S>) -> Result<Desk<S>, Fail> {
     let settings = Settings::built_in(alloc)?;
     match Desk::create(alloc, settled(conn)?, settings) {
         Ok(desk) => Ok(desk),

@@ -1,12 +1,10 @@
 //! Whole connections, and the bytes that answer them. What is expected comes from the rules, read by hand.
-use crate::connections::{
-    ending, expect_reply, expect_served, fused, given, opened, refusal, stopped,
-};
-use rr_desk::{ConnFault, Desk, MemoryInput, MemoryPeers, MemoryTurn, Peers, Served, serve_all};
-use rr_http::{Both, Registrar};
-use sqlite::{Alter, Files};
-use sqlite_disk::Disk;
-use std::alloc::Global;
+use crate::connections::{ending, expect_reply, expect_served, given, refusal};
+use crate::desks::{Office, expect_text, new_desk};
+use crate::stopped::{fused_desk, stop};
+use crate::texts::TEN;
+use rr_desk::{ConnFault, MemoryInput, MemoryTurn, Peers, Served};
+use std::alloc::{AllocError, Global};
 use std::process::Abort;
 use std::test::Fail;
 
@@ -38,8 +36,15 @@ const THREE_REPORT: &str = "\
 % items 3
 ";
 
-/// The public text of the inetnum, as an answer.
-const TEN: &str = "inetnum:        10.0.0.0/8\nmnt-by:         ROOT-MNT\nsource:         TEST\n\n";
+/// The reply to it where 150 bytes come.
+const BEGUN: &str = "\
+HTTP/1.1 200 OK\r
+Content-Type: text/plain\r
+Connection: close\r
+\r
+1 inetnum 10.0.0.0 - 10.255.255.255: added
+% read fault after 1 items
+";
 
 /// The public text of the root, as an answer.
 const ROOT: &str = "\
@@ -95,11 +100,64 @@ mnt-by: ROOT-MNT
 source: TEST
 ";
 
-/// The report on it.
-const TWO_REPORT: &str = "\
+/// The reply to it.
+const TWO_REPLY: &str = "\
+HTTP/1.1 200 OK\r
+Content-Type: text/plain\r
+Connection: close\r
+\r
 1 inetnum 10.0.0.0 - 10.255.255.255: refused E11
 2 aut-num AS1: refused E11
 % items 2
+";
+
+/// The reply where its first paragraph does not come whole.
+const NONE_REPLY: &str = "\
+HTTP/1.1 200 OK\r
+Content-Type: text/plain\r
+Connection: close\r
+\r
+% read fault after 0 items
+";
+
+/// The reply where its first paragraph comes whole, and its second does not.
+const ONE_REPLY: &str = "\
+HTTP/1.1 200 OK\r
+Content-Type: text/plain\r
+Connection: close\r
+\r
+1 inetnum 10.0.0.0 - 10.255.255.255: refused E11
+% read fault after 1 items
+";
+
+/// The reply to a head without its end.
+const BAD_REQUEST: &str = "\
+HTTP/1.1 400 Bad Request\r
+Content-Type: text/plain\r
+Content-Length: 16\r
+Connection: close\r
+\r
+400 Bad Request
+";
+
+/// The reply to a target that is no page.
+const NOT_FOUND: &str = "\
+HTTP/1.1 404 Not Found\r
+Content-Type: text/plain\r
+Content-Length: 14\r
+Connection: close\r
+\r
+404 Not Found
+";
+
+/// The reply to a head of too many bytes.
+const TOO_LARGE: &str = "\
+HTTP/1.1 431 Request Header Fields Too Large\r
+Content-Type: text/plain\r
+Content-Length: 36\r
+Connection: close\r
+\r
+431 Request Header Fields Too Large
 ";
 
 /// Requests that are refused, each with its status, its reason and the field that allows a method.
@@ -154,7 +212,7 @@ const REFUSED: &[(&str, &str, &str)] = &[
 ];
 
 /// Asserts that these requests are refused so.
-fn expect_refusals<D: Registrar, R: Abort + AllocGlobal>(
+fn expect_refusals<D: Office, R: Abort + AllocGlobal>(
     rt: &R,
     desk: &mut D,
     cases: &[(&str, &str, &str)],
@@ -168,31 +226,30 @@ fn expect_refusals<D: Registrar, R: Abort + AllocGlobal>(
 
 #[test]
 fn a_request_is_refused_by_the_first_status_that_holds(rt: HostRuntime) -> Result<(), Fail> {
-    expect_refusals(&rt, &mut opened(rt.alloc())?, REFUSED)
+    expect_refusals(&rt, &mut new_desk(rt.alloc())?, REFUSED)
 }
 
-/// The text with this byte behind it, up to so many bytes.
-fn filled(alloc: Global, text: &[u8], byte: u8, size: usize) -> Result<Vec<u8>, Fail> {
-    let mut filled = Vec::from_slice(alloc, text)?;
-    filled.resize(size, byte)?;
-    Ok(filled)
-}
+/// Fronts with a byte that stands behind them up to a size, and the replies: heads of 8,192 bytes without their end and
+/// of a byte less, and such a line.
+const LONG: &[(&str, u8, usize, &str)] = &[
+    ("GET /dump HTTP/1.1\r\nA: ", b'b', 8_192, TOO_LARGE),
+    ("GET /dump HTTP/1.1\r\nA: ", b'b', 8_191, BAD_REQUEST),
+    ("", b'a', 8_192, "% error 2\n"),
+];
 
-/// Asserts what is replied to a head of 8,192 bytes, to one of a byte less, and to such a line.
-fn expect_large<D: Registrar, R: Abort + AllocGlobal>(rt: &R, desk: &mut D) -> Result<(), Fail> {
-    let mut head = filled(rt.alloc(), b"GET /dump HTTP/1.1\r\nA: ", b'b', 8_192)?;
-    let large = refusal(rt.alloc(), "431 Request Header Fields Too Large", "")?;
-    expect_reply(rt, desk, &head, 1, large.as_str())?;
-    head.truncate(8_191);
-    let ended = refusal(rt.alloc(), "400 Bad Request", "")?;
-    expect_reply(rt, desk, &head, 1, ended.as_str())?;
-    let line = filled(rt.alloc(), b"", b'a', 8_192)?;
-    expect_reply(rt, desk, &line, 1, "% error 2\n")
+/// Asserts the replies to what is so long.
+fn expect_long<D: Office, R: Abort + AllocGlobal>(rt: &R, desk: &mut D) -> Result<(), Fail> {
+    for (front, byte, size, reply) in LONG {
+        let mut text = Vec::from_slice(rt.alloc(), front.as_bytes())?;
+        text.resize(*size, *byte)?;
+        expect_reply(rt, desk, &text, 1, reply)?;
+    }
+    Ok(())
 }
 
 #[test]
 fn a_head_of_8192_bytes_without_its_end_is_too_large(rt: HostRuntime) -> Result<(), Fail> {
-    expect_large(&rt, &mut opened(rt.alloc())?)
+    expect_long(&rt, &mut new_desk(rt.alloc())?)
 }
 
 /// Requests in turn, and what is given.
@@ -212,7 +269,7 @@ const GIVEN: &[(&str, &str)] = &[
 ];
 
 /// Asserts what is given to requests.
-fn expect_given<D: Registrar, R: Abort + AllocGlobal>(
+fn expect_given<D: Office, R: Abort + AllocGlobal>(
     rt: &R,
     desk: &mut D,
     cases: &[(&str, &str)],
@@ -226,7 +283,7 @@ fn expect_given<D: Registrar, R: Abort + AllocGlobal>(
 
 #[test]
 fn what_a_request_asks_is_given(rt: HostRuntime) -> Result<(), Fail> {
-    expect_given(&rt, &mut opened(rt.alloc())?, GIVEN)
+    expect_given(&rt, &mut new_desk(rt.alloc())?, GIVEN)
 }
 
 /// Queries as lines and as paths, and their answers.
@@ -240,7 +297,7 @@ const QUERIES: &[(&str, &str, &str)] = &[
 ];
 
 /// Asserts the answer to a query by whois, with each end that a line has.
-fn expect_whois<D: Registrar, R: Abort + AllocGlobal>(
+fn expect_whois<D: Office, R: Abort + AllocGlobal>(
     rt: &R,
     desk: &mut D,
     query: &str,
@@ -254,7 +311,7 @@ fn expect_whois<D: Registrar, R: Abort + AllocGlobal>(
 }
 
 /// Asserts that these queries are answered so by whois and by HTTP.
-fn expect_alike<D: Registrar, R: Abort + AllocGlobal>(
+fn expect_alike<D: Office, R: Abort + AllocGlobal>(
     rt: &R,
     desk: &mut D,
     cases: &[(&str, &str, &str)],
@@ -269,7 +326,7 @@ fn expect_alike<D: Registrar, R: Abort + AllocGlobal>(
 
 #[test]
 fn a_query_is_answered_alike_by_whois_and_http(rt: HostRuntime) -> Result<(), Fail> {
-    expect_alike(&rt, &mut opened(rt.alloc())?, QUERIES)
+    expect_alike(&rt, &mut new_desk(rt.alloc())?, QUERIES)
 }
 
 /// What a stopped desk refuses, and what is refused before.
@@ -294,26 +351,23 @@ const STOPPED: &[(&str, &str, &str)] = &[
     ),
 ];
 
-/// Asserts that a desk which a fault of these files has stopped refuses what asks it, by whois too.
-fn expect_stopped<D: Disk + Drop, R: Abort + AllocGlobal>(
-    rt: &R,
-    files: Files<D>,
-) -> Result<(), Fail> {
-    let mut desk = stopped(rt.alloc(), files)?;
-    expect_refusals(rt, &mut desk, STOPPED)?;
-    expect_reply(rt, &mut desk, b"ROOT-MNT\r\n", 50, "% error 6\n")
+/// Asserts that a desk which a fault stops refuses what asks it, by whois too.
+fn expect_refused<D: Office, R: Abort + AllocGlobal>(rt: &R, desk: &mut D) -> Result<(), Fail> {
+    stop(rt.alloc(), desk)?;
+    expect_refusals(rt, desk, STOPPED)?;
+    expect_reply(rt, desk, b"ROOT-MNT\r\n", 50, "% error 6\n")
 }
 
 #[test]
 fn a_stopped_desk_serves_nothing(rt: HostRuntime) -> Result<(), Fail> {
-    expect_stopped(&rt, fused(rt.alloc(), 100))
+    expect_refused(&rt, &mut fused_desk(rt.alloc())?)
 }
 
 /// The query for the inetnum that is submitted.
 const EXACT: &str = "exact 10.0.0.0/8\r\n";
 
 /// Asserts what a connection that is closed was asked and answered.
-fn expect_turn<R: Abort + AllocGlobal>(
+fn expect_turn<R: Abort>(
     rt: &R,
     turns: &[MemoryTurn<'_>],
     at: usize,
@@ -321,27 +375,25 @@ fn expect_turn<R: Abort + AllocGlobal>(
     answered: &str,
 ) -> Result<(), Fail> {
     let turn = turns.get(at).ok_or("no such turn")?;
-    assert_eq!(rt; str::from_utf8(turn.asked)?, asked);
-    assert_eq!(rt; str::from_utf8(turn.answered.as_slice())?, answered);
-    Ok(())
+    expect_text(rt, turn.asked, asked)?;
+    expect_text(rt, &turn.answered, answered)
 }
 
 /// Asserts what three connections were asked and answered: a submission, a query that could not be read, and a query.
 fn expect_turns<R: Abort + AllocGlobal>(rt: &R, turns: &[MemoryTurn<'_>]) -> Result<(), Fail> {
     assert_eq!(rt; turns.len(), 3);
-    let report = given(rt.alloc(), THREE_REPORT)?;
-    expect_turn(rt, turns, 0, THREE, report.as_str())?;
     expect_turn(rt, turns, 1, EXACT, "")?;
-    expect_turn(rt, turns, 2, EXACT, TEN)
+    expect_turn(rt, turns, 2, EXACT, TEN)?;
+    let report = given(rt.alloc(), THREE_REPORT)?;
+    expect_turn(rt, turns, 0, THREE, report.as_str())
 }
 
 /// Takes so many turns of three connections, of which the second breaks, and asserts how many are served and fail.
-fn expect_served_turns<S: Alter, R: Abort + AllocGlobal>(
+fn expect_served_turns<D: Office, R: Abort + AllocGlobal>(
     rt: &R,
-    desk: &mut Desk<S>,
+    desk: &mut D,
     count: u64,
-    served: u64,
-    failed: u64,
+    wanted: Served,
 ) -> Result<(), Fail> {
     let broken = MemoryInput {
         reads: 0,
@@ -352,68 +404,67 @@ fn expect_served_turns<S: Alter, R: Abort + AllocGlobal>(
         broken,
         MemoryInput::whole(EXACT.as_bytes()),
     ];
-    let mut peers = MemoryPeers::new(rt.alloc(), &inputs)?;
-    let turns = serve_all(rt.alloc(), desk, &mut peers, &Both, count);
-    assert_eq!(rt; turns, Served { served, failed });
+    let (served, peers) = desk.turned(rt.alloc(), &inputs, count)?;
+    assert_eq!(rt; served, wanted);
     assert_eq!(rt; peers.turns(), count);
     expect_turns(rt, peers.closed())
 }
 
 #[test]
 fn three_turns_are_taken(rt: HostRuntime) -> Result<(), Fail> {
-    expect_served_turns(&rt, &mut opened(rt.alloc())?, 3, 2, 1)
+    let wanted = Served {
+        served: 2,
+        failed: 1,
+    };
+    expect_served_turns(&rt, &mut new_desk(rt.alloc())?, 3, wanted)
 }
 
 #[test]
 fn turns_past_the_last_connection_fail(rt: HostRuntime) -> Result<(), Fail> {
-    expect_served_turns(&rt, &mut opened(rt.alloc())?, 5, 2, 3)
+    let wanted = Served {
+        served: 2,
+        failed: 3,
+    };
+    expect_served_turns(&rt, &mut new_desk(rt.alloc())?, 5, wanted)
 }
 
 /// The reply to the two items where only so many bytes of the request come. In its first line it is no request yet: it
 /// is a name at first, and then two words that are no query.
-fn cut_reply(alloc: Global, count: usize) -> Result<String, Fail> {
-    Ok(match count {
-        0 | 6..=25 => String::from_str(alloc, "% error 1\n")?,
-        1..=5 => String::from_str(alloc, "% no entries\n")?,
-        26..=49 => refusal(alloc, "400 Bad Request", "")?,
-        50..=100 => given(alloc, "% read fault after 0 items\n")?,
-        101..=143 => given(
-            alloc,
-            "1 inetnum 10.0.0.0 - 10.255.255.255: refused E11\n% read fault after 1 items\n",
-        )?,
-        _ => given(alloc, TWO_REPORT)?,
-    })
+fn cut_reply(count: usize) -> &'static str {
+    match count {
+        0 | 6..=25 => "% error 1\n",
+        1..=5 => "% no entries\n",
+        26..=49 => BAD_REQUEST,
+        50..=100 => NONE_REPLY,
+        101..=143 => ONE_REPLY,
+        _ => TWO_REPLY,
+    }
 }
 
 /// Asserts what is replied where the request of two items is cut at each place.
-fn expect_cut<D: Registrar, R: Abort + AllocGlobal>(rt: &R, desk: &mut D) -> Result<(), Fail> {
+fn expect_cut<D: Office, R: Abort + AllocGlobal>(rt: &R, desk: &mut D) -> Result<(), Fail> {
     let text = TWO.as_bytes();
     for count in 0..text.len() + 1 {
-        let reply = cut_reply(rt.alloc(), count)?;
-        expect_reply(rt, desk, &text[..count], 1, reply.as_str())?;
+        expect_reply(rt, desk, &text[..count], 1, cut_reply(count))?;
     }
     Ok(())
 }
 
 #[test]
 fn a_request_is_cut_at_each_place(rt: HostRuntime) -> Result<(), Fail> {
-    expect_cut(&rt, &mut opened(rt.alloc())?)
+    expect_cut(&rt, &mut new_desk(rt.alloc())?)
 }
 
 /// Asserts that the complete paragraphs of a short body count: its first one stands behind it.
-fn expect_begun<D: Registrar, R: Abort + AllocGlobal>(rt: &R, desk: &mut D) -> Result<(), Fail> {
-    let begun = given(
-        rt.alloc(),
-        "1 inetnum 10.0.0.0 - 10.255.255.255: added\n% read fault after 1 items\n",
-    )?;
+fn expect_begun<D: Office, R: Abort + AllocGlobal>(rt: &R, desk: &mut D) -> Result<(), Fail> {
     let short = THREE.as_bytes().get(..150).ok_or("no text")?;
-    expect_reply(rt, desk, short, 1, begun.as_str())?;
+    expect_reply(rt, desk, short, 1, BEGUN)?;
     expect_reply(rt, desk, EXACT.as_bytes(), 1, TEN)
 }
 
 #[test]
 fn a_short_body_counts_up_to_its_last_whole_paragraph(rt: HostRuntime) -> Result<(), Fail> {
-    expect_begun(&rt, &mut opened(rt.alloc())?)
+    expect_begun(&rt, &mut new_desk(rt.alloc())?)
 }
 
 /// A connection that gives these bytes one by one, and of which each read fails after so many.
@@ -425,7 +476,7 @@ fn breaking(text: &str, reads: usize) -> MemoryInput<'_> {
 }
 
 /// Asserts that nothing is written where a read fails before these bytes have come.
-fn expect_silence<D: Registrar, R: Abort + AllocGlobal>(
+fn expect_silence<D: Office, R: Abort + AllocGlobal>(
     rt: &R,
     desk: &mut D,
     text: &str,
@@ -438,20 +489,16 @@ fn expect_silence<D: Registrar, R: Abort + AllocGlobal>(
 }
 
 /// Asserts what is replied where a read of the two items fails at each place behind the head.
-fn expect_broken<D: Registrar, R: Abort + AllocGlobal>(rt: &R, desk: &mut D) -> Result<(), Fail> {
+fn expect_broken<D: Office, R: Abort + AllocGlobal>(rt: &R, desk: &mut D) -> Result<(), Fail> {
     for reads in 50..TWO.len() {
-        let reply = cut_reply(rt.alloc(), reads)?;
-        let fault = Err(ConnFault::Read);
-        expect_served(rt, desk, breaking(TWO, reads), fault, reply.as_bytes())?;
+        let reply = cut_reply(reads).as_bytes();
+        expect_served(rt, desk, breaking(TWO, reads), Err(ConnFault::Read), reply)?;
     }
     Ok(())
 }
 
 /// Asserts what is replied where reads fail: nothing before a query or a head is complete.
-fn expect_read_faults<D: Registrar, R: Abort + AllocGlobal>(
-    rt: &R,
-    desk: &mut D,
-) -> Result<(), Fail> {
+fn expect_read_faults<D: Office, R: Abort + AllocGlobal>(rt: &R, desk: &mut D) -> Result<(), Fail> {
     expect_silence(rt, desk, TWO, 50)?;
     expect_silence(rt, desk, "root-mnt\n", 9)?;
     expect_served(rt, desk, breaking("root-mnt\n", 9), Ok(()), ROOT.as_bytes())?;
@@ -460,21 +507,18 @@ fn expect_read_faults<D: Registrar, R: Abort + AllocGlobal>(
 
 #[test]
 fn a_read_fails_at_each_place(rt: HostRuntime) -> Result<(), Fail> {
-    expect_read_faults(&rt, &mut opened(rt.alloc())?)
+    expect_read_faults(&rt, &mut new_desk(rt.alloc())?)
 }
 
 /// Requests that leave the registry as it is, and their replies.
-fn replied(alloc: Global) -> Result<[(&'static str, String); 3], Fail> {
-    let missing = refusal(alloc, "404 Not Found", "")?;
-    Ok([
-        (TWO, given(alloc, TWO_REPORT)?),
-        ("GET /nothing HTTP/1.1\r\n\r\n", missing),
-        ("root-mnt\n", String::from_str(alloc, ROOT)?),
-    ])
-}
+const REPLIED: &[(&str, &str)] = &[
+    (TWO, TWO_REPLY),
+    ("GET /nothing HTTP/1.1\r\n\r\n", NOT_FOUND),
+    ("root-mnt\n", ROOT),
+];
 
 /// Asserts that a front of the reply is written where a write fails at each place.
-fn expect_fronts<D: Registrar, R: Abort + AllocGlobal>(
+fn expect_fronts<D: Office, R: Abort + AllocGlobal>(
     rt: &R,
     desk: &mut D,
     request: &str,
@@ -486,32 +530,26 @@ fn expect_fronts<D: Registrar, R: Abort + AllocGlobal>(
             writes,
             ..ending(request.as_bytes(), 7)
         };
-        let fault = Err(ConnFault::Write);
-        expect_served(rt, desk, input, fault, &reply[..writes])?;
+        expect_served(rt, desk, input, Err(ConnFault::Write), &reply[..writes])?;
     }
     Ok(())
 }
 
 /// Asserts the same of each of these requests.
-fn expect_all_fronts<D: Registrar, R: Abort + AllocGlobal>(
-    rt: &R,
-    desk: &mut D,
-    cases: &[(&str, String)],
-) -> Result<(), Fail> {
-    for (request, reply) in cases {
-        expect_fronts(rt, desk, request, reply.as_str())?;
+fn expect_all_fronts<D: Office, R: Abort + AllocGlobal>(rt: &R, desk: &mut D) -> Result<(), Fail> {
+    for (request, reply) in REPLIED {
+        expect_fronts(rt, desk, request, reply)?;
     }
     Ok(())
 }
 
 #[test]
 fn a_write_fails_at_each_place(rt: HostRuntime) -> Result<(), Fail> {
-    let cases = replied(rt.alloc())?;
-    expect_all_fronts(&rt, &mut opened(rt.alloc())?, &cases)
+    expect_all_fronts(&rt, &mut new_desk(rt.alloc())?)
 }
 
 /// Asserts that nothing behind a request is looked at, however many bytes come at once.
-fn expect_first_alone<D: Registrar, R: Abort + AllocGlobal>(
+fn expect_first_alone<D: Office, R: Abort + AllocGlobal>(
     rt: &R,
     desk: &mut D,
     request: &str,
@@ -525,19 +563,14 @@ fn expect_first_alone<D: Registrar, R: Abort + AllocGlobal>(
 }
 
 /// Asserts the same of each of these requests.
-fn expect_each_alone<D: Registrar, R: Abort + AllocGlobal>(
-    rt: &R,
-    desk: &mut D,
-    cases: &[(&str, String)],
-) -> Result<(), Fail> {
-    for (request, reply) in cases {
-        expect_first_alone(rt, desk, request, reply.as_str())?;
+fn expect_each_alone<D: Office, R: Abort + AllocGlobal>(rt: &R, desk: &mut D) -> Result<(), Fail> {
+    for (request, reply) in REPLIED {
+        expect_first_alone(rt, desk, request, reply)?;
     }
     Ok(())
 }
 
 #[test]
 fn bytes_behind_a_request_are_not_looked_at(rt: HostRuntime) -> Result<(), Fail> {
-    let cases = replied(rt.alloc())?;
-    expect_each_alone(&rt, &mut opened(rt.alloc())?, &cases)
+    expect_each_alone(&rt, &mut new_desk(rt.alloc())?)
 }

@@ -35,7 +35,8 @@ source:         TEST
 
 ";
 
-const TEN: &str = "inetnum:        10.0.0.0/8\nmnt-by:         ROOT-MNT\nsource:         TEST\n\n";
+pub const TEN: &str =
+    "inetnum:        10.0.0.0/8\nmnt-by:         ROOT-MNT\nsource:         TEST\n\n";
 
 const ELEVEN: &str =
     "inetnum:        11.0.0.0/8\nmnt-by:         ROOT-MNT\nsource:         TEST\n\n";

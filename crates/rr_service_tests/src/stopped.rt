@@ -1,0 +1,68 @@
+//! Desks that a fault of the store stopped.
+use crate::desks::{Office, created, expect_text};
+use crate::texts::THREE;
+use rr_desk::{Desk, DeskFault, DumpFault};
+use sqlite::{Connection, FileStore, Files, Options};
+use sqlite_disk::{Disk, Fuse, Memory};
+use std::alloc::Global;
+use std::process::Abort;
+use std::test::Fail;
+
+/// A new desk over a database in these files.
+fn new_desk_in<D: Disk + Drop>(alloc: Global, files: Files<D>) -> Result<Desk<FileStore<D>>, Fail> {
+    if !files.log.may_be_used() || !files.db.may_be_used() {
+        return Err("a disk of no use".into());
+    }
+    match Connection::open_files(alloc, files, Options::new(7)) {
+        Ok(conn) => created(alloc, conn),
+        Err((error, _left)) => Err(error.into()),
+    }
+}
+
+/// A new desk over a database in files in memory, of which the log fails after a hundred calls.
+pub fn fused_desk(alloc: Global) -> Result<Desk<FileStore<Fuse<Memory>>>, Fail> {
+    let files = Files {
+        log: Fuse::new(Memory::new(alloc), 100),
+        db: Fuse::new(Memory::new(alloc), u64::MAX),
+    };
+    new_desk_in(alloc, files)
+}
+
+/// An AS number that is added and deleted.
+const PASSING: &str =
+    "password: bc\n\naut-num: AS1\nmnt-by: ROOT-MNT\nsource: TEST\n\naut-num: AS1\ndelete: x\n";
+
+/// Submits to a desk until a fault stops it.
+pub fn stop<D: Office>(alloc: Global, desk: &mut D) -> Result<(), Fail> {
+    for _ in 0..100 {
+        if desk.is_stopped() {
+            return Ok(());
+        }
+        let _found = desk.submitted(alloc, PASSING, usize::MAX, usize::MAX);
+    }
+    Err("no fault stopped the desk".into())
+}
+
+/// Asserts that a desk is stopped, and that it reads and writes nothing of a submission.
+fn expect_unread<D: Office, R: Abort + AllocGlobal>(rt: &R, desk: &mut D) {
+    assert!(rt; desk.is_stopped());
+    let found = desk.submitted(rt.alloc(), THREE, usize::MAX, usize::MAX);
+    assert_eq!(rt; found.answer, Err(DeskFault::Stopped));
+    assert!(rt; found.report.is_empty() && found.reads == 0);
+}
+
+/// Asserts that a desk which is stopped gives no dump.
+fn expect_no_dump<D: Office, R: Abort + AllocGlobal>(rt: &R, desk: &D) {
+    let (answer, dump) = desk.dumped(rt.alloc());
+    assert_eq!(rt; answer, Err(DumpFault::Stopped));
+    assert!(rt; dump.is_empty());
+}
+
+/// Asserts that a desk is stopped: it answers nothing else.
+pub fn expect_stopped<D: Office, R: Abort + AllocGlobal>(rt: &R, desk: &mut D) -> Result<(), Fail> {
+    expect_unread(rt, desk);
+    expect_no_dump(rt, desk);
+    let (error, answer) = desk.answered(rt.alloc(), "10.0.0.1")?;
+    assert_eq!(rt; error, 6);
+    expect_text(rt, &answer, "% error 6\n")
+}

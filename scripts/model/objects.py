@@ -1,8 +1,9 @@
 """Objects of the seven classes (RFC 2622, 3 to 6; RFC 2725, 10): their keys, their fields, and the first code that refuses them."""
+import functools
 import re
 
 from . import numbers
-from .text import canonical, meaning
+from .text import canonical, lines_of, meaning, read
 
 CLASSES = [b"mntner", b"as-block", b"aut-num", b"inetnum", b"route", b"as-set", b"route-set"]
 MNTNER, AS_BLOCK, AUT_NUM, INETNUM, ROUTE, AS_SET, ROUTE_SET = range(1, 8)
@@ -144,6 +145,18 @@ class Object:
 
     def public(self):
         return canonical([(name, [b"# filtered"]) if name == b"auth" else (name, lines) for name, lines in self.attributes])
+
+
+@functools.lru_cache(1_000)
+def read_object(text, source):
+    """The object that a paragraph is, or what is wrong: a code, or `text`. What was read once is remembered."""
+    attributes = read(lines_of(text))
+    if isinstance(attributes, str):
+        return "text"
+    try:
+        return Object(attributes, source)
+    except Refused as refused:
+        return str(refused)
 
 
 def items_in_braces(attributes):

@@ -1,7 +1,7 @@
 """Who may register what (RFC 2725, 9), item by item of a submission, and dumps read again."""
 import hashlib
 
-from .objects import (AS_BLOCK, AS_SET, AUT_NUM, INETNUM, MNTNER, ROUTE, ROUTE_SET, Key, Object, Refused, key_of)
+from .objects import (AS_BLOCK, AS_SET, AUT_NUM, INETNUM, MNTNER, ROUTE, ROUTE_SET, Key, Object, Refused, key_of, read_object)
 from .numbers import as_number, prefix_span, set_kind
 from .text import blocks, read
 
@@ -175,13 +175,10 @@ def load(text, source):
     """The registry of a dump, or the number of the paragraph that is at fault and what is wrong: a code, or a word."""
     registry, taken = Registry(source, empty=True), []
     for number, block in enumerate(blocks(text), 1):
-        attributes = read(block)
-        if isinstance(attributes, str):
-            return number, "text"
-        try:
-            taken.append(Object(attributes, source))
-        except Refused as refused:
-            return number, str(refused)
+        new = read_object(b"".join(block), source)
+        if isinstance(new, str):
+            return number, new
+        taken.append(new)
     for number, new in enumerate(taken, 1):
         if new.key.order in registry.objects:
             return number, "duplicate"

@@ -198,6 +198,12 @@ def any_submission(chance, count):
     return b"\n".join(texts) + chance.choice([b"", b"\n", b"x: y"])
 
 
+def any_spanned(chance):
+    """An inetnum or a block, which may cross others."""
+    name, key = chance.choice([(b"inetnum", any_span(chance)), (b"as-block", any_block(chance))])
+    return b"%s: %s\nmnt-by: ROOT-MNT\nsource: TEST" % (name, key)
+
+
 # Queries.
 
 def any_query(chance):

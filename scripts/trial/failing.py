@@ -2,6 +2,7 @@
 import os
 import shutil
 import subprocess
+import tempfile
 from concurrent.futures import ThreadPoolExecutor
 
 from trial.running import TOP, Failure, expect, run, short
@@ -16,7 +17,9 @@ class Failing:
 
     def __init__(self, script):
         self.script, self.said = script, set()
-        self.library = os.path.join(script.work, "failing.so")
+        # Not in the script's folder: nothing in memory may be executed on some machines.
+        self.folder = tempfile.TemporaryDirectory(prefix="irrdesk-")
+        self.library = os.path.join(self.folder.name, "failing.so")
         source = os.path.join(TOP, "scripts", "failing.c")
         subprocess.run(["gcc", "-O1", "-shared", "-fPIC", "-o", self.library, source], check=True)
 

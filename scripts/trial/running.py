@@ -15,6 +15,8 @@ DIGEST = "ba7816bf8f01cfea414140de5dae2223b00361a396177a9cb410ff61f20015ad"
 AUTH = f"SHA256-PW a:{DIGEST}"
 # The most seconds that a run may take that takes a hundredth of one where the machine is idle.
 PATIENCE = 60
+# The least bytes that a folder in memory has to have free.
+MEMORY_ROOM = 1 << 28
 SETTINGS = f"""source = "TEST"
 root = "ROOT-MNT"
 auth = "{AUTH}"
@@ -40,9 +42,9 @@ class Ran:
 
 
 class Script:
-    """A script's words, its folder, and its cases."""
+    """A script's words, its folder, which may be in memory where nothing is asked of a disk, and its cases."""
 
-    def __init__(self, about):
+    def __init__(self, about, in_memory=False):
         words = argparse.ArgumentParser(description=about)
         words.add_argument("program", nargs="?", default=os.path.join(TOP, "irrdesk"))
         words.add_argument("--long", action="store_true", help="the long form, whose figures stand in docs/ATTACK.md")
@@ -54,7 +56,7 @@ class Script:
         self.long, self.seed, self.only, self.count, self.failed = read.long, read.seed, read.only, read.count, 0
         self.lanes = read.lanes or self.pick(2, 1)
         self.program = built(os.path.abspath(read.program))
-        self.folder = tempfile.TemporaryDirectory(prefix="irrdesk-")
+        self.folder = tempfile.TemporaryDirectory(prefix="irrdesk-", dir=memory_folder() if in_memory else None)
         self.work = self.folder.name
         os.chmod(self.work, 0o755)
 
@@ -94,6 +96,15 @@ class Script:
 
     def run(self, folder, *words, **options):
         return run([self.program, *words], folder, **options)
+
+
+def memory_folder():
+    """A folder in memory, where no write waits for a disk; nothing where there is none with room, or TMPDIR names another one."""
+    folder = "/dev/shm"
+    if "TMPDIR" in os.environ or not os.access(folder, os.W_OK):
+        return None
+    found = os.statvfs(folder)
+    return folder if found.f_bavail * found.f_frsize >= MEMORY_ROOM else None
 
 
 def built(program):

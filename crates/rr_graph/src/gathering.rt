@@ -73,7 +73,7 @@ pub struct Gathered<N, V> {
 /// Lists what is found at `start`: the nodes that chains of edges lead to from it, itself included, and each value
 /// that a node at the end of such a chain has by itself and that the labels of the chain, from the last to the first,
 /// make into this value, none dropping it. It takes O((P + E) log P) steps for P pairs of a reached node and a value
-/// found at it, and E edges between them.
+/// found at it, and E edges between them, each as often as the graph lists it.
 ///
 /// The fault is `TooMany` exactly where more than `limit` nodes are reached, or more than `limit` such pairs are,
 /// want of memory aside.

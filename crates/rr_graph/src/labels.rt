@@ -6,7 +6,7 @@ ghost use Rattle.std.proofs.lemmas.Map.Lookups.{CmpEqualImpliesEq};
 use std::alloc::{AllocError, Global};
 
 /// An edge, as the node that it leaves sees it.
-#[derive(Drop)]
+#[derive(PartialEq, Eq, PartialOrd, Ord, Drop)]
 pub struct Edge<N, L> {
     /// The node to which the edge leads.
     pub to: N,

@@ -18,7 +18,7 @@ mod walk;
 
 pub use gathering::{Gathered, gather};
 pub use labels::{Edge, Labelled};
-pub use order::ascending;
+pub use order::{ascending, put_in_order};
 use std::alloc::{AllocError, AllocFailed, Global};
 use thiserror::Error;
 use walk::Found;

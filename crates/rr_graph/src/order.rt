@@ -1,7 +1,8 @@
 //! Sets as sorted lists.
 
-ghost use Rattle.std.specs.Prelude.{◌≡◌, IfOk};
+ghost use Rattle.std.specs.Prelude.{◌≡◌, ◌↔◌, Contains, IfOk};
 ghost use Rattle.std.specs.List.Sorted.{IsStrictlySortedBy};
+ghost use Rattle.std.proofs.lemmas.Map.Lookups.{CmpEqualImpliesEq};
 
 use std::alloc::{AllocError, Global};
 use std::collections::BTreeSet;
@@ -12,4 +13,13 @@ pub fn ascending<T: Ord + Drop>(alloc: Global, set: BTreeSet<T>) -> Result<Vec<T
     ensures sorted { IfOk result (λ list. IsStrictlySortedBy T.cmp list.items) }
 {
     set.into_iter().collect(alloc)
+}
+
+/// Puts the list in ascending order, without repeats.
+pub fn put_in_order<T: Ord + Drop>(list: &mut Vec<T>)
+    ensures sorted { IsStrictlySortedBy T.cmp list.new.items }
+    ensures same { CmpEqualImpliesEq T.cmp → (x : T) → Contains list.new.items x ↔ Contains list.old.items x }
+{
+    list.sort_unstable();
+    list.dedup();
 }

@@ -10,6 +10,7 @@ ghost use Rattle.rr_graph.specs.SettledParts.{HasEdges, IsAmong, IsFoundAmong, I
 
 use crate::ReachFault;
 use crate::labels::{Edge, Labelled};
+use crate::order::put_in_order;
 use crate::settled::Settled;
 use crate::tails::{Tail, tails};
 use crate::waiting::Waiting;
@@ -140,13 +141,4 @@ fn freed_of_repeats<T: Ord + Drop>(list: &mut Vec<T>, last: usize) -> usize
     }
     put_in_order(list);
     list.len()
-}
-
-/// Puts the list in ascending order, without repeats.
-fn put_in_order<T: Ord + Drop>(list: &mut Vec<T>)
-    ensures sorted { IsStrictlySortedBy T.cmp list.new.items }
-    ensures same { CmpEqualImpliesEq T.cmp → (x : T) → Contains list.new.items x ↔ Contains list.old.items x }
-{
-    list.sort_unstable();
-    list.dedup();
 }

@@ -2,3 +2,4 @@ pub mod ByReference
 pub mod Numbers
 pub mod RangeLists
 pub mod ReferenceLists
+pub mod ReferenceOrder

@@ -2,6 +2,7 @@
 
 ghost use Rattle.std.specs.Prelude.{◌≡◌, ◌↔◌, ◌++◌, ℕ, List, Contains, IfOk, map};
 ghost use Rattle.std.specs.List.{filter_map};
+ghost use Rattle.std.specs.List.Sorted.{IsStrictlySortedBy};
 ghost use Rattle.rr_number.specs.declared.operator.Operator.{Operator};
 ghost use Rattle.rr_object.specs.declared.member.MemberSet.{MemberSet};
 ghost use Rattle.rr_sets.specs.AsSets.{ListsSet};
@@ -11,7 +12,7 @@ ghost use Rattle.rr_sets.specs.RouteSets.{AsSetRefers, Refers, RouteSetRefers};
 use crate::as_sets::sets_listed;
 use crate::book::SetBook;
 use crate::direct::{as_set, direct_numbers};
-use rr_graph::Edge;
+use rr_graph::{Edge, put_in_order};
 use rr_number::{AsNumber, Operator, SetKind, SetName};
 use rr_object::{Key, Member, MemberSet};
 use std::alloc::{AllocError, Global};
@@ -19,8 +20,22 @@ use std::alloc::{AllocError, Global};
 /// A set to which another refers, with the operator of the reference.
 pub type Reference = Edge<MemberSet, Operator>;
 
-/// The sets to which the set refers, where one may come twice.
+/// The sets to which the set refers, in ascending order: each once under each operator, however often it is listed.
 pub fn references_of<B: SetBook>(
+    alloc: Global,
+    book: &B,
+    set: &MemberSet,
+) -> Result<Vec<Reference>, AllocError>
+    ensures same { IfOk result (λ references. (other : MemberSet) (operator : Operator) → Contains references.items (record { to = other; label = operator }) ↔ Refers (B.contents book.now) set.now other operator) }
+    ensures sorted { IfOk result (λ references. IsStrictlySortedBy ⟦<Edge<MemberSet, Operator> as Ord>⟧.cmp references.items) }
+{
+    let mut references = all_references(alloc, book, set)?;
+    put_in_order(&mut references);
+    Ok(references)
+}
+
+/// The sets to which the set refers, as often as it lists them.
+fn all_references<B: SetBook>(
     alloc: Global,
     book: &B,
     set: &MemberSet,

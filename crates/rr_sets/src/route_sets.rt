@@ -32,10 +32,10 @@ use std::alloc::{AllocError, Global};
 ///
 /// The steps outside the book are O((P + E) log P). P counts the sets reached, the members of each, listed or by
 /// reference, the routes of each AS reached, the names in its `mbrs-by-ref` and in `mnt-by` of its referrers, and those
-/// pairs; E counts for each pair the references to its set: m route-sets that each list all the others and the same V
-/// ranges have mV pairs and about m²V references to them. The book is asked at most three times for the `referrers` of
-/// each set reached that has `mbrs-by-ref`, and once for the prefixes of each AS reached; where sets refer to each other
-/// in a ring, at most five times and twice.
+/// pairs; E counts for each pair the references to its set, each once, however often it is listed: m route-sets that
+/// each list all the others and the same V ranges have mV pairs and about m²V references to them. The book is asked at
+/// most three times for the `referrers` of each set reached that has `mbrs-by-ref`, and once for the prefixes of each
+/// AS reached; where sets refer to each other in a ring, at most five times and twice.
 pub fn expand_route_set<B: SetBook>(
     alloc: Global,
     book: &B,

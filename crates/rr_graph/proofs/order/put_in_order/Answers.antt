@@ -4,7 +4,7 @@ use Rattle.std.proofs.lemmas.List.Kept.{Contains-dedup, Contains-from_dedup, IsS
 use Rattle.std.proofs.lemmas.List.Sorted.{Contains-permutation, IsPermutation-sym}
 use Rattle.std.proofs.lemmas.Map.Views.{tells_apart}
 use Rattle.std.specs.List.Sorted.{IsStrictlySortedBy}
-use Rattle.rr_graph.proofs.settling.put_in_order.Goals as goal
+use Rattle.rr_graph.proofs.order.put_in_order.Goals as goal
 
 pub returns-clause-sorted : goal.returns-clause-sorted
 returns-clause-sorted g c =

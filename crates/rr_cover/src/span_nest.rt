@@ -1,6 +1,6 @@
 //! Spans that nest or lie apart, in a balanced search tree.
 
-ghost use Rattle.std.specs.Prelude.{◌≡◌, ◌↔◌, true, IfOk, IfErr, IfSome, IfNone, OnOk, OnErr};
+ghost use Rattle.std.specs.Prelude.{◌≡◌, ◌↔◌, false, true, IfOk, IfErr, IfSome, IfNone, OnOk, OnErr};
 ghost use Rattle.std.specs.Option.{option_copied};
 ghost use Rattle.std.specs.FinMap as span_map;
 ghost use Rattle.rr_cover.specs.InsertFaults.{value_of};
@@ -19,7 +19,7 @@ use changes::{set, take};
 use lists::{push_covering, push_inside};
 use reading::{crosses_any, find, levels, smallest_cover};
 use rr_number::Span;
-use std::alloc::{AllocError, Global};
+use std::alloc::{AllocError, AllocFailed, Global};
 use std::marker::Model;
 
 /// Values kept by span, no two spans crossing: a height-balanced search tree of all spans, in order of first number
@@ -149,10 +149,26 @@ impl<T: Drop> SpanNest<T> {
         if self.crosses(span) {
             return Err(InsertFault::Overlap(value));
         }
+        match self.insert_uncrossed(span, value) {
+            Ok(old) => Ok(old),
+            Err(refused) => Err(InsertFault::Memory(refused.value)),
+        }
+    }
+
+    /// Puts the value at the span, which crosses none that is held, and gives back the value that stood there: `insert`
+    /// for a caller that knows of no crossing, which it does not look for. The error is want of memory, changes nothing,
+    /// and gives the value back.
+    pub fn insert_uncrossed(&mut self, span: Span, value: T) -> Result<Option<T>, AllocFailed<T>>
+        requires { crosses_some self.old span ≡ false }
+        ensures stood { IfOk result (λ old. old ≡ span_map.get self.old span) }
+        ensures ok { OnOk result (self.new ≡ span_map.insert self.old span value) }
+        ensures err { OnErr result (self.new ≡ self.old) }
+        ensures back { IfErr result (λ refused. refused.value ≡ value) }
+    {
         let alloc = self.alloc;
         match set(&mut self.root, alloc, span, value) {
             Ok(old) => Ok(old),
-            Err(value) => Err(InsertFault::Memory(value)),
+            Err(value) => Err(AllocFailed { value }),
         }
     }
 

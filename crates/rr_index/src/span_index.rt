@@ -143,11 +143,8 @@ fn hold(nest: &mut SpanNest<()>, span: Span) -> Result<(), AllocError>
     ensures ok { OnOk result (nest.new ≡ insert nest.old span tt) }
     ensures err { OnErr result (nest.new ≡ nest.old) }
 {
-    match nest.insert(span, ()) {
-        Ok(_) => Ok(()),
-        Err(InsertFault::Memory(_)) => Err(AllocError),
-        Err(InsertFault::Overlap(_)) => unreachable!(),
-    }
+    nest.insert_uncrossed(span, ())?;
+    Ok(())
 }
 
 /// Puts the prefix into the tree; the error is want of memory and changes nothing.

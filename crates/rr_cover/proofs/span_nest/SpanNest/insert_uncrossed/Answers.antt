@@ -3,8 +3,8 @@ use Rattle.std.specs.FinMap.{get, insert}
 use Rattle.rr_cover.specs.SpanMaps.{crosses_some}
 use Rattle.rr_cover.specs.SpanNests.{IsSound}
 use Rattle.rr_cover.proofs.NestModel.{nest_answers, nested_inserted, sound_inserted}
-use Rattle.rr_cover.proofs.span_nest.SpanNest.insert.Goals as goal
-use Rattle.rr_cover.proofs.span_nest.SpanNest.insert.Goals.{in-Ok, in-Err}
+use Rattle.rr_cover.proofs.span_nest.SpanNest.insert_uncrossed.Goals as goal
+use Rattle.rr_cover.proofs.span_nest.SpanNest.insert_uncrossed.Goals.{in-Ok, in-Err}
 
 pub returns-clause-stood : goal.returns-clause-stood
 returns-clause-stood g c =
@@ -23,6 +23,6 @@ returns-clause-ok g c =
 pub invariant_of-self : goal.invariant_of-self
 invariant_of-self g c =
     elim c.match-set.branch [
-      | in-Ok w ↦ sound_inserted c.self.inside.root c.set.new.nest c.args.span c.args.value c.self.invariant c.set.ensures.nest w.in-Ok.ensures.all (ap (λ m. crosses_some m c.args.span) c.self.view_is ∙ sym c.if-crosses.ensures)
+      | in-Ok w ↦ sound_inserted c.self.inside.root c.set.new.nest c.args.span c.args.value c.self.invariant c.set.ensures.nest w.in-Ok.ensures.all (ap (λ m. crosses_some m c.args.span) c.self.view_is ∙ c.requires)
       | in-Err w ↦ subst IsSound (sym w.in-Err.ensures.err) c.self.invariant
     ]

@@ -18,12 +18,16 @@ pub fn is_keyword(text: &[u8], word: &[u8]) -> bool
 pub fn to_upper(alloc: Global, text: &[u8]) -> Result<Vec<u8>, AllocError>
     ensures { IfOk result (λ bytes. bytes.items ≡ upper text.now) }
 {
-    text.iter().map(|b| b.to_ascii_uppercase()).collect(alloc)
+    let mut bytes = Vec::from_slice(alloc, text)?;
+    bytes.as_mut_slice().make_ascii_uppercase();
+    Ok(bytes)
 }
 
 /// The text with its letters in lower case; the error is want of memory.
 pub fn to_lower(alloc: Global, text: &[u8]) -> Result<Vec<u8>, AllocError>
     ensures { IfOk result (λ bytes. bytes.items ≡ lowered text.now) }
 {
-    text.iter().map(|b| b.to_ascii_lowercase()).collect(alloc)
+    let mut bytes = Vec::from_slice(alloc, text)?;
+    bytes.as_mut_slice().make_ascii_lowercase();
+    Ok(bytes)
 }

@@ -6,8 +6,8 @@ ghost use Rattle.std.specs.Option.{option_map};
 ghost use Rattle.rr_io.specs.Sending.{Writes};
 ghost use Rattle.rr_number.specs.AsNumbers.{as_number_text};
 ghost use Rattle.rr_number.specs.Prefixes.{prefix_text};
-ghost use Rattle.rr_object.specs.KeyTexts.{bytes_with, key_bytes, key_text, length_bytes, route_bytes, span_bytes};
-ghost use Rattle.rr_object.specs.OldKeys.{has_two_octets, numbers_among, numbers_in, old_key_bytes};
+ghost use Rattle.rr_object.specs.KeyTexts.{bytes_with, eight_digits, key_bytes, key_text, length_bytes, route_bytes, span_bytes};
+ghost use Rattle.rr_object.specs.OldKeys.{four_digits, has_two_octets, numbers_among, numbers_in, old_key_bytes};
 ghost use Rattle.rr_object.specs.KeyParts.{digits_of, is_old_component};
 
 use crate::key::Key;
@@ -15,6 +15,13 @@ use rr_io::{Sink, write_pieces};
 use rr_number::{AsNumber, Prefix, Span};
 use std::alloc::{AllocError, Global};
 use std::io;
+
+/// The bytes of a number with eight digits, of a span of such, and of a route.
+const NUMBER_LENGTH: usize = 8;
+
+const SPAN_LENGTH: usize = NUMBER_LENGTH + 1 + NUMBER_LENGTH;
+
+const ROUTE_LENGTH: usize = NUMBER_LENGTH + 1 + 2 + 1 + NUMBER_LENGTH;
 
 impl Key {
     /// Writes the key as reports print it. After a fault the writer has taken a front of it.
@@ -122,22 +129,37 @@ fn print_route<W: Sink>(prefix: Prefix, origin: AsNumber, writer: &mut W) -> io:
     write_pieces(writer, &pieces)
 }
 
-/// Adds a number as hexadecimal digits in lower case.
-fn push_digits(
-    alloc: Global,
-    text: &mut Vec<u8>,
-    digits: Digits,
-    number: u32,
-) -> Result<(), AllocError>
-    ensures { OnOk result (text.new.items ≡ text.old.items ++ digits_of digits number) }
+/// The lower two octets of a number as four hexadecimal digits in lower case.
+fn four_digits(number: u32) -> [u8; 4]
+    ensures { result ≡ four_digits number }
 {
     let octets = number.to_be_bytes();
     let (_, low) = octets.split_at(2);
-    let digits = match digits {
-        Digits::Four => hex::encode(alloc, low)?,
-        Digits::Eight => hex::encode(alloc, &octets)?,
-    };
-    text.extend_from_slice(digits.as_bytes())
+    let mut digits = [0; 4];
+    match hex::encode_to_slice(low, &mut digits) {
+        Ok(()) => digits,
+        Err(_) => unreachable!(),
+    }
+}
+
+/// A number as eight hexadecimal digits in lower case.
+fn eight_digits(number: u32) -> [u8; 8]
+    ensures { result ≡ eight_digits number }
+{
+    let mut digits = [0; 8];
+    match hex::encode_to_slice(&number.to_be_bytes(), &mut digits) {
+        Ok(()) => digits,
+        Err(_) => unreachable!(),
+    }
+}
+
+fn push_digits(text: &mut Vec<u8>, digits: Digits, number: u32) -> Result<(), AllocError>
+    ensures { OnOk result (text.new.items ≡ text.old.items ++ digits_of digits number) }
+{
+    match digits {
+        Digits::Four => text.extend_from_slice(&four_digits(number)),
+        Digits::Eight => text.extend_from_slice(&eight_digits(number)),
+    }
 }
 
 fn push_length(text: &mut Vec<u8>, length: u8) -> Result<(), AllocError>
@@ -150,17 +172,18 @@ fn push_length(text: &mut Vec<u8>, length: u8) -> Result<(), AllocError>
 fn number_bytes(alloc: Global, digits: Digits, number: u32) -> Result<Vec<u8>, AllocError>
     ensures { IfOk result (λ bytes. bytes.items ≡ digits_of digits number) }
 {
-    let mut bytes = Vec::new(alloc);
-    push_digits(alloc, &mut bytes, digits, number)?;
+    let mut bytes = Vec::with_capacity(alloc, NUMBER_LENGTH)?;
+    push_digits(&mut bytes, digits, number)?;
     Ok(bytes)
 }
 
 fn span_bytes(alloc: Global, digits: Digits, span: Span) -> Result<Vec<u8>, AllocError>
     ensures { IfOk result (λ bytes. bytes.items ≡ span_bytes (digits_of digits) span) }
 {
-    let mut bytes = number_bytes(alloc, digits, span.first())?;
+    let mut bytes = Vec::with_capacity(alloc, SPAN_LENGTH)?;
+    push_digits(&mut bytes, digits, span.first())?;
     bytes.push(b'-')?;
-    push_digits(alloc, &mut bytes, digits, span.last())?;
+    push_digits(&mut bytes, digits, span.last())?;
     Ok(bytes)
 }
 
@@ -172,10 +195,11 @@ fn route_bytes(
 ) -> Result<Vec<u8>, AllocError>
     ensures { IfOk result (λ bytes. bytes.items ≡ route_bytes (digits_of digits) prefix origin) }
 {
-    let mut bytes = number_bytes(alloc, Digits::Eight, prefix.address().to_bits())?;
+    let mut bytes = Vec::with_capacity(alloc, ROUTE_LENGTH)?;
+    push_digits(&mut bytes, Digits::Eight, prefix.address().to_bits())?;
     bytes.push(b'/')?;
     push_length(&mut bytes, prefix.length())?;
     bytes.push(b'-')?;
-    push_digits(alloc, &mut bytes, digits, origin.number())?;
+    push_digits(&mut bytes, digits, origin.number())?;
     Ok(bytes)
 }

@@ -69,7 +69,7 @@ found_behind (y ∷ ys) o rest e =
       | false ↦ λ f. found_behind ys o rest f
     ] e
 
-entries_end : (ys : List Obj) (o : Obj) → map entry (ys ++ o ∷ []) ≡ map entry ys ++ (o.key, o) ∷ []
+pub entries_end : (ys : List Obj) (o : Obj) → map entry (ys ++ o ∷ []) ≡ map entry ys ++ (o.key, o) ∷ []
 entries_end [] o = refl
 entries_end (y ∷ ys) o = ap (λ es. entry y ∷ es) (entries_end ys o)
 
@@ -82,7 +82,7 @@ module _ (all ys left rest : List Obj) (o : Obj) (order : is_in_order all ≡ tr
   next_free = get-from_sorted key_cmp (map entry ys) o.key (front ys (o ∷ rest) sorted) ∙ free_behind ys o rest sorted
 
   -- what is to come, behind one more
-  pub next_whole : (ys ++ o ∷ []) ++ rest ≡ all
+  next_whole : (ys ++ o ∷ []) ++ rest ≡ all
   next_whole = append_assoc ys (o ∷ []) rest ∙ ap (λ xs. ys ++ xs) (sym step) ∙ whole
 
   -- one more object

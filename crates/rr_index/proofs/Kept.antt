@@ -1,5 +1,5 @@
 -- A map of objects by key and the registry that it is.
-use Rattle.std.proofs.Common.{◌≡◌, Bool, true, cond, not, T, List, [], ◌∷◌, ◌++◌, Bor, refl, sym, ap, subst, ◌∙◌}
+use Rattle.std.proofs.Common.{◌≡◌, Bool, true, false, cond, not, T, List, [], ◌∷◌, ◌++◌, Bor, map, refl, sym, ap, subst, ◌∙◌}
 use Rattle.std.specs.Prelude.{Option, None, Some, ◌&&◌}
 use Rattle.std.specs.BTreeMap.{BTreeMap, Updates, get as at_key, is_at}
 use Rattle.std.specs.BTreeMap.Range.{entries_between}
@@ -8,21 +8,23 @@ use Rattle.std.specs.FinMap.{empty, entries, get, insert, remove, values, from_s
 use Rattle.std.specs.FinMap.Entries.{below_all}
 use Rattle.std.specs.List.{AllByRecursion, filter}
 use Rattle.std.specs.List.Sorted.{IsStrictlySortedBy}
-use Rattle.std.specs.Map.{keys_of, lookup, values_of}
+use Rattle.std.specs.Map.{keys_of, lookup, update, update_all, values_of}
 use Rattle.std.specs.Cmp.{eq_by_cmp_equiv}
 use Rattle.std.specs.declared.cmp.Ordering.{Ordering}
 use Rattle.std.specs.declared.cmp.Ordering.TheVariants.{Less}
-use Rattle.std.specs.Ordering.{eq_by_cmp, is_le, is_lt}
-use Rattle.rr_object.proofs.KeyLaws.{keys_total, keys_exact}
+use Rattle.std.specs.Ordering.{eq_by_cmp, is_eq, is_le, is_lt}
+use Rattle.rr_object.proofs.KeyLaws.{keys_total, keys_exact, same_key}
 use Rattle.rr_auth.specs.Registries.{Reg}
 use Rattle.rr_object.proofs.DerivedOrder.{derived_order}
 use Rattle.rr_object.specs.contracts.key.KeyOrd.TheImpl as derived
 use Rattle.rr_object.specs.declared.key.Key.{Key}
 use Rattle.rr_object.specs.KeyOrders.{key_cmp}
 use Rattle.rr_object.specs.Objects.{Obj}
+use Rattle.rr_book.specs.Books.{book_of, entry, is_in_order}
 use Rattle.rr_sets.specs.Lists.{lent}
 use Rattle.rr_index.specs.KeyRangeParts.{lies_between}
 use Rattle.rr_index.specs.ObjectMaps.{registry_of, IsRising}
+use Rattle.rr_index.proofs.Gathered.{first_of, less, second_of}
 
 -- the derived order of keys is their order
 pub one_order : (derived.ghosts).cmp ≡ key_cmp
@@ -99,6 +101,43 @@ pub registry_empty : (m : BTreeMap Key Obj) → m.entries ≡ [] → registry_of
 registry_empty m e =
     ap (λ (es : List (Key × Obj)). from_sorted {R = key_cmp} es) e
     ∙ same_map keys_total keys_exact _ _ (λ q. get-from_sorted key_cmp [] q tt ∙ sym (get-empty key_cmp q))
+
+abbrev or_else : Option Obj → Option Obj → Option Obj
+or_else None other = other
+or_else (Some o) other = Some o
+
+or_none : (found : Option Obj) → or_else found None ≡ found
+or_none None = refl
+or_none (Some o) = refl
+
+none_above : (k : Key) (es : List (Key × Obj)) → T (below_all key_cmp k es) → find_entry key_cmp k es ≡ None
+none_above k [] h = refl
+none_above k (e ∷ es) h =
+    ap (λ r. cond (is_eq r) (Some e.1) (find_entry key_cmp k es)) (less _ (first_of _ _ h)) ∙ none_above k es (second_of (is_lt (key_cmp k e.0)) _ h)
+
+put_in_turn : (q : Key) (f : Key → Option Obj) (es : List (Key × Obj)) → T (is_sorted key_cmp es)
+    → update_all (eq_by_cmp key_cmp) f es q ≡ or_else (find_entry key_cmp q es) (f q)
+put_in_turn q f [] h = refl
+put_in_turn q f (e ∷ es) h =
+    put_in_turn q (update (eq_by_cmp key_cmp) f e.0 (Some e.1)) es (second_of (below_all key_cmp e.0 es) _ h)
+    ∙ ap (λ b. or_else (find_entry key_cmp q es) (cond b (Some e.1) (f q))) ((eq_by_cmp_equiv keys_total).symm e.0 q)
+    ∙ elim (eq_by_cmp key_cmp q e.0) as (λ b. eq_by_cmp key_cmp q e.0 ≡ b
+    → or_else (find_entry key_cmp q es) (cond b (Some e.1) (f q)) ≡ or_else (cond b (Some e.1) (find_entry key_cmp q es)) (f q)) [
+      | true ↦ λ same. ap (λ o. or_else o (Some e.1)) (ap (λ k. find_entry key_cmp k es) (same_key q e.0 same) ∙ none_above e.0 es (first_of _ _ h))
+      | false ↦ λ other. refl
+    ] refl
+
+-- the entries of objects in order, put into an empty map in turn
+pub registry_collected : (m : BTreeMap Key Obj) (os : List Obj) → is_in_order os ≡ true → IsRising m
+    → ((q : Key) → at_key (derived.ghosts).cmp m q ≡ update_all (eq_by_cmp (derived.ghosts).cmp) (λ _. None) (map entry os) q)
+    → registry_of m ≡ book_of os
+registry_collected m os order rise put = same_map keys_total keys_exact _ _ (λ q.
+    sym (looked_up m q rise)
+    ∙ put q
+    ∙ ap (λ (cmp : Key → Key → Ordering). update_all (eq_by_cmp cmp) (λ _. None) (map entry os) q) one_order
+    ∙ put_in_turn q (λ _. None) (map entry os) (T_of order)
+    ∙ or_none (find_entry key_cmp q (map entry os))
+    ∙ sym (get-from_sorted key_cmp (map entry os) q (T_of order)))
 
 -- one more object was found
 pub found_one : (found more : List (Bor Obj)) (o : Bor Obj) (os left rest : List Obj) → lent found ++ left ≡ os → left ≡ o.now ∷ rest → more ≡ found ++ o ∷ []

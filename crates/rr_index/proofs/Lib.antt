@@ -1,6 +1,7 @@
 pub mod Changes
 pub mod Choices
 pub mod Counts
+pub mod Entered
 pub mod Gathered
 pub mod Kept
 pub mod Listed

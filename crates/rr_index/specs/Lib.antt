@@ -1,4 +1,5 @@
 pub mod ChosenKeyParts
+pub mod EnteringParts
 pub mod Indexes
 pub mod KeyRangeParts
 pub mod NameIndexes

@@ -75,7 +75,7 @@ impl IndexedBook {
         ensures ok { OnOk result (self.new ≡ insert self.old object.key object) }
         ensures err { OnErr result (self.new ≡ self.old) }
     {
-        self.indexes.enter(alloc, &self.objects, &object)?;
+        self.indexes.enter(alloc, &object)?;
         match self.objects.add(alloc, object) {
             Ok(()) => Ok(()),
             Err(refused) => {
@@ -173,16 +173,9 @@ impl Keeper for IndexedBook {
     }
 
     fn of(alloc: Global, objects: Vec<Object>) -> Result<IndexedBook, AllocError> {
-        let mut kept = ObjectMap::new(alloc);
-        let mut indexes = Indexes::new(alloc);
-        for object in objects {
-            indexes.enter(alloc, &kept, &object)?;
-            kept.add(alloc, object)?;
-        }
-        Ok(IndexedBook {
-            objects: kept,
-            indexes,
-        })
+        let indexes = Indexes::of(alloc, &objects)?;
+        let objects = ObjectMap::of(alloc, objects)?;
+        Ok(IndexedBook { objects, indexes })
     }
 
     fn insert(&mut self, alloc: Global, object: Object) -> Result<(), AllocError> {

@@ -1,13 +1,13 @@
 //! What is kept beside the objects of a registry.
 
-ghost use Rattle.std.specs.Prelude.{◌≡◌, None, Some, OnErr, OnOk, false};
+ghost use Rattle.std.specs.Prelude.{◌≡◌, IfOk, None, Some, OnErr, OnOk, false};
 ghost use Rattle.std.specs.FinMap.{empty, get, insert, remove};
 ghost use Rattle.rr_auth.specs.Registries.{Reg, Sound};
+ghost use Rattle.rr_book.specs.Books.{IsBook, book_of};
+ghost use Rattle.rr_index.specs.EnteringParts.{HasPlaces, IsUnderNone};
 ghost use Rattle.rr_index.specs.Indexes.{HasIndexes, HasKeys};
 ghost use Rattle.rr_index.specs.NameIndexes.{HasNames};
-ghost use Rattle.rr_index.specs.OriginIndexes.{HasOrigins};
-ghost use Rattle.rr_index.specs.Private.{IsApart, is_crossed};
-ghost use Rattle.rr_index.specs.SpanIndexes.{HasSpans};
+ghost use Rattle.rr_index.specs.Private.{is_crossed};
 
 use crate::name_index::NameIndex;
 use crate::naming_index::NamingIndex;
@@ -44,22 +44,28 @@ impl Indexes {
         }
     }
 
-    /// Enters an object of a key that is not among these objects, and that none of them crosses. The error is want of
-    /// memory, and leaves the indexes those of the objects.
-    pub(crate) fn enter(
-        &mut self,
-        alloc: Global,
-        objects: &ObjectMap,
-        object: &Object,
-    ) -> Result<(), AllocError>
-        requires indexed { HasIndexes objects.now self.old }
-        requires free { get objects.now object.now.key ≡ None }
-        requires apart { IsApart objects.now object.now.key }
-        ensures ok { OnOk result (HasIndexes (insert objects.now object.now.key object.now) self.new) }
-        ensures err { OnErr result (HasIndexes objects.now self.new) }
+    /// Those of objects that stand in the order of class and key; the error is want of memory.
+    pub(crate) fn of(alloc: Global, objects: &[Object]) -> Result<Indexes, AllocError>
+        requires { IsBook objects.now }
+        ensures { IfOk result (λ indexes. HasIndexes (book_of objects.now) indexes) }
+    {
+        let mut indexes = Indexes::new(alloc);
+        for object in objects {
+            indexes.enter(alloc, object)?;
+        }
+        Ok(indexes)
+    }
+
+    /// Enters an object of a key that stands under no set that the object names, and crosses no span that is held. The error
+    /// is want of memory, and leaves the indexes those of the same objects.
+    pub(crate) fn enter(&mut self, alloc: Global, object: &Object) -> Result<(), AllocError>
+        requires fresh { IsUnderNone self.old.referrers.keys object.now }
+        requires apart { is_crossed self.old.spans.inetnums self.old.spans.blocks object.now.key ≡ false }
+        ensures ok { OnOk result ((r : Reg) → HasIndexes r self.old → get r object.now.key ≡ None → HasIndexes (insert r object.now.key object.now) self.new) }
+        ensures err { OnErr result ((r : Reg) → HasIndexes r self.old → get r object.now.key ≡ None → HasIndexes r self.new) }
     {
         self.namings.add(alloc, object)?;
-        match self.enter_keys(alloc, objects, object) {
+        match self.enter_keys(alloc, object) {
             Ok(()) => Ok(()),
             Err(refused) => {
                 self.namings.take(object);
@@ -69,22 +75,18 @@ impl Indexes {
     }
 
     /// Enters the key of the object, under the sets that it names too.
-    fn enter_keys(
-        &mut self,
-        alloc: Global,
-        objects: &ObjectMap,
-        object: &Object,
-    ) -> Result<(), AllocError>
-        requires indexed { HasKeys objects.now self.old.spans self.old.origins self.old.names self.old.referrers }
-        requires free { get objects.now object.now.key ≡ None }
-        requires apart { IsApart objects.now object.now.key }
-        ensures ok { OnOk result (HasKeys (insert objects.now object.now.key object.now) self.new.spans self.new.origins self.new.names self.new.referrers) }
-        ensures err { OnErr result (HasKeys objects.now self.new.spans self.new.origins self.new.names self.new.referrers) }
+    fn enter_keys(&mut self, alloc: Global, object: &Object) -> Result<(), AllocError>
+        requires fresh { IsUnderNone self.old.referrers.keys object.now }
+        requires apart { is_crossed self.old.spans.inetnums self.old.spans.blocks object.now.key ≡ false }
+        ensures ok { OnOk result ((r : Reg) → HasKeys r self.old.spans self.old.origins self.old.names self.old.referrers → get r object.now.key ≡ None
+            → HasKeys (insert r object.now.key object.now) self.new.spans self.new.origins self.new.names self.new.referrers) }
+        ensures err { OnErr result ((r : Reg) → HasKeys r self.old.spans self.old.origins self.old.names self.old.referrers → get r object.now.key ≡ None
+            → HasKeys r self.new.spans self.new.origins self.new.names self.new.referrers) }
         ensures aside { self.new.namings ≡ self.old.namings }
     {
         let none = BTreeSet::new(alloc);
         self.referrers.add(alloc, object, &none)?;
-        match self.enter_key(alloc, objects, object) {
+        match self.enter_key(alloc, object) {
             Ok(()) => Ok(()),
             Err(refused) => {
                 self.referrers.take_all(object);
@@ -94,29 +96,18 @@ impl Indexes {
     }
 
     /// Enters the name, the origin and the span of the object.
-    fn enter_key(
-        &mut self,
-        alloc: Global,
-        objects: &ObjectMap,
-        object: &Object,
-    ) -> Result<(), AllocError>
-        requires spans { HasSpans objects.now self.old.spans.inetnums self.old.spans.blocks self.old.spans.routes }
-        requires origins { HasOrigins objects.now self.old.origins.routes }
-        requires names { HasNames objects.now self.old.names.keys }
-        requires free { get objects.now object.now.key ≡ None }
-        requires apart { is_crossed self.old.spans.inetnums self.old.spans.blocks object.now.key ≡ false }
-        ensures ok { OnOk result (HasSpans (insert objects.now object.now.key object.now) self.new.spans.inetnums self.new.spans.blocks self.new.spans.routes
-            × HasOrigins (insert objects.now object.now.key object.now) self.new.origins.routes
-            × HasNames (insert objects.now object.now.key object.now) self.new.names.keys) }
-        ensures err { OnErr result (HasSpans objects.now self.new.spans.inetnums self.new.spans.blocks self.new.spans.routes
-            × HasOrigins objects.now self.new.origins.routes
-            × HasNames objects.now self.new.names.keys) }
+    fn enter_key(&mut self, alloc: Global, object: &Object) -> Result<(), AllocError>
+        requires { is_crossed self.old.spans.inetnums self.old.spans.blocks object.now.key ≡ false }
+        ensures ok { OnOk result ((r : Reg) → HasPlaces r self.old.spans self.old.origins → HasNames r self.old.names.keys
+            → HasPlaces (insert r object.now.key object.now) self.new.spans self.new.origins × HasNames (insert r object.now.key object.now) self.new.names.keys) }
+        ensures err { OnErr result ((r : Reg) → HasPlaces r self.old.spans self.old.origins → HasNames r self.old.names.keys → get r object.now.key ≡ None
+            → HasPlaces r self.new.spans self.new.origins × HasNames r self.new.names.keys) }
         ensures aside { self.new.referrers ≡ self.old.referrers }
         ensures uncounted { self.new.namings ≡ self.old.namings }
     {
         let key = object.key();
         self.names.add(alloc, key)?;
-        match self.enter_place(objects, object) {
+        match self.enter_place(object) {
             Ok(()) => Ok(()),
             Err(refused) => {
                 self.names.take(key);
@@ -126,15 +117,12 @@ impl Indexes {
     }
 
     /// Enters the origin and the span of the object.
-    fn enter_place(&mut self, objects: &ObjectMap, object: &Object) -> Result<(), AllocError>
-        requires spans { HasSpans objects.now self.old.spans.inetnums self.old.spans.blocks self.old.spans.routes }
-        requires origins { HasOrigins objects.now self.old.origins.routes }
-        requires free { get objects.now object.now.key ≡ None }
-        requires apart { is_crossed self.old.spans.inetnums self.old.spans.blocks object.now.key ≡ false }
-        ensures ok { OnOk result (HasSpans (insert objects.now object.now.key object.now) self.new.spans.inetnums self.new.spans.blocks self.new.spans.routes
-            × HasOrigins (insert objects.now object.now.key object.now) self.new.origins.routes) }
-        ensures err { OnErr result (HasSpans objects.now self.new.spans.inetnums self.new.spans.blocks self.new.spans.routes
-            × HasOrigins objects.now self.new.origins.routes) }
+    fn enter_place(&mut self, object: &Object) -> Result<(), AllocError>
+        requires { is_crossed self.old.spans.inetnums self.old.spans.blocks object.now.key ≡ false }
+        ensures ok { OnOk result ((r : Reg) → HasPlaces r self.old.spans self.old.origins
+            → HasPlaces (insert r object.now.key object.now) self.new.spans self.new.origins) }
+        ensures err { OnErr result ((r : Reg) → HasPlaces r self.old.spans self.old.origins → get r object.now.key ≡ None
+            → HasPlaces r self.new.spans self.new.origins) }
         ensures named { self.new.names ≡ self.old.names }
         ensures aside { self.new.referrers ≡ self.old.referrers }
         ensures uncounted { self.new.namings ≡ self.old.namings }

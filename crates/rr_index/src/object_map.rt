@@ -1,6 +1,6 @@
 //! Objects by key.
 
-ghost use Rattle.std.specs.Prelude.{◌≡◌, ◌&&◌, ◌||◌, [], ◌∷◌, None, Some, false, filter, is_some, map, IfErr, IfOk, OnErr, OnOk};
+ghost use Rattle.std.specs.Prelude.{◌≡◌, ◌&&◌, ◌||◌, [], ◌∷◌, None, Some, false, true, filter, is_some, map, IfErr, IfOk, OnErr, OnOk};
 ghost use Rattle.std.specs.BTreeSet.{contains};
 ghost use Rattle.std.specs.FinMap.{contains_key, empty, entries, get, insert, remove, values};
 ghost use Rattle.std.specs.List.{filter_map, list_any};
@@ -16,6 +16,7 @@ ghost use Rattle.rr_object.specs.declared.key.Key.TheVariants.{Route};
 ghost use Rattle.rr_object.specs.KeyOrders.{key_cmp};
 ghost use Rattle.rr_auth.specs.Closest.{origin_at, origins_among};
 ghost use Rattle.rr_auth.specs.Registries.{Reg, Sound};
+ghost use Rattle.rr_book.specs.Books.{book_of, is_in_order};
 ghost use Rattle.rr_book.specs.SetLists.{is_of_class};
 ghost use Rattle.rr_sets.specs.Lists.{lent};
 ghost use Rattle.rr_index.specs.ChosenKeyParts.{is_chosen};
@@ -64,6 +65,22 @@ impl ObjectMap {
         ObjectMap {
             entries: BTreeMap::new(alloc),
         }
+    }
+
+    /// Objects that stand in the order of class and key; it compares each only with the next. The error is want of memory.
+    pub(crate) fn of(alloc: Global, objects: Vec<Object>) -> Result<ObjectMap, AllocError>
+        requires { is_in_order objects.items ≡ true }
+        ensures { IfOk result (λ kept. kept ≡ book_of objects.items) }
+    {
+        let mut entries = Vec::with_capacity(alloc, objects.len())?;
+        for object in objects {
+            let key = object.key().copy(alloc)?;
+            let placed = Placed::new(alloc, object)?;
+            entries.push((key, placed))?;
+        }
+        Ok(ObjectMap {
+            entries: BTreeMap::from_iter(alloc, entries)?,
+        })
     }
 
     /// The object of the key.

@@ -92,7 +92,7 @@ pub trait Database: Sized {
     fn migrated(self, alloc: Global, root: &str) -> Result<(Option<MigrateFault>, Self), Fail>;
 
     /// The objects of tables of version 1.
-    fn old_objects(self, alloc: Global) -> Result<Vec<u8>, Fail>;
+    fn old_objects(self, alloc: Global) -> Result<(Vec<u8>, Self), Fail>;
 }
 
 impl<S: Alter + Drop> Database for Connection<S> {
@@ -158,18 +158,15 @@ impl<S: Alter + Drop> Database for Connection<S> {
 
     fn naming(self, alloc: Global, maintainer: &str) -> Result<(Vec<u8>, Connection<S>), Fail> {
         let source = name(alloc, "TEST")?;
-        let maintainer = name(alloc, maintainer)?;
         let mut store = opened_alone(alloc, self, &source)?;
-        let objects = store.naming(alloc, &source, &maintainer)?;
-        Ok((text_of(alloc, &objects)?, store.close()))
+        let text = text_naming(alloc, &mut store, &source, maintainer)?;
+        Ok((text, store.close()))
     }
 
     fn changed(self, alloc: Global, put: &str, removed: &str) -> Result<Connection<S>, Fail> {
-        let put = object(alloc, put)?;
-        let removed = object(alloc, removed)?;
-        let mut store = opened_alone(alloc, self, &name(alloc, "TEST")?)?;
-        store.put(alloc, &put)?;
-        store.remove(alloc, removed.key())?;
+        let source = name(alloc, "TEST")?;
+        let mut store = opened_alone(alloc, self, &source)?;
+        exchange(alloc, &mut store, put, removed)?;
         Ok(store.close())
     }
 
@@ -193,11 +190,11 @@ impl<S: Alter + Drop> Database for Connection<S> {
         }
     }
 
-    fn old_objects(self, alloc: Global) -> Result<Vec<u8>, Fail> {
+    fn old_objects(self, alloc: Global) -> Result<(Vec<u8>, Connection<S>), Fail> {
         let source = name(alloc, "TEST")?;
         let mut conn = settled(self)?;
         let objects = Store::old_objects(alloc, &mut conn, &source)?;
-        text_of(alloc, &objects)
+        Ok((text_of(alloc, &objects)?, conn))
     }
 }
 
@@ -221,6 +218,34 @@ fn made<S: Alter + Drop>(alloc: Global, conn: Connection<S>) -> Result<Made<S>, 
     Ok(Store::create(alloc, settled(conn)?, &lent))
 }
 
+/// The objects of the store that name a maintainer.
+fn text_naming<S: Alter>(
+    alloc: Global,
+    store: &mut Store<S>,
+    source: &Name,
+    maintainer: &str,
+) -> Result<Vec<u8>, Fail> {
+    let maintainer = name(alloc, maintainer)?;
+    let objects = store.naming(alloc, source, &maintainer)?;
+    text_of(alloc, &objects)
+}
+
+/// Puts an object into the store, and takes out another.
+fn exchange<S: Alter>(
+    alloc: Global,
+    store: &mut Store<S>,
+    put: &str,
+    removed: &str,
+) -> Result<(), Fail> {
+    let put = object(alloc, put)?;
+    let removed = object(alloc, removed)?;
+    if puts(alloc, store, &put) && removes(alloc, store, &removed) {
+        Ok(())
+    } else {
+        Err("no change".into())
+    }
+}
+
 /// Puts the moved object in place of its old text, and takes it out, while the disk lets it: how many writes were done
 /// with the one that made the store.
 fn put_and_removed<S: Alter + Drop>(
@@ -228,13 +253,24 @@ fn put_and_removed<S: Alter + Drop>(
     mut store: Store<S>,
 ) -> Result<(usize, Connection<S>), Fail> {
     let moved = object(alloc, MOVED)?;
-    if store.put(alloc, &moved).is_err() {
-        return Ok((1, store.close()));
-    }
-    if store.remove(alloc, moved.key()).is_err() {
-        return Ok((2, store.close()));
-    }
-    Ok((3, store.close()))
+    let done = if !puts(alloc, &mut store, &moved) {
+        1
+    } else if !removes(alloc, &mut store, &moved) {
+        2
+    } else {
+        3
+    };
+    Ok((done, store.close()))
+}
+
+/// Whether the object is put into the store.
+fn puts<S: Alter>(alloc: Global, store: &mut Store<S>, object: &Object) -> bool {
+    store.put(alloc, object).is_ok()
+}
+
+/// Whether the object is taken out of the store.
+fn removes<S: Alter>(alloc: Global, store: &mut Store<S>, object: &Object) -> bool {
+    store.remove(alloc, object.key()).is_ok()
 }
 
 /// The store in this database, opened without its objects.

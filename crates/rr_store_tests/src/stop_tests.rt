@@ -5,7 +5,7 @@ use crate::databases::{
 };
 use crate::migration_tests::{OLD, lay};
 use rr_store::OpenFault;
-use sqlite::{Connection, FileStore, Files, Options};
+use sqlite::{Alter, Connection, FileStore, Files, Options};
 use sqlite_disk::{Crash, Disk, Fuse, Memory};
 use std::alloc::Global;
 use std::process::Abort;
@@ -56,6 +56,93 @@ fn fused(files: Files<Memory>, part: Part, calls: u64) -> Files<Fuse<Memory>> {
     }
 }
 
+/// What is done with the database of some files.
+#[derive(Clone, Copy)]
+enum Deed {
+    /// Make the tables of version 1, with their rows.
+    Lay,
+    /// Make a store of the four objects, put the moved one, and take it out.
+    Write,
+    /// Migrate the tables of version 1.
+    Migrate,
+    /// Read the objects.
+    Read,
+}
+
+/// What comes of it.
+#[derive(Drop)]
+struct Found {
+    /// How many writes were done.
+    done: usize,
+    /// The version of the tables that were read, and none where there are none.
+    version: Option<u32>,
+    /// The canonical texts of the objects that were read.
+    rows: Vec<u8>,
+}
+
+/// What comes of so many writes.
+fn writes(alloc: Global, done: usize) -> Found {
+    Found {
+        done,
+        version: None,
+        rows: Vec::new(alloc),
+    }
+}
+
+/// What comes of reading these rows of tables of a version.
+fn reads(version: u32, rows: Vec<u8>) -> Found {
+    Found {
+        done: 0,
+        version: Some(version),
+        rows,
+    }
+}
+
+/// Does this with a database; answers with what comes of it, and with the database.
+fn does<D: Database + Drop>(alloc: Global, database: D, deed: Deed) -> Result<(Found, D), Fail> {
+    match deed {
+        Deed::Lay => lays(alloc, database),
+        Deed::Write => {
+            let (done, database) = database.written(alloc)?;
+            Ok((writes(alloc, done), database))
+        }
+        Deed::Migrate => {
+            let (fault, database) = database.migrated(alloc, "ROOT-MNT")?;
+            Ok((writes(alloc, usize::from(fault.is_none())), database))
+        }
+        Deed::Read => read(alloc, database),
+    }
+}
+
+fn lays<D: Database + Drop>(alloc: Global, mut database: D) -> Result<(Found, D), Fail> {
+    lay(&mut database, OLD)?;
+    Ok((writes(alloc, OLD.len()), database))
+}
+
+/// The objects of tables of version 2, or else of those of version 1.
+fn read<D: Database + Drop>(alloc: Global, database: D) -> Result<(Found, D), Fail> {
+    let (opened, database) = database.opened(alloc, "TEST")?;
+    match opened {
+        Ok(rows) => Ok((reads(2, rows), database)),
+        Err(OpenFault::Store) => Ok((writes(alloc, 0), database)),
+        Err(OpenFault::WrongVersion(1)) => {
+            let (rows, database) = database.old_objects(alloc)?;
+            Ok((reads(1, rows), database))
+        }
+        Err(_) => Err("rows of no registry".into()),
+    }
+}
+
+/// Does this with a database that is left then; answers with what comes of it, and with what the database is kept in.
+fn does_last<S: Alter + Drop>(
+    alloc: Global,
+    conn: Connection<S>,
+    deed: Deed,
+) -> Result<(Found, S), Fail> {
+    let (found, conn) = does(alloc, conn, deed)?;
+    Ok((found, conn.into_store()))
+}
+
 /// The database of the files, or none where the disk fails before.
 fn database<D: Disk + Drop>(
     alloc: Global,
@@ -70,34 +157,49 @@ fn database<D: Disk + Drop>(
     }
 }
 
-/// The database that is found behind a stop.
-fn restarted<D: Crash + Drop>(
+/// Does this with a database; answers with what comes of it, and with its files.
+fn does_in_files<D: Disk + Drop>(
     alloc: Global,
     conn: Connection<FileStore<D>>,
-) -> Result<Connection<FileStore<D>>, Fail> {
-    let mut files = conn.into_store().close();
-    files.log.crash();
-    files.db.crash();
-    Ok(database(alloc, files)?.ok_or("no database")?)
+    deed: Deed,
+) -> Result<(Found, Files<D>), Fail> {
+    let (found, store) = does_last(alloc, conn, deed)?;
+    Ok((found, store.close()))
 }
 
-/// The canonical texts of the objects of the store in a database, and none where there is no store.
-fn stored<D: Database + Drop>(alloc: Global, database: D) -> Result<Vec<u8>, Fail> {
-    let (opened, _database) = database.opened(alloc, "TEST")?;
-    match opened {
-        Ok(text) => Ok(text),
-        Err(OpenFault::Store) => Ok(Vec::new(alloc)),
-        Err(_) => Err("rows of no registry".into()),
+/// Does this with the database of the files, until their disk fails; answers with what comes of it, and with the files.
+/// None where the disk fails before.
+fn run<D: Disk + Drop>(
+    alloc: Global,
+    files: Files<D>,
+    deed: Deed,
+) -> Result<Option<(Found, Files<D>)>, Fail> {
+    match database(alloc, files)? {
+        Some(conn) => Ok(Some(does_in_files(alloc, conn, deed)?)),
+        None => Ok(None),
     }
 }
 
-/// The same of tables of version 2, or else of those of version 1, and whether they are of version 2.
-fn found<D: Database + Drop>(alloc: Global, database: D) -> Result<(bool, Vec<u8>), Fail> {
-    let (opened, database) = database.opened(alloc, "TEST")?;
-    match opened {
-        Ok(text) => Ok((true, text)),
-        Err(OpenFault::WrongVersion(1)) => Ok((false, database.old_objects(alloc)?)),
-        Err(_) => Err("rows of no registry".into()),
+/// What is read behind a stop.
+fn read_again<D: Crash + Drop>(alloc: Global, mut files: Files<D>) -> Result<Found, Fail> {
+    files.log.crash();
+    files.db.crash();
+    match run(alloc, files, Deed::Read)? {
+        Some((found, _files)) => Ok(found),
+        None => Err("no database".into()),
+    }
+}
+
+/// How many writes of this deed were done on these files, and what is read behind the stop. None where the disk fails
+/// before.
+fn stopped<D: Crash + Drop>(
+    alloc: Global,
+    files: Files<D>,
+    deed: Deed,
+) -> Result<Option<(usize, Found)>, Fail> {
+    match run(alloc, files, deed)? {
+        Some((found, files)) => Ok(Some((found.done, read_again(alloc, files)?))),
+        None => Ok(None),
     }
 }
 
@@ -118,19 +220,6 @@ fn is_written(done: usize, text: &[u8]) -> bool {
         .any(|texts| is_made_of(text, texts))
 }
 
-/// How many of the three writes were done on these files, and the rows behind the stop. None where the disk fails before.
-fn rows_written<D: Crash + Drop>(
-    alloc: Global,
-    files: Files<D>,
-) -> Result<Option<(usize, Vec<u8>)>, Fail> {
-    let Some(conn) = database(alloc, files)? else {
-        return Ok(None);
-    };
-    let (done, conn) = conn.written(alloc)?;
-    let rows = stored(alloc, restarted(alloc, conn)?)?;
-    Ok(Some((done, rows)))
-}
-
 /// How many of the three writes were done at the stop of this file's call, where the disk did not fail before. Asserts
 /// what stands behind the stop.
 fn expect_written<R: Abort + AllocGlobal>(
@@ -139,10 +228,11 @@ fn expect_written<R: Abort + AllocGlobal>(
     calls: u64,
 ) -> Result<Option<usize>, Fail> {
     let files = fused(blank(rt.alloc()), part, calls);
-    let Some((done, rows)) = rows_written(rt.alloc(), files)? else {
+    let Some((done, found)) = stopped(rt.alloc(), files, Deed::Write)? else {
         return Ok(None);
     };
-    assert!(rt; is_written(done, &rows), "{part:?} {calls}");
+    assert!(rt; found.version != Some(1), "{part:?} {calls}");
+    assert!(rt; is_written(done, &found.rows), "{part:?} {calls}");
     Ok(Some(done))
 }
 
@@ -176,28 +266,12 @@ fn copied(alloc: Global, file: &Memory) -> Result<Memory, Fail> {
     Ok(copy)
 }
 
-/// The files with a registry of version 1.
-fn laid<D: Disk + Drop>(alloc: Global, files: Files<D>) -> Result<Files<D>, Fail> {
-    let mut conn = database(alloc, files)?.ok_or("no database")?;
-    lay(&mut conn, OLD)?;
-    match conn.close_files() {
-        Ok(files) => Ok(files),
-        Err((error, _store)) => Err(error.into()),
+/// Files with a registry of version 1.
+fn laid(alloc: Global) -> Result<Files<Memory>, Fail> {
+    match run(alloc, blank(alloc), Deed::Lay)? {
+        Some((_found, files)) => Ok(files),
+        None => Err("no database".into()),
     }
-}
-
-/// Whether these files were migrated; behind the stop, whether the tables are migrated, and their rows. None where the
-/// disk fails before.
-fn rows_migrated<D: Crash + Drop>(
-    alloc: Global,
-    files: Files<D>,
-) -> Result<Option<(bool, bool, Vec<u8>)>, Fail> {
-    let Some(conn) = database(alloc, files)? else {
-        return Ok(None);
-    };
-    let (fault, conn) = conn.migrated(alloc, "ROOT-MNT")?;
-    let (is_new, rows) = found(alloc, restarted(alloc, conn)?)?;
-    Ok(Some((fault.is_none(), is_new, rows)))
 }
 
 /// The objects of version 1, and the migrated ones.
@@ -216,12 +290,17 @@ fn expect_migrated<R: Abort + AllocGlobal>(
     let log = copied(rt.alloc(), &old.log)?;
     let db = copied(rt.alloc(), &old.db)?;
     let files = fused(Files { log, db }, part, calls);
-    let Some((done, is_new, rows)) = rows_migrated(rt.alloc(), files)? else {
+    let Some((done, found)) = stopped(rt.alloc(), files, Deed::Migrate)? else {
         return Ok(None);
     };
-    expect_texts(rt, &rows, if is_new { BEHIND } else { BEFORE })?;
-    assert!(rt; is_new || !done, "{part:?} {calls}");
-    Ok(Some((done, is_new)))
+    let is_done = done == 1;
+    let is_new = found.version == Some(2);
+    assert!(rt;
+        is_new || (!is_done && found.version == Some(1)),
+        "{part:?} {calls}"
+    );
+    expect_texts(rt, &found.rows, if is_new { BEHIND } else { BEFORE })?;
+    Ok(Some((is_done, is_new)))
 }
 
 /// Stops the migration at each call of this file: whether a stop left the tables of version 1, and whether one left
@@ -245,7 +324,7 @@ fn stop_migration<R: Abort + AllocGlobal>(
 
 #[test]
 fn a_stop_leaves_tables_of_version_1_or_migrated_ones(rt: HostRuntime) -> Result<(), Fail> {
-    let old = laid(rt.alloc(), blank(rt.alloc()))?;
+    let old = laid(rt.alloc())?;
     assert_eq!(rt; stop_migration(&rt, &old, Part::Log)?, [true; 2]);
     let _seen = stop_migration(&rt, &old, Part::Database)?;
     Ok(())

@@ -5,6 +5,7 @@ use crate::worked::{Asked, expect_answer, expect_answers, expect_text};
 use rr_index::IndexedBook;
 use rr_registry::{Keeper, PlainBook, Registry};
 use std::alloc::{AllocError, Global};
+use std::fmt::Write;
 use std::process::Abort;
 use std::test::Fail;
 
@@ -245,33 +246,53 @@ fn a_query_has_at_most_1024_bytes(rt: HostRuntime) -> Result<(), Fail> {
     expect_lengths::<IndexedBook, HostRuntime>(&rt, LENGTHS)
 }
 
-/// So many inetnums of one address each, from 1.0.0.0 on: as the root submits them, what it is told, and what is answered.
-fn addresses(alloc: Global, count: u32) -> Result<(String, String, String), AllocError> {
+/// What the root submits to add so many inetnums of one address each, from 1.0.0.0 on.
+fn additions(alloc: Global, count: u32) -> Result<String, Fail> {
     let mut text = String::from_str(alloc, "password: bc\n\n")?;
-    let mut report = String::new(alloc);
-    let mut answer = String::new(alloc);
-    for n in 0..count.min(65_536) {
+    for n in 0..count {
         let (high, low) = (n / 256, n % 256);
-        text.push_str(&format!(in alloc;
+        write!(
+            text,
             "inetnum: 1.0.{high}.{low}/32\nmnt-by: ROOT-MNT\nsource: TEST\n\n"
-        )?)?;
-        report.push_str(&format!(in alloc;
-            "{} inetnum 1.0.{high}.{low} - 1.0.{high}.{low}: added\n",
-            n.wrapping_add(1)
-        )?)?;
-        answer.push_str(&format!(in alloc;
-            "inetnum:        1.0.{high}.{low}/32\nmnt-by:         ROOT-MNT\nsource:         TEST\n\n"
-        )?)?;
+        )?;
     }
-    report.push_str(&format!(in alloc; "% items {count}\n")?)?;
-    Ok((text, report, answer))
+    Ok(text)
+}
+
+/// The report on them.
+fn additions_report(alloc: Global, count: u32) -> Result<String, Fail> {
+    let mut text = String::new(alloc);
+    for n in 0..count {
+        let (item, high, low) = (n.wrapping_add(1), n / 256, n % 256);
+        write!(
+            text,
+            "{item} inetnum 1.0.{high}.{low} - 1.0.{high}.{low}: added\n"
+        )?;
+    }
+    write!(text, "% items {count}\n")?;
+    Ok(text)
+}
+
+/// The answer that lists them.
+fn additions_list(alloc: Global, count: u32) -> Result<String, Fail> {
+    let mut text = String::new(alloc);
+    for n in 0..count {
+        let (high, low) = (n / 256, n % 256);
+        write!(
+            text,
+            "inetnum:        1.0.{high}.{low}/32\nmnt-by:         ROOT-MNT\nsource:         TEST\n\n"
+        )?;
+    }
+    Ok(text)
 }
 
 fn expect_listed<B: Keeper + Drop, R: Abort + AllocGlobal>(rt: &R) -> Result<(), Fail> {
-    let (text, report, answer) = addresses(rt.alloc(), 500)?;
+    let text = additions(rt.alloc(), 500)?;
     let (registry, last) = submitted::<B>(rt.alloc(), &[text.as_str()])?;
+    let report = additions_report(rt.alloc(), 500)?;
     expect_text(rt, &last, &report, "each is added")?;
-    expect_answer(rt, &registry, 1, "more 1.0.0.0/16", &answer)
+    let list = additions_list(rt.alloc(), 500)?;
+    expect_answer(rt, &registry, 1, "more 1.0.0.0/16", &list)
 }
 
 #[test]

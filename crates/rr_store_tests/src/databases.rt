@@ -172,7 +172,10 @@ impl<S: Alter + Drop> Database for Connection<S> {
 
     fn written(self, alloc: Global) -> Result<(usize, Connection<S>), Fail> {
         match made(alloc, self)? {
-            Ok(store) => put_and_removed(alloc, store),
+            Ok(mut store) => {
+                let done = put_and_removed(alloc, &mut store)?;
+                Ok((done, store.close()))
+            }
             Err((_fault, conn)) => Ok((0, conn)),
         }
     }
@@ -237,9 +240,7 @@ fn exchange<S: Alter>(
     put: &str,
     removed: &str,
 ) -> Result<(), Fail> {
-    let put = object(alloc, put)?;
-    let removed = object(alloc, removed)?;
-    if puts(alloc, store, &put) && removes(alloc, store, &removed) {
+    if puts(alloc, store, put)? && removes(alloc, store, removed)? {
         Ok(())
     } else {
         Err("no change".into())
@@ -248,29 +249,26 @@ fn exchange<S: Alter>(
 
 /// Puts the moved object in place of its old text, and takes it out, while the disk lets it: how many writes were done
 /// with the one that made the store.
-fn put_and_removed<S: Alter + Drop>(
-    alloc: Global,
-    mut store: Store<S>,
-) -> Result<(usize, Connection<S>), Fail> {
-    let moved = object(alloc, MOVED)?;
-    let done = if !puts(alloc, &mut store, &moved) {
-        1
-    } else if !removes(alloc, &mut store, &moved) {
-        2
+fn put_and_removed<S: Alter>(alloc: Global, store: &mut Store<S>) -> Result<usize, Fail> {
+    if !puts(alloc, store, MOVED)? {
+        Ok(1)
+    } else if !removes(alloc, store, MOVED)? {
+        Ok(2)
     } else {
-        3
-    };
-    Ok((done, store.close()))
+        Ok(3)
+    }
 }
 
-/// Whether the object is put into the store.
-fn puts<S: Alter>(alloc: Global, store: &mut Store<S>, object: &Object) -> bool {
-    store.put(alloc, object).is_ok()
+/// Whether the object of this text is put into the store.
+fn puts<S: Alter>(alloc: Global, store: &mut Store<S>, text: &str) -> Result<bool, Fail> {
+    let object = object(alloc, text)?;
+    Ok(store.put(alloc, &object).is_ok())
 }
 
-/// Whether the object is taken out of the store.
-fn removes<S: Alter>(alloc: Global, store: &mut Store<S>, object: &Object) -> bool {
-    store.remove(alloc, object.key()).is_ok()
+/// Whether the object of this text is taken out of the store.
+fn removes<S: Alter>(alloc: Global, store: &mut Store<S>, text: &str) -> Result<bool, Fail> {
+    let object = object(alloc, text)?;
+    Ok(store.remove(alloc, object.key()).is_ok())
 }
 
 /// The store in this database, opened without its objects.

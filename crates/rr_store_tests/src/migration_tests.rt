@@ -72,11 +72,6 @@ fn expect_anew<D: Database + Drop, R: Abort + AllocGlobal>(
     Ok(())
 }
 
-#[test]
-fn keys_names_and_the_version_are_written_anew_once(rt: HostRuntime) -> Result<(), Fail> {
-    expect_anew(&rt, Connection::open_in_memory(rt.alloc())?)
-}
-
 /// Rows of version 1, and why they are not migrated: the root is none of them, or a key has eight digits.
 const REFUSED: &[(&[OldRow], MigrateFault)] = &[
     (&[(1, "A-MNT", HOLDER, "A-MNT")], MigrateFault::NoRoot),
@@ -101,11 +96,39 @@ fn expect_refused<D: Database + Drop, R: Abort + AllocGlobal>(
     Ok(())
 }
 
+/// What is asserted of a database with nothing in it.
+#[derive(Clone, Copy)]
+enum Claim {
+    /// What migration makes of the tables of version 1.
+    Anew,
+    /// Why these rows of version 1 are not migrated.
+    Refused(&'static [OldRow], MigrateFault),
+}
+
+fn expect<D: Database + Drop, R: Abort + AllocGlobal>(
+    rt: &R,
+    database: D,
+    claim: Claim,
+) -> Result<(), Fail> {
+    match claim {
+        Claim::Anew => expect_anew(rt, database),
+        Claim::Refused(rows, wanted) => expect_refused(rt, database, rows, wanted),
+    }
+}
+
+fn expect_in_memory<R: Abort + AllocGlobal>(rt: &R, claim: Claim) -> Result<(), Fail> {
+    expect(rt, Connection::open_in_memory(rt.alloc())?, claim)
+}
+
+#[test]
+fn keys_names_and_the_version_are_written_anew_once(rt: HostRuntime) -> Result<(), Fail> {
+    expect_in_memory(&rt, Claim::Anew)
+}
+
 #[test]
 fn other_rows_are_not_migrated(rt: HostRuntime) -> Result<(), Fail> {
     for (rows, wanted) in REFUSED {
-        let database = Connection::open_in_memory(rt.alloc())?;
-        expect_refused(&rt, database, rows, *wanted)?;
+        expect_in_memory(&rt, Claim::Refused(rows, *wanted))?;
     }
     Ok(())
 }

@@ -266,6 +266,14 @@ fn copied(alloc: Global, file: &Memory) -> Result<Memory, Fail> {
     Ok(copy)
 }
 
+/// Copies of both files.
+fn copies(alloc: Global, files: &Files<Memory>) -> Result<Files<Memory>, Fail> {
+    Ok(Files {
+        log: copied(alloc, &files.log)?,
+        db: copied(alloc, &files.db)?,
+    })
+}
+
 /// Files with a registry of version 1.
 fn laid(alloc: Global) -> Result<Files<Memory>, Fail> {
     match run(alloc, blank(alloc), Deed::Lay)? {
@@ -287,9 +295,7 @@ fn expect_migrated<R: Abort + AllocGlobal>(
     part: Part,
     calls: u64,
 ) -> Result<Option<(bool, bool)>, Fail> {
-    let log = copied(rt.alloc(), &old.log)?;
-    let db = copied(rt.alloc(), &old.db)?;
-    let files = fused(Files { log, db }, part, calls);
+    let files = fused(copies(rt.alloc(), old)?, part, calls);
     let Some((done, found)) = stopped(rt.alloc(), files, Deed::Migrate)? else {
         return Ok(None);
     };

@@ -2,7 +2,8 @@
 
 use crate::databases::{Database, HOLDER, ROOT, TEN, WHOLE, expect_texts};
 use rr_store::{CreateFault, OpenFault};
-use sqlite::Connection;
+use sqlite::{Connection, Error};
+use std::alloc::Global;
 use std::process::Abort;
 use std::test::Fail;
 
@@ -57,11 +58,6 @@ fn expect_given<D: Database + Drop, R: Abort + AllocGlobal>(
     Ok(())
 }
 
-#[test]
-fn a_new_store_gives_its_objects_in_order(rt: HostRuntime) -> Result<(), Fail> {
-    expect_given(&rt, Connection::open_in_memory(rt.alloc())?)
-}
-
 /// Asserts what a store gives behind a put and a removal, opened without its objects and with them.
 fn expect_changed<D: Database + Drop, R: Abort + AllocGlobal>(
     rt: &R,
@@ -72,11 +68,6 @@ fn expect_changed<D: Database + Drop, R: Abort + AllocGlobal>(
     let database = expect_all(rt, database, texts)?;
     let (found, _database) = database.opened(rt.alloc(), "TEST")?;
     expect_texts(rt, &found?, texts)
-}
-
-#[test]
-fn a_closed_store_is_opened_as_it_was(rt: HostRuntime) -> Result<(), Fail> {
-    expect_changed(&rt, Connection::open_in_memory(rt.alloc())?)
 }
 
 const META: &str = "DELETE FROM meta";
@@ -94,6 +85,13 @@ const VACANT: &[(&[&str], Option<CreateFault>)] = &[
     (&[META, OBJECT, NAMED], None),
 ];
 
+fn run_all<D: Database>(database: &mut D, statements: &[&str]) -> Result<(), Error> {
+    for sql in statements {
+        let _count = database.run(sql)?;
+    }
+    Ok(())
+}
+
 /// Asserts what a store answers that is made over another, after these statements.
 fn expect_room<D: Database + Drop, R: Abort + AllocGlobal>(
     rt: &R,
@@ -102,20 +100,9 @@ fn expect_room<D: Database + Drop, R: Abort + AllocGlobal>(
     wanted: Option<CreateFault>,
 ) -> Result<(), Fail> {
     let mut database = filled(rt, database)?;
-    for sql in statements {
-        let _count = database.run(sql)?;
-    }
+    run_all(&mut database, statements)?;
     let (fault, _database) = database.created(rt.alloc())?;
     assert_eq!(rt; fault, wanted);
-    Ok(())
-}
-
-#[test]
-fn a_row_of_any_table_leaves_no_room(rt: HostRuntime) -> Result<(), Fail> {
-    for (statements, wanted) in VACANT {
-        let database = Connection::open_in_memory(rt.alloc())?;
-        expect_room(&rt, database, statements, *wanted)?;
-    }
     Ok(())
 }
 
@@ -151,6 +138,27 @@ const OTHERS: &[(&str, &str, Option<OpenFault>)] = &[
     ),
 ];
 
+/// Makes a store of the four objects, and changes rows by this statement.
+fn altered<D: Database + Drop, R: Abort + AllocGlobal>(
+    rt: &R,
+    database: D,
+    sql: &str,
+) -> Result<D, Fail> {
+    let mut database = filled(rt, database)?;
+    assert!(rt; database.run(sql)? > 0, "no row: {sql}");
+    Ok(database)
+}
+
+/// Why the store is not opened with its objects for this source.
+fn fault_of<D: Database + Drop>(
+    alloc: Global,
+    database: D,
+    source: &str,
+) -> Result<Option<OpenFault>, Fail> {
+    let (found, _database) = database.opened(alloc, source)?;
+    Ok(found.err())
+}
+
 /// Asserts what a store of the four objects answers that is opened after this statement.
 fn expect_fault<D: Database + Drop, R: Abort + AllocGlobal>(
     rt: &R,
@@ -158,18 +166,64 @@ fn expect_fault<D: Database + Drop, R: Abort + AllocGlobal>(
     (sql, source): (&str, &str),
     wanted: Option<OpenFault>,
 ) -> Result<(), Fail> {
-    let mut database = filled(rt, database)?;
-    assert!(rt; database.run(sql)? > 0, "no row: {sql}");
-    let (found, _database) = database.opened(rt.alloc(), source)?;
-    assert_eq!(rt; found.err(), wanted, "{sql}");
+    let database = altered(rt, database, sql)?;
+    let found = fault_of(rt.alloc(), database, source)?;
+    assert_eq!(rt; found, wanted, "{sql}");
+    Ok(())
+}
+
+/// What is asserted of a database with nothing in it.
+#[derive(Clone, Copy)]
+enum Claim {
+    /// What a new store gives.
+    Given,
+    /// What a store gives behind a put and a removal.
+    Changed,
+    /// What a store answers that is made over another, after these statements.
+    Room(&'static [&'static str], Option<CreateFault>),
+    /// What a store answers that is opened after this statement, for this source.
+    Fault(&'static str, &'static str, Option<OpenFault>),
+}
+
+fn expect<D: Database + Drop, R: Abort + AllocGlobal>(
+    rt: &R,
+    database: D,
+    claim: Claim,
+) -> Result<(), Fail> {
+    match claim {
+        Claim::Given => expect_given(rt, database),
+        Claim::Changed => expect_changed(rt, database),
+        Claim::Room(statements, wanted) => expect_room(rt, database, statements, wanted),
+        Claim::Fault(sql, source, wanted) => expect_fault(rt, database, (sql, source), wanted),
+    }
+}
+
+fn expect_in_memory<R: Abort + AllocGlobal>(rt: &R, claim: Claim) -> Result<(), Fail> {
+    expect(rt, Connection::open_in_memory(rt.alloc())?, claim)
+}
+
+#[test]
+fn a_new_store_gives_its_objects_in_order(rt: HostRuntime) -> Result<(), Fail> {
+    expect_in_memory(&rt, Claim::Given)
+}
+
+#[test]
+fn a_closed_store_is_opened_as_it_was(rt: HostRuntime) -> Result<(), Fail> {
+    expect_in_memory(&rt, Claim::Changed)
+}
+
+#[test]
+fn a_row_of_any_table_leaves_no_room(rt: HostRuntime) -> Result<(), Fail> {
+    for (statements, wanted) in VACANT {
+        expect_in_memory(&rt, Claim::Room(statements, *wanted))?;
+    }
     Ok(())
 }
 
 #[test]
 fn other_rows_are_not_opened(rt: HostRuntime) -> Result<(), Fail> {
     for (sql, source, wanted) in OTHERS {
-        let database = Connection::open_in_memory(rt.alloc())?;
-        expect_fault(&rt, database, (*sql, *source), *wanted)?;
+        expect_in_memory(&rt, Claim::Fault(sql, source, *wanted))?;
     }
     Ok(())
 }

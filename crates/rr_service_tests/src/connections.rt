@@ -40,17 +40,52 @@ pub fn expect_reply<D: Office, R: Abort + AllocGlobal>(
     expect_served(rt, desk, ending(bytes, step), Ok(()), reply.as_bytes())
 }
 
-/// The reply to a request that is refused with this status and reason, and with the line that allows a method, if any.
-pub fn refusal(alloc: Global, words: &str, allow: &str) -> Result<String, AllocError> {
+/// What is replied to a request.
+#[derive(Clone, Copy)]
+pub enum Reply<'a> {
+    /// This text.
+    Text(&'a str),
+    /// The page with this body.
+    Page(&'a str),
+    /// A refusal with this status and reason, and with the line that allows a method, if any.
+    Refusal(&'a str, &'a str),
+}
+
+impl Reply<'_> {
+    /// Its bytes.
+    pub fn written(self, alloc: Global) -> Result<String, AllocError> {
+        match self {
+            Reply::Text(text) => text.to_string(alloc),
+            Reply::Page(body) => page(alloc, body),
+            Reply::Refusal(words, allow) => refusal(alloc, words, allow),
+        }
+    }
+}
+
+/// The page with this body.
+fn page(alloc: Global, body: &str) -> Result<String, AllocError> {
+    format!(in alloc;
+        "HTTP/1.1 200 OK\r\nContent-Type: text/plain\r\nConnection: close\r\n\r\n{body}"
+    )
+}
+
+/// The refusal with this status and reason, and with this line.
+fn refusal(alloc: Global, words: &str, allow: &str) -> Result<String, AllocError> {
     let length = words.len() + 1;
     format!(in alloc;
         "HTTP/1.1 {words}\r\nContent-Type: text/plain\r\nContent-Length: {length}\r\nConnection: close\r\n{allow}\r\n{words}\n"
     )
 }
 
-/// The reply that has this body.
-pub fn given(alloc: Global, body: &str) -> Result<String, AllocError> {
-    format!(in alloc;
-        "HTTP/1.1 200 OK\r\nContent-Type: text/plain\r\nConnection: close\r\n\r\n{body}"
-    )
+/// Asserts what is replied to requests in turn.
+pub fn expect_replies<D: Office, R: Abort + AllocGlobal>(
+    rt: &R,
+    desk: &mut D,
+    cases: &[(&str, Reply<'_>)],
+) -> Result<(), Fail> {
+    for (request, reply) in cases {
+        let reply = reply.written(rt.alloc())?;
+        expect_reply(rt, desk, request.as_bytes(), 50, reply.as_str())?;
+    }
+    Ok(())
 }

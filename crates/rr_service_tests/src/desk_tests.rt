@@ -1,5 +1,5 @@
 //! What a desk keeps after submissions, and after faults of readers, writers and the store.
-use crate::desks::{Office, expect_kept, expect_report, new_desk};
+use crate::desks::{Office, Trial, expect_kept, expect_report, try_new};
 use crate::stopped::expect_stopped;
 use crate::texts::{THREE, THREE_ADDED};
 use rr_desk::{CreateFault, DeskFault, Done};
@@ -51,48 +51,62 @@ fn expect_rest<D: Office + Drop, R: Abort + AllocGlobal>(rt: &R, mut desk: D) ->
     Ok(())
 }
 
-/// Submits the three to a new desk, with a read that fails inside the last of them, and then whole, each time to the
-/// desk that the tables keep. No other desk is made in its place.
-fn expect_filled<D: Office + Drop, R: Abort + AllocGlobal>(
-    rt: &R,
-    mut desk: D,
-) -> Result<(), Fail> {
-    let unread = Err(DeskFault::ReadFault { items: 2 });
-    expect_submitted(rt, &mut desk, THREE.len() - 5, (unread, UNREAD, 2))?;
-    expect_rest(rt, desk.after(rt.alloc(), &[])?)
+/// The three are submitted with a read that fails inside the last of them, and then whole, each time to the desk that
+/// the tables keep. No other desk is made in its place.
+struct Filling;
+
+impl Trial for Filling {
+    fn tried<D: Office + Drop, R: Abort + AllocGlobal>(
+        &self,
+        rt: &R,
+        mut desk: D,
+    ) -> Result<(), Fail> {
+        let unread = Err(DeskFault::ReadFault { items: 2 });
+        expect_submitted(rt, &mut desk, THREE.len() - 5, (unread, UNREAD, 2))?;
+        expect_rest(rt, desk.after(rt.alloc(), &[])?)
+    }
 }
 
 #[test]
 fn a_desk_keeps_what_it_told(rt: HostRuntime) -> Result<(), Fail> {
-    expect_filled(&rt, new_desk(rt.alloc())?)
+    try_new(&rt, &Filling)
+}
+
+/// The three are submitted with a writer that fails after so many bytes, by which so many items are decided.
+#[derive(Drop)]
+struct Room {
+    room: usize,
+    items: u64,
+}
+
+impl Trial for Room {
+    /// Asserts the answer, that the front of the report was written, and how many of the three stand in the tables.
+    fn tried<D: Office + Drop, R: Abort + AllocGlobal>(
+        &self,
+        rt: &R,
+        mut desk: D,
+    ) -> Result<(), Fail> {
+        let Room { room, items } = *self;
+        let found = desk.submitted(rt.alloc(), THREE, usize::MAX, room);
+        assert_eq!(rt;
+            found.answer,
+            Err(DeskFault::WriteFault { items }),
+            "with room for {room} bytes"
+        );
+        assert_eq!(rt; found.report.len(), room);
+        assert!(rt; THREE_ADDED.as_bytes().starts_with(&found.report));
+        expect_kept(rt, &desk.begun_again(rt.alloc())?, items as usize)
+    }
 }
 
 /// For how many bytes of the report there is room, and how many items are decided by then.
 const ROOMS: &[(usize, u64)] = &[(0, 1), (42, 1), (43, 2), (85, 2), (86, 3), (138, 3)];
 
-/// Submits the three to a new desk, with a writer that fails after so many bytes. Asserts the answer, that the front
-/// of the report was written, and how many of the three stand in the tables.
-fn expect_cut<D: Office + Drop, R: Abort + AllocGlobal>(
-    rt: &R,
-    mut desk: D,
-    room: usize,
-    items: u64,
-) -> Result<(), Fail> {
-    let found = desk.submitted(rt.alloc(), THREE, usize::MAX, room);
-    assert_eq!(rt;
-        found.answer,
-        Err(DeskFault::WriteFault { items }),
-        "with room for {room} bytes"
-    );
-    assert_eq!(rt; found.report.len(), room);
-    assert!(rt; THREE_ADDED.as_bytes().starts_with(&found.report));
-    expect_kept(rt, &desk.begun_again(rt.alloc())?, items as usize)
-}
-
 #[test]
 fn a_failed_write_leaves_the_items_told(rt: HostRuntime) -> Result<(), Fail> {
     for (room, items) in ROOMS {
-        expect_cut(&rt, new_desk(rt.alloc())?, *room, *items)?;
+        let (room, items) = (*room, *items);
+        try_new(&rt, &Room { room, items })?;
     }
     Ok(())
 }
@@ -150,14 +164,18 @@ fn expect_begun_again<D: Office + Drop, R: Abort + AllocGlobal>(
     expect_submitted(rt, &mut desk, usize::MAX, (ALL, BEGUN_AGAIN, 3))
 }
 
-/// Asserts what becomes of a desk once its database refuses a second row of one key.
-fn expect_stop<D: Office + Drop, R: Abort + AllocGlobal>(rt: &R, desk: D) -> Result<(), Fail> {
-    let mut desk = desk.after(rt.alloc(), &[ONE_KEY])?;
-    expect_refused(rt, &mut desk)?;
-    expect_begun_again(rt, desk)
+/// The database of a desk refuses a second row of one key.
+struct Stop;
+
+impl Trial for Stop {
+    fn tried<D: Office + Drop, R: Abort + AllocGlobal>(&self, rt: &R, desk: D) -> Result<(), Fail> {
+        let mut desk = desk.after(rt.alloc(), &[ONE_KEY])?;
+        expect_refused(rt, &mut desk)?;
+        expect_begun_again(rt, desk)
+    }
 }
 
 #[test]
 fn a_stopped_desk_begins_again_at_its_tables(rt: HostRuntime) -> Result<(), Fail> {
-    expect_stop(&rt, new_desk(rt.alloc())?)
+    try_new(&rt, &Stop)
 }

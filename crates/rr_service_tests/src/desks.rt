@@ -4,11 +4,11 @@ ghost use Rattle.std.specs.Prelude.{◌≡◌, false, IfOk};
 use crate::texts::full_dump;
 use rr_desk::{
     ConnFault, CreateFault, Desk, DeskFault, Done, DumpFault, MemoryInput, MemoryPeers, OpenFault,
-    Served, Settings, serve_all,
+    Served, Settings, WriteFault, serve_all,
 };
 use rr_http::{Both, Registrar, serve_one};
-use rr_io::{Counted, Cut, Joined};
-use sqlite::{Alter, Connection, MemStore};
+use rr_io::{Counted, Cut, Joined, Sink, Source};
+use sqlite::{Alter, Connection};
 use std::alloc::{AllocError, Global};
 use std::process::Abort;
 use std::test::Fail;
@@ -56,11 +56,17 @@ pub trait Office: Sized {
     fn refused_another(self, alloc: Global) -> Result<Option<CreateFault>, Fail>;
 }
 
+/// What is tried with a desk, wherever its tables are kept.
+pub trait Trial {
+    /// Tries it, and asserts what comes of it.
+    fn tried<D: Office + Drop, R: Abort + AllocGlobal>(&self, rt: &R, desk: D) -> Result<(), Fail>;
+}
+
 impl<S: Alter + Drop> Office for Desk<S> {
     fn submitted(&mut self, alloc: Global, text: &str, given: usize, room: usize) -> Submitted {
         let mut reader = Cut::new(Counted::new(text.as_bytes()), 7, given);
         let mut writer = Cut::new(Counted::new(Vec::new(alloc)), 5, room);
-        let answer = self.submit(alloc, &mut reader, &mut writer);
+        let answer = submit(alloc, self, &mut reader, &mut writer);
         let reads = reader.into_inner().reads();
         let report = writer.into_inner().into_inner();
         Submitted {
@@ -72,8 +78,8 @@ impl<S: Alter + Drop> Office for Desk<S> {
 
     fn answered(&mut self, alloc: Global, query: &str) -> Result<(u8, Vec<u8>), Fail> {
         let mut writer = Counted::new(Vec::new(alloc));
-        let answered = self.answer(alloc, query.as_bytes(), &mut writer)?;
-        Ok((answered.error, writer.into_inner()))
+        let error = answer(alloc, self, query, &mut writer)?;
+        Ok((error, writer.into_inner()))
     }
 
     fn dumped(&self, alloc: Global) -> (Result<usize, DumpFault>, Vec<u8>) {
@@ -114,11 +120,38 @@ impl<S: Alter + Drop> Office for Desk<S> {
     }
 
     fn refused_another(self, alloc: Global) -> Result<Option<CreateFault>, Fail> {
-        match Desk::create(alloc, self.close(), Settings::built_in(alloc)?) {
-            Ok(_desk) => Ok(None),
-            Err((fault, _conn)) => Ok(Some(fault)),
-        }
+        Ok(created(alloc, self.close())?.err())
     }
+}
+
+/// Submits what the reader gives, and writes the report. Like the two calls behind it, it promises nothing, so that long
+/// contracts are not met over readers and writers of many parts.
+fn submit<S: Alter, R: Source, W: Sink>(
+    alloc: Global,
+    desk: &mut Desk<S>,
+    reader: &mut R,
+    writer: &mut W,
+) -> Result<Done, DeskFault> {
+    desk.submit(alloc, reader, writer)
+}
+
+/// Answers a query: the number of the error.
+fn answer<S: Alter, W: Sink>(
+    alloc: Global,
+    desk: &mut Desk<S>,
+    query: &str,
+    writer: &mut W,
+) -> Result<u8, WriteFault> {
+    Ok(desk.answer(alloc, query.as_bytes(), writer)?.error)
+}
+
+/// Serves a connection.
+fn serve<D: Registrar, C: rr_io::Connection>(
+    alloc: Global,
+    desk: &mut D,
+    connection: &mut C,
+) -> Result<(), ConnFault> {
+    serve_one(alloc, desk, connection)
 }
 
 /// How the serving of a connection ends, and what it is answered.
@@ -131,7 +164,7 @@ fn connected<D: Registrar>(
     let reader = Cut::new(Counted::new(input.bytes), step, input.reads);
     let writer = Cut::new(Counted::new(Vec::new(alloc)), step, input.writes);
     let mut connection = Joined::new(reader, writer);
-    let answer = serve_one(alloc, desk, &mut connection);
+    let answer = serve(alloc, desk, &mut connection);
     let (_, writer) = connection.into_parts();
     (answer, writer.into_inner().into_inner())
 }
@@ -170,22 +203,47 @@ fn settled<S: Alter + Drop>(conn: Connection<S>) -> Result<Connection<S>, Fail>
 
 /// The desk that this database keeps.
 fn opened<S: Alter + Drop>(alloc: Global, conn: Connection<S>) -> Result<Desk<S>, Fail> {
+    let conn = settled(conn)?;
     let settings = Settings::built_in(alloc)?;
-    desk_of(Desk::open(alloc, settled(conn)?, settings))
+    desk_of(Desk::open(alloc, conn, settings))
 }
 
-/// A new desk in this database.
-pub fn created<S: Alter + Drop>(alloc: Global, conn: Connection<S>) -> Result<Desk<S>, Fail> {
-    let settings = Settings::built_in(alloc)?;
-    match Desk::create(alloc, settled(conn)?, settings) {
+/// A new desk of these settings, or why none is made.
+fn made<S: Alter + Drop>(
+    alloc: Global,
+    conn: Connection<S>,
+    settings: Settings,
+) -> Result<Desk<S>, CreateFault>
+    requires { conn.in_transaction ≡ false }
+{
+    match Desk::create(alloc, conn, settings) {
         Ok(desk) => Ok(desk),
-        Err((fault, _conn)) => Err(fault.into()),
+        Err((fault, _conn)) => Err(fault),
     }
 }
 
-/// A new desk over a database in memory.
-pub fn new_desk(alloc: Global) -> Result<Desk<MemStore>, Fail> {
-    created(alloc, Connection::open_in_memory(alloc)?)
+/// A new desk in this database, or why none is made there.
+fn created<S: Alter + Drop>(
+    alloc: Global,
+    conn: Connection<S>,
+) -> Result<Result<Desk<S>, CreateFault>, Fail> {
+    let conn = settled(conn)?;
+    let settings = Settings::built_in(alloc)?;
+    Ok(made(alloc, conn, settings))
+}
+
+/// Tries this with a new desk in this database.
+pub fn try_in<S: Alter + Drop, T: Trial, R: Abort + AllocGlobal>(
+    rt: &R,
+    conn: Connection<S>,
+    trial: &T,
+) -> Result<(), Fail> {
+    trial.tried(rt, created(rt.alloc(), conn)??)
+}
+
+/// Tries this with a new desk over a database in memory.
+pub fn try_new<T: Trial, R: Abort + AllocGlobal>(rt: &R, trial: &T) -> Result<(), Fail> {
+    try_in(rt, Connection::open_in_memory(rt.alloc())?, trial)
 }
 
 /// Asserts that these are the bytes of a text.

@@ -1,10 +1,9 @@
 //! Whole connections, and the bytes that answer them. What is expected comes from the rules, read by hand.
-use crate::connections::{ending, expect_reply, expect_served, given, refusal};
-use crate::desks::{Office, expect_text, new_desk};
-use crate::stopped::{fused_desk, stop};
+use crate::connections::{Reply, ending, expect_replies, expect_reply, expect_served};
+use crate::desks::{Office, Trial, expect_text, try_new};
+use crate::stopped::{stop, try_fused};
 use crate::texts::TEN;
 use rr_desk::{ConnFault, MemoryInput, MemoryTurn, Peers, Served};
-use std::alloc::{AllocError, Global};
 use std::process::Abort;
 use std::test::Fail;
 
@@ -161,72 +160,85 @@ Connection: close\r
 ";
 
 /// Requests that are refused, each with its status, its reason and the field that allows a method.
-const REFUSED: &[(&str, &str, &str)] = &[
-    ("GET /dump HTTP/1.1\r\n", "400 Bad Request", ""),
-    ("GET  /dump HTTP/1.1\r\n\r\n", "400 Bad Request", ""),
-    ("GET /dump HTTP/1.1 \r\n\r\n", "400 Bad Request", ""),
+const REFUSED: &[(&str, Reply<'static>)] = &[
+    (
+        "GET /dump HTTP/1.1\r\n",
+        Reply::Refusal("400 Bad Request", ""),
+    ),
+    (
+        "GET  /dump HTTP/1.1\r\n\r\n",
+        Reply::Refusal("400 Bad Request", ""),
+    ),
+    (
+        "GET /dump HTTP/1.1 \r\n\r\n",
+        Reply::Refusal("400 Bad Request", ""),
+    ),
     (
         "PUT /nothing HTTP/1.1\r\ntransfer-encoding: chunked\r\n\r\n",
-        "501 Not Implemented",
-        "",
+        Reply::Refusal("501 Not Implemented", ""),
     ),
     (
         "POST /submissions HTTP/1.1\r\nContent-Length: x\r\nTransfer-Encoding:\r\n\r\n",
-        "501 Not Implemented",
-        "",
+        Reply::Refusal("501 Not Implemented", ""),
     ),
-    ("GET /nothing HTTP/1.1\r\n\r\n", "404 Not Found", ""),
-    ("PUT /nothing HTTP/1.1\r\n\r\n", "404 Not Found", ""),
-    ("GET /query/?a HTTP/1.1\r\n\r\n", "404 Not Found", ""),
-    ("GET /%64ump HTTP/1.1\r\n\r\n", "404 Not Found", ""),
+    (
+        "GET /nothing HTTP/1.1\r\n\r\n",
+        Reply::Refusal("404 Not Found", ""),
+    ),
+    (
+        "PUT /nothing HTTP/1.1\r\n\r\n",
+        Reply::Refusal("404 Not Found", ""),
+    ),
+    (
+        "GET /query/?a HTTP/1.1\r\n\r\n",
+        Reply::Refusal("404 Not Found", ""),
+    ),
+    (
+        "GET /%64ump HTTP/1.1\r\n\r\n",
+        Reply::Refusal("404 Not Found", ""),
+    ),
     (
         "PUT /submissions HTTP/1.1\r\n\r\n",
-        "405 Method Not Allowed",
-        "Allow: POST\r\n",
+        Reply::Refusal("405 Method Not Allowed", "Allow: POST\r\n"),
     ),
     (
         "HEAD /dump HTTP/1.1\r\n\r\n",
-        "405 Method Not Allowed",
-        "Allow: GET\r\n",
+        Reply::Refusal("405 Method Not Allowed", "Allow: GET\r\n"),
     ),
     (
         "POST /query/a HTTP/1.1\r\n\r\n",
-        "405 Method Not Allowed",
-        "Allow: GET\r\n",
+        Reply::Refusal("405 Method Not Allowed", "Allow: GET\r\n"),
     ),
     (
         "POST /submissions HTTP/1.1\r\n\r\n",
-        "411 Length Required",
-        "",
+        Reply::Refusal("411 Length Required", ""),
     ),
     (
         "POST /submissions HTTP/1.1\r\nContent-Length: 1048577\r\nContent-Length: 1048577\r\n\r\n",
-        "400 Bad Request",
-        "",
+        Reply::Refusal("400 Bad Request", ""),
     ),
     (
         "POST /submissions HTTP/1.1\r\nContent-Length: 1048577\r\n\r\n",
-        "413 Payload Too Large",
-        "",
+        Reply::Refusal("413 Payload Too Large", ""),
     ),
 ];
 
-/// Asserts that these requests are refused so.
-fn expect_refusals<D: Office, R: Abort + AllocGlobal>(
-    rt: &R,
-    desk: &mut D,
-    cases: &[(&str, &str, &str)],
-) -> Result<(), Fail> {
-    for (request, words, allow) in cases {
-        let reply = refusal(rt.alloc(), words, allow)?;
-        expect_reply(rt, desk, request.as_bytes(), 100, reply.as_str())?;
+/// Requests in turn, and what is replied to each.
+struct Replies(&'static [(&'static str, Reply<'static>)]);
+
+impl Trial for Replies {
+    fn tried<D: Office + Drop, R: Abort + AllocGlobal>(
+        &self,
+        rt: &R,
+        mut desk: D,
+    ) -> Result<(), Fail> {
+        expect_replies(rt, &mut desk, self.0)
     }
-    Ok(())
 }
 
 #[test]
 fn a_request_is_refused_by_the_first_status_that_holds(rt: HostRuntime) -> Result<(), Fail> {
-    expect_refusals(&rt, &mut new_desk(rt.alloc())?, REFUSED)
+    try_new(&rt, &Replies(REFUSED))
 }
 
 /// Fronts with a byte that stands behind them up to a size, and the replies: heads of 8,192 bytes without their end and
@@ -237,53 +249,66 @@ const LONG: &[(&str, u8, usize, &str)] = &[
     ("", b'a', 8_192, "% error 2\n"),
 ];
 
-/// Asserts the replies to what is so long.
-fn expect_long<D: Office, R: Abort + AllocGlobal>(rt: &R, desk: &mut D) -> Result<(), Fail> {
-    for (front, byte, size, reply) in LONG {
-        let mut text = Vec::from_slice(rt.alloc(), front.as_bytes())?;
-        text.resize(*size, *byte)?;
-        expect_reply(rt, desk, &text, 1, reply)?;
+/// What is so long, and the replies to it.
+struct Long;
+
+impl Trial for Long {
+    fn tried<D: Office + Drop, R: Abort + AllocGlobal>(
+        &self,
+        rt: &R,
+        mut desk: D,
+    ) -> Result<(), Fail> {
+        for (front, byte, size, reply) in LONG {
+            let mut text = Vec::from_slice(rt.alloc(), front.as_bytes())?;
+            text.resize(*size, *byte)?;
+            expect_reply(rt, &mut desk, &text, 1, reply)?;
+        }
+        Ok(())
     }
-    Ok(())
 }
 
 #[test]
 fn a_head_of_8192_bytes_without_its_end_is_too_large(rt: HostRuntime) -> Result<(), Fail> {
-    expect_long(&rt, &mut new_desk(rt.alloc())?)
+    try_new(&rt, &Long)
 }
 
 /// Requests in turn, and what is given.
-const GIVEN: &[(&str, &str)] = &[
-    (THREE, THREE_REPORT),
-    ("GET /query/%2E HTTP/1.1\r\n\r\n", "% error 1\n"),
-    ("GET /query/%2e HTTP/1.0\n\n", "% error 1\n"),
-    ("GET /query/exact%2010.0.0.0%2F8 HTTP/1.1\r\n\r\n", TEN),
-    ("GET /query/root%2Dm%6et?exact HTTP/1.1\r\n\r\n", ROOT),
-    ("GET /query/ROOT-MNT%0A HTTP/1.1\r\n\r\n", "% error 1\n"),
-    ("GET /query/ROOT-MNT%zz HTTP/1.1\r\n\r\n", "% error 1\n"),
+const GIVEN: &[(&str, Reply<'static>)] = &[
+    (THREE, Reply::Page(THREE_REPORT)),
+    (
+        "GET /query/%2E HTTP/1.1\r\n\r\n",
+        Reply::Page("% error 1\n"),
+    ),
+    ("GET /query/%2e HTTP/1.0\n\n", Reply::Page("% error 1\n")),
+    (
+        "GET /query/exact%2010.0.0.0%2F8 HTTP/1.1\r\n\r\n",
+        Reply::Page(TEN),
+    ),
+    (
+        "GET /query/root%2Dm%6et?exact HTTP/1.1\r\n\r\n",
+        Reply::Page(ROOT),
+    ),
+    (
+        "GET /query/ROOT-MNT%0A HTTP/1.1\r\n\r\n",
+        Reply::Page("% error 1\n"),
+    ),
+    (
+        "GET /query/ROOT-MNT%zz HTTP/1.1\r\n\r\n",
+        Reply::Page("% error 1\n"),
+    ),
     (
         "GET /query/closest+10.0.0.1 HTTP/1.1\r\n\r\n",
-        "% error 1\n",
+        Reply::Page("% error 1\n"),
     ),
-    ("GET /dump HTTP/1.1\r\nContent-Length: x\r\n\r\n", DUMP),
+    (
+        "GET /dump HTTP/1.1\r\nContent-Length: x\r\n\r\n",
+        Reply::Page(DUMP),
+    ),
 ];
-
-/// Asserts what is given to requests.
-fn expect_given<D: Office, R: Abort + AllocGlobal>(
-    rt: &R,
-    desk: &mut D,
-    cases: &[(&str, &str)],
-) -> Result<(), Fail> {
-    for (request, body) in cases {
-        let reply = given(rt.alloc(), body)?;
-        expect_reply(rt, desk, request.as_bytes(), 50, reply.as_str())?;
-    }
-    Ok(())
-}
 
 #[test]
 fn what_a_request_asks_is_given(rt: HostRuntime) -> Result<(), Fail> {
-    expect_given(&rt, &mut new_desk(rt.alloc())?, GIVEN)
+    try_new(&rt, &Replies(GIVEN))
 }
 
 /// Queries as lines and as paths, and their answers.
@@ -310,57 +335,72 @@ fn expect_whois<D: Office, R: Abort + AllocGlobal>(
     Ok(())
 }
 
-/// Asserts that these queries are answered so by whois and by HTTP.
-fn expect_alike<D: Office, R: Abort + AllocGlobal>(
-    rt: &R,
-    desk: &mut D,
-    cases: &[(&str, &str, &str)],
-) -> Result<(), Fail> {
-    for (query, path, answer) in cases {
-        expect_whois(rt, desk, query, answer)?;
-        let request = format!(in rt.alloc(); "GET /query/{path} HTTP/1.1\r\n\r\n")?;
-        expect_given(rt, desk, &[(request.as_str(), *answer)])?;
+/// Queries, each by whois and by HTTP.
+struct Alike;
+
+impl Trial for Alike {
+    fn tried<D: Office + Drop, R: Abort + AllocGlobal>(
+        &self,
+        rt: &R,
+        mut desk: D,
+    ) -> Result<(), Fail> {
+        for (query, path, answer) in QUERIES {
+            expect_whois(rt, &mut desk, query, answer)?;
+            let request = format!(in rt.alloc(); "GET /query/{path} HTTP/1.1\r\n\r\n")?;
+            expect_replies(rt, &mut desk, &[(request.as_str(), Reply::Page(answer))])?;
+        }
+        Ok(())
     }
-    Ok(())
 }
 
 #[test]
 fn a_query_is_answered_alike_by_whois_and_http(rt: HostRuntime) -> Result<(), Fail> {
-    expect_alike(&rt, &mut new_desk(rt.alloc())?, QUERIES)
+    try_new(&rt, &Alike)
 }
 
-/// What a stopped desk refuses, and what is refused before.
-const STOPPED: &[(&str, &str, &str)] = &[
-    (TWO, "503 Service Unavailable", ""),
+/// What a stopped desk refuses, by whois too, and what is refused before.
+const STOPPED: &[(&str, Reply<'static>)] = &[
+    (TWO, Reply::Refusal("503 Service Unavailable", "")),
     (
         "GET /query/ROOT-MNT HTTP/1.1\r\n\r\n",
-        "503 Service Unavailable",
-        "",
+        Reply::Refusal("503 Service Unavailable", ""),
     ),
-    ("GET /dump HTTP/1.1\r\n\r\n", "503 Service Unavailable", ""),
-    ("GET /nothing HTTP/1.1\r\n\r\n", "404 Not Found", ""),
+    (
+        "GET /dump HTTP/1.1\r\n\r\n",
+        Reply::Refusal("503 Service Unavailable", ""),
+    ),
+    (
+        "GET /nothing HTTP/1.1\r\n\r\n",
+        Reply::Refusal("404 Not Found", ""),
+    ),
     (
         "PUT /dump HTTP/1.1\r\n\r\n",
-        "405 Method Not Allowed",
-        "Allow: GET\r\n",
+        Reply::Refusal("405 Method Not Allowed", "Allow: GET\r\n"),
     ),
     (
         "POST /submissions HTTP/1.1\r\n\r\n",
-        "411 Length Required",
-        "",
+        Reply::Refusal("411 Length Required", ""),
     ),
+    ("ROOT-MNT\r\n", Reply::Text("% error 6\n")),
 ];
 
-/// Asserts that a desk which a fault stops refuses what asks it, by whois too.
-fn expect_refused<D: Office, R: Abort + AllocGlobal>(rt: &R, desk: &mut D) -> Result<(), Fail> {
-    stop(rt.alloc(), desk)?;
-    expect_refusals(rt, desk, STOPPED)?;
-    expect_reply(rt, desk, b"ROOT-MNT\r\n", 50, "% error 6\n")
+/// A desk that a fault stops.
+struct Stopped;
+
+impl Trial for Stopped {
+    fn tried<D: Office + Drop, R: Abort + AllocGlobal>(
+        &self,
+        rt: &R,
+        mut desk: D,
+    ) -> Result<(), Fail> {
+        stop(rt.alloc(), &mut desk)?;
+        expect_replies(rt, &mut desk, STOPPED)
+    }
 }
 
 #[test]
 fn a_stopped_desk_serves_nothing(rt: HostRuntime) -> Result<(), Fail> {
-    expect_refused(&rt, &mut fused_desk(rt.alloc())?)
+    try_fused(&rt, &Stopped)
 }
 
 /// The query for the inetnum that is submitted.
@@ -384,48 +424,55 @@ fn expect_turns<R: Abort + AllocGlobal>(rt: &R, turns: &[MemoryTurn<'_>]) -> Res
     assert_eq!(rt; turns.len(), 3);
     expect_turn(rt, turns, 1, EXACT, "")?;
     expect_turn(rt, turns, 2, EXACT, TEN)?;
-    let report = given(rt.alloc(), THREE_REPORT)?;
+    let report = Reply::Page(THREE_REPORT).written(rt.alloc())?;
     expect_turn(rt, turns, 0, THREE, report.as_str())
 }
 
-/// Takes so many turns of three connections, of which the second breaks, and asserts how many are served and fail.
-fn expect_served_turns<D: Office, R: Abort + AllocGlobal>(
-    rt: &R,
-    desk: &mut D,
+/// So many turns of three connections, of which the second breaks, and how many are served and fail.
+#[derive(Drop)]
+struct Turns {
     count: u64,
-    wanted: Served,
-) -> Result<(), Fail> {
-    let broken = MemoryInput {
-        reads: 0,
-        ..MemoryInput::whole(EXACT.as_bytes())
-    };
-    let inputs = [
-        ending(THREE.as_bytes(), 1),
-        broken,
-        MemoryInput::whole(EXACT.as_bytes()),
-    ];
-    let (served, peers) = desk.turned(rt.alloc(), &inputs, count)?;
-    assert_eq!(rt; served, wanted);
-    assert_eq!(rt; peers.turns(), count);
-    expect_turns(rt, peers.closed())
+    served: Served,
+}
+
+impl Trial for Turns {
+    fn tried<D: Office + Drop, R: Abort + AllocGlobal>(
+        &self,
+        rt: &R,
+        mut desk: D,
+    ) -> Result<(), Fail> {
+        let broken = MemoryInput {
+            reads: 0,
+            ..MemoryInput::whole(EXACT.as_bytes())
+        };
+        let inputs = [
+            ending(THREE.as_bytes(), 1),
+            broken,
+            MemoryInput::whole(EXACT.as_bytes()),
+        ];
+        let (served, peers) = desk.turned(rt.alloc(), &inputs, self.count)?;
+        assert_eq!(rt; served, self.served);
+        assert_eq!(rt; peers.turns(), self.count);
+        expect_turns(rt, peers.closed())
+    }
 }
 
 #[test]
 fn three_turns_are_taken(rt: HostRuntime) -> Result<(), Fail> {
-    let wanted = Served {
+    let served = Served {
         served: 2,
         failed: 1,
     };
-    expect_served_turns(&rt, &mut new_desk(rt.alloc())?, 3, wanted)
+    try_new(&rt, &Turns { count: 3, served })
 }
 
 #[test]
 fn turns_past_the_last_connection_fail(rt: HostRuntime) -> Result<(), Fail> {
-    let wanted = Served {
+    let served = Served {
         served: 2,
         failed: 3,
     };
-    expect_served_turns(&rt, &mut new_desk(rt.alloc())?, 5, wanted)
+    try_new(&rt, &Turns { count: 5, served })
 }
 
 /// The reply to the two items where only so many bytes of the request come. In its first line it is no request yet: it
@@ -441,30 +488,46 @@ fn cut_reply(count: usize) -> &'static str {
     }
 }
 
-/// Asserts what is replied where the request of two items is cut at each place.
-fn expect_cut<D: Office, R: Abort + AllocGlobal>(rt: &R, desk: &mut D) -> Result<(), Fail> {
-    let text = TWO.as_bytes();
-    for count in 0..text.len() + 1 {
-        expect_reply(rt, desk, &text[..count], 1, cut_reply(count))?;
+/// The request of two items, cut at each place.
+struct Cuts;
+
+impl Trial for Cuts {
+    fn tried<D: Office + Drop, R: Abort + AllocGlobal>(
+        &self,
+        rt: &R,
+        mut desk: D,
+    ) -> Result<(), Fail> {
+        let text = TWO.as_bytes();
+        for count in 0..text.len() + 1 {
+            expect_reply(rt, &mut desk, &text[..count], 1, cut_reply(count))?;
+        }
+        Ok(())
     }
-    Ok(())
 }
 
 #[test]
 fn a_request_is_cut_at_each_place(rt: HostRuntime) -> Result<(), Fail> {
-    expect_cut(&rt, &mut new_desk(rt.alloc())?)
+    try_new(&rt, &Cuts)
 }
 
-/// Asserts that the complete paragraphs of a short body count: its first one stands behind it.
-fn expect_begun<D: Office, R: Abort + AllocGlobal>(rt: &R, desk: &mut D) -> Result<(), Fail> {
-    let short = THREE.as_bytes().get(..150).ok_or("no text")?;
-    expect_reply(rt, desk, short, 1, BEGUN)?;
-    expect_reply(rt, desk, EXACT.as_bytes(), 1, TEN)
+/// A short body, of which the complete paragraphs count: its first one stands behind it.
+struct Short;
+
+impl Trial for Short {
+    fn tried<D: Office + Drop, R: Abort + AllocGlobal>(
+        &self,
+        rt: &R,
+        mut desk: D,
+    ) -> Result<(), Fail> {
+        let short = THREE.as_bytes().get(..150).ok_or("no text")?;
+        expect_reply(rt, &mut desk, short, 1, BEGUN)?;
+        expect_reply(rt, &mut desk, EXACT.as_bytes(), 1, TEN)
+    }
 }
 
 #[test]
 fn a_short_body_counts_up_to_its_last_whole_paragraph(rt: HostRuntime) -> Result<(), Fail> {
-    expect_begun(&rt, &mut new_desk(rt.alloc())?)
+    try_new(&rt, &Short)
 }
 
 /// A connection that gives these bytes one by one, and of which each read fails after so many.
@@ -475,39 +538,40 @@ fn breaking(text: &str, reads: usize) -> MemoryInput<'_> {
     }
 }
 
-/// Asserts that nothing is written where a read fails before these bytes have come.
-fn expect_silence<D: Office, R: Abort + AllocGlobal>(
+/// Asserts what is replied where a read of a text fails at each place: nothing before so many bytes have come.
+fn expect_broken<D: Office, R: Abort + AllocGlobal>(
     rt: &R,
     desk: &mut D,
     text: &str,
     whole: usize,
 ) -> Result<(), Fail> {
-    for reads in 0..whole {
-        expect_served(rt, desk, breaking(text, reads), Err(ConnFault::Read), b"")?;
+    for reads in 0..text.len() {
+        let reply = if reads < whole { "" } else { cut_reply(reads) };
+        let wanted = Err(ConnFault::Read);
+        expect_served(rt, desk, breaking(text, reads), wanted, reply.as_bytes())?;
     }
     Ok(())
 }
 
-/// Asserts what is replied where a read of the two items fails at each place behind the head.
-fn expect_broken<D: Office, R: Abort + AllocGlobal>(rt: &R, desk: &mut D) -> Result<(), Fail> {
-    for reads in 50..TWO.len() {
-        let reply = cut_reply(reads).as_bytes();
-        expect_served(rt, desk, breaking(TWO, reads), Err(ConnFault::Read), reply)?;
-    }
-    Ok(())
-}
+/// The request of two items, whose head has 50 bytes, and a query, in which reads fail.
+struct Breaks;
 
-/// Asserts what is replied where reads fail: nothing before a query or a head is complete.
-fn expect_read_faults<D: Office, R: Abort + AllocGlobal>(rt: &R, desk: &mut D) -> Result<(), Fail> {
-    expect_silence(rt, desk, TWO, 50)?;
-    expect_silence(rt, desk, "root-mnt\n", 9)?;
-    expect_served(rt, desk, breaking("root-mnt\n", 9), Ok(()), ROOT.as_bytes())?;
-    expect_broken(rt, desk)
+impl Trial for Breaks {
+    fn tried<D: Office + Drop, R: Abort + AllocGlobal>(
+        &self,
+        rt: &R,
+        mut desk: D,
+    ) -> Result<(), Fail> {
+        expect_broken(rt, &mut desk, TWO, 50)?;
+        expect_broken(rt, &mut desk, "root-mnt\n", 9)?;
+        let whole = breaking("root-mnt\n", 9);
+        expect_served(rt, &mut desk, whole, Ok(()), ROOT.as_bytes())
+    }
 }
 
 #[test]
 fn a_read_fails_at_each_place(rt: HostRuntime) -> Result<(), Fail> {
-    expect_read_faults(&rt, &mut new_desk(rt.alloc())?)
+    try_new(&rt, &Breaks)
 }
 
 /// Requests that leave the registry as it is, and their replies.
@@ -517,60 +581,66 @@ const REPLIED: &[(&str, &str)] = &[
     ("root-mnt\n", ROOT),
 ];
 
-/// Asserts that a front of the reply is written where a write fails at each place.
-fn expect_fronts<D: Office, R: Abort + AllocGlobal>(
-    rt: &R,
-    desk: &mut D,
-    request: &str,
-    reply: &str,
-) -> Result<(), Fail> {
-    let reply = reply.as_bytes();
-    for writes in 0..reply.len() {
-        let input = MemoryInput {
-            writes,
-            ..ending(request.as_bytes(), 7)
-        };
-        expect_served(rt, desk, input, Err(ConnFault::Write), &reply[..writes])?;
-    }
-    Ok(())
+/// A request, and its reply, of which a front is written where a write fails.
+#[derive(Drop)]
+struct Fronts {
+    request: &'static str,
+    reply: &'static str,
 }
 
-/// Asserts the same of each of these requests.
-fn expect_all_fronts<D: Office, R: Abort + AllocGlobal>(rt: &R, desk: &mut D) -> Result<(), Fail> {
-    for (request, reply) in REPLIED {
-        expect_fronts(rt, desk, request, reply)?;
+impl Trial for Fronts {
+    fn tried<D: Office + Drop, R: Abort + AllocGlobal>(
+        &self,
+        rt: &R,
+        mut desk: D,
+    ) -> Result<(), Fail> {
+        let reply = self.reply.as_bytes();
+        for writes in 0..reply.len() {
+            let input = MemoryInput {
+                writes,
+                ..ending(self.request.as_bytes(), 7)
+            };
+            let wanted = Err(ConnFault::Write);
+            expect_served(rt, &mut desk, input, wanted, &reply[..writes])?;
+        }
+        Ok(())
     }
-    Ok(())
 }
 
 #[test]
 fn a_write_fails_at_each_place(rt: HostRuntime) -> Result<(), Fail> {
-    expect_all_fronts(&rt, &mut new_desk(rt.alloc())?)
-}
-
-/// Asserts that nothing behind a request is looked at, however many bytes come at once.
-fn expect_first_alone<D: Office, R: Abort + AllocGlobal>(
-    rt: &R,
-    desk: &mut D,
-    request: &str,
-    reply: &str,
-) -> Result<(), Fail> {
-    let more = format!(in rt.alloc(); "{request}GET /dump HTTP/1.1\r\n\r\n")?;
-    for step in 1..=more.len() {
-        expect_reply(rt, desk, more.as_bytes(), step, reply)?;
-    }
-    Ok(())
-}
-
-/// Asserts the same of each of these requests.
-fn expect_each_alone<D: Office, R: Abort + AllocGlobal>(rt: &R, desk: &mut D) -> Result<(), Fail> {
     for (request, reply) in REPLIED {
-        expect_first_alone(rt, desk, request, reply)?;
+        try_new(&rt, &Fronts { request, reply })?;
     }
     Ok(())
+}
+
+/// A request with bytes behind it, which are not looked at, however many come at once, and the reply to it.
+#[derive(Drop)]
+struct Alone {
+    request: &'static str,
+    reply: &'static str,
+}
+
+impl Trial for Alone {
+    fn tried<D: Office + Drop, R: Abort + AllocGlobal>(
+        &self,
+        rt: &R,
+        mut desk: D,
+    ) -> Result<(), Fail> {
+        let request = self.request;
+        let more = format!(in rt.alloc(); "{request}GET /dump HTTP/1.1\r\n\r\n")?;
+        for step in 1..=more.len() {
+            expect_reply(rt, &mut desk, more.as_bytes(), step, self.reply)?;
+        }
+        Ok(())
+    }
 }
 
 #[test]
 fn bytes_behind_a_request_are_not_looked_at(rt: HostRuntime) -> Result<(), Fail> {
-    expect_each_alone(&rt, &mut new_desk(rt.alloc())?)
+    for (request, reply) in REPLIED {
+        try_new(&rt, &Alone { request, reply })?;
+    }
+    Ok(())
 }

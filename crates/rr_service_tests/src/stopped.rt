@@ -1,31 +1,35 @@
 //! Desks that a fault of the store stopped.
-use crate::desks::{Office, created, expect_text};
+use crate::desks::{Office, Trial, expect_text, try_in};
 use crate::texts::THREE;
-use rr_desk::{Desk, DeskFault, DumpFault};
-use sqlite::{Connection, FileStore, Files, Options};
+use rr_desk::{DeskFault, DumpFault};
+use sqlite::{Connection, Files, Options};
 use sqlite_disk::{Disk, Fuse, Memory};
 use std::alloc::Global;
 use std::process::Abort;
 use std::test::Fail;
 
-/// A new desk over a database in these files.
-fn new_desk_in<D: Disk + Drop>(alloc: Global, files: Files<D>) -> Result<Desk<FileStore<D>>, Fail> {
+/// Tries this with a new desk over a database in these files.
+fn try_in_files<D: Disk + Drop, T: Trial, R: Abort + AllocGlobal>(
+    rt: &R,
+    files: Files<D>,
+    trial: &T,
+) -> Result<(), Fail> {
     if !files.log.may_be_used() || !files.db.may_be_used() {
         return Err("a disk of no use".into());
     }
-    match Connection::open_files(alloc, files, Options::new(7)) {
-        Ok(conn) => created(alloc, conn),
+    match Connection::open_files(rt.alloc(), files, Options::new(7)) {
+        Ok(conn) => try_in(rt, conn, trial),
         Err((error, _left)) => Err(error.into()),
     }
 }
 
-/// A new desk over a database in files in memory, of which the log fails after a hundred calls.
-pub fn fused_desk(alloc: Global) -> Result<Desk<FileStore<Fuse<Memory>>>, Fail> {
+/// Tries this with a new desk over a database in files in memory, of which the log fails after a hundred calls.
+pub fn try_fused<T: Trial, R: Abort + AllocGlobal>(rt: &R, trial: &T) -> Result<(), Fail> {
     let files = Files {
-        log: Fuse::new(Memory::new(alloc), 100),
-        db: Fuse::new(Memory::new(alloc), u64::MAX),
+        log: Fuse::new(Memory::new(rt.alloc()), 100),
+        db: Fuse::new(Memory::new(rt.alloc()), u64::MAX),
     };
-    new_desk_in(alloc, files)
+    try_in_files(rt, files, trial)
 }
 
 /// An AS number that is added and deleted.

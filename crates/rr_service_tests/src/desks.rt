@@ -3,8 +3,8 @@ ghost use Rattle.std.specs.Prelude.{◌≡◌, false, IfOk};
 
 use crate::texts::full_dump;
 use rr_desk::{
-    ConnFault, CreateFault, Desk, DeskFault, Done, DumpFault, MemoryInput, MemoryPeers, OpenFault,
-    Served, Settings, WriteFault, serve_all,
+    ConnFault, CreateFault, Desk, DeskFault, Done, DumpFault, MemoryInput, MemoryPeers, Served,
+    Settings, WriteFault, serve_all,
 };
 use rr_http::{Both, Registrar, serve_one};
 use rr_io::{Counted, Cut, Joined, Sink, Source};
@@ -112,7 +112,7 @@ impl<S: Alter + Drop> Office for Desk<S> {
     }
 
     fn begun_again(self, alloc: Global) -> Result<Desk<S>, Fail> {
-        desk_of(self.reopen(alloc))
+        Ok(desk_of(self.reopen(alloc))?)
     }
 
     fn after(self, alloc: Global, statements: &[&str]) -> Result<Desk<S>, Fail> {
@@ -169,13 +169,13 @@ fn connected<D: Registrar>(
     (answer, writer.into_inner().into_inner())
 }
 
-/// The desk, or why it is not opened.
-fn desk_of<S: Alter + Drop>(
-    opened: Result<Desk<S>, (OpenFault, Connection<S>)>,
-) -> Result<Desk<S>, Fail> {
-    match opened {
+/// The desk, or why there is none.
+fn desk_of<S: Alter + Drop, E: Drop>(
+    found: Result<Desk<S>, (E, Connection<S>)>,
+) -> Result<Desk<S>, E> {
+    match found {
         Ok(desk) => Ok(desk),
-        Err((fault, _conn)) => Err(fault.into()),
+        Err((fault, _conn)) => Err(fault),
     }
 }
 
@@ -205,21 +205,7 @@ fn settled<S: Alter + Drop>(conn: Connection<S>) -> Result<Connection<S>, Fail>
 fn opened<S: Alter + Drop>(alloc: Global, conn: Connection<S>) -> Result<Desk<S>, Fail> {
     let conn = settled(conn)?;
     let settings = Settings::built_in(alloc)?;
-    desk_of(Desk::open(alloc, conn, settings))
-}
-
-/// A new desk of these settings, or why none is made.
-fn made<S: Alter + Drop>(
-    alloc: Global,
-    conn: Connection<S>,
-    settings: Settings,
-) -> Result<Desk<S>, CreateFault>
-    requires { conn.in_transaction ≡ false }
-{
-    match Desk::create(alloc, conn, settings) {
-        Ok(desk) => Ok(desk),
-        Err((fault, _conn)) => Err(fault),
-    }
+    Ok(desk_of(Desk::open(alloc, conn, settings))?)
 }
 
 /// A new desk in this database, or why none is made there.
@@ -229,7 +215,7 @@ fn created<S: Alter + Drop>(
 ) -> Result<Result<Desk<S>, CreateFault>, Fail> {
     let conn = settled(conn)?;
     let settings = Settings::built_in(alloc)?;
-    Ok(made(alloc, conn, settings))
+    Ok(desk_of(Desk::create(alloc, conn, settings)))
 }
 
 /// Tries this with a new desk in this database.

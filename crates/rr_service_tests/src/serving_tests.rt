@@ -321,6 +321,9 @@ const QUERIES: &[(&str, &str, &str)] = &[
     ("expand RS-ANY", "expand%20RS-ANY", "% empty\n"),
 ];
 
+/// The ends of a line.
+const ENDS: &[&str] = &["\r\n", "\n", ""];
+
 /// Asserts the answer to a query by whois, with each end that a line has.
 fn expect_whois<D: Office, R: Abort + AllocGlobal>(
     rt: &R,
@@ -328,7 +331,7 @@ fn expect_whois<D: Office, R: Abort + AllocGlobal>(
     query: &str,
     answer: &str,
 ) -> Result<(), Fail> {
-    for end in ["\r\n", "\n", ""] {
+    for end in ENDS {
         let line = format!(in rt.alloc(); "{query}{end}")?;
         expect_reply(rt, desk, line.as_bytes(), 3, answer)?;
     }
@@ -407,6 +410,17 @@ fn a_stopped_desk_serves_nothing(rt: HostRuntime) -> Result<(), Fail> {
 const EXACT: &str = "exact 10.0.0.0/8\r\n";
 
 /// Asserts what a connection that is closed was asked and answered.
+fn expect_closed<R: Abort>(
+    rt: &R,
+    turn: &MemoryTurn<'_>,
+    asked: &str,
+    answered: &str,
+) -> Result<(), Fail> {
+    expect_text(rt, turn.asked, asked)?;
+    expect_text(rt, &turn.answered, answered)
+}
+
+/// Asserts what one of the connections that are closed was asked and answered.
 fn expect_turn<R: Abort>(
     rt: &R,
     turns: &[MemoryTurn<'_>],
@@ -414,9 +428,10 @@ fn expect_turn<R: Abort>(
     asked: &str,
     answered: &str,
 ) -> Result<(), Fail> {
-    let turn = turns.get(at).ok_or("no such turn")?;
-    expect_text(rt, turn.asked, asked)?;
-    expect_text(rt, &turn.answered, answered)
+    match turns.get(at) {
+        Some(turn) => expect_closed(rt, turn, asked, answered),
+        None => Err("no such turn".into()),
+    }
 }
 
 /// Asserts what three connections were asked and answered: a submission, a query that could not be read, and a query.
@@ -510,6 +525,14 @@ fn a_request_is_cut_at_each_place(rt: HostRuntime) -> Result<(), Fail> {
     try_new(&rt, &Cuts)
 }
 
+/// The front of a text that has so many bytes.
+fn front(text: &str, count: usize) -> Result<&[u8], Fail> {
+    match text.as_bytes().get(..count) {
+        Some(front) => Ok(front),
+        None => Err("no such front".into()),
+    }
+}
+
 /// A short body, of which the complete paragraphs count: its first one stands behind it.
 struct Short;
 
@@ -519,8 +542,7 @@ impl Trial for Short {
         rt: &R,
         mut desk: D,
     ) -> Result<(), Fail> {
-        let short = THREE.as_bytes().get(..150).ok_or("no text")?;
-        expect_reply(rt, &mut desk, short, 1, BEGUN)?;
+        expect_reply(rt, &mut desk, front(THREE, 150)?, 1, BEGUN)?;
         expect_reply(rt, &mut desk, EXACT.as_bytes(), 1, TEN)
     }
 }

@@ -1,4 +1,5 @@
 pub mod CutLemmas
+pub mod DigitLemmas
 pub mod JoinLemmas
 pub mod LetterCaseLemmas
 pub mod PlaceLemmas

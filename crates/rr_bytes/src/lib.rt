@@ -1,9 +1,11 @@
 //! Bytes, and texts as their bytes: blanks and the line feed, texts less the blanks round them, texts cut at a byte,
-//! into parts and joined from them, letter case, and what names are made of. Each notion has one definition and one body for all crates.
+//! into parts and joined from them, letter case, decimal digits, and what names are made of. Each notion has one definition and one
+//! body for all crates.
 #![tactic(auto)]
 
 mod byte_set;
 mod cuts;
+mod digits;
 mod letter_case;
 mod names;
 mod parts;
@@ -11,6 +13,7 @@ mod trims;
 
 pub use byte_set::ByteSet;
 pub use cuts::{cut_around, cut_at, cut_before, place_of};
+pub use digits::{are_digits, capped_value};
 pub use letter_case::{is_keyword, to_lower, to_upper};
 pub use names::{is_attribute_name, is_name};
 pub use parts::{joined_by_space, parts_between, words};

@@ -1,14 +1,1 @@
-pub mod Causes
-pub mod Faults
-pub mod Numbers
-pub mod SettingsFiles
-pub mod Troubles
-pub mod Submitted
-pub mod Printed
-pub mod Created
-pub mod Asked
-pub mod Dumped
-pub mod Loaded
-pub mod Migrated
 pub mod Serving
-pub mod ServingTimes

@@ -6,8 +6,8 @@ use Rattle.rr_io.specs.Sending.{Writes}
 use Rattle.rr_io.specs.Told.{Told}
 use Rattle.rr_desk.specs.Turns.{Serving, TakesTurns, Turn}
 use Rattle.rr_desk.specs.declared.desk.Desk.{Desk}
-use Rattle.rr_cli.specs.declared.trouble.Trouble.{Trouble}
-use Rattle.rr_cli.specs.declared.trouble.Trouble.TheVariants.{Unwritten}
+use Rattle.rr_commands.specs.declared.trouble.Trouble.{Trouble}
+use Rattle.rr_commands.specs.declared.trouble.Trouble.TheVariants.{Unwritten}
 
 -- the line that says how many turns were served, and how many failed (profile)
 unfoldable pub served_line : ℕ → ℕ → List ℕ

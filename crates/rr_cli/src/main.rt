@@ -1,20 +1,9 @@
 //! The program `irrdesk`: makes a registry, submits to it, and asks and serves what it has.
 #![tactic(auto)]
 
-mod arguments;
-mod cause;
-mod commands;
-mod database;
-mod desk_task;
-mod fault;
-mod help;
-mod listener;
-mod output;
-mod progress;
+mod probing;
 mod run;
-mod settings_file;
-mod settings_reading;
-mod trouble;
+mod serving;
 
 use rr_io::Counted;
 use std::env;

@@ -1,10 +1,9 @@
 //! A run of the program, over its words and its three streams.
 
-use crate::arguments::{Command, read_command};
-use crate::commands::{dump, init, load, migrate, plain, probe, query, serve, submit};
-use crate::fault::ProgramFault;
-use crate::output::print;
-use crate::trouble::Trouble;
+use crate::probing::probe;
+use crate::serving::serve;
+use rr_arguments::{ArgumentsFault, Command, read_command};
+use rr_commands::{ProgramFault, Trouble, dump, init, load, migrate, plain, print, query, submit};
 use rr_io::{Sink, Source};
 use std::env::Args;
 use std::io;
@@ -43,6 +42,17 @@ fn collect(rt: &HostRuntime, words: io::Result<Args>) -> Result<Vec<String>, Tro
     }
 }
 
+/// The fault of words that ask for nothing.
+fn fault_of(fault: ArgumentsFault<'_>) -> ProgramFault<'_> {
+    match fault {
+        ArgumentsFault::Refused(line) => ProgramFault::named(line, Trouble::BadWords),
+        ArgumentsFault::Unexplained => ProgramFault::plain(Trouble::BadWords),
+        ArgumentsFault::Port(word) => ProgramFault::of(word, Trouble::BadPort),
+        ArgumentsFault::Count(word) => ProgramFault::of(word, Trouble::BadCount),
+        ArgumentsFault::Memory => ProgramFault::plain(Trouble::Memory),
+    }
+}
+
 /// Does what the words ask for.
 fn perform<'a, R: Source, W: Sink>(
     rt: &HostRuntime,
@@ -50,7 +60,7 @@ fn perform<'a, R: Source, W: Sink>(
     input: &mut R,
     output: &mut W,
 ) -> Result<u8, ProgramFault<'a>> {
-    match read_command(rt.alloc(), words)? {
+    match read_command(rt.alloc(), words).map_err(fault_of)? {
         Command::Plain => plain(rt.alloc(), input, output),
         Command::Init { settings } => init(rt, settings, output),
         Command::Submit { settings, file } => submit(rt, settings, file, output),

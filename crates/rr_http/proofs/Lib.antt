@@ -1,6 +1,5 @@
 pub mod FrontLemmas
 pub mod LineLemmas
-pub mod DigitLemmas
 pub mod RequestLemmas
 pub mod RouteLemmas
 pub mod ReplyLemmas

@@ -2,7 +2,6 @@ pub mod Asked
 pub mod Fronts
 pub mod FrontLines
 pub mod FrontParts
-pub mod Digits
 pub mod Requests
 pub mod Routes
 pub mod Replies

@@ -6,11 +6,10 @@ ghost use Rattle.httparse.specs.Spans.{IsHeaderWithin, header_bytes};
 ghost use Rattle.rr_http.specs.Asked.{parts_of, seen};
 ghost use Rattle.rr_http.specs.Requests.{HasSmallSize, asks_of, asks_page, is_length, is_field_of, method_of, page_of, path_of, size_of, sized, values_of};
 
-use crate::digits::{are_digits, capped_value};
 use crate::routing::Pages;
 use http::Method;
 use httparse::spans::HeaderSpan;
-use rr_bytes::is_keyword;
+use rr_bytes::{are_digits, capped_value, is_keyword};
 
 /// How many bytes the body of a request has at most (profile).
 pub const BODY_SIZE: usize = 1_048_576;

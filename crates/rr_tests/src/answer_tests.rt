@@ -3,7 +3,7 @@ use crate::books::{answered, dumped, submitted};
 use crate::texts::{DEEPER, HOLDERS, NESTED, RANGES, ROUTED};
 use crate::worked::{Asked, expect_answer, expect_answers, expect_text};
 use rr_index::IndexedBook;
-use rr_registry::{Keeper, PlainBook, Registry};
+use rr_registry::{Keeper, PlainBook};
 use std::alloc::{AllocError, Global};
 use std::fmt::Write;
 use std::process::Abort;

@@ -11,6 +11,7 @@ use rr_number::Span;
 use rr_object::{Code, Object};
 use rr_registry::{Keeper, Outcome, PlainBook, Registry};
 use std::alloc::{AllocError, Global};
+use std::io;
 use std::process::Abort;
 use std::test::Fail;
 
@@ -230,12 +231,12 @@ fn any_span(words: &mut Pcg32) -> Span {
 }
 
 /// Writes the keys of the objects, each on a line.
-fn print_keys(keys: &mut Counted<Vec<u8>>, objects: &[&Object]) -> Result<(), Fail> {
+fn print_keys(keys: &mut Counted<Vec<u8>>, objects: &[&Object]) -> io::Result<()> {
     for object in objects {
         object.key().print_to(keys)?;
         write_all(keys, b"\n")?;
     }
-    Ok(write_all(keys, b"\n")?)
+    write_all(keys, b"\n")
 }
 
 /// The keys of all objects, of those that cover the span, and of those inside it.

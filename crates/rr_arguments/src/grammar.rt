@@ -1,0 +1,116 @@
+//! What the words of the command line may be.
+
+use crate::help;
+use clap::{Arg, ArgAction};
+use std::alloc::{AllocError, Global};
+
+/// What the words may be.
+pub fn program<'a>(alloc: Global) -> Result<clap::Command<'a>, AllocError> {
+    let program = clap::Command::new(alloc, "irrdesk")
+        .bin_name("irrdesk")?
+        .version("1.0.0")
+        .about(help::PROGRAM)
+        .after_help(help::PROGRAM_EXAMPLE)
+        .disable_help_subcommand(true)
+        .subcommand_required(true);
+    let program = with(program, init(alloc))?;
+    let program = with(program, submit(alloc))?;
+    let program = with(program, query(alloc))?;
+    let program = with(program, dump(alloc))?;
+    let program = with(program, load(alloc))?;
+    let program = with(program, migrate(alloc))?;
+    let program = with(program, serve(alloc))?;
+    with(program, probe(alloc))
+}
+
+/// The program with one more command.
+fn with<'a>(
+    program: clap::Command<'a>,
+    command: Result<clap::Command<'a>, AllocError>,
+) -> Result<clap::Command<'a>, AllocError> {
+    program.subcommand(command?)
+}
+
+fn init<'a>(alloc: Global) -> Result<clap::Command<'a>, AllocError> {
+    over_settings(alloc, "init", help::INIT, help::INIT_EXAMPLE)
+}
+
+fn submit<'a>(alloc: Global) -> Result<clap::Command<'a>, AllocError> {
+    over_settings(alloc, "submit", help::SUBMIT, help::SUBMIT_EXAMPLE)?.arg(needed(
+        alloc,
+        "FILE",
+        "The path of the submission",
+    ))
+}
+
+fn query<'a>(alloc: Global) -> Result<clap::Command<'a>, AllocError> {
+    over_settings(alloc, "query", help::QUERY, help::QUERY_EXAMPLE)?.arg(query_words(alloc))
+}
+
+fn query_words<'a>(alloc: Global) -> Arg<'a> {
+    needed(alloc, "WORD", "The words of the query").num_args(1..)
+}
+
+fn dump<'a>(alloc: Global) -> Result<clap::Command<'a>, AllocError> {
+    over_settings(alloc, "dump", help::DUMP, help::DUMP_EXAMPLE)?.arg(full(alloc))
+}
+
+fn full<'a>(alloc: Global) -> Arg<'a> {
+    Arg::new(alloc, "full")
+        .long("full")
+        .action(ArgAction::SetTrue)
+        .help("All of each object, with its `auth`, as `irrdesk load` reads it")
+}
+
+fn load<'a>(alloc: Global) -> Result<clap::Command<'a>, AllocError> {
+    over_settings(alloc, "load", help::LOAD, help::LOAD_EXAMPLE)?.arg(needed(
+        alloc,
+        "FILE",
+        "The path of the dump",
+    ))
+}
+
+fn migrate<'a>(alloc: Global) -> Result<clap::Command<'a>, AllocError> {
+    over_settings(alloc, "migrate", help::MIGRATE, help::MIGRATE_EXAMPLE)
+}
+
+fn serve<'a>(alloc: Global) -> Result<clap::Command<'a>, AllocError> {
+    over_settings(alloc, "serve", help::SERVE, help::SERVE_EXAMPLE)?
+        .arg(option(alloc, "PORT", "port", "The port, 1 to 65535"))?
+        .arg(option(
+            alloc,
+            "N",
+            "count",
+            "Ends after so many connections, 1 to 1000000",
+        ))
+}
+
+fn probe<'a>(alloc: Global) -> Result<clap::Command<'a>, AllocError> {
+    over_settings(alloc, "probe", help::PROBE, help::PROBE_EXAMPLE)
+}
+
+/// A command over what the settings name.
+fn over_settings<'a>(
+    alloc: Global,
+    name: &'a str,
+    about: &'a str,
+    example: &'a str,
+) -> Result<clap::Command<'a>, AllocError> {
+    clap::Command::new(alloc, name)
+        .about(about)
+        .after_help(example)
+        .arg(needed(alloc, "SETTINGS", "The path of the settings, in TOML"))
+}
+
+/// A word that a command needs, by its place.
+fn needed<'a>(alloc: Global, place: &'a str, help: &'a str) -> Arg<'a> {
+    Arg::new(alloc, place)
+        .required(true)
+        .action(ArgAction::Set)
+        .help(help)
+}
+
+/// A value that a command needs, behind an option of this name.
+fn option<'a>(alloc: Global, place: &'a str, name: &'a str, help: &'a str) -> Arg<'a> {
+    needed(alloc, place, help).long(name).value_name(place)
+}

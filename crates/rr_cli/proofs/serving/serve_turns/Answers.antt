@@ -1,0 +1,20 @@
+use Rattle.std.proofs.Common.{inl, inr, refl}
+use Rattle.rr_cli.proofs.serving.serve_turns.Goals as goal
+
+pub returns-in-Ok-clause-served : goal.returns-in-Ok-clause-served
+returns-in-Ok-clause-served g c = record {
+  served = c.serve_all-served.result.served;
+  failed = c.serve_all-served.result.failed;
+  turns = c.serve_all-served.ensures.turns;
+  prints = c.in-Ok.ensures.writes;
+  status = inl refl;
+}
+
+pub returns-in-Err-clause-served : goal.returns-in-Err-clause-served
+returns-in-Err-clause-served g c = record {
+  served = c.serve_all-served.result.served;
+  failed = c.serve_all-served.result.failed;
+  turns = c.serve_all-served.ensures.turns;
+  prints = c.in-Err.ensures.writes;
+  status = inr refl;
+}

@@ -1,0 +1,20 @@
+use Rattle.std.proofs.Common.{◌∙◌, ap, refl}
+use Rattle.rr_commands.specs.Asked.{error_status}
+use Rattle.rr_commands.proofs.AskedLemmas.{error_status-told}
+use Rattle.rr_commands.proofs.querying.answer_to.Goals as goal
+
+pub returns-in-Ok-clause-asked : goal.returns-in-Ok-clause-asked
+returns-in-Ok-clause-asked g c =
+    let made = c.in-Ok.ensures.answers in
+    record {
+      answer = made.answer;
+      answered = made.answered;
+      writes = made.writes;
+      status = c.answered_status.ensures ∙ (ap error_status made.told ∙ error_status-told made.answer);
+      fault = tt;
+    }
+
+pub returns-in-Err-clause-asked : goal.returns-in-Err-clause-asked
+returns-in-Err-clause-asked g c =
+    let made = c.in-Err.ensures.answers in
+    record { answer = made.answer; answered = made.answered; writes = made.writes; status = tt; fault = refl }

@@ -1,0 +1,11 @@
+pub mod Causes
+pub mod Faults
+pub mod SettingsFiles
+pub mod Troubles
+pub mod Submitted
+pub mod Printed
+pub mod Created
+pub mod Asked
+pub mod Dumped
+pub mod Loaded
+pub mod Migrated

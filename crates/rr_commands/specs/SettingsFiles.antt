@@ -1,0 +1,77 @@
+-- Settings as TOML (profile).
+use Rattle.std.specs.Prelude.{◌≡◌, ◌==◌, ℕ, ℤ, pos, negsuc, List, length, Option, Some, None, Result, Ok, Err, codes, if◌then◌else◌}
+use Rattle.std.specs.Option.{option_and_then}
+use Rattle.toml.specs.Data.{Members, as_integer, as_str, get_member}
+use Rattle.toml.specs.Parse.{parse_document}
+use Rattle.rr_desk.specs.Settings.{SettingsParts, settings_of}
+use Rattle.rr_desk.specs.declared.settings.Setting.{Setting}
+use Rattle.rr_desk.specs.declared.settings.Setting.TheVariants as setting
+use Rattle.rr_desk.specs.declared.settings.SettingsFault.{SettingsFault as PartsFault}
+use Rattle.rr_desk.specs.declared.settings.SettingsFault.TheVariants as parts
+use Rattle.rr_commands.specs.declared.settings_file.SettingKey.{SettingKey}
+use Rattle.rr_commands.specs.declared.settings_file.SettingKey.TheVariants as key
+use Rattle.rr_commands.specs.declared.settings_file.SettingsFault.{SettingsFault}
+use Rattle.rr_commands.specs.declared.settings_file.SettingsFault.TheVariants.{BadToml, BadKey, Memory}
+
+-- the key of a setting (profile)
+abbrev pub key_of : Setting → SettingKey
+key_of setting.Source = key.Source
+key_of setting.Root = key.Root
+key_of setting.Auth = key.Auth
+key_of setting.Limit = key.Limit
+
+-- the text at a key of a table (TOML 1.1, Keys and String)
+abbrev pub text_at : List ℕ → Members → Option (List ℕ)
+text_at name table = option_and_then as_str (get_member name table)
+
+-- a number that is not negative
+abbrev pub whole : ℤ → Option ℕ
+whole (pos n) = Some n
+whole (negsuc n) = None
+
+-- the whole number at a key of a table (TOML 1.1, Integer)
+abbrev pub integer_at : List ℕ → Members → Option ℤ
+integer_at name table = option_and_then as_integer (get_member name table)
+
+-- the same where it is not negative
+abbrev pub number_at : List ℕ → Members → Option ℕ
+number_at name table = option_and_then whole (integer_at name table)
+
+-- why a table has no settings of a registry, by the setting that is missing or bad (profile)
+abbrev pub fault_of : PartsFault → SettingsFault
+fault_of (parts.Bad setting) = BadKey (key_of setting)
+fault_of parts.Memory = Memory
+
+-- the same value, or the fault that the other one is
+abbrev pub with_fault : {X : Type 0} → Result X PartsFault → Result X SettingsFault
+with_fault (Ok value) = Ok value
+with_fault (Err fault) = Err (fault_of fault)
+
+-- the settings of a registry that a table has (profile)
+abbrev pub parts_of : Members → Result SettingsParts SettingsFault
+parts_of table = with_fault (settings_of
+    (text_at (codes "source") table) (text_at (codes "root") table) (text_at (codes "auth") table) (number_at (codes "limit") table))
+
+-- a path of a database is not empty (profile)
+abbrev pub path_of : Option (List ℕ) → Result (List ℕ) SettingsFault
+path_of None = Err (BadKey key.Store)
+path_of (Some path) = if length path == 0 then Err (BadKey key.Store) else Ok path
+
+-- the path of the database that a table has (profile)
+abbrev pub store_of : Members → Result (List ℕ) SettingsFault
+store_of table = path_of (text_at (codes "store") table)
+
+-- a pair, or the first fault of its parts
+abbrev pub both : {X Y : Type 0} → Result X SettingsFault → Result Y SettingsFault → Result (X × Y) SettingsFault
+both (Err fault) other = Err fault
+both (Ok value) (Err fault) = Err fault
+both (Ok value) (Ok other) = Ok (value, other)
+
+-- the settings and the path of the database that a table has, or the first key that is missing or bad (profile)
+abbrev pub settings_in : Option Members → Result (SettingsParts × List ℕ) SettingsFault
+settings_in None = Err BadToml
+settings_in (Some table) = both (parts_of table) (store_of table)
+
+-- the settings and the path of the database that a text has (profile)
+abbrev pub settings_text : List ℕ → Result (SettingsParts × List ℕ) SettingsFault
+settings_text text = settings_in (parse_document text)

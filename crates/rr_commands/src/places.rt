@@ -1,0 +1,153 @@
+//! Where a paragraph stands in a file: its line and its key, for messages.
+
+ghost use Rattle.std.specs.Prelude.{◌≤◌, length};
+
+use crate::fault::ProgramFault;
+use crate::files::open_file;
+use crate::trouble::Trouble;
+use rr_io::{Counted, Source};
+use rr_object::{Key, key_of};
+use rr_text::{Paragraphs, TextFault, next_paragraph};
+use std::alloc::Global;
+use std::fs::File;
+use std::io::{BufRead, BufReader, Read};
+use std::{fs, io};
+
+/// A fault about the paragraph of this number, from 1, of a file: it names the line and, where they can be read, the class and
+/// the key, if the file is one that can be read again.
+pub fn about_paragraph<'a>(
+    rt: &HostRuntime,
+    file: &'a str,
+    number: u64,
+    trouble: Trouble,
+) -> ProgramFault<'a> {
+    match place(rt, file, number) {
+        Some(place) => ProgramFault::named(place, trouble),
+        None => ProgramFault::of(file, trouble),
+    }
+}
+
+/// The name of a file with the line, class and key of a paragraph.
+fn place(rt: &HostRuntime, file: &str, number: u64) -> Option<String> {
+    if !fs::metadata(rt, file).ok()?.is_file() {
+        return None;
+    }
+    let alloc = rt.alloc();
+    let reader = BufReader::new(alloc, open_file(rt, file).ok()?).ok()?;
+    let mut lines = Lines::new(alloc, reader);
+    let key = find_paragraph(alloc, &mut lines, number)?;
+    let line = lines.begun?;
+    match key {
+        Some(key) => {
+            let class = key.class().name();
+            let key = key_text(alloc, &key)?;
+            format!(in alloc; "{file}, line {line}, {class} {key}").ok()
+        }
+        None => format!(in alloc; "{file}, line {line}").ok(),
+    }
+}
+
+/// The key as reports print it.
+fn key_text(alloc: Global, key: &Key) -> Option<String> {
+    let mut text = Counted::new(Vec::new(alloc));
+    key.print_to(&mut text).ok()?;
+    String::from_utf8(text.into_inner()).ok()
+}
+
+/// Reads up to the paragraph of this number, and gives its key, where it has one.
+fn find_paragraph(alloc: Global, lines: &mut Lines, number: u64) -> Option<Option<Key>> {
+    let mut paragraphs = Paragraphs::new(alloc).ok()?;
+    let mut found = None;
+    for _ in 0..number {
+        found = next_of_file(alloc, &mut paragraphs, lines)?;
+    }
+    Some(found)
+}
+
+/// Reads the next paragraph of a file, notes where it begins, and gives its key, where it has one; `None` at the end, or where
+/// the file cannot be read.
+fn next_of_file(
+    alloc: Global,
+    paragraphs: &mut Paragraphs,
+    lines: &mut Lines,
+) -> Option<Option<Key>> {
+    lines.begun = None;
+    next_key(alloc, paragraphs, &mut Counted::new(lines))
+}
+
+/// Reads the next paragraph, and gives its key, where it has one; `None` at the end, or where it cannot be read.
+fn next_key<R: Source>(
+    alloc: Global,
+    paragraphs: &mut Paragraphs,
+    reader: &mut R,
+) -> Option<Option<Key>> {
+    match paragraphs.next(alloc, reader) {
+        Ok(Some(paragraph)) => Some(key_of(alloc, &paragraph).ok()),
+        Ok(None) | Err(TextFault::Read | TextFault::Endless) => None,
+        Err(_) => Some(None),
+    }
+}
+
+/// A file that gives no more than a line in one read, and knows on which line the paragraph begins that is read.
+#[derive(Drop)]
+struct Lines {
+    alloc: Global,
+    reader: BufReader<File>,
+    ended: u64,
+    is_line_start: bool,
+    begun: Option<u64>,
+}
+
+impl Lines {
+    fn new(alloc: Global, reader: BufReader<File>) -> Lines {
+        Lines {
+            alloc,
+            reader,
+            ended: 0,
+            is_line_start: true,
+            begun: None,
+        }
+    }
+
+    /// Notes a piece of a line that was read.
+    fn note(&mut self, piece: &[u8]) {
+        if self.begun.is_none() && self.is_line_start && begins_paragraph(self.alloc, piece) {
+            self.begun = Some(self.ended.saturating_add(1));
+        }
+        self.is_line_start = piece.ends_with(b"\n");
+        if self.is_line_start {
+            self.ended = self.ended.saturating_add(1);
+        }
+    }
+}
+
+impl Read for Lines {
+    fn read(&mut self, buf: &mut [u8]) -> io::Result<usize> {
+        let held = self.reader.fill_buf()?;
+        let piece = line_front(held, buf.len());
+        let count = piece.len();
+        buf[..count].copy_from_slice(piece);
+        self.reader.consume(count);
+        self.note(&buf[..count]);
+        Ok(count)
+    }
+}
+
+/// The front of a text up to its first line end, and of so many bytes at most.
+fn line_front(text: &[u8], most: usize) -> &[u8]
+    ensures { length result.now ≤ most }
+{
+    let front = match text.split_at_checked(most) {
+        Some((front, _)) => front,
+        None => text,
+    };
+    match front.iter().position(|byte| *byte == b'\n') {
+        Some(place) => &front[..place + 1],
+        None => front,
+    }
+}
+
+/// Whether a paragraph begins with a line that begins so: one that is neither blank nor skipped (RFC 2622, 2; profile).
+fn begins_paragraph(alloc: Global, line: &[u8]) -> bool {
+    !matches!(next_paragraph(alloc, line, 0), Ok(None))
+}

@@ -1,0 +1,72 @@
+//! A listener on this machine, whose connections are served one after the other.
+
+ghost use Rattle.std.specs.Prelude.{◌≡◌, IfOk};
+
+use crate::stream::{Stream, accept_stream, end_stream};
+use rr_desk::{AcceptFault, Peers};
+use std::alloc::Global;
+use std::io;
+use std::net::{Ipv4Addr, TcpListener};
+
+/// What listens on a port of 127.0.0.1, over TCP. It counts its turns, and tells neither these nor their bytes.
+#[derive(Drop)]
+pub struct Listener<'a> {
+    rt: &'a HostRuntime,
+    socket: TcpListener,
+    turns: u64,
+}
+
+impl<'a> Listener<'a> {
+    /// A listener on this port, or on any free one where it is 0. The error is the system's.
+    pub fn open(rt: &'a HostRuntime, port: u16) -> io::Result<Listener<'a>>
+        ensures { IfOk result (λ listener. listener.turns ≡ 0) }
+    {
+        let socket = TcpListener::bind(rt, (Ipv4Addr::LOCALHOST, port))?;
+        Ok(Listener {
+            rt,
+            socket,
+            turns: 0,
+        })
+    }
+
+    /// The port. The error is the system's.
+    pub fn port(&self) -> io::Result<u16> {
+        Ok(self.socket.local_addr()?.port())
+    }
+}
+
+impl<'a> Peers for Listener<'a> {
+    ghost use Rattle.std.specs.Prelude.{None};
+    ghost use Rattle.rr_desk.specs.Turns.{none_told};
+
+    type Conn = Stream<'a>;
+
+    ghost counted = { λ listener. listener.turns };
+
+    ghost told = { λ _. None };
+
+    ghost IsOpen = { λ _. Unit {0} };
+
+    ghost asked = { λ _. None };
+
+    fn accept(&mut self, _alloc: Global) -> Result<Stream<'a>, AcceptFault> {
+        match accept_stream(self.rt, &self.socket) {
+            Ok(stream) => Ok(stream),
+            Err(_) => {
+                self.turns += 1;
+                Err(AcceptFault)
+            }
+        }
+    }
+
+    fn close(&mut self, conn: Stream<'a>) {
+        end_stream(conn);
+        self.turns += 1;
+    }
+
+    fn turns(&self) -> u64 {
+        self.turns
+    }
+
+    ghost all_told = { λ listener turns is. none_told listener.turns turns is };
+}

@@ -1,0 +1,97 @@
+//! What a peer is sent.
+
+ghost use Rattle.std.specs.Prelude.{◌≡◌};
+ghost use Rattle.std.specs.Io.{WritesAtMost};
+ghost use Rattle.rr_listener.specs.ServingTimes.{reply_time};
+
+use crate::deadline::Deadline;
+use std::io;
+use std::io::{ErrorKind, Write};
+use std::net::{Shutdown, TcpStream};
+use std::time::Instant;
+
+/// How many calls a write makes at most, so that it waits for 90 seconds at most (profile).
+const MOST_CALLS: u32 = 9;
+
+/// The bytes that a peer is sent. It has to take them within 60 seconds and one more for each 16 KiB that went out. A call waits
+/// for 10 seconds at most, and is made again where its time is over before that of the reply, up to 90 seconds in which no byte
+/// passes: the system lets a writer go on only once a good part of its buffer is free, which takes a slow and steady reader
+/// longer than 10.
+#[derive(Drop)]
+pub struct Reply<'a> {
+    rt: &'a HostRuntime,
+    socket: TcpStream,
+    deadline: Deadline,
+    written: u64,
+}
+
+impl<'a> Reply<'a> {
+    /// The bytes that go over a socket.
+    pub fn new(rt: &'a HostRuntime, socket: TcpStream) -> Reply<'a> {
+        Reply {
+            rt,
+            socket,
+            deadline: Deadline::new(),
+            written: 0,
+        }
+    }
+
+    /// Whether some of its bytes went out.
+    pub fn is_begun(&self) -> bool {
+        self.written > 0
+    }
+
+    /// Tells the peer that nothing more comes. The error is the system's.
+    pub fn finish(self) -> io::Result<()> {
+        self.socket.shutdown(Shutdown::Write)
+    }
+
+    /// Sends some of the bytes by one call. The error is the system's, or that the time of the reply is over.
+    fn send(&mut self, buf: &[u8]) -> io::Result<usize>
+        ensures { WritesAtMost result buf.now }
+    {
+        let seconds = reply_time(self.written);
+        if let Some(timeout) = self.deadline.next_timeout(seconds)? {
+            self.socket.set_write_timeout(Some(timeout))?;
+        }
+        let begun = Instant::now(self.rt)?;
+        let answer = self.socket.write(buf);
+        let waited = begun.elapsed(self.rt)?;
+        self.deadline.take(waited);
+        let count = answer?;
+        self.written = self.written.saturating_add(count as u64);
+        Ok(count)
+    }
+}
+
+impl Write for Reply<'_> {
+    fn write(&mut self, buf: &[u8]) -> io::Result<usize> {
+        for _ in 1..MOST_CALLS {
+            let answer = self.send(buf);
+            if !is_made_again(&answer) {
+                return answer;
+            }
+        }
+        self.send(buf)
+    }
+
+    fn flush(&mut self) -> io::Result<()> {
+        Ok(())
+    }
+}
+
+/// Whether a call waited for the peer until its time was over, or was broken off by the system, as where the process is held
+/// still and goes on: in both cases it is to be made again.
+fn is_made_again(answer: &io::Result<usize>) -> bool {
+    match answer {
+        Ok(_) => false,
+        Err(error) => matches!(error.kind(), ErrorKind::WouldBlock | ErrorKind::Interrupted),
+    }
+}
+
+/// How many seconds a peer is given to take a reply of which so many bytes went out (profile).
+fn reply_time(written: u64) -> u64
+    ensures { result ≡ reply_time written }
+{
+    60 + written / 16_384
+}

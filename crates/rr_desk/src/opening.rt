@@ -102,12 +102,10 @@ fn root_paragraph(alloc: Global, settings: &Settings) -> Result<Paragraph, Alloc
     ensures { IfOk result (λ paragraph. paragraph ≡ root_fields settings.now) }
 {
     settings.are_good();
-    let root = Attribute::of_line(alloc, b"mntner", settings.root().as_bytes())?;
     let line = auth_text(alloc, settings.auth())?;
-    let auth = Attribute::of_line(alloc, b"auth", line.as_slice())?;
-    let mut attributes = Vec::with_capacity(alloc, 4)?;
-    attributes.push(root)?;
-    attributes.push(auth)?;
+    let attributes = Vec::with_capacity(alloc, 4)?;
+    let attributes = with_line(alloc, attributes, b"mntner", settings.root().as_bytes())?;
+    let attributes = with_line(alloc, attributes, b"auth", line.as_slice())?;
     owned(alloc, attributes, settings)
 }
 
@@ -133,9 +131,8 @@ fn span_paragraph(
     requires { IsField (one_line class.now span.now) }
     ensures { IfOk result (λ paragraph. paragraph ≡ one_line class.now span.now ∷ owned settings.now) }
 {
-    let class = Attribute::of_line(alloc, class, span)?;
-    let mut attributes = Vec::with_capacity(alloc, 3)?;
-    attributes.push(class)?;
+    let attributes = Vec::with_capacity(alloc, 3)?;
+    let attributes = with_line(alloc, attributes, class, span)?;
     owned(alloc, attributes, settings)
 }
 
@@ -156,18 +153,29 @@ fn read_object(alloc: Global, paragraph: Paragraph, source: &Name) -> Result<Obj
 /// The paragraph of these attributes, of the settings' source and maintained by the root.
 fn owned(
     alloc: Global,
-    mut attributes: Vec<Attribute>,
+    attributes: Vec<Attribute>,
     settings: &Settings,
 ) -> Result<Paragraph, AllocError>
     requires { AreFields attributes.items }
     ensures { IfOk result (λ paragraph. paragraph ≡ attributes.items ++ owned settings.now) }
 {
     settings.are_good();
-    let maintainer = Attribute::of_line(alloc, b"mnt-by", settings.root().as_bytes())?;
-    let source = Attribute::of_line(alloc, b"source", settings.source().as_bytes())?;
-    attributes.push(maintainer)?;
-    attributes.push(source)?;
+    let attributes = with_line(alloc, attributes, b"mnt-by", settings.root().as_bytes())?;
+    let attributes = with_line(alloc, attributes, b"source", settings.source().as_bytes())?;
     Ok(Paragraph::new(attributes))
+}
+
+/// The attributes with one of a single line behind them.
+fn with_line(
+    alloc: Global,
+    mut attributes: Vec<Attribute>,
+    name: &[u8],
+    line: &[u8],
+) -> Result<Vec<Attribute>, AllocError>
+    ensures { IfOk result (λ made. made.items ≡ attributes.items ++ one_line name.now line.now ∷ []) }
+{
+    attributes.push(Attribute::of_line(alloc, name, line)?)?;
+    Ok(attributes)
 }
 
 /// The value of `auth` for a digest.

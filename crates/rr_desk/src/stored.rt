@@ -7,6 +7,7 @@ ghost use Rattle.sqlite.specs.State.{HasCleanDisk, Survives};
 ghost use Rattle.rr_answer.specs.declared.query.Query.TheVariants.{Naming};
 ghost use Rattle.rr_answer.specs.Selections.{asked};
 ghost use Rattle.rr_auth.specs.Laws.{key_about};
+ghost use Rattle.rr_registry.specs.Runs.{IsStep};
 ghost use Rattle.rr_rows.specs.Entries.{TreesOf};
 ghost use Rattle.rr_rows.specs.Maps.{HasRows};
 ghost use Rattle.rr_desk.specs.Halts.{IsHalted, changes};
@@ -111,6 +112,34 @@ impl<S: Alter> Stored<S> {
         found
     }
 
+    /// Decides an item, which is about this key.
+    fn decide_about(
+        &mut self,
+        alloc: Global,
+        secrets: &mut Secrets,
+        key: &Key,
+        item: Item,
+    ) -> Result<Outcome, Halted>
+        requires running { self.old.stopped ≡ false }
+        requires key { key.now ≡ key_about item }
+        ensures decides { IfOk result (λ outcome. IsStep self.old.registry secrets.old item outcome self.new.registry) }
+        ensures running { OnOk result (self.new.stopped ≡ false) }
+        ensures halts { OnErr result (IsHalted self.old.registry secrets.old item self.new.registry self.new.stopped (state S.Store self.new.store)) }
+        ensures same_secrets { secrets.new ≡ secrets.old }
+    {
+        let outcome = self.registry.apply(alloc, secrets, item);
+        match follow(alloc, &self.registry, &mut self.store, key, outcome) {
+            Ok(()) => {
+                self.store.settled();
+                Ok(outcome)
+            }
+            Err(_) => {
+                self.stopped = true;
+                Err(Halted)
+            }
+        }
+    }
+
     /// The connection, whose rows stay.
     pub fn close(self) -> Connection<S>
         ensures same { result ≡ self.store }
@@ -139,19 +168,9 @@ impl<S: Alter> Ledger for Stored<S> {
         secrets: &mut Secrets,
         item: Item,
     ) -> Result<Outcome, Halted> {
-        let Ok(key) = copied_key(alloc, &item) else {
-            return Ok(Outcome::Refused(Code::E90));
-        };
-        let outcome = self.registry.apply(alloc, secrets, item);
-        match follow(alloc, &self.registry, &mut self.store, &key, outcome) {
-            Ok(()) => {
-                self.store.settled();
-                Ok(outcome)
-            }
-            Err(_) => {
-                self.stopped = true;
-                Err(Halted)
-            }
+        match copied_key(alloc, &item) {
+            Ok(key) => self.decide_about(alloc, secrets, &key, item),
+            Err(AllocError) => Ok(Outcome::Refused(Code::E90)),
         }
     }
 }

@@ -7,5 +7,5 @@ use Rattle.rr_desk.proofs.opening.owned.Goals as goal
 
 pub new-requires : goal.new-requires
 new-requires c =
-    let same : c.push-2.new.self.items ≡ c.args.attributes.items ++ owned c.args.settings.now = grind (arith, common_steps) in
+    let same : c.in_ok-attributes-2.attributes.items ≡ c.args.attributes.items ++ owned c.args.settings.now = grind (arith, common_steps) in
     subst AreFields (sym same) (owned_good c.args.attributes.items c.args.settings.now c.requires c.are_good.ensures)

@@ -25,3 +25,5 @@ mod stopped;
 mod store_tests;
 #[cfg(test)]
 mod texts;
+#[cfg(test)]
+mod turn_tests;

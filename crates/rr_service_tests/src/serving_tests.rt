@@ -1,39 +1,11 @@
 //! Whole connections, and the bytes that answer them. What is expected comes from the rules, read by hand.
 use crate::connections::{Reply, ending, expect_replies, expect_reply, expect_served};
-use crate::desks::{Office, Trial, expect_text, try_new};
+use crate::desks::{Office, Trial, try_new};
 use crate::stopped::{stop, try_fused};
-use crate::texts::TEN;
-use rr_desk::{ConnFault, MemoryInput, MemoryTurn, Peers, Served};
+use crate::texts::{EXACT, POSTED, POSTED_REPORT, TEN};
+use rr_desk::{ConnFault, MemoryInput};
 use std::process::Abort;
 use std::test::Fail;
-
-/// A submission of an inetnum, of one whose prefix is too long, and of an AS number, which has 160 bytes.
-const THREE: &str = "\
-POST /submissions HTTP/1.1\r
-Content-Length: 160\r
-\r
-password: bc
-
-inetnum: 10.0.0.0/8
-mnt-by: ROOT-MNT
-source: TEST
-
-inetnum: 10.0.0.0/40
-mnt-by: ROOT-MNT
-source: TEST
-
-aut-num: AS1
-mnt-by: ROOT-MNT
-source: TEST
-";
-
-/// The report on it.
-const THREE_REPORT: &str = "\
-1 inetnum 10.0.0.0 - 10.255.255.255: added
-2 -: refused E03
-3 aut-num AS1: added
-% items 3
-";
 
 /// The reply to it where 150 bytes come.
 const BEGUN: &str = "\
@@ -274,7 +246,7 @@ fn a_head_of_8192_bytes_without_its_end_is_too_large(rt: HostRuntime) -> Result<
 
 /// Requests in turn, and what is given.
 const GIVEN: &[(&str, Reply<'static>)] = &[
-    (THREE, Reply::Page(THREE_REPORT)),
+    (POSTED, Reply::Page(POSTED_REPORT)),
     (
         "GET /query/%2E HTTP/1.1\r\n\r\n",
         Reply::Page("% error 1\n"),
@@ -406,90 +378,6 @@ fn a_stopped_desk_serves_nothing(rt: HostRuntime) -> Result<(), Fail> {
     try_fused(&rt, &Stopped)
 }
 
-/// The query for the inetnum that is submitted.
-const EXACT: &str = "exact 10.0.0.0/8\r\n";
-
-/// Asserts what a connection that is closed was asked and answered.
-fn expect_closed<R: Abort>(
-    rt: &R,
-    turn: &MemoryTurn<'_>,
-    asked: &str,
-    answered: &str,
-) -> Result<(), Fail> {
-    expect_text(rt, turn.asked, asked)?;
-    expect_text(rt, &turn.answered, answered)
-}
-
-/// Asserts what one of the connections that are closed was asked and answered.
-fn expect_turn<R: Abort>(
-    rt: &R,
-    turns: &[MemoryTurn<'_>],
-    at: usize,
-    asked: &str,
-    answered: &str,
-) -> Result<(), Fail> {
-    match turns.get(at) {
-        Some(turn) => expect_closed(rt, turn, asked, answered),
-        None => Err("no such turn".into()),
-    }
-}
-
-/// Asserts what three connections were asked and answered: a submission, a query that could not be read, and a query.
-fn expect_turns<R: Abort + AllocGlobal>(rt: &R, turns: &[MemoryTurn<'_>]) -> Result<(), Fail> {
-    assert_eq!(rt; turns.len(), 3);
-    expect_turn(rt, turns, 1, EXACT, "")?;
-    expect_turn(rt, turns, 2, EXACT, TEN)?;
-    let report = Reply::Page(THREE_REPORT).written(rt.alloc())?;
-    expect_turn(rt, turns, 0, THREE, report.as_str())
-}
-
-/// So many turns of three connections, of which the second breaks, and how many are served and fail.
-#[derive(Drop)]
-struct Turns {
-    count: u64,
-    served: Served,
-}
-
-impl Trial for Turns {
-    fn tried<D: Office + Drop, R: Abort + AllocGlobal>(
-        &self,
-        rt: &R,
-        mut desk: D,
-    ) -> Result<(), Fail> {
-        let broken = MemoryInput {
-            reads: 0,
-            ..MemoryInput::whole(EXACT.as_bytes())
-        };
-        let inputs = [
-            ending(THREE.as_bytes(), 1),
-            broken,
-            MemoryInput::whole(EXACT.as_bytes()),
-        ];
-        let (served, peers) = desk.turned(rt.alloc(), &inputs, self.count)?;
-        assert_eq!(rt; served, self.served);
-        assert_eq!(rt; peers.turns(), self.count);
-        expect_turns(rt, peers.closed())
-    }
-}
-
-#[test]
-fn three_turns_are_taken(rt: HostRuntime) -> Result<(), Fail> {
-    let served = Served {
-        served: 2,
-        failed: 1,
-    };
-    try_new(&rt, &Turns { count: 3, served })
-}
-
-#[test]
-fn turns_past_the_last_connection_fail(rt: HostRuntime) -> Result<(), Fail> {
-    let served = Served {
-        served: 2,
-        failed: 3,
-    };
-    try_new(&rt, &Turns { count: 5, served })
-}
-
 /// The reply to the two items where only so many bytes of the request come. In its first line it is no request yet: it
 /// is a name at first, and then two words that are no query.
 fn cut_reply(count: usize) -> &'static str {
@@ -542,7 +430,7 @@ impl Trial for Short {
         rt: &R,
         mut desk: D,
     ) -> Result<(), Fail> {
-        expect_reply(rt, &mut desk, front(THREE, 150)?, 1, BEGUN)?;
+        expect_reply(rt, &mut desk, front(POSTED, 150)?, 1, BEGUN)?;
         expect_reply(rt, &mut desk, EXACT.as_bytes(), 1, TEN)
     }
 }

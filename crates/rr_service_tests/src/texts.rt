@@ -1,4 +1,4 @@
-//! Texts of objects, as dumps have them, and a submission of three.
+//! Texts of objects, as dumps have them, and requests and queries with their reports and answers.
 use std::alloc::Global;
 use std::test::Fail;
 
@@ -82,3 +82,34 @@ pub fn full_dump(alloc: Global, added: usize) -> Result<String, Fail> {
     let count = objects.len();
     Ok(format!(in alloc; "{text}% end {count}\n")?)
 }
+
+/// A request with a submission of an inetnum, of one whose prefix is too long, and of an AS number, which has 160 bytes.
+pub const POSTED: &str = "\
+POST /submissions HTTP/1.1\r
+Content-Length: 160\r
+\r
+password: bc
+
+inetnum: 10.0.0.0/8
+mnt-by: ROOT-MNT
+source: TEST
+
+inetnum: 10.0.0.0/40
+mnt-by: ROOT-MNT
+source: TEST
+
+aut-num: AS1
+mnt-by: ROOT-MNT
+source: TEST
+";
+
+/// The report on it.
+pub const POSTED_REPORT: &str = "\
+1 inetnum 10.0.0.0 - 10.255.255.255: added
+2 -: refused E03
+3 aut-num AS1: added
+% items 3
+";
+
+/// The query for the inetnum that is submitted.
+pub const EXACT: &str = "exact 10.0.0.0/8\r\n";

@@ -184,11 +184,12 @@ nothing_held g none inetnums blocks =
       };
     }
 
--- what becomes of an object whose span could not be entered
-pub faulty : (os : List Obj) (n : ℕ) (o : Obj) (fault : LoadFault) → is_key_of_some o.key os ≡ false → (fault ≡ Memory) ⊎ ((fault ≡ Overlap n) × (is_crossed_by_some o.key os ≡ true))
-    → (fault ≡ Memory) ⊎ (clash_of os n o ≡ Some fault)
-faulty os n o fault new (inl memory) = inl memory
-faulty os n o fault new (inr (is, crossed)) = inr (is_overlap os n o new crossed ∙ ap Some (sym is))
+-- what becomes of an object of a key whose span could not be entered
+pub faulty : (os : List Obj) (n : ℕ) (k : Key) (fault : LoadFault) → is_key_of_some k os ≡ false → (fault ≡ Memory) ⊎ ((fault ≡ Overlap n) × (is_crossed_by_some k os ≡ true))
+    → (fault ≡ Memory) ⊎ ((o : Obj) → o.key ≡ k → clash_of os n o ≡ Some fault)
+faulty os n k fault new (inl memory) = inl memory
+faulty os n k fault new (inr (is, crossed)) =
+    inr (λ o own. is_overlap os n o (ap (λ l. is_key_of_some l os) own ∙ new) (ap (λ l. is_crossed_by_some l os) own ∙ crossed) ∙ ap Some (sym is))
 
 -- what follows from a good result
 pub both_good : {X E P Q R : Type 0} (r : Result X E) → OnOk r P → OnOk r Q → (P → Q → R) → OnOk r R

@@ -1,10 +1,11 @@
 //! Objects that are put together, one after the other.
 
 ghost use Rattle.std.specs.Prelude.{◌≡◌, ◌⊎◌, [], List, IfErr, IfOk, OnOk, false, true};
+ghost use Rattle.std.specs.BTreeMap.{insert_entry};
 ghost use Rattle.std.specs.FinMap.{insert};
 ghost use Rattle.rr_object.specs.Objects.{Obj};
 ghost use Rattle.rr_cover.specs.SpanMaps.{crosses_some};
-ghost use Rattle.rr_registry.specs.Loading.{clash_of, is_crossed_by_some};
+ghost use Rattle.rr_registry.specs.Loading.{clash_of, is_crossed_by_some, is_key_of_some};
 ghost use Rattle.rr_registry.specs.Private.{HoldsSpans, IsConsistent, IsEntered, IsTakenIn, objects_of};
 
 use crate::load::LoadFault;
@@ -52,12 +53,26 @@ impl Gathered {
         ensures err { IfErr result (λ fault. (fault ≡ LoadFault.Memory) ⊎ (clash_of (objects_of self.old) n object ≡ Some fault)) }
     {
         object.key_is_well_formed();
-        if self.objects.contains_key(object.key()) {
+        match self.enter(alloc, n, object.key()) {
+            Ok(key) => put(&mut self.objects, key, object),
+            Err(fault) => Err(fault),
+        }
+    }
+
+    /// Enters the span of the n-th object, whose key must not stand there yet, and copies the key.
+    fn enter(&mut self, alloc: Global, n: u64, key: &Key) -> Result<Key, LoadFault>
+        requires { IsConsistent self.old }
+        ensures copy { IfOk result (λ copy. copy ≡ key.now) }
+        ensures new { OnOk result (is_key_of_some key.now (objects_of self.old) ≡ false) }
+        ensures entered { OnOk result (IsEntered (objects_of self.old) key.now self.new.spans.inetnums self.new.spans.blocks) }
+        ensures err { IfErr result (λ fault. (fault ≡ LoadFault.Memory) ⊎ ((o : Obj) → o.key ≡ key.now → clash_of (objects_of self.old) n o ≡ Some fault)) }
+        ensures same { self.new.objects ≡ self.old.objects }
+    {
+        if self.objects.contains_key(key) {
             return Err(LoadFault::Duplicate(n));
         }
-        self.spans.enter(n, object.key())?;
-        self.objects.insert(object.key().copy(alloc)?, object)?;
-        Ok(())
+        self.spans.enter(n, key)?;
+        Ok(key.copy(alloc)?)
     }
 
     /// The objects in the order of class and key; the error is want of memory.
@@ -81,6 +96,15 @@ impl Spans {
             _ => Ok(()),
         }
     }
+}
+
+/// Puts the object under the key; the error is want of memory.
+fn put(objects: &mut BTreeMap<Key, Object>, key: Key, object: Object) -> Result<(), LoadFault>
+    ensures ok { OnOk result (objects.new.entries ≡ insert_entry ⟦<Key as Ord>⟧.cmp objects.old.entries key object) }
+    ensures err { IfErr result (λ fault. fault ≡ LoadFault.Memory) }
+{
+    objects.insert(key, object)?;
+    Ok(())
 }
 
 /// Puts the span of the n-th object among those of its class.

@@ -1,6 +1,7 @@
 pub mod Confined
 pub mod Gathering
 pub mod Held
+pub mod Judged
 pub mod Mntners
 pub mod Open
 pub mod Rising

@@ -1,15 +1,20 @@
--- What the private functions of src promise each other on the way to a registry. No public clause cites these.
-use Rattle.std.specs.Prelude.{◌≡◌, ◌||◌, ℕ, Bool, true, false, List, [], ◌∷◌, None, Some, map}
+-- What the private functions of src promise each other. No public clause cites these.
+use Rattle.std.specs.Prelude.{◌≡◌, ◌⊎◌, ◌||◌, ℕ, Bool, true, false, List, [], ◌∷◌, None, Some, map}
 use Rattle.std.specs.BTreeMap.{values}
 use Rattle.std.specs.List.{list_any}
 use Rattle.std.specs.FinMap.{contains_key, empty, get, insert}
 use Rattle.std.specs.Ordering.{eq_by_cmp, is_lt}
 use Rattle.rr_number.specs.Spans.{Ends}
+use Rattle.rr_object.specs.declared.code.Code.TheVariants.{E90}
 use Rattle.rr_object.specs.declared.key.Key.{Key}
 use Rattle.rr_object.specs.declared.key.Key.TheVariants.{AsBlock, Inetnum}
 use Rattle.rr_object.specs.KeyOrders.{IsKeyValue, key_cmp}
 use Rattle.rr_object.specs.Objects.{Obj}
-use Rattle.rr_auth.specs.Registries.{keys_cross}
+use Rattle.rr_auth.specs.declared.item.Item.{Item}
+use Rattle.rr_auth.specs.declared.verdict.Verdict.{Verdict}
+use Rattle.rr_auth.specs.declared.verdict.Verdict.TheVariants.{Refuse}
+use Rattle.rr_auth.specs.Registries.{Reg, keys_cross}
+use Rattle.rr_auth.specs.Verdicts.{verdict}
 use Rattle.rr_book.specs.Books.{book_of, entry, is_in_order}
 use Rattle.rr_cover.specs.SpanMaps.{SpanMap}
 use Rattle.rr_registry.specs.declared.gathered.Gathered.{Gathered}
@@ -60,3 +65,7 @@ pub record IsConsistent (g : Gathered) : Type 0 where
   pub apart : IsApart (values g.objects)
   pub keyed : g.objects.entries ≡ map entry (values g.objects)
   pub spans : HoldsSpans (values g.objects) g.spans.inetnums g.spans.blocks
+
+-- The verdict on an item, or a refusal with E90 where memory is wanting (profile).
+abbrev pub IsJudged : Reg → List (List ℕ) → Item → Verdict → Type 0
+IsJudged r secrets item judged = (judged ≡ verdict r secrets item) ⊎ (judged ≡ Refuse E90)

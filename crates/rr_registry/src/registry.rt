@@ -6,6 +6,7 @@ ghost use Rattle.rr_auth.specs.declared.verdict.Verdict.TheVariants.{Add, Change
 ghost use Rattle.rr_auth.specs.Verdicts.{is_met_by};
 ghost use Rattle.rr_auth.specs.Laws.{IsItem};
 ghost use Rattle.rr_confinement.specs.Laws.{LeavesOthers};
+ghost use Rattle.rr_registry.specs.Private.{IsJudged};
 ghost use Rattle.rr_registry.specs.Runs.{IsCarriedOut, IsStep, IsWant};
 
 use crate::outcome::Outcome;
@@ -107,21 +108,30 @@ impl<B: Keeper> Registry<B> {
     }
 
     /// Does with the item what its verdict says.
-    #[tactic(auto, using(rr_auth::proofs::Keeping::sound_added, rr_auth::proofs::Keeping::sound_changed, rr_auth::proofs::Keeping::sound_removed, rr_auth::proofs::Steps::verdicts_are_met))]
+    #[tactic(auto, using(crate::proofs::Judged::added_is_sound, crate::proofs::Judged::changed_is_sound, crate::proofs::Judged::removed_is_sound, crate::proofs::Judged::judged_is_met, crate::proofs::Judged::judged_step))]
     fn carry_out(&mut self, alloc: Global, secrets: &mut Secrets, item: Item) -> Outcome
         ensures step { IsStep self.old secrets.old item result self.new }
         ensures same_secrets { secrets.new ≡ secrets.old }
     {
         self.sound();
-        match judge(alloc, &self.book, secrets, &item) {
-            Ok(verdict) => match item {
-                Item::Submit(object) => {
-                    object.key_is_well_formed();
-                    self.submit(alloc, verdict, object)
-                }
-                Item::Delete(key) => self.delete(verdict, &key),
-            },
-            Err(_) => Outcome::Refused(Code::E90),
+        let verdict = self.verdict(alloc, secrets, &item);
+        match item {
+            Item::Submit(object) => {
+                object.key_is_well_formed();
+                self.submit(alloc, verdict, object)
+            }
+            Item::Delete(key) => self.delete(verdict, &key),
+        }
+    }
+
+    /// The verdict on the item, which is a refusal with E90 where memory is wanting.
+    fn verdict(&self, alloc: Global, secrets: &mut Secrets, item: &Item) -> Verdict
+        ensures judged { IsJudged self.now secrets.old item.now result }
+        ensures same_secrets { secrets.new ≡ secrets.old }
+    {
+        match judge(alloc, &self.book, secrets, item) {
+            Ok(verdict) => verdict,
+            Err(_) => Verdict::Refuse(Code::E90),
         }
     }
 

@@ -6,7 +6,7 @@ ghost use Rattle.rr_sets.specs.Lists.{IsReferrer, ListsOnce};
 
 use crate::closest::{closest, closest_routes};
 use crate::keeper::Keeper;
-use crate::set_index::{SetIndex, objects_of, sets_named};
+use crate::set_index::{SetIndex, objects_of};
 use crate::{listings, lists};
 use rr_auth::Book;
 use rr_number::{AsNumber, Name, Prefix, SetName, Span};
@@ -120,17 +120,16 @@ impl Keeper for PlainBook {
     }
 
     fn insert(&mut self, alloc: Global, object: Object) -> Result<(), AllocError> {
-        let before = sets_named(alloc, lists::find_key(&self.objects, object.key()))?;
-        let after = sets_named(alloc, Some(&object))?;
-        self.referrers.add(alloc, &object, &before)?;
+        let standing = lists::find_key(&self.objects, object.key());
+        let sets = self.referrers.enter(alloc, &object, standing)?;
         match lists::put(&mut self.objects, object) {
             Ok(Some(old)) => {
-                self.referrers.take(&old, &after);
+                self.referrers.give_up(old, &sets.after);
                 Ok(())
             }
             Ok(None) => Ok(()),
             Err(refused) => {
-                self.referrers.take(&refused.value, &before);
+                self.referrers.give_up(refused.value, &sets.before);
                 Err(AllocError)
             }
         }

@@ -28,6 +28,13 @@ pub struct SetIndex {
     keys: BTreeMap<SetName, BTreeSet<Key>>,
 }
 
+/// The sets that an object names in its `member-of`, and those that the one in whose place it comes named there.
+#[derive(Drop)]
+pub(crate) struct NamedSets {
+    pub(crate) before: BTreeSet<SetName>,
+    pub(crate) after: BTreeSet<SetName>,
+}
+
 impl SetIndex {
     /// No keys.
     pub fn new(alloc: Global) -> SetIndex
@@ -56,6 +63,30 @@ impl SetIndex {
         ensures { option_copied result ≡ get (slice_cmp nat_cmp) self.now.keys name.now }
     {
         self.keys.get(name)
+    }
+
+    /// Puts the key of an object that comes in place of another, if there is one, under each set that it names and the
+    /// other does not, where it stands under none of them. It gives the sets that each names; the error is want of memory
+    /// and changes nothing.
+    pub(crate) fn enter(
+        &mut self,
+        alloc: Global,
+        object: &Object,
+        other: Option<&Object>,
+    ) -> Result<NamedSets, AllocError>
+        requires { (name : List ℕ) (key : Key) → IsTrue (is_meant object.now (λ set. option_map_or (names_set set) (option_copied other) false) name key)
+            → stands_under self.old.keys name key ≡ false }
+        ensures before { IfOk result (λ sets. (name : List ℕ) → contains (slice_cmp nat_cmp) sets.before name ≡
+            option_map_or (names_set name) (option_copied other.entry) false) }
+        ensures after { IfOk result (λ sets. (name : List ℕ) → contains (slice_cmp nat_cmp) sets.after name ≡ names_set name object.now) }
+        ensures ok { IfOk result (λ sets. (name : List ℕ) (key : Key) → stands_under self.new.keys name key ≡
+            (stands_under self.old.keys name key || is_meant object.now (contains (slice_cmp nat_cmp) sets.before) name key)) }
+        ensures err { OnErr result ((name : List ℕ) (key : Key) → stands_under self.new.keys name key ≡ stands_under self.old.keys name key) }
+    {
+        let before = sets_named(alloc, other)?;
+        let after = sets_named(alloc, Some(object))?;
+        self.add(alloc, object, &before)?;
+        Ok(NamedSets { before, after })
     }
 
     /// Puts the object's key, which stands under none of them, under each set that it names, save the others. The error
@@ -132,6 +163,14 @@ impl SetIndex {
                 self.take_from(name, object.key());
             }
         }
+    }
+
+    /// Takes the key of an object that is given up from under each set that it names, save the others.
+    pub(crate) fn give_up(&mut self, object: Object, others: &BTreeSet<SetName>)
+        ensures { (name : List ℕ) (key : Key) → stands_under self.new.keys name key ≡
+            (stands_under self.old.keys name key && not (is_meant object (contains (slice_cmp nat_cmp) others.now) name key)) }
+    {
+        self.take(&object, others);
     }
 
     /// Takes the object's key from under each set that it names.

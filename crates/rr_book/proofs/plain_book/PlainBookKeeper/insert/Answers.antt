@@ -3,7 +3,7 @@ use Rattle.std.specs.Prelude.{find}
 use Rattle.std.specs.BTreeSet.{contains}
 use Rattle.std.specs.Cmp.Lexicographic.{slice_cmp}
 use Rattle.std.specs.FinMap.{insert}
-use Rattle.std.specs.Option.{option_map_or}
+use Rattle.std.specs.Option.{option_copied, option_map_or}
 use Rattle.std.specs.Ordering.{eq_by_cmp, nat_cmp}
 use Rattle.rr_auth.specs.Registries.{Sound}
 use Rattle.rr_object.specs.declared.key.Key.{Key}
@@ -16,26 +16,25 @@ use Rattle.rr_book.proofs.KeysUnderSets.{fresh, indexed_change, indexed_first, i
 use Rattle.rr_book.proofs.Order.{book_put}
 use Rattle.rr_book.proofs.plain_book.PlainBookKeeper.insert.Goals as goal
 
-pub add-requires : goal.add-requires
-add-requires c =
-    let o = c.args.object in
-    let found = rw (c.deref.ensures.value, c.key.ensures) at c.find_key.ensures in
-    fresh c.self.inside.objects.items c.self.inside.referrers.keys c.self.invariant o (contains (slice_cmp nat_cmp) c.in_ok-before.before)
-    (λ n. c.in_ok-before.ensures n ∙ ap (λ x. option_map_or (names_set n) x false) found)
+pub enter-requires : goal.enter-requires
+enter-requires c =
+    let found = rw (c.deref.ensures.value, c.key.ensures) at c.find_key-standing.ensures in
+    fresh c.self.inside.objects.items c.self.inside.referrers.keys c.self.invariant c.args.object (λ n. option_map_or (names_set n) (option_copied c.find_key-standing.result) false)
+    (λ n. ap (λ x. option_map_or (names_set n) x false) found)
 
 pub invariant_of-self : goal.invariant_of-self
-invariant_of-self c = indexed_same c.self.inside.objects.items c.self.inside.referrers.keys c.self.invariant c.add.new.self.keys c.in_err-add.ensures.err
+invariant_of-self c = indexed_same c.self.inside.objects.items c.self.inside.referrers.keys c.self.invariant c.enter.new.self.keys c.in_err-sets.ensures.err
 
 pub invariant_of-self-in-Ok-Some : goal.invariant_of-self-in-Ok-Some
 invariant_of-self-in-Ok-Some c =
     let o = c.args.object in
-    let found = rw (c.deref.ensures.value, c.key.ensures) at c.find_key.ensures in
-    let before : (n : List ℕ) → contains (slice_cmp nat_cmp) c.in_ok-before.before n ≡ option_map_or (names_set n) (find (λ x. eq_by_cmp key_cmp o.key x.key) c.self.inside.objects.items) false =
-    λ n. c.in_ok-before.ensures n ∙ ap (λ x. option_map_or (names_set n) x false) found in
+    let found = rw (c.deref.ensures.value, c.key.ensures) at c.find_key-standing.ensures in
+    let before : (n : List ℕ) → contains (slice_cmp nat_cmp) c.in_ok-sets.sets.before n ≡ option_map_or (names_set n) (find (λ x. eq_by_cmp key_cmp o.key x.key) c.self.inside.objects.items) false =
+    λ n. c.in_ok-sets.ensures.before n ∙ ap (λ x. option_map_or (names_set n) x false) found in
     indexed_change c.self.inside.objects.items c.self.inside.referrers.keys c.self.invariant c.put.new.objects.items o c.in-Ok-Some.old
-    (contains (slice_cmp nat_cmp) c.in_ok-before.before) (contains (slice_cmp nat_cmp) c.in_ok-after.after) c.add.new.self.keys c.take.new.self.keys
+    (contains (slice_cmp nat_cmp) c.in_ok-sets.sets.before) (contains (slice_cmp nat_cmp) c.in_ok-sets.sets.after) c.enter.new.self.keys c.give_up.new.self.keys
     (subst (λ r. Sound (insert r o.key o)) (sym c.self.view_is) c.requires) c.in-Ok-Some.ensures.ok (sym c.in-Ok-Some.field-0-is ∙ c.in-Ok-Some.ensures.old)
-    before c.in_ok-after.ensures c.in_ok-add.ensures.ok c.take.ensures
+    before c.in_ok-sets.ensures.after c.in_ok-sets.ensures.ok c.give_up.ensures
 
 pub returns-in-Ok-Some-clause-ok : goal.returns-in-Ok-Some-clause-ok
 returns-in-Ok-Some-clause-ok c =
@@ -47,13 +46,13 @@ returns-in-Ok-Some-clause-ok c =
 pub invariant_of-self-in-Ok-None : goal.invariant_of-self-in-Ok-None
 invariant_of-self-in-Ok-None c =
     let o = c.args.object in
-    let found = rw (c.deref.ensures.value, c.key.ensures) at c.find_key.ensures in
-    let before : (n : List ℕ) → contains (slice_cmp nat_cmp) c.in_ok-before.before n ≡ option_map_or (names_set n) (find (λ x. eq_by_cmp key_cmp o.key x.key) c.self.inside.objects.items) false =
-    λ n. c.in_ok-before.ensures n ∙ ap (λ x. option_map_or (names_set n) x false) found in
+    let found = rw (c.deref.ensures.value, c.key.ensures) at c.find_key-standing.ensures in
+    let before : (n : List ℕ) → contains (slice_cmp nat_cmp) c.in_ok-sets.sets.before n ≡ option_map_or (names_set n) (find (λ x. eq_by_cmp key_cmp o.key x.key) c.self.inside.objects.items) false =
+    λ n. c.in_ok-sets.ensures.before n ∙ ap (λ x. option_map_or (names_set n) x false) found in
     indexed_first c.self.inside.objects.items c.self.inside.referrers.keys c.self.invariant c.put.new.objects.items o
-    (contains (slice_cmp nat_cmp) c.in_ok-before.before) c.add.new.self.keys
+    (contains (slice_cmp nat_cmp) c.in_ok-sets.sets.before) c.enter.new.self.keys
     (subst (λ r. Sound (insert r o.key o)) (sym c.self.view_is) c.requires) c.in-Ok-None.ensures.ok (sym c.in-Ok-None.field-0-is ∙ c.in-Ok-None.ensures.old)
-    before c.in_ok-add.ensures.ok
+    before c.in_ok-sets.ensures.ok
 
 pub returns-in-Ok-None-clause-ok : goal.returns-in-Ok-None-clause-ok
 returns-in-Ok-None-clause-ok c =
@@ -65,11 +64,11 @@ returns-in-Ok-None-clause-ok c =
 pub invariant_of-self-in-Err : goal.invariant_of-self-in-Err
 invariant_of-self-in-Err c =
     let o = c.args.object in
-    let found = rw (c.deref.ensures.value, c.key.ensures) at c.find_key.ensures in
-    let before : (n : List ℕ) → contains (slice_cmp nat_cmp) c.in_ok-before.before n ≡ option_map_or (names_set n) (find (λ x. eq_by_cmp key_cmp o.key x.key) c.self.inside.objects.items) false =
-    λ n. c.in_ok-before.ensures n ∙ ap (λ x. option_map_or (names_set n) x false) found in
-    subst (λ (os : List Obj). IsIndexed os c.take-in-Err.new.self.keys) (sym c.in-Err.ensures.err)
-    (indexed_undone c.self.inside.objects.items c.self.inside.referrers.keys c.self.invariant o (contains (slice_cmp nat_cmp) c.in_ok-before.before) c.add.new.self.keys c.take-in-Err.new.self.keys
-    before c.in_ok-add.ensures.ok
-    (subst (λ (x : Obj). (n : List ℕ) (k : Key) → stands_under c.take-in-Err.new.self.keys n k ≡ (stands_under c.add.new.self.keys n k && not (is_meant x (contains (slice_cmp nat_cmp) c.in_ok-before.before) n k)))
-    c.in-Err.ensures.returned c.take-in-Err.ensures))
+    let found = rw (c.deref.ensures.value, c.key.ensures) at c.find_key-standing.ensures in
+    let before : (n : List ℕ) → contains (slice_cmp nat_cmp) c.in_ok-sets.sets.before n ≡ option_map_or (names_set n) (find (λ x. eq_by_cmp key_cmp o.key x.key) c.self.inside.objects.items) false =
+    λ n. c.in_ok-sets.ensures.before n ∙ ap (λ x. option_map_or (names_set n) x false) found in
+    subst (λ (os : List Obj). IsIndexed os c.give_up-in-Err.new.self.keys) (sym c.in-Err.ensures.err)
+    (indexed_undone c.self.inside.objects.items c.self.inside.referrers.keys c.self.invariant o (contains (slice_cmp nat_cmp) c.in_ok-sets.sets.before) c.enter.new.self.keys c.give_up-in-Err.new.self.keys
+    before c.in_ok-sets.ensures.ok
+    (subst (λ (x : Obj). (n : List ℕ) (k : Key) → stands_under c.give_up-in-Err.new.self.keys n k ≡ (stands_under c.enter.new.self.keys n k && not (is_meant x (contains (slice_cmp nat_cmp) c.in_ok-sets.sets.before) n k)))
+    c.in-Err.ensures.returned c.give_up-in-Err.ensures))

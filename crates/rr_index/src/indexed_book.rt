@@ -8,7 +8,6 @@ use crate::indexes::Indexes;
 use crate::object_map::ObjectMap;
 use rr_auth::Book;
 use rr_book::Keeper;
-use rr_book::set_index::sets_named;
 use rr_number::{AsNumber, AsSpan, Name, Prefix, SetName, Span};
 use rr_object::{Key, Object};
 use rr_sets::SetBook;
@@ -51,17 +50,11 @@ impl IndexedBook {
         ensures ok { OnOk result (self.new ≡ insert self.old object.key object) }
         ensures err { OnErr result (self.new ≡ self.old) }
     {
-        let before = sets_named(alloc, self.objects.get(object.key()))?;
-        let after = sets_named(alloc, Some(&object))?;
-        self.indexes.referrers.add(alloc, &object, &before)?;
-        if let Err(refused) = self.indexes.namings.add(alloc, &object) {
-            self.indexes.referrers.take(&object, &before);
-            return Err(refused);
-        }
+        let standing = self.objects.get(object.key());
+        let sets = self.indexes.enter_names(alloc, &object, standing)?;
         match self.objects.replace(object) {
             Ok(old) => {
-                self.indexes.referrers.take(&old, &after);
-                self.indexes.namings.take(&old);
+                self.indexes.leave_names(old, sets);
                 Ok(())
             }
             Err(_) => unreachable!(),

@@ -1,10 +1,17 @@
 //! What is kept beside the objects of a registry.
 
-ghost use Rattle.std.specs.Prelude.{◌≡◌, IfOk, None, Some, OnErr, OnOk, false};
+ghost use Rattle.std.specs.Prelude.{◌≡◌, ℕ, IfOk, IsTrue, List, None, Some, OnErr, OnOk, false};
+ghost use Rattle.std.specs.BTreeSet.{contains};
+ghost use Rattle.std.specs.Cmp.Lexicographic.{slice_cmp};
 ghost use Rattle.std.specs.FinMap.{empty, get, insert, remove};
+ghost use Rattle.std.specs.Option.{option_copied};
+ghost use Rattle.std.specs.Ordering.{nat_cmp};
+ghost use Rattle.rr_object.specs.declared.key.Key.{Key};
 ghost use Rattle.rr_auth.specs.Registries.{Reg, Sound};
 ghost use Rattle.rr_book.specs.Books.{IsBook, book_of};
-ghost use Rattle.rr_index.specs.EnteringParts.{HasPlaces, IsUnderNone};
+ghost use Rattle.rr_book.specs.SetIndexes.{is_meant, stands_under};
+ghost use Rattle.rr_book.specs.SetLists.{names_set};
+ghost use Rattle.rr_index.specs.EnteringParts.{HasNamed, HasPlaces, HasUnnamed, IsUnderNone, is_named_by};
 ghost use Rattle.rr_index.specs.Indexes.{HasIndexes, HasKeys};
 ghost use Rattle.rr_index.specs.NameIndexes.{HasNames};
 ghost use Rattle.rr_index.specs.Private.{is_crossed};
@@ -14,7 +21,8 @@ use crate::naming_index::NamingIndex;
 use crate::object_map::ObjectMap;
 use crate::origin_index::OriginIndex;
 use crate::span_index::SpanIndex;
-use rr_book::set_index::SetIndex;
+use rr_book::set_index::{SetIndex, sets_named};
+use rr_number::SetName;
 use rr_object::Object;
 use std::alloc::{AllocError, Global};
 use std::collections::BTreeSet;
@@ -136,6 +144,41 @@ impl Indexes {
                 Err(refused)
             }
         }
+    }
+
+    /// Enters what an object names that comes in place of another: its key, under the sets that the other does not name,
+    /// and its maintainers. It gives the sets that the object names; the error is want of memory, and leaves the indexes
+    /// those of the same objects.
+    pub(crate) fn enter_names(
+        &mut self,
+        alloc: Global,
+        object: &Object,
+        standing: Option<&Object>,
+    ) -> Result<BTreeSet<SetName>, AllocError>
+        requires { (name : List ℕ) (key : Key) → IsTrue (is_meant object.now (is_named_by (option_copied standing)) name key) → stands_under self.old.referrers.keys name key ≡ false }
+        ensures sets { IfOk result (λ sets. (name : List ℕ) → contains (slice_cmp nat_cmp) sets name ≡ names_set name object.now) }
+        ensures ok { OnOk result (HasNamed object.now (option_copied standing.entry) self.old self.new) }
+        ensures err { OnErr result ((r : Reg) → HasIndexes r self.old → option_copied standing.entry ≡ get r object.now.key → HasIndexes r self.new) }
+    {
+        let before = sets_named(alloc, standing)?;
+        let after = sets_named(alloc, Some(object))?;
+        self.referrers.add(alloc, object, &before)?;
+        match self.namings.add(alloc, object) {
+            Ok(()) => Ok(after),
+            Err(refused) => {
+                self.referrers.take(object, &before);
+                Err(refused)
+            }
+        }
+    }
+
+    /// Takes out what an object names in whose place one came that names these sets: its key, save from under those, and
+    /// its maintainers.
+    pub(crate) fn leave_names(&mut self, old: Object, sets: BTreeSet<SetName>)
+        ensures { HasUnnamed old (contains (slice_cmp nat_cmp) sets) self.old self.new }
+    {
+        self.referrers.take(&old, &sets);
+        self.namings.take(&old);
     }
 
     /// Takes out an object that is no longer among these objects.

@@ -175,11 +175,18 @@ impl ObjectMap {
     {
         let mut found = Vec::new(alloc);
         for route in origins.routes_of(origin) {
-            if let Some(object) = self.get(&Key::Route(route.1, route.0)) {
+            if let Some(object) = self.route(route.1, route.0) {
                 found.push(object)?;
             }
         }
         Ok(found)
+    }
+
+    /// The object of the route.
+    fn route(&self, prefix: Prefix, origin: AsNumber) -> Option<&Object>
+        ensures { option_copied result ≡ get self.now (Route prefix origin) }
+    {
+        self.get(&Key::Route(prefix, origin))
     }
 
     /// The aut-nums, in the order of their numbers; the error is want of memory.

@@ -7,6 +7,7 @@ ghost use Rattle.rr_rows.specs.Contents.{Adds, Alters, RunsOn, IsTidy, Removes, 
 ghost use Rattle.rr_rows.specs.Entries.{IsAdded, IsPut, IsTakenOut};
 ghost use Rattle.rr_rows.specs.Maps.{AreOfObjects};
 
+use crate::entry::Entry;
 use crate::fault::StoreFault;
 use crate::old_names::names_of_rows;
 use crate::statements::{add_name, add_object, remove_name, remove_object, rows_of_key};
@@ -36,20 +37,20 @@ fn add_names<S: Alter>(
 /// Adds the rows of an object.
 pub(crate) fn add_rows<S: Alter>(
     tx: &mut Transaction<'_, S>,
-    class: u8,
-    key: &[u8],
-    body: &[u8],
-    names: &[Name],
-) -> Result<(), Error>
+    entry: &Entry,
+) -> Result<(), StoreFault>
     requires { HasCleanDisk (state S.Store tx.old.conn.now) → IsTrue (state S.Store tx.old.conn.now).is_open → IsTidy (state S.Store tx.old.conn.now).now }
     ensures same_reference { tx.new.conn.ghost_name ≡ tx.old.conn.ghost_name }
-    ensures ok { HasCleanDisk (state S.Store tx.new.conn.now) → OnOk result (IsAdded (record { class = class; key = key.now; body = body.now; names = names.now } ∷ []) (state S.Store tx.old.conn.now).now (state S.Store tx.new.conn.now).now) }
+    ensures ok { HasCleanDisk (state S.Store tx.new.conn.now) → OnOk result (IsAdded (entry.now ∷ []) (state S.Store tx.old.conn.now).now (state S.Store tx.new.conn.now).now) }
     ensures step { HasCleanDisk (state S.Store tx.new.conn.now) → OnOk result (RunsOn (state S.Store tx.old.conn.now) (state S.Store tx.new.conn.now)) }
     ensures kept { HasCleanDisk (state S.Store tx.new.conn.now) → KeepsCommit (state S.Store tx.old.conn.now) (state S.Store tx.new.conn.now) }
     ensures survives { Survives (state S.Store tx.old.conn.now) (state S.Store tx.new.conn.now) (λ _. ⊥) }
 {
-    let _object = add_object(tx, class, key, body)?;
-    add_names(tx, names, class, key)
+    let class = entry.class();
+    let key = entry.key();
+    let _object = add_object(tx, class, key, entry.body())?;
+    add_names(tx, entry.names(), class, key)?;
+    Ok(())
 }
 
 /// Takes out the rows of the names with this class and key.
@@ -116,19 +117,15 @@ pub(crate) fn remove_rows<S: Alter>(
 pub(crate) fn put_rows<S: Alter>(
     tx: &mut Transaction<'_, S>,
     alloc: Global,
-    class: u8,
-    key: &[u8],
-    body: &[u8],
-    names: &[Name],
+    entry: &Entry,
 ) -> Result<(), StoreFault>
     requires { HasCleanDisk (state S.Store tx.old.conn.now) → IsTrue (state S.Store tx.old.conn.now).is_open → AreOfObjects (state S.Store tx.old.conn.now).now }
     ensures same_reference { tx.new.conn.ghost_name ≡ tx.old.conn.ghost_name }
-    ensures ok { HasCleanDisk (state S.Store tx.new.conn.now) → OnOk result (IsPut (record { class = class; key = key.now; body = body.now; names = names.now }) (state S.Store tx.old.conn.now).now (state S.Store tx.new.conn.now).now) }
+    ensures ok { HasCleanDisk (state S.Store tx.new.conn.now) → OnOk result (IsPut entry.now (state S.Store tx.old.conn.now).now (state S.Store tx.new.conn.now).now) }
     ensures step { HasCleanDisk (state S.Store tx.new.conn.now) → OnOk result (RunsOn (state S.Store tx.old.conn.now) (state S.Store tx.new.conn.now)) }
     ensures kept { HasCleanDisk (state S.Store tx.new.conn.now) → KeepsCommit (state S.Store tx.old.conn.now) (state S.Store tx.new.conn.now) }
     ensures survives { Survives (state S.Store tx.old.conn.now) (state S.Store tx.new.conn.now) (λ _. ⊥) }
 {
-    remove_rows(tx, alloc, class, key)?;
-    add_rows(tx, class, key, body, names)?;
-    Ok(())
+    remove_rows(tx, alloc, entry.class(), entry.key())?;
+    add_rows(tx, entry)
 }

@@ -11,6 +11,7 @@ ghost use Rattle.rr_store.specs.Kept.{IsLeft};
 ghost use Rattle.rr_store.specs.Lent.{lent};
 ghost use Rattle.rr_store.specs.declared.fault.CreateFault.TheVariants.{NotEmpty};
 
+use crate::ending::end;
 use crate::fault::{CreateFault, StoreFault};
 use crate::filling::{fill, make_filled};
 use crate::vacancy::{is_bare, is_blank};
@@ -34,9 +35,8 @@ fn create_in_blank<S: Alter>(
 {
     let _settled = conn.is_autocommit();
     let mut tx = conn.transaction();
-    make_filled(&mut tx, alloc, objects)?;
-    tx.commit()?;
-    Ok(())
+    let work = make_filled(&mut tx, alloc, objects);
+    end(tx, work)
 }
 
 fn create_in_bare<S: Alter>(
@@ -54,9 +54,8 @@ fn create_in_bare<S: Alter>(
 {
     let _settled = conn.is_autocommit();
     let mut tx = conn.transaction();
-    fill(&mut tx, alloc, objects)?;
-    tx.commit()?;
-    Ok(())
+    let work = fill(&mut tx, alloc, objects);
+    end(tx, work)
 }
 
 /// Makes a store in a database that has the three tables.

@@ -1,6 +1,6 @@
 //! The rows of a list of objects, as a transaction adds them to tables without a row.
 
-ghost use Rattle.std.specs.Prelude.{◌≡◌, [], ◌∷◌, map, IsTrue, OnOk};
+ghost use Rattle.std.specs.Prelude.{◌≡◌, map, IsTrue, OnOk};
 ghost use Rattle.sqlite.specs.Held.{state};
 ghost use Rattle.sqlite.specs.State.{HasCleanDisk, KeepsCommit, Survives};
 ghost use Rattle.rr_rows.specs.Contents.{RunsOn, IsTidy};
@@ -18,18 +18,6 @@ use rr_object::Object;
 use sqlite::{Alter, Transaction};
 use std::alloc::Global;
 
-fn add_entry<S: Alter>(tx: &mut Transaction<'_, S>, entry: &Entry) -> Result<(), StoreFault>
-    requires { HasCleanDisk (state S.Store tx.old.conn.now) → IsTrue (state S.Store tx.old.conn.now).is_open → IsTidy (state S.Store tx.old.conn.now).now }
-    ensures same_reference { tx.new.conn.ghost_name ≡ tx.old.conn.ghost_name }
-    ensures ok { HasCleanDisk (state S.Store tx.new.conn.now) → OnOk result (IsAdded (entry.now ∷ []) (state S.Store tx.old.conn.now).now (state S.Store tx.new.conn.now).now) }
-    ensures step { HasCleanDisk (state S.Store tx.new.conn.now) → OnOk result (RunsOn (state S.Store tx.old.conn.now) (state S.Store tx.new.conn.now)) }
-    ensures kept { HasCleanDisk (state S.Store tx.new.conn.now) → KeepsCommit (state S.Store tx.old.conn.now) (state S.Store tx.new.conn.now) }
-    ensures survives { Survives (state S.Store tx.old.conn.now) (state S.Store tx.new.conn.now) (λ _. ⊥) }
-{
-    add_rows(tx, entry.class(), entry.key(), entry.body(), entry.names())?;
-    Ok(())
-}
-
 pub(crate) fn add_objects<S: Alter>(
     tx: &mut Transaction<'_, S>,
     alloc: Global,
@@ -44,7 +32,7 @@ pub(crate) fn add_objects<S: Alter>(
 {
     for object in objects {
         let entry = Entry::of(alloc, object)?;
-        add_entry(tx, &entry)?;
+        add_rows(tx, &entry)?;
     }
     Ok(())
 }

@@ -5,6 +5,7 @@ mod bodies;
 mod checks;
 mod columns;
 mod creating;
+mod ending;
 mod entry;
 mod fault;
 mod filling;

@@ -16,6 +16,7 @@ ghost use Rattle.rr_store.specs.MigratingParts.{IsRewritten};
 ghost use Rattle.rr_store.specs.Opening.{IsNotOld, IsOfNoneButOld};
 ghost use Rattle.rr_store.specs.declared.fault.MigrateFault.TheVariants.{BadRow, NoRoot, WrongVersion};
 
+use crate::ending::end;
 use crate::fault::{MigrateFault, StoreFault};
 use crate::filling::fill;
 use crate::objects::lent;
@@ -76,9 +77,8 @@ fn replace<S: Alter>(
 {
     let _settled = conn.is_autocommit();
     let mut tx = conn.transaction();
-    refill(&mut tx, alloc, objects)?;
-    tx.commit()?;
-    Ok(())
+    let work = refill(&mut tx, alloc, objects);
+    end(tx, work)
 }
 
 fn with_block(mut objects: Vec<Object>, block: Object) -> Result<Vec<Object>, AllocError>

@@ -27,16 +27,15 @@ ghost use Rattle.rr_store.specs.declared.fault.StoreFault.TheVariants.{Memory};
 
 use crate::checks::{all_objects, naming_objects};
 use crate::creating::create_where_vacant;
+use crate::entry::Entry;
 use crate::fault::{CreateFault, MigrateFault, OpenFault, StoreFault};
 use crate::migrating::migrate_rows;
-use crate::names::maintainers_of;
 use crate::objects::{are_read, is_read};
 use crate::opening::stored_objects;
 use crate::version::Version;
 use crate::writes::{insert_entry, put_entry, remove_entry};
 use rr_number::Name;
 use rr_object::{Key, Object};
-use rr_text::print;
 use sqlite::{Alter, Connection};
 use std::alloc::Global;
 use std::marker::Model;
@@ -211,11 +210,8 @@ impl<S: Alter> Store<S> {
         ensures crash { Survives (state S.Store self.old) (state S.Store self.new) (TreesOf (IsPut (entry_of object.now) (state S.Store self.old).now)) }
     {
         is_read(object);
-        let class = object.key().class().number();
-        let key = object.key().bytes(alloc)?;
-        let body = print(alloc, object.paragraph())?;
-        let names = maintainers_of(alloc, object)?;
-        put_entry(&mut self.conn, alloc, class, &key, body.as_slice(), &names)
+        let entry = Entry::of(alloc, object)?;
+        put_entry(&mut self.conn, alloc, &entry)
     }
 
     /// Adds the rows of an object whose key no stored one has: those of its key are not looked for, as [`Store::put`] does. Where
@@ -240,14 +236,8 @@ impl<S: Alter> Store<S> {
         ensures crash { Survives (state S.Store self.old) (state S.Store self.new) (TreesOf (IsAdded (entry_of object.now ∷ []) (state S.Store self.old).now)) }
     {
         is_read(object);
-        let class = object.key().class().number();
-        let key = object.key().bytes(alloc)?;
-        let body = print(alloc, object.paragraph())?;
-        let names = maintainers_of(alloc, object)?;
-        match insert_entry(&mut self.conn, class, &key, body.as_slice(), &names) {
-            Ok(()) => Ok(()),
-            Err(_) => Err(StoreFault::Store),
-        }
+        let entry = Entry::of(alloc, object)?;
+        insert_entry(&mut self.conn, &entry)
     }
 
     /// Takes out the rows of the object with this key, if there is one. After a fault the rows are as they were.

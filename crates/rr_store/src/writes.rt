@@ -8,9 +8,10 @@ ghost use Rattle.rr_rows.specs.Entries.{IsAdded, IsPut, IsTakenOut, TreesOf};
 ghost use Rattle.rr_rows.specs.Maps.{AreOfObjects};
 
 use crate::bodies::{add_rows, put_rows, remove_rows};
+use crate::ending::end;
+use crate::entry::Entry;
 use crate::fault::StoreFault;
-use rr_number::Name;
-use sqlite::{Alter, Connection, Error};
+use sqlite::{Alter, Connection};
 use std::alloc::Global;
 
 /// Puts the rows of an object in place of those with its class and key. After an error the rows are as they were; a stop
@@ -18,49 +19,42 @@ use std::alloc::Global;
 pub(crate) fn put_entry<S: Alter>(
     conn: &mut Connection<S>,
     alloc: Global,
-    class: u8,
-    key: &[u8],
-    body: &[u8],
-    names: &[Name],
+    entry: &Entry,
 ) -> Result<(), StoreFault>
     requires autocommit { conn.old.in_transaction ≡ false }
     requires held { HasCleanDisk (state S.Store conn.old) → IsTrue (state S.Store conn.old).is_open → AreOfObjects (state S.Store conn.old).now }
     ensures autocommit { conn.new.in_transaction ≡ false }
-    ensures ok { HasCleanDisk (state S.Store conn.new) → OnOk result (IsPut (record { class = class; key = key.now; body = body.now; names = names.now }) (state S.Store conn.old).now (state S.Store conn.new).now) }
+    ensures ok { HasCleanDisk (state S.Store conn.new) → OnOk result (IsPut entry.now (state S.Store conn.old).now (state S.Store conn.new).now) }
     ensures is_open { HasCleanDisk (state S.Store conn.new) → OnOk result (IsTrue (state S.Store conn.new).is_open) }
     ensures was_open { HasCleanDisk (state S.Store conn.new) → OnOk result (IsTrue (state S.Store conn.old).is_open) }
     ensures err { HasCleanDisk (state S.Store conn.new) → IsTrue (state S.Store conn.new).is_open → OnErr result (((state S.Store conn.new).now ≡ (state S.Store conn.old).now) × IsTrue (state S.Store conn.old).is_open) }
-    ensures crash { Survives (state S.Store conn.old) (state S.Store conn.new) (TreesOf (IsPut (record { class = class; key = key.now; body = body.now; names = names.now }) (state S.Store conn.old).now)) }
+    ensures crash { Survives (state S.Store conn.old) (state S.Store conn.new) (TreesOf (IsPut entry.now (state S.Store conn.old).now)) }
 {
     let _settled = conn.is_autocommit();
     let mut tx = conn.transaction();
-    put_rows(&mut tx, alloc, class, key, body, names)?;
-    tx.commit()?;
-    Ok(())
+    let work = put_rows(&mut tx, alloc, entry);
+    end(tx, work)
 }
 
 /// Adds the rows of an object. After an error the rows are as they were; a stop leaves those that stood before or those with
 /// this one.
 pub(crate) fn insert_entry<S: Alter>(
     conn: &mut Connection<S>,
-    class: u8,
-    key: &[u8],
-    body: &[u8],
-    names: &[Name],
-) -> Result<(), Error>
+    entry: &Entry,
+) -> Result<(), StoreFault>
     requires autocommit { conn.old.in_transaction ≡ false }
     requires tidy { HasCleanDisk (state S.Store conn.old) → IsTrue (state S.Store conn.old).is_open → IsTidy (state S.Store conn.old).now }
     ensures autocommit { conn.new.in_transaction ≡ false }
-    ensures ok { HasCleanDisk (state S.Store conn.new) → OnOk result (IsAdded (record { class = class; key = key.now; body = body.now; names = names.now } ∷ []) (state S.Store conn.old).now (state S.Store conn.new).now) }
+    ensures ok { HasCleanDisk (state S.Store conn.new) → OnOk result (IsAdded (entry.now ∷ []) (state S.Store conn.old).now (state S.Store conn.new).now) }
     ensures is_open { HasCleanDisk (state S.Store conn.new) → OnOk result (IsTrue (state S.Store conn.new).is_open) }
     ensures was_open { HasCleanDisk (state S.Store conn.new) → OnOk result (IsTrue (state S.Store conn.old).is_open) }
     ensures err { HasCleanDisk (state S.Store conn.new) → IsTrue (state S.Store conn.new).is_open → OnErr result (((state S.Store conn.new).now ≡ (state S.Store conn.old).now) × IsTrue (state S.Store conn.old).is_open) }
-    ensures crash { Survives (state S.Store conn.old) (state S.Store conn.new) (TreesOf (IsAdded (record { class = class; key = key.now; body = body.now; names = names.now } ∷ []) (state S.Store conn.old).now)) }
+    ensures crash { Survives (state S.Store conn.old) (state S.Store conn.new) (TreesOf (IsAdded (entry.now ∷ []) (state S.Store conn.old).now)) }
 {
     let _settled = conn.is_autocommit();
     let mut tx = conn.transaction();
-    add_rows(&mut tx, class, key, body, names)?;
-    tx.commit()
+    let work = add_rows(&mut tx, entry);
+    end(tx, work)
 }
 
 /// Takes out the rows of the object with this class and key, if there is one. After an error the rows are as they were; a
@@ -82,7 +76,6 @@ pub(crate) fn remove_entry<S: Alter>(
 {
     let _settled = conn.is_autocommit();
     let mut tx = conn.transaction();
-    remove_rows(&mut tx, alloc, class, key)?;
-    tx.commit()?;
-    Ok(())
+    let work = remove_rows(&mut tx, alloc, class, key);
+    end(tx, work)
 }

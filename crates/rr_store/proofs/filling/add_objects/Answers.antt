@@ -16,10 +16,10 @@ loop-object-preserved g c =
     let grown : map entry_of (lent (take (at + 1) objects)) ≡ map entry_of (lent (take at objects)) ++ entry_of object.now ∷ [] =
     ap (λ os. map entry_of (lent os)) (take_more objects at object within ∙ ap (λ o. take at objects ++ o ∷ []) (sym c.object-item.is))
     ∙ (ap (map entry_of) (map-append (λ o. o.now) (take at objects) (object ∷ [])) ∙ map-append entry_of (lent (take at objects)) (object.now ∷ [])) in (
-      c.in_ok-add_entry.ensures.same_reference ∙ c.loop-object.invariant.0,
-      subst (HasFilled g.S.Store c.args.tx.now.conn.now c.add_entry.new.tx.conn.now) (sym grown)
-          (filled_more g.S.Store c.args.tx.now.conn.now c.loop-object.tx.conn.now c.add_entry.new.tx.conn.now (map entry_of (lent (take at objects))) (entry_of object.now) c.loop-object.invariant.1
-          (λ clean. rw c.in_ok-entry.ensures at (c.in_ok-add_entry.ensures.ok clean)) c.in_ok-add_entry.ensures.step c.in_ok-add_entry.ensures.kept c.in_ok-add_entry.ensures.survives),
+      c.in_ok-add_rows.ensures.same_reference ∙ c.loop-object.invariant.0,
+      subst (HasFilled g.S.Store c.args.tx.now.conn.now c.add_rows.new.tx.conn.now) (sym grown)
+          (filled_more g.S.Store c.args.tx.now.conn.now c.loop-object.tx.conn.now c.add_rows.new.tx.conn.now (map entry_of (lent (take at objects))) (entry_of object.now) c.loop-object.invariant.1
+          (λ clean. rw c.in_ok-entry.ensures at (c.in_ok-add_rows.ensures.ok clean)) c.in_ok-add_rows.ensures.step c.in_ok-add_rows.ensures.kept c.in_ok-add_rows.ensures.survives),
     )
 
 pub returns-clause-ok : goal.returns-clause-ok

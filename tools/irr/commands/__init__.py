@@ -1,0 +1,25 @@
+"""The one table of the commands of `irr`. Help, completion and the check of the manual pages read it.
+
+A command is a module of this folder, with
+
+    EXAMPLES: str                     what stands under `Examples:` in its help
+    arguments(parser) -> None         adds its words to an `argparse.ArgumentParser`
+    run(options) -> int               does it, and gives the status; anything else that ends it is a `Failure`
+"""
+from typing import NamedTuple
+
+ASK, REGISTER, FILTER, KEEP, ABOUT = GROUPS = ("ask", "register", "filter", "keep", "about")
+
+
+class Command(NamedTuple):
+    """A command: its name on the command line, its group, its module in this folder, and what it does in a few words."""
+    name: str
+    group: str
+    module: str
+    summary: str
+
+
+TABLE = (
+    Command("query", ASK, "query", "ask a registry"),
+)
+BY_NAME = {command.name: command for command in TABLE}

@@ -1,0 +1,112 @@
+"""The command line of `irr`: finds the command in the table, reads its words, and turns what ends it into a line and a status."""
+import argparse
+import importlib
+import os
+import signal
+import sys
+from typing import NoReturn
+
+from irr import VERSION, texts
+from irr.commands import BY_NAME, GROUPS, TABLE, Command
+from irr.errors import ARGUMENTS, DONE, Failure, system_words
+
+
+class Parser(argparse.ArgumentParser):
+    """A parser whose faults are `Failure`s, so that they end as one line like any other."""
+
+    def error(self, message: str) -> NoReturn:
+        raise Failure("", f"{message}; see `{self.prog} --help`", ARGUMENTS)
+
+
+def parser_of(command: Command) -> Parser:
+    """The parser of a command's words, which knows the function that does it."""
+    module = importlib.import_module(f"irr.commands.{command.module}")
+    epilog = "Examples:\n" + "".join(f"  {line}\n" if line else "\n" for line in module.EXAMPLES.strip("\n").split("\n"))
+    parser = Parser(prog=f"irr {command.name}", description=command.summary[0].upper() + command.summary[1:] + ".",
+                    epilog=epilog, formatter_class=argparse.RawDescriptionHelpFormatter, allow_abbrev=False)
+    module.arguments(parser)
+    parser.set_defaults(run=module.run)
+    return parser
+
+
+def overview() -> str:
+    """The help of `irr` itself."""
+    lines = ["usage: irr COMMAND [WORD ..]", "", "What people and other systems want of a registry that irrdesk serves."]
+    width = max(len(command.name) for command in TABLE)
+    for group in GROUPS:
+        of_group = [command for command in TABLE if command.group == group]
+        if of_group:
+            lines += ["", f"{group}:", *(f"  {command.name:{width}}  {command.summary}" for command in of_group)]
+    lines += ["", "irr COMMAND --help    its words, and examples",
+              "IRR_SERVER            the registry's address; http://127.0.0.1:4343 if it is not set", ""]
+    return "\n".join(lines)
+
+
+def find(name: str) -> Command:
+    """The command of a name."""
+    if name in BY_NAME:
+        return BY_NAME[name]
+    import difflib
+    near = difflib.get_close_matches(name, BY_NAME, 1)
+    raise Failure(name, "there is no such command; " + (f"did you mean `irr {near[0]}`?" if near else "see `irr --help`"), ARGUMENTS)
+
+
+def do(words: list[str]) -> int:
+    """Does what the words say, and gives the status."""
+    if not words or words[0] in ("-h", "--help") or words == ["help"]:
+        print(overview(), end="")
+        return DONE if words else ARGUMENTS
+    if words[0] == "--version":
+        print(f"irr {VERSION}")
+        return DONE
+    if words[0] == "help":
+        words = [words[1], "--help"]
+    options = parser_of(find(words[0])).parse_args(words[1:])
+    return options.run(options)
+
+
+def end_by(number: int) -> NoReturn:
+    """Ends the process as the signal would have ended it, now that all is tidied up."""
+    signal.signal(number, signal.SIG_DFL)
+    os.kill(os.getpid(), number)
+    sys.exit(128 + number)
+
+
+def close_output() -> None:
+    """Lets nothing more be written at the end, where nobody reads it or it can't be written."""
+    os.dup2(os.open(os.devnull, os.O_WRONLY), sys.stdout.fileno())
+
+
+def say(failure: Failure, words: list[str]) -> None:
+    """The one line of a failure, on standard error."""
+    name = words[0] if words and words[0] in BY_NAME else ""
+    line = f"irr {name}: {failure}" if name else f"irr: {failure}"
+    print(texts.shown(line), file=sys.stderr)
+
+
+def main(words: list[str] | None = None) -> int:
+    """Runs `irr` with these words, or those of the command line."""
+    words = sys.argv[1:] if words is None else words
+    for number in (signal.SIGTERM, signal.SIGHUP):
+        # A command tidies up before it ends: it may have files that are nobody else's to read.
+        signal.signal(number, lambda number, _: sys.exit(128 + number))
+    try:
+        status = do(words)
+        sys.stdout.flush()
+        return status
+    except Failure as failure:
+        say(failure, words)
+        return failure.status
+    except BrokenPipeError:
+        close_output()
+        end_by(signal.SIGPIPE)
+    except KeyboardInterrupt:
+        end_by(signal.SIGINT)
+    except OSError as error:
+        failure = Failure(texts.shown(error.filename or "standard output"), system_words(error))
+        close_output()
+        say(failure, words)
+        return failure.status
+    except MemoryError:
+        say(Failure("", "out of memory; give the machine more, or take a smaller file"), words)
+        return Failure("", "").status

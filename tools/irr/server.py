@@ -1,0 +1,190 @@
+"""The registry's server over HTTP: `GET /query/..`, `POST /submissions` and `GET /dump`."""
+import argparse
+import http.client
+import os
+from typing import Iterator
+from urllib.parse import quote, urlsplit
+
+from irr import answers, texts
+from irr.errors import ARGUMENTS, Failure, system_words
+
+DEFAULT = "http://127.0.0.1:4343"
+# Seconds until the server takes the connection, and until the next bytes come: others may be served first.
+CONNECTING, WAITING = 10, 150
+LONGEST_QUERY = 1_024
+LOOPBACK = ("localhost", "::1")
+REMEDIES = {
+    400: "the server does not take the request; is it https that it wants?",
+    401: "the server asks for a user and a password; write `machine HOST login USER password PASSWORD` into ~/.netrc",
+    403: "the server does not allow this from here; ask the registry's operator",
+    404: "there is no registry at this address; correct it",
+    405: "there is no registry at this address; correct it",
+    408: "the server waited too long for the request; send it again",
+    413: "the server takes no text of this length; ask the registry's operator",
+    429: "the server was asked too often; ask again later",
+    500: "the proxy in front of the registry has failed; tell its operator",
+    502: "the proxy does not reach the registry; ask again later, or tell its operator",
+    503: "the registry's database has failed, its memory ran out, or its proxy is busy; ask again later, or tell its operator",
+    504: "the proxy gave up waiting for the registry; ask again later",
+}
+
+
+class TooLarge(Failure):
+    """The server takes no submission of this length (413); nothing of it was read."""
+
+
+def add_options(parser: argparse.ArgumentParser) -> None:
+    """The options of each command that asks a server: `options.server` and `options.plain`."""
+    parser.add_argument("-s", "--server", metavar="URL", help=f"the registry's address; else that of IRR_SERVER, else {DEFAULT}")
+    parser.add_argument("--plain", action="store_true", help="allow http to another machine, which encrypts nothing")
+
+
+class Server:
+    """A registry at an address. Each call is a connection of its own; what goes wrong is a Failure in words."""
+
+    def __init__(self, url: str, plain: bool = False) -> None:
+        try:
+            parts = urlsplit(url)
+            self.host, port = parts.hostname or "", parts.port
+        except ValueError:
+            raise Failure(shown_url(url), "this is not an address; write it as https://HOST or http://HOST:PORT", ARGUMENTS) from None
+        if parts.scheme not in ("http", "https") or not self.host or parts.query or parts.fragment:
+            raise Failure(shown_url(url), "this is not an address; write it as https://HOST or http://HOST:PORT", ARGUMENTS)
+        if "@" in parts.netloc:
+            raise Failure(shown_url(url), "a password does not belong into an address; write it into ~/.netrc", ARGUMENTS)
+        self.url, self.scheme = url.rstrip("/"), parts.scheme
+        self.port = port or (443 if self.scheme == "https" else 80)
+        self.path = parts.path.rstrip("/")
+        self.is_private = self.scheme == "https" or self.host in LOOPBACK or self.host.startswith("127.")
+        if not self.is_private and not plain:
+            raise Failure(shown_url(url), "http to another machine is not encrypted; take https, or add --plain", ARGUMENTS)
+
+    @classmethod
+    def from_options(cls, url: str | None, plain: bool = False) -> "Server":
+        """The server of `-s URL`, else of IRR_SERVER, else the default one."""
+        return cls(url or os.environ.get("IRR_SERVER") or DEFAULT, plain)
+
+    def query(self, *words: str | bytes) -> answers.Answer:
+        """The answer to a query, whose words are joined by one space."""
+        text = b" ".join(os.fsencode(word) if isinstance(word, str) else word for word in words)
+        if not text:
+            raise Failure("", "the query is empty; see `irr query --help`", ARGUMENTS)
+        # Of a longer one this much is enough for the registry to say so; all of it would not fit into a head.
+        reply = self.ask("GET", "/query/" + quote(text[:LONGEST_QUERY + 1], safe=""))
+        return answers.Answer(b"".join(self.body_of(reply)), self.url)
+
+    def query_surely(self, *words: str | bytes) -> answers.Answer:
+        """The answer to a query, asked twice: an answer has no end mark, so one that was cut differs from the next one."""
+        first, second = self.query(*words), self.query(*words)
+        if first.text != second.text:
+            raise Failure(self.url, "two answers differ: one was cut off, or the registry has changed; ask again")
+        return second
+
+    def submit(self, text: bytes) -> answers.Report:
+        """The report of a submission that the server takes at once. What came of it before the connection failed is its report too,
+        which is then not whole."""
+        reply, came = self.ask("POST", "/submissions", text), []
+        try:
+            for piece in self.body_of(reply):
+                came.append(piece)
+        except Failure:
+            pass
+        return answers.Report(b"".join(came), self.url)
+
+    def dump(self) -> Iterator[bytes]:
+        """The public dump in pieces; a Failure after the last one if it is not whole."""
+        return answers.whole_dump(self.body_of(self.ask("GET", "/dump")), self.url)
+
+    def ask(self, method: str, path: str, body: bytes | None = None) -> http.client.HTTPResponse:
+        """The reply to a request, once its status is known to be 200."""
+        fields = {"Connection": "close", "User-Agent": "irr"} | self.credentials()
+        try:
+            connection = self.connect()
+            connection.request(method, self.path + path, body, fields)
+            reply = connection.getresponse()
+        except OSError as error:
+            raise Failure(self.url, self.trouble(error)) from None
+        except http.client.HTTPException:
+            raise Failure(self.url, "the server does not speak HTTP; correct the address") from None
+        if reply.status != 200:
+            self.refuse(reply)
+        if reply.headers.get_content_type() != "text/plain":
+            reply.close()
+            raise Failure(self.url, "the server is not a registry of irrdesk; correct the address")
+        return reply
+
+    def connect(self) -> http.client.HTTPConnection:
+        """A connection that stands."""
+        if self.scheme == "https":
+            import ssl
+            connection = http.client.HTTPSConnection(self.host, self.port, timeout=CONNECTING, context=ssl.create_default_context())
+        else:
+            connection = http.client.HTTPConnection(self.host, self.port, timeout=CONNECTING)
+        connection.connect()
+        connection.sock.settimeout(WAITING)
+        return connection
+
+    def credentials(self) -> dict[str, str]:
+        """The field for the user and password that ~/.netrc (or the file of NETRC) has for the host."""
+        path = os.environ.get("NETRC") or os.path.expanduser("~/.netrc")
+        if not os.path.exists(path):
+            return {}
+        import base64
+        import netrc
+        try:
+            # The library looks only at the modes of the file that it finds by itself.
+            found = netrc.netrc(None if path == os.path.expanduser("~/.netrc") else path).authenticators(self.host)
+        except (netrc.NetrcParseError, OSError, UnicodeDecodeError) as error:
+            words = error.msg if isinstance(error, netrc.NetrcParseError) else "it cannot be read"
+            raise Failure(path, f"{words}; correct it, and let nobody else read it (chmod 600)") from None
+        if not found:
+            return {}
+        both = f"{found[0]}:{found[2]}".encode()
+        return {"Authorization": "Basic " + base64.b64encode(both).decode()}
+
+    def body_of(self, reply: http.client.HTTPResponse) -> Iterator[bytes]:
+        """The body of a reply in pieces; a Failure if the connection breaks, or fewer bytes come than were announced."""
+        with reply:
+            try:
+                while piece := reply.read1(1 << 16):
+                    yield piece
+                if reply.length:
+                    raise http.client.IncompleteRead(b"", reply.length)
+            except OSError as error:
+                raise Failure(self.url, self.trouble(error)) from None
+            except http.client.HTTPException:
+                raise Failure(self.url, "the answer was cut off; ask again") from None
+
+    def refuse(self, reply: http.client.HTTPResponse) -> None:
+        """Ends in words for a status other than 200."""
+        status, place = reply.status, reply.headers.get("Location")
+        reply.close()
+        if status in (301, 302, 303, 307, 308) and place:
+            raise Failure(self.url, f"the server is at {texts.shown_line(shown_url(place))}; take that address")
+        words = REMEDIES.get(status, "the server does not take the request; correct the address")
+        kind = TooLarge if status == 413 else Failure
+        raise kind(self.url, f"status {status}: {words}")
+
+    def trouble(self, error: OSError) -> str:
+        """Why a connection failed, and what to do."""
+        if isinstance(error, ConnectionRefusedError):
+            return "no server listens there; start `irrdesk serve`, or give another address by -s URL or IRR_SERVER"
+        if isinstance(error, TimeoutError):
+            return "the server does not answer; ask again later, or give another address by -s URL or IRR_SERVER"
+        if isinstance(error, (ConnectionResetError, BrokenPipeError)):
+            return "the connection was cut off; ask again"
+        name = type(error).__name__
+        if name == "SSLCertVerificationError":
+            return f"its certificate is not good ({error.verify_message}); correct the address, or ask its operator"  # type: ignore
+        if name.startswith("SSL"):
+            return "the server does not speak TLS; correct the address"
+        if name == "gaierror":
+            return "the host is not known; correct the address"
+        return f"{system_words(error)}; correct the address, or try again later"
+
+
+def shown_url(url: str) -> str:
+    """An address without a user and password in it."""
+    scheme, mark, rest = url.partition("://")
+    place, slash, path = (rest if mark else url).partition("/")
+    return (scheme + mark if mark else "") + place.rpartition("@")[2] + slash + path.partition("?")[0]

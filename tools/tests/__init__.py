@@ -1,0 +1,1 @@
+"""Unit tests of the tool: `PYTHONPATH=tools python3 -m unittest discover -s tools/tests -t tools`."""

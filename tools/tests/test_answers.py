@@ -1,0 +1,65 @@
+"""Answers, reports and dumps as they are read."""
+import json
+import unittest
+
+from irr import answers, rpsl
+from irr.answers import Answer, Report
+from irr.errors import Failure
+
+OBJECT = b"aut-num:        AS1\nmnt-by:         A-MNT\nsource:         TEST\n\n"
+
+
+class Answers(unittest.TestCase):
+    def test_kinds(self):
+        self.assertEqual(len(Answer(OBJECT * 2).objects()), 2)
+        self.assertTrue(Answer(b"% no entries\n").has_none)
+        self.assertTrue(Answer(b"% empty\n").is_empty)
+        self.assertEqual(Answer(b"% error 3\n").error, 3)
+        expansion = Answer(b"AS1\n10.0.0.0/8^9-24\n10.0.0.0/8^-\n% missing AS1:AS-X\n")
+        self.assertEqual((expansion.lines(), expansion.missing()), (["AS1", "10.0.0.0/8^9-24", "10.0.0.0/8^-"], ["AS1:AS-X"]))
+
+    def test_cut_or_strange(self):
+        for text in [b"", OBJECT[:-1], OBJECT[:-2], b"AS1\nAS", b"% no entr", b"10.0.0.0/8", b"<html>", b"<html>\n", b"% hello\n",
+                     b"% missing \x1b[31m\n"]:
+            self.assertRaises(Failure, Answer, text)
+
+    def test_json(self):
+        line = answers.json_text(rpsl.read(b"route: 10.0.0.0/8\norigin: AS1\ndescr: \xe9\n+\n+ x\ndescr: y"))
+        self.assertEqual(json.loads(line), {"class": "route", "key": "10.0.0.0/8 AS1", "attributes": [
+            ["route", "10.0.0.0/8"], ["origin", "AS1"], ["descr", "\xe9\n\nx"], ["descr", "y"]]})
+
+
+class Reports(unittest.TestCase):
+    def test_whole(self):
+        text = b"1 aut-num AS1: added\n2 -: refused E03\n3 as-set AS1:AS-X: unchanged\n% items 3\n"
+        report = Report(text)
+        self.assertEqual("".join(item.text() + "\n" for item in report.items) + "% items 3\n", text.decode())
+        self.assertEqual((report.end, report.count, report.refused, report.is_whole), ("items", 3, 1, True))
+
+    def test_not_whole(self):
+        for text, end, count in [(b"1 aut-num AS1: added\n", "", 0), (b"% read fault after 2 items\n", "read fault", 2),
+                                 (b"1 -: refused E91\n% stopped after 0 items\n", "stopped", 0), (b"% items 1\n", "items", 1),
+                                 (b"% memory after 0 items\n", "memory", 0), (b"", "", 0), (b"% items 1", "", 0)]:
+            report = Report(text)
+            self.assertEqual((report.end, report.count, report.is_whole), (end, count, False), text)
+
+    def test_strange(self):
+        for text in [b"<html>\n", b"% items 0\n% items 0\n", b"1 aut-num AS1: \x1b\n"]:
+            self.assertRaises(Failure, Report, text)
+
+
+class Dumps(unittest.TestCase):
+    def test_whole(self):
+        text = OBJECT * 3 + b"% end 3\n"
+        for size in (1, 5, 1_000):
+            pieces = [text[place:place + size] for place in range(0, len(text), size)]
+            self.assertEqual(b"".join(answers.whole_dump(pieces, "x")), text)
+        self.assertEqual(list(answers.whole_dump([b"% end 0\n"], "x")), [b"% end 0\n"])
+
+    def test_cut(self):
+        for text in [b"", OBJECT, OBJECT + b"% end 2\n", OBJECT + b"% end 1", OBJECT[:-1] + b"% end 1\n", b"<html>............\n"]:
+            self.assertRaises(Failure, list, answers.whole_dump([text], "x"))
+
+
+if __name__ == "__main__":
+    unittest.main()

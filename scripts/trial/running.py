@@ -46,7 +46,7 @@ class Script:
 
     def __init__(self, about, in_memory=False):
         words = argparse.ArgumentParser(description=about)
-        words.add_argument("program", nargs="?", default=os.path.join(TOP, "irrdesk"))
+        words.add_argument("program", nargs="?", help="that of ./irrdesk where none is given")
         words.add_argument("--long", action="store_true", help="the long form, whose figures stand in docs/ATTACK.md")
         words.add_argument("--seed", type=int, default=1)
         words.add_argument("--only", default="", help="those cases alone whose names begin so")
@@ -55,7 +55,7 @@ class Script:
         read = words.parse_args()
         self.long, self.seed, self.only, self.count, self.failed = read.long, read.seed, read.only, read.count, 0
         self.lanes = read.lanes or self.pick(2, 1)
-        self.program = built(os.path.abspath(read.program))
+        self.program = os.path.abspath(read.program or found())
         self.folder = tempfile.TemporaryDirectory(prefix="irrdesk-", dir=memory_folder() if in_memory else None)
         self.work = self.folder.name
         os.chmod(self.work, 0o755)
@@ -107,13 +107,12 @@ def memory_folder():
     return folder if found.f_bavail * found.f_frsize >= MEMORY_ROOM else None
 
 
-def built(program):
-    """The program itself, where a script is named that builds it first."""
-    with open(program, "rb") as start:
-        if start.read(2) != b"#!":
-            return program
-    subprocess.run([program, "--version"], stdout=subprocess.DEVNULL, check=True)
-    return os.path.join(os.path.dirname(program), "crates", "rr_cli", "out", "rr_cli")
+def found():
+    """The path of the program that ./irrdesk runs."""
+    made = subprocess.run([os.path.join(TOP, "scripts", "program")], stdout=subprocess.PIPE, text=True, check=False)
+    if made.returncode:
+        sys.exit(made.returncode)
+    return made.stdout.strip()
 
 
 def limited(most_bytes=None, most_files=None, stack=None, user=None, closed=()):

@@ -41,6 +41,11 @@ class Attribute(NamedTuple):
             first = first.ljust(15) + b" " + self.lines[0]
         return b"".join(line + b"\n" for line in [first, *(b" " * 16 + line if line else b"+" for line in self.lines[1:])])
 
+    def short_text(self) -> bytes:
+        """Its lines with as few blanks as can be: what was read once never grows by it."""
+        lines = [self.name + b":" + self.lines[0], *(b" " + line if line else b"+" for line in self.lines[1:])]
+        return b"".join(line + b"\n" for line in lines)
+
 
 class Block(NamedTuple):
     """The lines of one paragraph as they came: the number of the first one in the text, their size in bytes, and the lines with their
@@ -89,6 +94,11 @@ def read(text: bytes) -> Paragraph:
     """The paragraph that a block's lines are; raises TextFault with E07 or E01."""
     if len(text) > LARGEST:
         raise TextFault("E07", f"it is over {LARGEST:,} bytes")
+    return read_any(text)
+
+
+def read_any(text: bytes) -> Paragraph:
+    """The same of a block of any size, as answers and dumps have them: canonical text may be longer than what was submitted."""
     attributes: list[Attribute] = []
     for line in text.removesuffix(b"\n").split(b"\n"):
         if line[:1] in (b"#", b"%"):
@@ -160,6 +170,6 @@ def block_of(text: bytes, line: int, lost: int, most: int | None) -> Iterator[Bl
 
 
 def paragraphs(source: Iterable[bytes]) -> Iterator[Paragraph]:
-    """The paragraphs of a text that has no faults, as a dump: the first fault ends it."""
+    """The paragraphs of a dump or an answer, which has no faults and may have paragraphs of any size."""
     for block in blocks(source):
-        yield read(block.text)
+        yield read_any(block.text)

@@ -1,6 +1,7 @@
 """A registry of its own, in a temporary folder that nobody else can read, run by the installed `irrdesk`."""
 import contextlib
 import os
+import re
 import shutil
 import socket
 import subprocess
@@ -8,13 +9,16 @@ import sys
 import tempfile
 import time
 from pathlib import Path
-from typing import Iterator
+from typing import Iterable, Iterator, Mapping
 
+from irr import keys, rpsl
 from irr.errors import Failure
 
 # The digest of no password that anybody knows: the root of a scratch registry is that of the dump that is loaded.
 AUTH = "SHA256-PW x:" + "0" * 64
 SETTINGS = 'source = "{source}"\nroot = "{root}"\nauth = "{auth}"\nlimit = {limit}\nstore = "irr.db"\n'
+# What a public dump shows of an `auth`, and one that lets nobody in.
+HIDDEN, NOBODY = re.compile(rb"^auth:           # filtered$", re.M), b"auth:           FILTERED"
 OPENING = 600
 MOST_CONNECTIONS = 1_000_000
 
@@ -58,10 +62,8 @@ class Scratch:
             raise Failure(str(dump), f"it is not loaded: {said(done)}")
 
     def submit(self, text: bytes) -> bytes:
-        """The report of a submission."""
-        path = self.folder / "submission.rpsl"
-        path.write_bytes(text)
-        done = self.run("submit", str(path))
+        """The report of a submission. Its text, which has passwords, is on no disk."""
+        done = self.run("submit", "/dev/stdin", stdin=text)
         if done.returncode > 1:
             raise Failure("the scratch registry", said(done))
         return done.stdout
@@ -92,6 +94,29 @@ class Scratch:
         finally:
             process.kill()
             process.communicate()
+
+
+def loadable(pieces: Iterable[bytes], auths: Mapping[str, list[bytes]] | None = None) -> Iterator[bytes]:
+    """A dump that `irrdesk load` takes, made of a public one in pieces. The registry of it answers each query as the one that was
+    dumped does. The maintainers of `auths` have these values of `auth`; the others have one that lets nobody in."""
+    for block in rpsl.blocks(pieces):
+        text = with_auths(block.text, auths or {}) if b"auth:" in block.text else block.text
+        yield (text if len(text) <= rpsl.LARGEST else short_text(text)) + b"\n"
+
+
+def with_auths(text: bytes, auths: Mapping[str, list[bytes]]) -> bytes:
+    """A public object with an `auth` for each one that is hidden."""
+    if auths and text.startswith(b"mntner:"):
+        values = auths.get(keys.read_maintainer(rpsl.read_any(text).value(b"mntner")) or "")
+        if values:
+            lines = b"\n".join(b"auth:           " + value for value in values)
+            text = HIDDEN.sub(lambda _: lines, text, 1)
+    return HIDDEN.sub(NOBODY, text)
+
+
+def short_text(text: bytes) -> bytes:
+    """An object in as few bytes as can be. It came to the registry in one paragraph, so it fits into one again."""
+    return b"".join(attribute.short_text() for attribute in rpsl.read_any(text.replace(NOBODY, b"auth:x")).attributes)
 
 
 def own_files() -> None:

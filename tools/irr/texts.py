@@ -49,8 +49,8 @@ def has_colours(stream: IO[str] | None = None) -> bool:
 
 
 def painted(text: str, colour: str, stream: IO[str] | None = None) -> str:
-    """The text in a colour, on a stream that gets colours; `colour` is one of the constants above."""
-    return f"\x1b[{colour}m{text}\x1b[0m" if has_colours(stream) else text
+    """The text in a colour, on a stream that gets colours; `colour` is one of the constants above, or nothing."""
+    return f"\x1b[{colour}m{text}\x1b[0m" if colour and has_colours(stream) else text
 
 
 def put(data: bytes) -> None:
@@ -60,6 +60,19 @@ def put(data: bytes) -> None:
     else:
         sys.stdout.flush()
         sys.stdout.buffer.write(data)
+
+
+def put_all(pieces: Iterable[bytes]) -> None:
+    """Writes pieces of a text to standard output as they come; on a terminal line by line."""
+    if not is_terminal(sys.stdout):
+        for piece in pieces:
+            put(piece)
+        return
+    rest = b""
+    for piece in pieces:
+        lines, end, rest = (rest + piece).rpartition(b"\n")
+        put(lines + end)
+    put(rest)
 
 
 def note(words: str) -> None:
@@ -78,3 +91,10 @@ def columns(rows: Iterable[Iterable[str]], gap: int = 2) -> list[str]:
 def counted(number: int, thing: str, things: str = "") -> str:
     """`1 object`, `2 objects`."""
     return f"{number:,} {thing}" if number == 1 else f"{number:,} {things or thing + 's'}"
+
+
+def wrapped(words: str, indent: str = "    ") -> list[str]:
+    """Words on lines of at most 100 characters."""
+    import textwrap
+    return textwrap.wrap(shown_line(words), 100, initial_indent=indent, subsequent_indent=indent, break_long_words=False,
+                         break_on_hyphens=False)

@@ -21,5 +21,8 @@ class Command(NamedTuple):
 
 TABLE = (
     Command("query", ASK, "query", "ask a registry"),
+    Command("dump", ASK, "dump", "print the public dump"),
+    Command("submit", REGISTER, "submit", "send a submission, or look what would be answered"),
+    Command("explain", REGISTER, "explain", "say what a code of a report means, and what to do"),
 )
 BY_NAME = {command.name: command for command in TABLE}

@@ -1,0 +1,30 @@
+"""`irr dump`: the public dump."""
+import argparse
+
+from irr import answers, files, rpsl, server, texts
+from irr.errors import DONE
+
+EXAMPLES = """
+irr dump -o registry.rpsl            the dump as a file, whole or not at all
+irr dump | tail -n 1                 how many objects there are
+irr dump --json | jq -r .key         the keys of all objects
+"""
+
+
+def arguments(parser: argparse.ArgumentParser) -> None:
+    server.add_options(parser)
+    form = parser.add_mutually_exclusive_group()
+    form.add_argument("--json", action="store_true", help="print each object as a line of JSON")
+    form.add_argument("--raw", action="store_true", help="print what comes, which is what is printed anyway")
+    parser.add_argument("-o", "--output", metavar="FILE", help="put the dump into a file, in one step once it is whole")
+
+
+def run(options: argparse.Namespace) -> int:
+    pieces = server.Server.from_options(options.server, options.plain).dump()
+    if options.json:
+        pieces = (answers.json_text(paragraph).encode() + b"\n" for paragraph in rpsl.paragraphs(pieces))
+    if options.output:
+        files.put(options.output, pieces)
+    else:
+        texts.put_all(pieces)
+    return DONE

@@ -1,0 +1,106 @@
+"""`irr submit FILE..`: sends a submission, and says why items were refused; `--dry-run` only looks what would be answered."""
+import argparse
+from itertools import chain
+from typing import Iterable
+
+from irr import asking, codes, server, submissions, texts
+from irr.errors import ARGUMENTS, DONE, FAILED, REFUSED, Failure
+from irr.reasons import Reasons
+from irr.submissions import Item, Reported, Sender, Source
+
+# So many refusals are looked into by queries of their own.
+MOST_ASKED = 100
+COLOURS = {"unchanged": "", "added": texts.GREEN, "changed": texts.YELLOW, "deleted": texts.YELLOW, "refused": texts.RED}
+EXAMPLES = """
+irr submit network.rpsl                          send a file
+irr submit --as EXAMPLE-MNT network.rpsl         the same, asked for the password
+irr submit my.password network.rpsl              the same, with the password from a file of its own
+irr submit --dry-run --as EXAMPLE-MNT network.rpsl
+                                                 what would be answered; nothing is changed
+irr delegate .. | irr submit --as ROOT-MNT -     from another command
+"""
+
+
+def arguments(parser: argparse.ArgumentParser) -> None:
+    server.add_options(parser)
+    parser.add_argument("--as", dest="names", action="append", default=[], metavar="MNT",
+                        help="ask for the password of this maintainer, which need not be in a file; may be given several times")
+    parser.add_argument("-n", "--dry-run", action="store_true",
+                        help="print what would be answered, from a copy of the registry; no password leaves this machine")
+    parser.add_argument("--whose", action="append", default=[], metavar="MNT[,MNT]",
+                        help="with --dry-run: whose the first `password:` of the files is; given again, the next one; `-` for nobody's; "
+                        "without it, that of each `mnt-by` in the files")
+    parser.add_argument("--raw", action="store_true", help="print the report alone, without words about refusals")
+    parser.add_argument("files", nargs="+", metavar="FILE", help="RPSL text, `-` for standard input; several are one submission")
+
+
+def run(options: argparse.Namespace) -> int:
+    place = server.Server.from_options(options.server, options.plain)
+    sources = [Source(path) for path in options.files]
+    if len([path for path in options.files if path == "-"]) > 1:
+        raise Failure("-", "standard input can be read once; give it once", ARGUMENTS)
+    if options.dry_run:
+        from irr import dryrun
+        return dryrun.run(place, sources, options.names, options.whose, lambda registry: Printer(registry, options.raw))
+    if options.whose:
+        raise Failure("--whose", "it goes with --dry-run; add that, or leave it out", ARGUMENTS)
+    front = [submissions.password_item(asking.ask(f"password of {name}: "), name) for name in options.names]
+    return send(Sender(place.submit), chain(front, *(source.items() for source in sources)), Printer(place, options.raw))
+
+
+class Printer:
+    """Prints a report item by item, and why what is refused was refused."""
+
+    def __init__(self, registry, raw: bool) -> None:
+        self.reasons, self.raw = Reasons(registry), raw
+        self.refused = 0
+
+    def show(self, reported: Reported, word: str = "") -> None:
+        """Prints what the report says of an item, or another word in place of that."""
+        front, mark, end = reported.line.text().rpartition(": ")
+        print(front + mark + texts.painted(word or end, COLOURS.get(reported.line.word, "")), flush=True)
+        if reported.line.word == "refused":
+            self.refused += 1
+            if not self.raw:
+                self.explain(reported)
+
+    def explain(self, reported: Reported) -> None:
+        code = codes.BY_CODE.get(reported.line.code)
+        if code is None:
+            return
+        sentences = [code.sentence]
+        if self.refused <= MOST_ASKED:
+            sentences += self.reasons.of(reported.item, code.code, reported.has_password)
+        for sentence in [*sentences, code.remedy]:
+            print(*texts.wrapped(sentence), sep="\n")
+
+    def end(self, sender: Sender) -> int:
+        """The last line and the status; a Failure where the report is not whole."""
+        if sender.last_line():
+            print(sender.last_line(), flush=True)
+        if sender.end == "items":
+            if not self.raw and self.refused > MOST_ASKED:
+                texts.note(f"irr submit: what decided was asked for the first {MOST_ASKED} refusals alone")
+            return REFUSED if self.refused else DONE
+        raise Failure("the report", END_WORDS.get(sender.end.partition(" (")[0], CUT), FAILED)
+
+
+CUT = "it was cut off, so what came of later items is not known; send the whole text again: what stands is `unchanged`"
+END_WORDS = {
+    "read fault": "the text did not arrive whole; send what comes after the last item again, with the passwords before it",
+    "stopped": "the registry's database failed; tell its operator, and send the last item and the rest again later",
+    "memory": "the server ran out of memory, and nothing was done; send it again later",
+}
+
+
+def send(sender: Sender, items: Iterable[Item], printer: Printer) -> int:
+    """Sends a submission and prints its report."""
+    try:
+        for reported in sender.send(items):
+            printer.show(reported)
+    except Failure as failure:
+        if sender.count:
+            raise Failure(failure.thing, f"{failure.what}; {sender.count} items were decided, and later ones may be: "
+                          "send the whole text again, what stands is `unchanged`", failure.status) from None
+        raise
+    return printer.end(sender)

@@ -1,0 +1,131 @@
+"""What a submission would be answered: tried on a registry of its own, made of the public dump, with nothing sent.
+
+Registries with the same public forms in which the same passwords fit judge alike. So the maintainers whose passwords are given get a
+hash of these that is made here, and the others one that lets nobody in. What a public dump does not show is told: whether a password is
+the registered one, and whether an object with `auth` lines would be `changed` or `unchanged`.
+"""
+import contextlib
+from itertools import chain
+from typing import Iterable, Iterator
+
+from irr import answers, asking, files, hashes, holders, keys, rpsl, submissions, texts
+from irr.errors import ARGUMENTS, Failure
+from irr.keys import Key
+from irr.rpsl import Attribute, Paragraph
+from irr.scratch import Scratch, loadable
+from irr.server import Server
+from irr.submissions import Item, Reported, Sender, Source
+
+UNKNOWN = "changed or unchanged"
+HIDDEN_LINES = [b"# filtered"]
+
+
+def run(place: Server, sources: list[Source], names: list[str], whose: list[str], printer_of) -> int:
+    """Does it, with a printer for the registry that is asked about refusals, and gives the status."""
+    asked = [(name, submissions.password_item(asking.ask(f"password of {name}: "), name)) for name in names]
+    items = [item for source in sources for item in source.items()]
+    passwords = owners(asked, items, whose)
+    blocks = rpsl.blocks(place.dump())
+    first = next(blocks, None)
+    if first is None:
+        raise Failure(place.url, "the registry has no objects; nothing can be tried on it")
+    source = rpsl.read_any(first.text).value(b"source").decode("latin-1")
+    hidden: dict[Key, bytes] = {}
+    pieces = (block.text + b"\n" for block in noted(chain([first], blocks), hidden))
+    auths = {name: [hashes.auth_of(secret, hashes.new_salt()).encode() for secret in held] for name, held in passwords.items()}
+    with contextlib.ExitStack() as stack:
+        scratch = stack.enter_context(Scratch(source))
+        dump = scratch.folder / "dump.rpsl"
+        files.put(dump, loadable(pieces, auths), files.PRIVATE)
+        scratch.load(dump)
+        printer = printer_of(Served(scratch, stack))
+        size = sum(len(item.text()) + 1 for item in items) + rpsl.LARGEST * (len(asked) + 1)
+        sender = Sender(lambda text: answers.Report(scratch.submit(text)), size, size)
+        unknown = show(sender, [*(item for _, item in asked), *items], hidden, printer)
+        status = printer.end(sender)
+    tell(passwords, unknown)
+    return status
+
+
+def owners(asked: list[tuple[str, Item]], items: list[Item], whose: list[str]) -> dict[str, list[bytes]]:
+    """The passwords that are taken as those of each maintainer."""
+    found: dict[str, list[bytes]] = {}
+    for name, item in asked:
+        found.setdefault(name.upper(), []).extend(map(submissions.secret_of, item.passwords()))
+    given = list(dict.fromkeys(submissions.secret_of(attribute) for item in items for attribute in item.passwords()))
+    if len(whose) > len(given):
+        raise Failure("--whose", f"it is given {len(whose)} times, and the files have {texts.counted(len(given), 'password')}", ARGUMENTS)
+    everybody = [name for item in items if (held := item.object()) for name in holders.by(held) if keys.read_maintainer(name)]
+    everybody = [name for name in dict.fromkeys(everybody) if name not in found]
+    for number, secret in enumerate(given):
+        chosen = [name.upper() for name in whose[number].split(",")] if number < len(whose) else everybody
+        for name in chosen:
+            if name != "-":
+                found.setdefault(name, []).append(secret)
+    return found
+
+
+def noted(blocks: Iterable[rpsl.Block], hidden: dict[Key, bytes]) -> Iterator[rpsl.Block]:
+    """The blocks of a public dump, of which those with an `auth` are kept by their keys."""
+    for block in blocks:
+        if b"auth:" in block.text:
+            key = keys.key_of(rpsl.read_any(block.text))
+            if key:
+                hidden[key] = block.text
+        yield block
+
+
+def show(sender: Sender, items: list[Item], hidden: dict[Key, bytes], printer) -> bool:
+    """Prints the report. Whether there was an item of which it is not known if it would change anything."""
+    found = False
+    for reported in sender.send(items):
+        key = reported.line.key
+        is_unknown = is_hidden(reported, hidden)
+        printer.show(reported, UNKNOWN if is_unknown else "")
+        found = found or is_unknown
+        if key and reported.line.word != "refused":
+            # From here on all of the object is known: it is what the item says.
+            hidden.pop(key, None)
+    return found
+
+
+def is_hidden(reported: Reported, hidden: dict[Key, bytes]) -> bool:
+    """Whether an item differs from what is registered in `auth` lines alone, if at all."""
+    held, key = reported.item.object(), reported.line.key
+    if not held or not key or reported.line.word not in ("changed", "unchanged") or key not in hidden:
+        return False
+    return public(held).text() == hidden[key]
+
+
+def public(paragraph: Paragraph) -> Paragraph:
+    """An object as answers show it."""
+    return Paragraph([Attribute(name, HIDDEN_LINES) if name == b"auth" else Attribute(name, lines)
+                      for name, lines in paragraph.attributes])
+
+
+class Served:
+    """The scratch registry as reasons ask it, served once something is asked."""
+
+    def __init__(self, scratch: Scratch, stack: contextlib.ExitStack) -> None:
+        self.scratch, self.stack = scratch, stack
+        self.server: Server | None = None
+
+    def served(self) -> Server:
+        if self.server is None:
+            self.server = Server(self.stack.enter_context(self.scratch.serve()))
+        return self.server
+
+    def query(self, *words: str) -> answers.Answer:
+        return self.served().query(*words)
+
+    def dump(self) -> Iterator[bytes]:
+        return self.served().dump()
+
+
+def tell(passwords: dict[str, list[bytes]], unknown: bool) -> None:
+    """What a dry run can't know."""
+    texts.note("irr submit: dry run: nothing was sent or changed")
+    if passwords:
+        texts.note(f"irr submit: dry run: the passwords are taken as those of {', '.join(passwords)}; whether they are is not known")
+    if unknown:
+        texts.note(f"irr submit: dry run: `{UNKNOWN}`: the registered `auth` lines of an object are hidden")

@@ -22,7 +22,13 @@ class Command(NamedTuple):
 TABLE = (
     Command("query", ASK, "query", "ask a registry"),
     Command("dump", ASK, "dump", "print the public dump"),
+    Command("tree", ASK, "tree", "show who holds what below a prefix"),
+    Command("held", ASK, "held", "say whether anybody else can touch a prefix, and mend that"),
     Command("submit", REGISTER, "submit", "send a submission, or look what would be answered"),
+    Command("diff", REGISTER, "diff", "compare a submission with what is registered"),
+    Command("auth", REGISTER, "auth", "make a password and its auth line"),
+    Command("delegate", REGISTER, "delegate", "write the text that hands space and AS numbers over"),
     Command("explain", REGISTER, "explain", "say what a code of a report means, and what to do"),
+    Command("completion", ABOUT, "completion", "print what a shell needs to complete the words of irr"),
 )
 BY_NAME = {command.name: command for command in TABLE}

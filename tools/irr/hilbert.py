@@ -1,0 +1,126 @@
+"""A map of address space as a picture: a Hilbert curve, on which addresses near one another lie near one another and each prefix is a
+square, or two of them."""
+import colorsys
+from collections import Counter
+from html import escape
+
+from irr import texts
+from irr.commands.tree import Holding, as_prefixes
+from irr.keys import Prefix
+
+SIDE, MARGIN, LEGEND, LINE = 1024, 40, 320, 22
+# So many maintainers have a colour of their own; the others are grey.
+MOST_COLOURS = 24
+SMALLEST_LABEL = 56
+GREY, GROUND, INK = "#b8b8b8", "#ffffff", "#1a1a1a"
+
+
+def picture(top: Prefix, found: list[Holding]) -> str:
+    """The map of a prefix, as SVG: each inetnum in the colour of its first maintainer, with routes as lines round them."""
+    holdings = [one for one in found if one.kind == "inetnum"]
+    routes = [one for one in found if one.kind == "route"]
+    colours = palette(holdings + routes)
+    shapes = [shape for one in holdings for shape in drawn(one, top, colours, False)]
+    shapes += [shape for one in routes for shape in drawn(one, top, colours, True)]
+    labels = [label for one in holdings for label in labelled(one, top)]
+    legend = legend_of(colours, holdings + routes)
+    height = max(SIDE + 2 * MARGIN, MARGIN + LINE * (len(colours) + 6))
+    width = SIDE + LEGEND + 3 * MARGIN
+    return "\n".join([
+        f'<svg xmlns="http://www.w3.org/2000/svg" viewBox="0 0 {width} {height}" width="{width}" height="{height}" '
+        'font-family="sans-serif" font-size="14">',
+        f"<title>Who holds what below {top.text()}</title>",
+        f'<rect width="{width}" height="{height}" fill="{GROUND}"/>',
+        f'<text x="{MARGIN}" y="{MARGIN - 14}" font-size="18" fill="{INK}">{top.text()}</text>',
+        f'<g transform="translate({MARGIN} {MARGIN})">',
+        f'<rect width="{SIDE}" height="{SIDE}" fill="#f2f2f2" stroke="{INK}"/>', *shapes, *labels, "</g>", *legend, "</svg>", ""])
+
+
+def palette(found: list[Holding]) -> dict[str, str]:
+    """A colour for each of the maintainers with the most addresses, as far apart as can be."""
+    sizes: Counter[str] = Counter()
+    for one in found:
+        sizes[one.names[0] if one.names else "-"] += one.span.size
+    names = [name for name, _ in sizes.most_common(MOST_COLOURS)]
+    colours = {}
+    for number, name in enumerate(names):
+        # Steps of the golden angle keep neighbours in the list apart; three shades keep hues that meet apart.
+        red, green, blue = colorsys.hls_to_rgb(number * 0.381966 % 1, (0.72, 0.58, 0.82)[number % 3], 0.62)
+        colours[name] = f"#{round(red * 255):02x}{round(green * 255):02x}{round(blue * 255):02x}"
+    return colours
+
+
+def box(prefix: Prefix, top: Prefix) -> tuple[float, float, float, float]:
+    """Where a prefix lies on the map: x, y, width and height."""
+    depth = prefix.length - top.length
+    order = (depth + 1) // 2
+    cells = 1 << order
+    step = SIDE / cells
+    place = (prefix.first - top.first) >> 32 - top.length - 2 * order if 32 - top.length >= 2 * order else \
+        (prefix.first - top.first) << 2 * order - 32 + top.length
+    corners = [point(order, place)]
+    if depth % 2:
+        corners.append(point(order, place + 1))
+    left, upper = min(x for x, _ in corners), min(y for _, y in corners)
+    right, lower = max(x for x, _ in corners) + 1, max(y for _, y in corners) + 1
+    return left * step, upper * step, (right - left) * step, (lower - upper) * step
+
+
+def point(order: int, place: int) -> tuple[int, int]:
+    """The cell of the n-th step of a Hilbert curve on 2^order cells a side."""
+    x = y = 0
+    for level in range(order):
+        pair = place >> 2 * level
+        right, lower = 1 & pair >> 1, 1 & (pair ^ pair >> 1)
+        if not lower:
+            if right:
+                x, y = (1 << level) - 1 - x, (1 << level) - 1 - y
+            x, y = y, x
+        x, y = x + (right << level), y + (lower << level)
+    return x, y
+
+
+def drawn(one: Holding, top: Prefix, colours: dict[str, str], is_line: bool) -> list[str]:
+    """The rectangles of a holding, each with its words for whoever points at it."""
+    colour = colours.get(one.names[0] if one.names else "-", GREY)
+    words = escape(texts.shown_line(f"{one.kind} {one.text}: {', '.join(one.names)}"))
+    found = []
+    for prefix in as_prefixes(one.span, top):
+        x, y, width, height = box(prefix, top)
+        inset = min(3.0, width / 6) if is_line else 0
+        paint = f'fill="none" stroke="{INK}" stroke-width="{min(1.5, width / 8):.2f}" stroke-dasharray="4 3"' if is_line else \
+            f'fill="{colour}" stroke="{INK}" stroke-width="{min(0.8, width / 10):.2f}"'
+        found.append(f'<rect x="{x + inset:.2f}" y="{y + inset:.2f}" width="{width - 2 * inset:.2f}" '
+                     f'height="{height - 2 * inset:.2f}" {paint}><title>{words}</title></rect>')
+    return found
+
+
+def labelled(one: Holding, top: Prefix) -> list[str]:
+    """The name of a holding on its largest rectangle, if that has room."""
+    prefixes = as_prefixes(one.span, top)
+    if not prefixes:
+        return []
+    x, y, width, height = box(min(prefixes, key=lambda prefix: prefix.length), top)
+    if min(width, height) < SMALLEST_LABEL / 2 or width < SMALLEST_LABEL:
+        return []
+    size = max(8, min(13, width / 12))
+    room = max(int(width / (size * 0.62)), 3)
+    lines = [one.text, one.names[0] if one.names else "-"][:2 if height > 3 * size else 1]
+    return [f'<text x="{x + 6:.1f}" y="{y + 6 + size * (number + 1):.1f}" font-size="{size:.1f}" fill="{INK}" pointer-events="none">'
+            f"{escape(texts.shown_line(line if len(line) <= room else line[:room - 1] + '~'))}</text>"
+            for number, line in enumerate(lines)]
+
+
+def legend_of(colours: dict[str, str], found: list[Holding]) -> list[str]:
+    """The colours with their maintainers, and what the lines are."""
+    left, lines = SIDE + 2 * MARGIN, []
+    others = {one.names[0] for one in found if one.names} - set(colours)
+    rows = [(colour, name) for name, colour in colours.items()] + ([(GREY, f"{len(others)} others")] if others else [])
+    for number, (colour, name) in enumerate(rows):
+        y = MARGIN + LINE * number
+        lines.append(f'<rect x="{left}" y="{y}" width="16" height="16" fill="{colour}" stroke="{INK}" stroke-width="0.8"/>'
+                     f'<text x="{left + 26}" y="{y + 13}" fill="{INK}">{escape(texts.shown_line(name))}</text>')
+    y = MARGIN + LINE * (len(rows) + 1)
+    lines.append(f'<rect x="{left}" y="{y}" width="16" height="16" fill="none" stroke="{INK}" stroke-dasharray="4 3"/>'
+                 f'<text x="{left + 26}" y="{y + 13}" fill="{INK}">a route</text>')
+    return lines

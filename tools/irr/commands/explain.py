@@ -20,5 +20,6 @@ def run(options: argparse.Namespace) -> int:
         if code is None:
             raise Failure(name, "there is no such code; they are E01 to E07, E10 to E18, E90 and E91", ARGUMENTS)
         print("\n" * (number > 0) + texts.painted(code.code, texts.BOLD))
-        print(*texts.wrapped(code.sentence), *texts.wrapped(code.remedy), sep="\n")
+        for words in code.sentence, code.causes, code.remedy:
+            print(*texts.wrapped(words), sep="\n")
     return DONE

@@ -148,7 +148,7 @@ def whole_dump(pieces: Iterable[bytes], place: str) -> Iterator[bytes]:
     """A dump in pieces, as it comes; a Failure after the last one unless it ends with the number of its objects."""
     tail, objects, first = b"", 0, True
     for piece in pieces:
-        if first and not (looks_like_objects(piece) or piece.startswith(b"%") or len(piece) < 16):
+        if first and (b"\n" in piece or len(piece) > 16) and not (looks_like_objects(piece) or piece.startswith(b"% end")):
             raise Failure(place, "it answers what no registry of irrdesk answers; correct the address")
         first = False
         # Each object is followed by an empty line, and has none in it.

@@ -3,6 +3,7 @@ square, or two of them."""
 import colorsys
 from collections import Counter
 from html import escape
+from typing import Iterator
 
 from irr import texts
 from irr.commands.tree import Holding, as_prefixes
@@ -11,7 +12,8 @@ from irr.keys import Prefix
 SIDE, MARGIN, LEGEND, LINE = 1024, 40, 320, 22
 # So many maintainers have a colour of their own; the others are grey.
 MOST_COLOURS = 24
-SMALLEST_LABEL = 56
+# Labels stand on rectangles of this width at least, and in cells of a grid of this size.
+SMALLEST_LABEL, CELL = 56, 8
 GREY, GROUND, INK = "#b8b8b8", "#ffffff", "#1a1a1a"
 
 
@@ -22,7 +24,8 @@ def picture(top: Prefix, found: list[Holding]) -> str:
     colours = palette(holdings + routes)
     shapes = [shape for one in holdings for shape in drawn(one, top, colours, False)]
     shapes += [shape for one in routes for shape in drawn(one, top, colours, True)]
-    labels = [label for one in holdings for label in labelled(one, top)]
+    cells = innermost(holdings, top)
+    labels = [label for number, one in enumerate(holdings) for label in labelled(one, number, top, cells)]
     legend = legend_of(colours, holdings + routes)
     height = max(SIDE + 2 * MARGIN, MARGIN + LINE * (len(colours) + 6))
     width = SIDE + LEGEND + 3 * MARGIN
@@ -45,7 +48,7 @@ def palette(found: list[Holding]) -> dict[str, str]:
     colours = {}
     for number, name in enumerate(names):
         # Steps of the golden angle keep neighbours in the list apart; three shades keep hues that meet apart.
-        red, green, blue = colorsys.hls_to_rgb(number * 0.381966 % 1, (0.72, 0.58, 0.82)[number % 3], 0.62)
+        red, green, blue = colorsys.hls_to_rgb(number * 0.381966 % 1, (0.74, 0.65, 0.84)[number % 3], 0.62)
         colours[name] = f"#{round(red * 255):02x}{round(green * 255):02x}{round(blue * 255):02x}"
     return colours
 
@@ -95,20 +98,39 @@ def drawn(one: Holding, top: Prefix, colours: dict[str, str], is_line: bool) -> 
     return found
 
 
-def labelled(one: Holding, top: Prefix) -> list[str]:
-    """The name of a holding on its largest rectangle, if that has room."""
+def innermost(holdings: list[Holding], top: Prefix) -> dict[tuple[int, int], int]:
+    """The number of the holding that is drawn last in each cell of a grid: what has room for a label shows there."""
+    found = {}
+    for number, one in enumerate(holdings):
+        for prefix in as_prefixes(one.span, top):
+            for cell in cells_of(*box(prefix, top)):
+                found[cell] = number
+    return found
+
+
+def cells_of(x: float, y: float, width: float, height: float) -> Iterator[tuple[int, int]]:
+    """The cells of the grid that a rectangle meets."""
+    for column in range(int(x // CELL), int((x + width - 0.01) // CELL) + 1):
+        for row in range(int(y // CELL), int((y + height - 0.01) // CELL) + 1):
+            yield column, row
+
+
+def labelled(one: Holding, number: int, top: Prefix, cells: dict[tuple[int, int], int]) -> list[str]:
+    """The name of a holding on its largest rectangle, if that has room that nothing inside takes."""
     prefixes = as_prefixes(one.span, top)
     if not prefixes:
         return []
     x, y, width, height = box(min(prefixes, key=lambda prefix: prefix.length), top)
-    if min(width, height) < SMALLEST_LABEL / 2 or width < SMALLEST_LABEL:
+    if width < SMALLEST_LABEL or height < SMALLEST_LABEL / 2:
         return []
     size = max(8, min(13, width / 12))
     room = max(int(width / (size * 0.62)), 3)
     lines = [one.text, one.names[0] if one.names else "-"][:2 if height > 3 * size else 1]
-    return [f'<text x="{x + 6:.1f}" y="{y + 6 + size * (number + 1):.1f}" font-size="{size:.1f}" fill="{INK}" pointer-events="none">'
+    if any(cells.get(cell) != number for cell in cells_of(x, y, width, 6 + size * (len(lines) + 0.5))):
+        return []
+    return [f'<text x="{x + 6:.1f}" y="{y + 6 + size * (place + 1):.1f}" font-size="{size:.1f}" fill="{INK}" pointer-events="none">'
             f"{escape(texts.shown_line(line if len(line) <= room else line[:room - 1] + '~'))}</text>"
-            for number, line in enumerate(lines)]
+            for place, line in enumerate(lines)]
 
 
 def legend_of(colours: dict[str, str], found: list[Holding]) -> list[str]:

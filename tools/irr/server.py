@@ -5,7 +5,7 @@ import os
 from typing import Iterator
 from urllib.parse import quote, urlsplit
 
-from irr import answers, texts
+from irr import answers, keys, texts
 from irr.errors import ARGUMENTS, Failure, system_words
 
 DEFAULT = "http://127.0.0.1:4343"
@@ -55,7 +55,7 @@ class Server:
         self.url, self.scheme = url.rstrip("/"), parts.scheme
         self.port = port or (443 if self.scheme == "https" else 80)
         self.path = parts.path.rstrip("/")
-        self.is_private = self.scheme == "https" or self.host in LOOPBACK or self.host.startswith("127.")
+        self.is_private = self.scheme == "https" or self.host in LOOPBACK or (keys.read_address(self.host) or 0) >> 24 == 127
         if not self.is_private and not plain:
             raise Failure(shown_url(url), "http to another machine is not encrypted; take https, or add --plain", ARGUMENTS)
 

@@ -60,6 +60,7 @@ class Source:
             start = b""
         words = next((words for mark, words in BINARY.items() if start.startswith(mark)), "")
         if words or b"\0" in start:
+            self.file.close()
             raise Failure(self.name, f"this is not RPSL text: {words or 'it has bytes that no text has; give another file'}")
 
     def items(self) -> Iterator[Item]:

@@ -1,0 +1,131 @@
+"""A submission in parts."""
+import io
+import os
+import tempfile
+import unittest
+
+from irr import rpsl, submissions
+from irr.answers import Report
+from irr.errors import Failure
+from irr.server import TooLarge
+from irr.submissions import Sender, Source, item_of
+
+
+def items_of(text):
+    return [item_of(block, "a file") for block in rpsl.blocks([text], rpsl.LARGEST + 1)]
+
+
+class Registry:
+    """Takes parts of at most so many bytes, and adds each item under a key that tells the passwords before it."""
+
+    def __init__(self, most=submissions.MOST):
+        self.most, self.parts = most, []
+
+    def post(self, text):
+        if len(text) > self.most:
+            raise TooLarge("the server", "status 413")
+        self.parts.append(text)
+        lines, given = [], set()
+        for item in items_of(text):
+            given |= {submissions.secret_of(attribute) for attribute in item.passwords()}
+            if item.is_item:
+                lines.append(f"{len(lines) + 1} mntner N{len(given)}-{item.fault.code if item.fault else 'X'}: added\n")
+        return Report("".join([*lines, f"% items {len(lines)}\n"]).encode())
+
+
+TEXT = b"""mntner: A
+
+password: one
+ # two
+
+%% skipped
+
+mntner: B
+password:
++ three
+password: one\r
++\t# two
+
+nocolon
+password: four
+
+aut-num: AS1
+descr: %s
+
+mntner: C
+""" % (b"x" * 70_000)
+
+
+class Parts(unittest.TestCase):
+    def report(self, text, part, most=submissions.MOST):
+        registry = Registry(most)
+        sender = Sender(registry.post, part)
+        lines = [reported.line.text() for reported in sender.send(items_of(text))]
+        return registry, lines + [sender.last_line()]
+
+    def test_same_report(self):
+        whole = self.report(TEXT, 1 << 20)
+        self.assertEqual(len(whole[0].parts), 1)
+        self.assertEqual(whole[1], ["1 mntner N0-X: added", "2 mntner N2-X: added", "3 mntner N2-E01: added", "4 mntner N2-E07: added",
+                                    "5 mntner N2-X: added", "% items 5"])
+        for part in 1, 60, 120, 70_000:
+            registry, lines = self.report(TEXT, part)
+            self.assertEqual(lines, whole[1], part)
+        self.assertGreater(len(self.report(TEXT, 1)[0].parts), 4)
+
+    def test_refused_length(self):
+        text = b"password: x\n\n" + b"\n".join(b"mntner: N%d\n" % number for number in range(100))
+        registry, lines = self.report(text, 1 << 20, most=200)
+        self.assertEqual((len(lines), lines[-1]), (101, "% items 100"))
+        self.assertTrue(all(len(part) <= 200 for part in registry.parts))
+        with self.assertRaises(TooLarge):
+            self.report(text, 1 << 20, most=20)
+
+    def test_passwords_go_on(self):
+        text = b"".join(b"password: %d %s\n\n" % (number, b"y" * 30_000) for number in range(9)) + b"mntner: A\n\nmntner: B\n"
+        _, lines = self.report(text, 1)
+        self.assertEqual(lines, ["1 mntner N9-X: added", "2 mntner N9-X: added", "% items 2"])
+
+    def test_ends(self):
+        for text, end, count, last in [(b"1 -: refused E01\n", "", 1, ""), (b"% stopped after 0 items\n", "stopped", 0, "% stopped after 0 items"),
+                                       (b"% items 2\n", "", 2, "")]:
+            sender = Sender(lambda _, text=text: Report(text))
+            list(sender.send(items_of(b"a\n\nb\n")))
+            self.assertEqual((sender.end, sender.count, sender.last_line()), (end, count, last))
+        with self.assertRaises(Failure):
+            list(Sender(lambda _: Report(b"% items 0\n")).send(items_of(b"a\n")))
+
+    def test_read_fault(self):
+        def broken():
+            yield from items_of(b"mntner: A\n")
+            raise OSError(5, "Input/output error")
+        sender = Sender(Registry().post)
+        self.assertEqual(len(list(sender.send(broken()))), 1)
+        self.assertEqual(sender.last_line(), "% read fault after 1 items")
+
+    def test_passwords_that_are_typed(self):
+        for typed in "a\nb", "\x01", " a", "a\t":
+            self.assertRaises(Failure, submissions.password_item, typed, "A-MNT")
+        found = submissions.password_item("one # two é", "A-MNT").passwords()
+        self.assertEqual([submissions.secret_of(attribute) for attribute in found], ["one # two é".encode()])
+
+
+class Sources(unittest.TestCase):
+    def test_no_text(self):
+        with tempfile.TemporaryDirectory() as folder:
+            path = os.path.join(folder, "file")
+            for text in b"\x1f\x8b\x08", "a: b".encode("utf-16"), b"\xef\xbb\xbfa: b", b"PK\3\4", b"a: \0":
+                with open(path, "wb") as out:
+                    out.write(text)
+                self.assertRaises(Failure, Source, path)
+            self.assertRaises(Failure, Source, folder)
+            self.assertRaises(Failure, Source, path + "x")
+
+
+class Chunks(unittest.TestCase):
+    def test_pieces(self):
+        self.assertEqual(b"".join(rpsl.chunks(io.BytesIO(TEXT))), TEXT)
+
+
+if __name__ == "__main__":
+    unittest.main()

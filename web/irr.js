@@ -121,13 +121,14 @@ const lastOf = prefix => prefix.first + 2 ** (32 - prefix.length) - 1;
 
 function prefixOf(text) {
     const found = /^(\d{1,3})\.(\d{1,3})\.(\d{1,3})\.(\d{1,3})(?:\/(\d{1,2}))?$/.exec(text.trim());
-    const length = Number(found?.[5] ?? 32);
-    if (!found || length > 32 || found.slice(1, 5).some(part => part > 255)) return null;
-    return blockOf(found.slice(1, 5).reduce((sum, part) => sum * 256 + Number(part), 0), length);
+    if (!found) return null;
+    const [, one, two, three, four, length = 32] = found;
+    if (Math.max(one, two, three, four) > 255 || length > 32) return null;
+    return blockOf(one * 2 ** 24 + two * 2 ** 16 + three * 256 + Number(four), Number(length));
 }
 
 function spanOf(text) {
-    const ends = text.split('-').map(prefixOf);
+    const ends = text.includes('-') ? text.split('-').map(prefixOf) : [prefixOf(text)];
     if (ends.includes(null) || ends.length > 2 || (ends.length === 2 && text.includes('/'))) return null;
     const span = {first: ends[0].first, last: ends[1]?.first ?? lastOf(ends[0])};
     return span.first <= span.last ? span : null;
@@ -329,16 +330,20 @@ class RpslObject {
         this.text = text;
         this.attributes = [];
         for (const line of text.split('\n')) {
-            if (/^[ \t+]/.test(line)) this.attributes.at(-1)?.[1].push(line.slice(1).trim());
-            else this.attributes.push([line.slice(0, line.indexOf(':')).toLowerCase(), [line.slice(line.indexOf(':') + 1).trim()]]);
+            const end = ' \t+'.includes(line[0]) ? 0 : line.indexOf(':'), value = line.slice(end + 1).trim();
+            if (end) this.attributes.push([line.slice(0, end), [value]]);
+            else this.attributes.at(-1)?.[1].push(value);
         }
         this.kind = this.attributes[0]?.[0];
-        this.key = this.meaning(this.kind) + (this.kind === 'route' ? ` ${this.meaning('origin')}` : '');
+        this.name = this.meaning(this.kind);
+        this.key = this.kind === 'route' ? `${this.name} ${this.meaning('origin')}` : this.name;
+        this.holders = this.items('mnt-by');
     }
 
     // The items of all attributes of a name; the text of all of them without comments.
     meaning(name) {
-        return this.attributes.filter(given => given[0] === name).map(given => given[1].map(line => line.split('#')[0].trim()).join(' ').trim()).join(' ');
+        const plain = line => line.includes('#') ? line.slice(0, line.indexOf('#')).trim() : line;
+        return this.attributes.filter(given => given[0] === name).map(([, lines]) => lines.length === 1 ? plain(lines[0]) : lines.map(plain).join(' ').trim()).join(' ');
     }
 
     items(name) {
@@ -348,12 +353,12 @@ class RpslObject {
 
 // Gives the page room to breathe within long work.
 function breather(signal) {
-    let until = performance.now() + 12;
+    let until = performance.now() + 25;
     return async () => {
         if (performance.now() < until) return;
-        await (globalThis.scheduler?.yield?.() ?? new Promise(resolve => setTimeout(resolve)));
+        await new Promise(resolve => setTimeout(resolve));
         if (signal.aborted) throw new Trouble('Stopped.');
-        until = performance.now() + 12;
+        until = performance.now() + 25;
     };
 }
 
@@ -389,7 +394,7 @@ function linked(object, name, line) {
 }
 
 function objectBox(object) {
-    const place = object.kind === 'inetnum' || object.kind === 'route' ? prefixOf(object.meaning(object.kind)) : null;
+    const place = object.kind === 'inetnum' || object.kind === 'route' ? prefixOf(object.name) : null;
     const also = queryFor[object.kind] ? [link(queryFor[object.kind][1](object), queryFor[object.kind][0])] : [];
     if (object.kind.endsWith('-set')) also.push(link(`prefixes ${object.key}`, 'Its prefixes'));
     if (place) also.push(link(`less ${prefixText(place)}`, 'Around it'), link(`more ${prefixText(place)}`, 'Inside it'), mapLink(place, 'Map'));
@@ -470,7 +475,7 @@ function showLook(query) {
 const map = new Wire('map');
 const canvas = $('canvas');
 const isDark = matchMedia('(prefers-color-scheme: dark)');
-const space = {root: null, boxes: [], shown: null, inside: [], chosen: -1, drawings: 0, picture: el('canvas')};
+const space = {root: null, boxes: [], shown: null, inside: [], kinds: {}, chosen: -1, drawings: 0, picture: el('canvas')};
 
 function hueOf(name) {
     let sum = 7;
@@ -479,7 +484,7 @@ function hueOf(name) {
 }
 
 const colourOf = name => `hsl(${hueOf(name)} ${isDark.matches ? '38% 27%' : '62% 83%'})`;
-const isShown = object => $(object.kind === 'route' ? 'with-routes' : 'with-inetnums').checked;
+const isShown = object => space.kinds[object.kind];
 
 // Where a prefix lies in the square of the root, of side 1: each bit halves the place, by height and by width in turn.
 function placeOf(prefix, root) {
@@ -504,19 +509,24 @@ function addressAt(x, y, root) {
 
 // One box a span, with its objects: in order of addresses, the larger ones first.
 async function boxesOf(objects, signal) {
-    const breathe = breather(signal), boxes = new Map();
+    const breathe = breather(signal), boxes = [];
     for (const [at, object] of objects.entries()) {
-        const span = spanOf(object.meaning(object.kind));
+        const span = spanOf(object.name);
         if (!span) throw new Trouble('The server answers what no registry of this kind answers.');
-        const name = `${span.first}-${span.last}`;
-        if (!boxes.has(name)) boxes.set(name, {...span, prefix: around(span), text: object.kind === 'route' ? object.meaning('route') : object.key, objects: []});
-        boxes.get(name).objects.push(object);
+        boxes.push({first: span.first, last: span.last, prefix: around(span), text: object.name, objects: [object]});
         if (at % 200 === 0) await breathe();
     }
-    return [...boxes.values()].sort((one, other) => one.first - other.first || other.last - one.last);
+    boxes.sort((one, other) => one.first - other.first || other.last - one.last);
+    await breathe();
+    let latest = null;
+    return boxes.filter(box => {
+        const isNew = box.first !== latest?.first || box.last !== latest.last;
+        if (isNew) latest = box; else latest.objects.push(box.objects[0]);
+        return isNew;
+    });
 }
 
-const namesOf = box => [...new Set(box.objects.filter(isShown).map(object => object.kind === 'route' ? object.meaning('origin') : object.meaning('mnt-by')))].join(' ');
+const namesOf = box => [...new Set(box.objects.filter(isShown).flatMap(object => object.kind === 'route' ? object.meaning('origin') : object.holders))].join(' ');
 
 const colours = () => isDark.matches ? {ink: '#e6e8ea', page: '#1e2125', edge: '#868d96', route: '#f3c76b'} : {ink: '#1c1e21', page: '#ffffff', edge: '#767c85', route: '#7a4b00'};
 const placesOf = box => (lastOf(box.prefix) === box.last ? [box.prefix] : blocksOf(box)).map(block => placeOf(block, space.shown));
@@ -531,12 +541,15 @@ async function draw() {
     // Which box is seen in each square of 8 points: the last one drawn there.
     const letter = pen.measureText('0').width, columns = Math.ceil(side / 8) + 1, seen = new Int32Array(columns * columns).fill(-1);
     const cells = (x, y, w, h) => [Math.floor(x / 8), Math.floor(y / 8), Math.floor((x + w) / 8), Math.floor((y + h) / 8)];
+    let filled = null;
     for (const [at, box] of space.inside.entries()) {
-        const holder = box.objects.find(object => object.kind === 'inetnum' && isShown(object)), isRouted = box.objects.some(object => object.kind === 'route' && isShown(object));
+        const holder = space.kinds.inetnum && box.objects.find(object => object.kind === 'inetnum'), isRouted = space.kinds.route && box.objects.some(object => object.kind === 'route');
         if (!holder && !isRouted) continue;
         for (const place of placesOf(box)) {
             const x = place.x * side, y = place.y * side, w = Math.max(1, place.w * side), h = Math.max(1, place.h * side), isSmall = Math.min(w, h) < 5;
-            pen.fillStyle = holder ? colourOf(holder.items('mnt-by')[0]) : route;
+            const fill = holder ? holder.holders[0] : '';
+            if (fill !== filled) pen.fillStyle = fill ? colourOf(fill) : route;
+            filled = fill;
             if (holder || isSmall) pen.fillRect(x, y, w, h);
             const [left, top, right, bottom] = cells(x, y, w - 1, h - 1);
             for (let row = top; row <= bottom; row += 1) seen.fill(at, row * columns + left, row * columns + right + 1);
@@ -589,7 +602,7 @@ function point(box, isMarked) {
         pen.strokeStyle = colours().ink;
         for (const place of placesOf(box)) pen.strokeRect(place.x * side + 2, place.y * side + 2, Math.max(3, place.w * side - 4), Math.max(3, place.h * side - 4));
     }
-    $('pointed').textContent = box ? shown(box.objects.filter(isShown).map(object => `${object.kind} ${object.key}, ${object.meaning('mnt-by')}`).join('; ')) : '';
+    $('pointed').textContent = box ? shown(box.objects.filter(isShown).map(object => `${object.kind} ${object.key}, ${object.holders.join(' ')}`).join('; ')) : '';
 }
 
 const isBoxShown = box => box.objects.some(isShown);
@@ -624,11 +637,12 @@ function present(prefix) {
     const last = lastOf(prefix), name = prefixText(prefix);
     space.shown = prefix;
     space.chosen = -1;
+    space.kinds = {inetnum: $('with-inetnums').checked, route: $('with-routes').checked};
     space.inside = space.boxes.filter(box => prefix.first <= box.first && box.last <= last);
     const objects = space.inside.flatMap(box => box.objects.filter(isShown)), count = kind => objects.filter(object => object.kind === kind).length;
     const words = objects.length ? `${counted(count('inetnum'), 'inetnum')} and ${counted(count('route'), 'route')} inside ${name}` : `Nothing is registered inside ${name}`;
     const holders = new Map();
-    for (const object of objects) if (object.kind === 'inetnum') holders.set(object.items('mnt-by')[0], (holders.get(object.items('mnt-by')[0]) ?? 0) + 1);
+    for (const {kind, holders: [holder]} of objects) if (kind === 'inetnum') holders.set(holder, (holders.get(holder) ?? 0) + 1);
     const largest = [...holders].sort((one, other) => other[1] - one[1]).slice(0, 12);
     $('legend').replaceChildren(el('ul', {class: 'legend'}, ...largest.map(([holder, number]) => {
         const swatch = el('span', {class: 'swatch'});
@@ -637,10 +651,10 @@ function present(prefix) {
     })), ...holders.size > 12 ? [`and ${counted(holders.size - 12, 'other maintainer')}`] : []);
     const head = el('tr', {}, ...['Prefix or range', 'Class', 'Origin', 'Maintainers', 'Addresses'].map(text => el('th', {scope: 'col'}, text)));
     const row = object => {
-        const span = spanOf(object.meaning(object.kind)), box = around(span);
-        return el('tr', {}, el('th', {scope: 'row'}, mapLink(box, shown(object.meaning(object.kind)))), el('td', {}, link(`object ${object.kind} ${object.key}`, object.kind)),
+        const span = spanOf(object.name), box = around(span);
+        return el('tr', {}, el('th', {scope: 'row'}, mapLink(box, shown(object.name))), el('td', {}, link(`object ${object.kind} ${object.key}`, object.kind)),
             el('td', {}, ...object.kind === 'route' ? [link(object.meaning('origin'))] : []),
-            el('td', {}, ...object.items('mnt-by').flatMap(holder => [link(holder), ' '])), el('td', {class: 'number'}, (span.last - span.first + 1).toLocaleString('en')));
+            el('td', {}, ...object.holders.flatMap(holder => [link(holder), ' '])), el('td', {class: 'number'}, (span.last - span.first + 1).toLocaleString('en')));
     };
     const [body, ...more] = listing(el('tbody'), objects, row);
     $('listed').replaceChildren(el('table', {}, el('caption', {}, `${words}, in order of addresses.`), el('thead', {}, head), body), ...more);

@@ -12,8 +12,9 @@ from irr.keys import Prefix
 SIDE, MARGIN, LEGEND, LINE = 1024, 40, 320, 22
 # So many maintainers have a colour of their own; the others are grey.
 MOST_COLOURS = 24
-# Labels stand on rectangles of this width at least, and in cells of a grid of this size.
-SMALLEST_LABEL, CELL = 56, 8
+# Labels stand on rectangles of this width at least, in cells of a grid of this size; a place for one is looked for in these steps. A
+# letter is so wide beside its height.
+SMALLEST_LABEL, CELL, STEP, WIDE = 48, 4, 16, 0.6
 GREY, GROUND, INK = "#b8b8b8", "#ffffff", "#1a1a1a"
 
 
@@ -124,13 +125,15 @@ def labelled(one: Holding, number: int, top: Prefix, cells: dict[tuple[int, int]
     if width < SMALLEST_LABEL or height < SMALLEST_LABEL / 2:
         return []
     size = max(8, min(13, width / 12))
-    room = max(int(width / (size * 0.62)), 3)
-    lines = [one.text, one.names[0] if one.names else "-"][:2 if height > 3 * size else 1]
-    if any(cells.get(cell) != number for cell in cells_of(x, y, width, 6 + size * (len(lines) + 0.5))):
-        return []
-    return [f'<text x="{x + 6:.1f}" y="{y + 6 + size * (place + 1):.1f}" font-size="{size:.1f}" fill="{INK}" pointer-events="none">'
-            f"{escape(texts.shown_line(line if len(line) <= room else line[:room - 1] + '~'))}</text>"
-            for place, line in enumerate(lines)]
+    room = max(int((width - 12) / (size * WIDE)), 3)
+    lines = [line if len(line) <= room else line[:room - 1] + "~" for line in (one.text, one.names[0] if one.names else "-")]
+    wide, high = 12 + size * WIDE * max(map(len, lines)), 8 + size * len(lines)
+    for down in range(0, max(int(height - high), 0) + 1, STEP):
+        for right in range(0, max(int(width - wide), 0) + 1, STEP):
+            if all(cells.get(cell) == number for cell in cells_of(x + right, y + down, min(wide, width), min(high, height))):
+                return [f'<text x="{x + right + 6:.1f}" y="{y + down + 3 + size * (place + 1):.1f}" font-size="{size:.1f}" fill="{INK}" '
+                        f'pointer-events="none">{escape(texts.shown_line(line))}</text>' for place, line in enumerate(lines)]
+    return []
 
 
 def legend_of(colours: dict[str, str], found: list[Holding]) -> list[str]:

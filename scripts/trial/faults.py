@@ -114,7 +114,7 @@ def bad_files(script, tool):
         expect(world.tool("qury").said, b"irr: qury: there is no such command; did you mean `irr query`?\n", "a command that is mistyped")
         with open("/dev/full", "wb") as full:
             ran = run([sys.executable, tool.path, "dump"], folder, output=full, environment=world.tool.environment)
-        expect((ran.status, ran.said), (5, b"irr dump: standard output: no space left on device\n"), "standard output that is full")
+        expect((ran.status, ran.said), (5, b"irr dump: standard output: no space left on device; look where it goes to\n"), "standard output that is full")
         shell = f"'{sys.executable}' '{tool.path}' dump | head -n 1; '{sys.executable}' '{tool.path}' query more 0.0.0.0/0 | true"
         ran = run(["sh", "-c", shell], folder, environment=world.tool.environment)
         expect((ran.said, ran.printed.count(b"\n")), (b"", 1), "readers that end early")

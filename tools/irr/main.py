@@ -103,7 +103,7 @@ def main(words: list[str] | None = None) -> int:
     except KeyboardInterrupt:
         end_by(signal.SIGINT)
     except OSError as error:
-        failure = Failure(texts.shown(error.filename or "standard output"), system_words(error))
+        failure = Failure(str(error.filename or "standard output"), f"{system_words(error)}; look where it goes to")
         close_output()
         say(failure, words)
         return failure.status

@@ -1,4 +1,5 @@
 """A submission on its way: its blocks, the passwords that count, and the parts in which it is sent."""
+import functools
 import os
 from typing import Callable, Iterable, Iterator, NamedTuple
 
@@ -16,21 +17,41 @@ BINARY = {b"\x1f\x8b": "it is compressed by gzip; unpack it", b"PK": "it is a zi
           b"\xef\xbb\xbf": "it begins with a byte order mark; save it without"}
 
 
-class Item(NamedTuple):
-    """A block of a submission: where it stands, and the paragraph that it is or the fault that keeps it from being one."""
-    place: str
-    block: rpsl.Block
-    paragraph: Paragraph | None
-    fault: rpsl.TextFault | None
+class Item:
+    """A block of a submission, and the place where it stands. It is read only when somebody asks what it says."""
+
+    def __init__(self, place: str, block: rpsl.Block) -> None:
+        self.place, self.block = place, block
+
+    @functools.cached_property
+    def read(self) -> Paragraph | rpsl.TextFault:
+        """The paragraph that it is, or the fault that keeps it from being one."""
+        try:
+            if self.block.size > rpsl.LARGEST:
+                raise rpsl.TextFault("E07", f"it has {self.block.size:,} bytes")
+            return rpsl.read(self.block.text)
+        except rpsl.TextFault as fault:
+            return fault
+
+    @property
+    def paragraph(self) -> Paragraph | None:
+        return self.read if isinstance(self.read, Paragraph) else None
+
+    @property
+    def fault(self) -> rpsl.TextFault | None:
+        return self.read if isinstance(self.read, rpsl.TextFault) else None
+
+    def passwords(self) -> list[Attribute]:
+        """The passwords that it gives; none if it has a fault."""
+        if b"password" not in self.block.text.lower() or not self.paragraph:
+            return []
+        return [attribute for attribute in self.paragraph.attributes if attribute.name == b"password"]
 
     @property
     def is_item(self) -> bool:
         """Whether it is in the report: passwords alone are not."""
-        return not self.paragraph or any(attribute.name != b"password" for attribute in self.paragraph.attributes)
-
-    def passwords(self) -> list[Attribute]:
-        """The passwords that it gives; none if it has a fault."""
-        return [attribute for attribute in self.paragraph.attributes if attribute.name == b"password"] if self.paragraph else []
+        given = self.passwords()
+        return not given or not self.paragraph or len(given) < len(self.paragraph.attributes)
 
     def object(self) -> Paragraph | None:
         """What it says of an object, without passwords and `delete`."""
@@ -71,13 +92,7 @@ class Source:
 
 
 def item_of(block: rpsl.Block, name: str) -> Item:
-    place = f"{name}: line {block.line}"
-    try:
-        if block.size > rpsl.LARGEST:
-            raise rpsl.TextFault("E07", f"it has {block.size:,} bytes")
-        return Item(place, block, rpsl.read(block.text), None)
-    except rpsl.TextFault as fault:
-        return Item(place, block, None, fault)
+    return Item(f"{name}: line {block.line}", block)
 
 
 def password_item(secret: str, name: str) -> Item:

@@ -1,0 +1,357 @@
+"""What the same attacks cost others through nginx and HAProxy, each before one process alone, and what the two answer."""
+import base64
+import contextlib
+import shutil
+import socket
+import ssl
+import threading
+import time
+
+from trial import attacks
+from trial.attacks import PASSWORD, Registry, made, owned
+from trial.costs import ROOT, at_most
+from trial.doors import HOST, PAGE, PASSWORD as DOOR_PASSWORD, USER, Haproxy, Nginx
+from trial.running import Failure, Skipped, expect
+
+# The most seconds that a client's request may keep another's waiting.
+MOST_WAIT = 1.0
+TRIES = 3
+LET_IN, STRANGER, VICTIM = 1, 50, 200
+CASES = []
+
+
+def needs(command):
+    if shutil.which(command) is None:
+        raise Skipped(f"{command} is not there")
+
+
+def case(name, is_long=False):
+    """Registers a case for each of the two, which gets the script and the kind of proxy."""
+    def register(function):
+        for kind in (Nginx, Haproxy):
+            command = kind.__name__.lower()
+
+            def tried(script, kind=kind, command=command):
+                needs(command)
+                return function(script, kind)
+
+            CASES.append((f"{command}: {name}", tried, is_long))
+        return function
+    return register
+
+
+def basic(user=USER, password=DOOR_PASSWORD):
+    return f"Authorization: Basic {base64.b64encode(f'{user}:{password}'.encode()).decode()}\r\n"
+
+
+def large():
+    """A registry with the dearest expansion that its limit allows, an answer of 3 MB, and one of 12 MB."""
+    def described(count, maintainer, first):
+        return "".join(owned(f"aut-num:AS{first + n}", "descr:" + "x" * 60_000, maintainer=maintainer) for n in range(count))
+
+    mine = "".join(owned(f"mntner:{name}", f"auth:{attacks.auth(attacks.SECRET)}", maintainer=name) for name in ("E-MNT", "F-MNT"))
+    sets = "".join(body.removeprefix(PASSWORD) for body in attacks.ring(16, 10_000, attacks.OPERATORS))
+    return ROOT + mine + sets + described(50, "E-MNT", 65_000) + described(200, "F-MNT", 66_000)
+
+
+@contextlib.contextmanager
+def guarded(script, kind, name, folder=None):
+    """A registry, new or in this folder, alone after a proxy."""
+    folder = folder or made(script, f"{name}-{kind.__name__}")
+    with Registry(script, folder) as registry, kind(script, name, registry.port, None) as door:
+        time.sleep(0.3)
+        yield registry, door
+
+
+class Victim:
+    """Another client, which asks for a name over and over, and notes how long it waits at most."""
+
+    def __init__(self, ask):
+        self.ask, self.waits, self.bad, self.stop = ask, [], [], threading.Event()
+        self.thread = threading.Thread(target=self.run, daemon=True)
+
+    def run(self):
+        while not self.stop.is_set():
+            start = time.monotonic()
+            try:
+                answered = self.ask()
+            except OSError as error:
+                answered = repr(error).encode()
+            self.waits.append(time.monotonic() - start)
+            if not answered.startswith(b"mntner:"):
+                self.bad.append(answered[:80])
+            self.stop.wait(0.2)
+
+    def __enter__(self):
+        self.thread.start()
+        return self
+
+    def __exit__(self, *_):
+        self.stop.set()
+        self.thread.join(60)
+
+
+def waiting(door, ask, attack):
+    """The most that another client waits during the attack; the least of some tries."""
+    found = []
+    for turn in range(TRIES):
+        with Victim(ask) as victim:
+            time.sleep(0.3)
+            with contextlib.ExitStack() as held:
+                attack(door, held, STRANGER + 10 * turn)
+                time.sleep(2.5)
+        if victim.bad:
+            raise Failure(f"another client was answered {victim.bad[0]!r}")
+        found.append(max(victim.waits))
+        if found[-1] <= MOST_WAIT:
+            break
+    return min(found)
+
+
+def over_https(door):
+    return lambda: door.get("/query/ROOT-MNT", VICTIM)[2]
+
+
+def over_whois(door):
+    return lambda: door.whois("ROOT-MNT", VICTIM)
+
+
+def request(path, fields=""):
+    return f"GET {path} HTTP/1.1\r\nHost: {HOST}\r\n{fields}\r\n".encode()
+
+
+# Attacks: each gets the proxy, a stack that closes its connections at the end, and the last byte of its first address.
+
+def opened(door, held, last, text=b"", window=None):
+    peer = held.enter_context(contextlib.closing(door.connect(last, window=window)))
+    peer.sendall(text)
+    return peer
+
+
+def posts_secrets(door, held, last):
+    """64 KB of passwords and salts from one who is let in and leaves, and from strangers."""
+    body, _ = attacks.secrets_times_salts(65_000)
+    for _ in range(3):
+        opened(door, held, LET_IN, attacks.posted(body)).close()
+    for number in range(4):
+        opened(door, held, last + number, attacks.posted(body))
+
+
+def posts_much(door, held, last):
+    """1 MiB of them."""
+    body, _ = attacks.secrets_times_salts(attacks.MOST_BODY)
+    status, _, _ = door.post(body.encode(), LET_IN)
+    expect(status, 413, "the status of 1 MiB from one who is let in")
+
+
+def asks_dearly(door, held, last):
+    """The dearest expansion from eight addresses, each several times, of which some leave at once."""
+    for number in range(8):
+        for turn in range(3):
+            peer = opened(door, held, last + number, request("/query/prefixes%20RS-0"))
+            if turn:
+                peer.close()
+
+
+def says_nothing(door, held, last):
+    """Silence before TLS, after it, and in the midst of a head and of a submission."""
+    for number in range(4):
+        held.enter_context(contextlib.closing(door.raw(door.https, last + number)))
+        opened(door, held, last + number)
+        opened(door, held, last + number, request("/query/AS1")[:-4])
+        opened(door, held, LET_IN, attacks.posted(b"x" * 1_000)[:-900])
+
+
+def takes_slowly(door, held, last):
+    """Answers of 3 MB and 12 MB, of which nothing is taken."""
+    for number in range(6):
+        name = "EF"[number % 2]
+        opened(door, held, last + number, request(f"/query/inverse%20mnt%20{name}-MNT"), window=4_096)
+
+
+def whois_asks_dearly(door, held, last):
+    for number in range(8):
+        for turn in range(3):
+            peer = held.enter_context(contextlib.closing(door.raw(door.whois_port, last + number)))
+            with contextlib.suppress(OSError):
+                peer.sendall(b"prefixes RS-0\r\n")
+            if turn:
+                peer.close()
+
+
+def whois_says_nothing(door, held, last):
+    for number in range(10):
+        for _ in range(4):
+            held.enter_context(contextlib.closing(door.raw(door.whois_port, last + number)))
+
+
+def whois_takes_slowly(door, held, last):
+    """Answers of which nothing is taken, and peers that were answered and do not close."""
+    for number in range(6):
+        peer = held.enter_context(contextlib.closing(socket.socket()))
+        peer.setsockopt(socket.SOL_SOCKET, socket.SO_RCVBUF, 4_096)
+        peer.bind((f"127.0.0.{last + number}", 0))
+        peer.connect(("127.0.0.1", door.whois_port))
+        peer.sendall([b"inverse mnt E-MNT\r\n", b"inverse mnt F-MNT\r\n", b"ROOT-MNT\r\n"][number % 3])
+
+
+def tried_all(script, kind, ask, tries):
+    """The most that another waits for each attack."""
+    told = []
+    folder = made(script, f"{kind.__name__}-{ask.__name__}", dump=large())
+    for attack in tries:
+        with guarded(script, kind, attack.__name__, folder) as (_, door):
+            waited = waiting(door, ask(door), attack)
+            at_most(waited, MOST_WAIT, f"{attack.__name__}: another client waits")
+            told.append(f"{attack.__name__} {waited:.2f} s")
+    return ", ".join(told)
+
+
+@case("no client keeps another waiting, over HTTPS")
+def https_attacked(script, kind):
+    return tried_all(script, kind, over_https, [posts_secrets, posts_much, asks_dearly, says_nothing, takes_slowly])
+
+
+@case("no client keeps another waiting, by whois")
+def whois_attacked(script, kind):
+    return tried_all(script, kind, over_whois, [whois_asks_dearly, whois_says_nothing, whois_takes_slowly])
+
+
+@case("300 connections to the whois port at once")
+def whois_flooded(script, kind):
+    with guarded(script, kind, "flood") as (registry, door):
+        with contextlib.ExitStack() as held:
+            for _ in range(300):
+                with contextlib.suppress(ConnectionResetError):
+                    held.enter_context(contextlib.closing(door.raw(door.whois_port, STRANGER)))
+            expect(door.whois("ROOT-MNT", VICTIM)[:7], b"mntner:", "what another address is answered meanwhile")
+        expect(door.whois("ROOT-MNT", VICTIM)[:7], b"mntner:", "what it is answered then")
+    return "another address is answered, during and after"
+
+
+@case("many requests over one connection")
+def many_requests(script, kind):
+    with guarded(script, kind, "many") as (_, door):
+        start = time.monotonic()
+        requests = request("/query/ROOT-MNT") * 599 + request("/query/ROOT-MNT", "Connection: close\r\n")
+        replies = door.ask(requests, STRANGER, patience=5)
+        good, slowed = replies.count(b"HTTP/1.1 200 "), replies.count(b"HTTP/1.1 429 ")
+        most = 210 + 20 * (time.monotonic() - start)
+        expect((0 < good <= most, slowed > 0), (True, True), f"whether a client is slowed down: {good} answered, {slowed} not")
+        expect(over_https(door)()[:7], b"mntner:", "what another client is answered")
+    return f"{good} of 600 answered, then status 429"
+
+
+@case("who may submit, and how much")
+def submitted(script, kind):
+    with guarded(script, kind, "submitted") as (registry, door):
+        body = (PASSWORD + owned("mntner:E-MNT", f"auth:{attacks.auth(attacks.SECRET)}")).encode()
+        expect(door.post(body, STRANGER)[0], 401, "a stranger")
+        expect(door.post(body, STRANGER + 1, basic(password="wrong"))[0], 401, "a stranger with a wrong password")
+        expect(registry.whois("E-MNT"), b"% no entries\n", "what is registered then")
+        status, _, report = door.post(body, STRANGER + 2, basic())
+        expect((status, report), (200, b"1 mntner E-MNT: added\n% items 1\n"), "a holder with the word of the door")
+        status, _, report = door.post(body, LET_IN)
+        expect((status, report), (200, b"1 mntner E-MNT: unchanged\n% items 1\n"), "an address that is let in")
+        expect(door.post(b"x" * 65_537, STRANGER + 3, basic())[0], 413, "65,537 bytes")
+        expect(door.post(body, STRANGER + 4, basic() + "Origin: https://evil.example\r\n")[0], 403, "from another site's page")
+        expect(door.post(body, STRANGER + 5, basic() + f"Origin: https://{HOST}\r\n")[0], 200, "from the registry's own page")
+        expect(door.get("/submissions", STRANGER + 6)[0] in (401, 403, 405), True, "whether GET is refused")
+        # Guesses: strangers who may not submit take nothing of the number of all.
+        for number in range(40):
+            expect(door.post(body, 100 + number)[0] in (401, 429), True, "whether a stranger is refused")
+        expect(door.post(body, STRANGER + 7, basic())[0], 200, "a holder after them")
+    return "strangers 401, holders 200, 64 KB at most, other sites 403"
+
+
+@case("what is guessed in a minute")
+def guessing(script, kind):
+    """How many passwords of a root one client, who is let in, can try in ten seconds, which is at most 64 KB ten times."""
+    with guarded(script, kind, "guessing") as (registry, door):
+        tries = 4_500
+        body, taken, end = attacks.guesses(tries).encode(), 0, time.monotonic() + 10
+        expect(len(body) <= 65_536, True, "whether the body is within 64 KB")
+        refused = 0
+        while time.monotonic() < end:
+            status = door.post(body, LET_IN)[0]
+            taken, refused = taken + (status == 200), refused + (status == 429)
+        expect(taken <= 10, True, f"whether {taken} submissions are few")
+    return f"{taken * tries:,} passwords in ten seconds, in {taken} submissions"
+
+
+@case("requests that could be two, other hosts, and what each path answers")
+def answered(script, kind):
+    with guarded(script, kind, "answered") as (registry, door):
+        hidden = attacks.posted("password: bc\n\n" + owned("as-set:AS-HIDDEN", maintainer="ROOT-MNT"))
+        head = f"POST /submissions HTTP/1.1\r\nHost: {HOST}\r\n"
+        for fields in ["Content-Length: 4\r\nTransfer-Encoding: chunked\r\n", "Content-Length: 4\r\nContent-Length: 5\r\n",
+                       "Content-Length : 4\r\n", "Transfer-Encoding: chunked, x\r\n"]:
+            reply = door.ask(f"{head}{fields}\r\n0\r\n\r\n".encode() + hidden, STRANGER, patience=2)
+            expect(reply.count(b"HTTP/1.1 200"), 0, f"how many are answered with 200 after {fields!r}")
+        fields = f"Content-Length: {len(hidden)}\r\nConnection: close\r\n"
+        door.ask(request("/query/ROOT-MNT", fields) + hidden, STRANGER, patience=2)
+        expect(registry.whois("AS-HIDDEN"), b"% no entries\n", "what was submitted so")
+        status, reply_head, body = door.get("/query/exact%200.0.0.0%2F0", STRANGER + 1)
+        expect((status, body[:8]), (200, b"inetnum:"), "a query with escapes")
+        expect("x-content-type-options: nosniff" in reply_head.lower(), True, "whether the reply says nosniff")
+        for path, page in [("/", "index.html"), ("/irr.js", "irr.js"), ("/irr.css", "irr.css")]:
+            status, reply_head, body = door.get(path, STRANGER + 1)
+            expect((status, body), (200, PAGE[page]), path)
+            expect("content-security-policy: default-src 'none'" in reply_head.lower(), True, f"whether {path} has a policy")
+        expect(door.get("/nothing", STRANGER + 1)[0], 404, "another path")
+        expect(door.get("/query/AS1", STRANGER + 1, method="POST")[0] in (403, 405), True, "whether POST to a query is refused")
+        for host in ["evil.example", "127.0.0.1"]:
+            reply = door.get("/query/ROOT-MNT", STRANGER + 2, host=host)
+            expect(reply[0] in (0, 421), True, f"whether the host {host} is refused")
+        with contextlib.suppress(ssl.SSLError, OSError):
+            door.connect(STRANGER + 2, host="evil.example")
+            raise Failure("another host's certificate is shown")
+        dump = door.get("/dump", STRANGER + 3)
+        expect(dump[0] in (200, 503), True, "whether the dump is a file")
+        if dump[0] == 200:
+            expect(dump[2], b"the dump that the timer made\n% end 0\n", "the dump")
+    return "one reply for each, nothing hidden was submitted; other hosts are refused"
+
+
+@case("readers, the primary where none is left, and what is answered then")
+def replaced_readers(script, kind):
+    names = ["primary", "one", "two"]
+    dumps = [ROOT + owned(f"as-set:AS-{name.upper()}", maintainer="ROOT-MNT") for name in names]
+    folders = [made(script, f"{name}-{kind.__name__}", dump=dump) for name, dump in zip(names, dumps)]
+    with contextlib.ExitStack() as stack:
+        registries = [stack.enter_context(Registry(script, folder)) for folder in folders]
+        ports = [registry.port for registry in registries]
+        door = stack.enter_context(kind(script, "readers", ports[0], ports[1:]))
+        time.sleep(0.5)
+
+        def seen(ask=None):
+            """Which of the three answer: the set that only one of them has is asked for."""
+            found = set()
+            for turn in range(12):
+                for name in names:
+                    query = f"AS-{name.upper()}"
+                    text = door.whois(query, 20 + turn) if ask else door.get(f"/query/{query}", 20 + turn)[2]
+                    if text.startswith(b"as-set:"):
+                        found.add(name)
+            return found
+
+        def comes_to(wanted, what):
+            end = time.monotonic() + 15
+            while (found := (seen(), seen(True))) != (wanted, wanted):
+                if time.monotonic() > end:
+                    raise Failure(f"{what}: answered by {found} and not {wanted}")
+
+        comes_to({"one", "two"}, "with both readers")
+        registries[1].__exit__()
+        comes_to({"two"}, "with one reader")
+        report = door.post(b"password: bc\n\n", LET_IN)
+        expect((report[0], report[2]), (200, b"% items 0\n"), "a submission meanwhile")
+        registries[2].__exit__()
+        comes_to({"primary"}, "with no reader")
+        registries[0].__exit__()
+        end = time.monotonic() + 10
+        while (reply := door.get("/query/ROOT-MNT", 99))[0] != 503 and time.monotonic() < end:
+            time.sleep(0.2)
+        expect((reply[0], reply[2]), (503, b"% the registry does not answer\n"), "with none")
+        expect(door.whois("ROOT-MNT", 99) in (b"", b"% the registry does not answer\n"), True, "by whois")
+    return "both, one, the primary; then 503"

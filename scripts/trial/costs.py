@@ -1,0 +1,390 @@
+"""What a stranger's text costs the program itself, in the processor's time and in memory, and what else it does."""
+import contextlib
+import os
+import stat
+import subprocess
+import threading
+import time
+
+from trial import attacks
+from trial.attacks import PASSWORD, Registry, made, owned
+from trial.running import DIGEST, TOP, Failure, expect, write, write_settings
+from trial.serving import read_all
+
+ROOT = f"mntner:ROOT-MNT\nauth:SHA256-PW a:{DIGEST}\nmnt-by:ROOT-MNT\nsource:TEST\n\n"
+TRIES = 3
+CASES = []
+
+
+def case(name, is_long=False):
+    """Registers a case, which gets the script and gives words for its line."""
+    def register(function):
+        CASES.append((name, function, is_long))
+        return function
+    return register
+
+
+def at_most(found, most, what, unit="s"):
+    if found > most:
+        raise Failure(f"{what}: {found:.2f} {unit} and not at most {most:.2f}")
+
+
+def least(tries, function):
+    """The least that a function gives; it is called again only while that is above the bound that it is given."""
+    found = []
+    for _ in range(TRIES):
+        found.append(function())
+        if found[-1] <= tries:
+            break
+    return min(found)
+
+
+# The processor.
+
+@case("secrets times salts")
+def secrets_times_salts(script):
+    """The first trial of P secrets with S salts, which can't be cut: so a digest is to be no dearer than it is."""
+    table = []
+    with Registry(script, made(script, "salts")) as registry:
+        for size in script.pick([64], [64, 128, 256, 1024]):
+            body, digests = attacks.secrets_times_salts(size << 10)
+            report, seconds = registry.cost(registry.post, body)
+            expect(b"added" in report, False, "whether a stranger's mntner was added")
+            at_most(seconds, 0.2 + digests * 1e-6, f"{size} KB")
+            table.append(f"{size} KB {seconds:.2f} s")
+    return ", ".join(table)
+
+
+@case("items times lines of auth")
+def items_times_lines(script):
+    """An item's cost does not grow with the lines of the maintainers that it names, once they were tried."""
+    count = script.pick(1_000, 4_000)
+
+    def cost(name, lines):
+        with Registry(script, made(script, name)) as registry:
+            registry.register(*attacks.many_lined(15, lines))
+            report, seconds = registry.cost(registry.post, attacks.refused_items(count))
+            expect(report.count(b"refused E11"), count, "how many items were refused")
+            return seconds / count
+
+    one, many = cost("lines1", 1), cost("lines750", 750)
+    what = f"an item with 15 maintainers of 750 lines, where it takes {one * 1e3:.2f} ms with one"
+    at_most(many * 1e3, 3 * one * 1e3 + 0.1, what, "ms")
+    return f"{many * 1e3:.3f} ms an item at 15 maintainers of 750 lines, {one * 1e3:.3f} at such of one"
+
+
+def walk(script, sets, limit, most):
+    bodies = attacks.ring(sets, limit, attacks.OPERATORS)
+    with Registry(script, made(script, f"ring{sets}-{limit}", limit=limit)) as registry:
+        registry.register(attacks.stranger(), *bodies)
+
+        def once():
+            reply, seconds = registry.cost(registry.whois, "prefixes RS-0")
+            expect(reply[:1] not in (b"", b"%"), True, f"whether ranges are answered, and not {reply[:30]!r}")
+            return seconds
+
+        seconds = least(most, once)
+    at_most(seconds, most, f"{sets} sets that name one another under {len(attacks.OPERATORS)} operators, limit {limit}")
+    return f"{sum(map(len, bodies)):,} bytes make a query of 15 bytes take {seconds:.2f} s"
+
+
+@case("references times pairs, limit 100,000")
+def ring_of_16(script):
+    return walk(script, 16, 100_000, 11.8 / 20)
+
+
+@case("references times pairs, limit 10,000")
+def ring_of_90(script):
+    return walk(script, 90, 10_000, 5.4 / 20)
+
+
+@case("peers that ask and go")
+def gone(script):
+    """What was asked is computed all the same: the next peer waits for it."""
+    with Registry(script, made(script, "gone")) as registry:
+        registry.register(attacks.stranger(), *attacks.ring(16, 10_000, attacks.OPERATORS))
+
+        def once():
+            for _ in range(5):
+                with contextlib.closing(registry.connect()) as peer:
+                    peer.sendall(b"prefixes RS-0\r\n")
+            start = time.monotonic()
+            registry.whois("ROOT-MNT")
+            return time.monotonic() - start
+
+        waited = least(1.0, once)
+    at_most(waited, 1.0, "after 5 such peers the next one waits")
+    return f"after 5 peers that asked for the dearest expansion the next one waits {waited:.2f} s"
+
+
+@case("guesses at a password")
+def guessed(script):
+    """Without the door: nothing is changed, and what is answered tells whether one of the passwords is right."""
+    count = 74_000
+    with Registry(script, made(script, "guesses")) as registry:
+        before = registry.whois("inverse mnt ROOT-MNT")
+        report, seconds = registry.cost(registry.post, attacks.guesses(count))
+        expect(report, b"1 mntner ROOT-MNT: refused E11\n% items 1\n", "where none is right")
+        report = registry.post(attacks.guesses(count, count - 5))
+        expect(report, b"1 mntner ROOT-MNT: refused E17\n% items 1\n", "where one is right")
+        expect(registry.whois("inverse mnt ROOT-MNT"), before, "what the root maintains")
+    return f"{count:,} tries in {seconds:.2f} s of the processor"
+
+
+# Memory.
+
+@case("memory of a paragraph of short lines")
+def crumbled(script):
+    """A stored paragraph of lines like `a:b` takes at most 10 times its bytes."""
+    with Registry(script, made(script, "crumbs")) as registry:
+        registry.register(attacks.stranger(), attacks.crumbs_in("A"))
+        before, bodies = registry.resident(), [attacks.crumbs_in(mark) for mark in "BCD"]
+        registry.register(*bodies)
+        times = (registry.resident() - before) / sum(map(len, bodies))
+    at_most(times, 10, "the bytes in memory for each byte stored", "times")
+    return f"{times:.1f} times its bytes"
+
+
+def mixed(count):
+    """A dump of so many objects: of 100, 1 is a maintainer, 9 are aut-nums, 30 inetnums and 60 routes."""
+    parts = [ROOT]
+    for hundred in range(count // 100):
+        holder = f"H{hundred}-MNT"
+
+        def add(first, *lines, holder=holder):
+            parts.append(owned(first, *lines, maintainer=holder))
+
+        add(f"mntner: {holder}", f"auth: SHA256-PW a:{DIGEST}")
+        for n in range(9):
+            add(f"aut-num: AS{100_000 + 9 * hundred + n}", f"as-name: NETWORK{n}")
+        for n in range(30):
+            at = 30 * hundred + n
+            add(f"inetnum: 10.{at >> 8}.{at & 255}.0/24", f"netname: NETWORK{n}")
+        for n in range(60):
+            at = 60 * hundred + n
+            add(f"route: 10.{at >> 9}.{at >> 1 & 255}.{(at & 1) << 7}/25", f"origin: AS{100_000 + 9 * hundred + n % 9}")
+    return "".join(parts)
+
+
+@case("memory of an object")
+def weighed(script):
+    """An object takes at most 900 bytes beside its canonical text."""
+    sizes, texts = [], []
+    counts = [20_000, 60_000]
+    for count in counts:
+        folder = made(script, f"objects{count}", dump=mixed(count))
+        ran = script.run(folder, "dump", "s.toml", "--full", timeout=attacks.LONGEST)
+        texts.append(len(ran.printed))
+        with Registry(script, folder) as registry:
+            sizes.append(registry.resident())
+    beside = (sizes[1] - sizes[0] - texts[1] + texts[0]) / (counts[1] - counts[0])
+    at_most(beside, 900, "the bytes of an object beside its text", "bytes")
+    return f"{beside:.0f} bytes beside its text"
+
+
+@case("opened within the memory that served it")
+def reopened(script):
+    """Under each limit from the least one on, under which these were taken, the registry is opened within a tenth more."""
+    bodies = [attacks.stranger(), *(attacks.crumbs_in(mark) for mark in script.pick("AB", "ABCDEFGH"))]
+    empty, turn = made(script, "empty"), iter(range(1_000_000))
+
+    def copied(folder):
+        copy = os.path.join(script.work, f"within{next(turn)}")
+        subprocess.run(["cp", "-r", folder, copy], check=True)
+        return copy
+
+    def served(memory):
+        """Whether all are taken; the folder is then as they left it."""
+        folder = copied(empty)
+        try:
+            with Registry(script, folder, memory) as registry:
+                registry.register(*bodies)
+            return folder
+        except (Failure, OSError):
+            return None
+
+    def opened(folder, memory):
+        try:
+            with Registry(script, copied(folder), memory) as registry:
+                return registry.whois("AS-TAX0")[:6] == b"as-set"
+        except (Failure, OSError):
+            return False
+
+    low, high = 1 << 20, 1 << 31
+    full = served(high)
+    if not full:
+        raise Failure("2 GB are not enough to serve them")
+    while high - low > high // 50:
+        middle = (low + high) // 2
+        low, high = (low, middle) if served(middle) else (middle, high)
+    within = high
+    low, high = 1 << 20, 1 << 32
+    while high - low > high // 50:
+        middle = (low + high) // 2
+        low, high = (low, middle) if opened(full, middle) else (middle, high)
+    at_most(high / within, 1.1, f"opening takes {high >> 20} MB where serving took {within >> 20}", "times")
+    return f"served within {within >> 20} MB, opened within {high >> 20}"
+
+
+# What is stored.
+
+@case("files are their owner's alone")
+def modes(script):
+    """`init`, `load` and `migrate` make what nobody else can read, whatever the umask; the log of an older file is not widened."""
+    folder = script.place("modes")
+
+    def run(*words, umask=0):
+        made_by = subprocess.run([script.program, *words], cwd=folder, capture_output=True, umask=umask, timeout=60, check=False)
+        expect((made_by.returncode, made_by.stderr), (0, b""), " ".join(words))
+
+    def others(name):
+        paths = [os.path.join(folder, path) for path in os.listdir(folder) if path.startswith(name)]
+        return [path for path in paths if stat.S_IMODE(os.stat(path).st_mode) & 0o77]
+
+    write(folder, "dump.rpsl", ROOT.encode())
+    for name in ["init.db", "load.db"]:
+        write_settings(folder, store=name)
+        run(name[:4], "s.toml", *(["dump.rpsl"] if name == "load.db" else []))
+        expect(others(name), [], f"what others may read after {name[:4]}")
+    subprocess.run(["sqlite3", "old.db"], cwd=folder, stdin=open(os.path.join(TOP, "examples", "version1.sql"), "rb"), check=True)
+    os.chmod(os.path.join(folder, "old.db"), 0o600)
+    write_settings(folder, store="old.db")
+    run("migrate", "s.toml")
+    expect(others("old.db"), [], "what others may read after migrate")
+    return "init, load and migrate under umask 0"
+
+
+PRESSED = r"LC_ALL=C sed -E 's/^([a-z][a-z0-9_-]*:) +/\1/; s/^ {16}/ /' full.rpsl > small.rpsl"
+
+
+@case("a full dump that can't be loaded")
+def pressed(script):
+    """One object whose canonical text is too long for a paragraph: `sed` takes out blanks that say nothing, and the dump is loaded.
+    An object of 65,536 bytes without its last line feed stays too long by one."""
+    folder = made(script, "pressed")
+    with Registry(script, folder) as registry:
+        registry.register(attacks.stranger(), PASSWORD + attacks.crumbs("AS-LONG"))
+    loaded = load_pressed(script, folder)
+    expect(loaded, (5, 0, True), "load of the dump, of the pressed dump, and whether the registry is the same")
+    with Registry(script, folder) as registry:
+        text = attacks.crumbs("AS-EDGE").rstrip("\n")
+        registry.register(PASSWORD + text + "b" * (attacks.MOST_PARAGRAPH - len(text)))
+    expect(load_pressed(script, folder)[:2], (5, 5), "load of both with an object of just 65,536 bytes")
+    return "loaded after sed; the object of just 65,536 bytes stays"
+
+
+def load_pressed(script, folder):
+    """The statuses of `load` for a full dump, as it is and pressed, and whether what was loaded of the second is the registry."""
+    full = script.run(folder, "dump", "s.toml", "--full", timeout=60).printed
+    write(folder, "full.rpsl", full)
+    subprocess.run(PRESSED, shell=True, cwd=folder, check=True)
+    statuses = []
+    for name in ["full", "small"]:
+        with contextlib.suppress(FileNotFoundError):
+            os.remove(os.path.join(folder, f"{name}.db"))
+        write_settings(folder, store=f"{name}.db", name=f"{name}.toml")
+        statuses.append(script.run(folder, "load", f"{name}.toml", f"{name}.rpsl", timeout=60).status)
+    same = statuses[1] == 0 and script.run(folder, "dump", "small.toml", "--full", timeout=60).printed == full
+    return *statuses, same
+
+
+@case("members by reference, names of one component, and mnt-lower")
+def joined(script):
+    """What anybody may do to a set of somebody else: the text of each set stays, what it expands to does not."""
+    mine, holder = "password: mine\n\n", "A-MNT"
+    objects = [owned("aut-num:AS64496", maintainer=holder), owned("aut-num:AS64511"),
+               owned("as-set:AS64496:AS-REFERRED", "members:AS64496", f"mbrs-by-ref:{holder}", maintainer=holder),
+               owned("as-set:AS64496:AS-LISTED", "members:AS64496", maintainer=holder),
+               owned("route-set:AS64496:RS-OUT", "members:RS-PARTNER", maintainer=holder)]
+    joins = [owned("aut-num:AS64511", "member-of:AS64496:AS-REFERRED,AS64496:AS-LISTED", maintainer=f"E-MNT,{holder}"),
+             owned("route-set:RS-PARTNER", "members:0.0.0.0/0^0-32"), owned("as-set:AS-JUNK", f"mnt-lower:{holder}")]
+    with Registry(script, made(script, "joined")) as registry:
+        def texts():
+            return [registry.whois(name) for name in ("AS64496:AS-REFERRED", "AS64496:AS-LISTED", "AS64496:RS-OUT")]
+
+        registry.register(attacks.stranger(), mine + owned(f"mntner:{holder}", f"auth:{attacks.auth('mine')}", maintainer=holder),
+                          "password: bc\n\n" + mine + PASSWORD + "".join(objects))
+        before = texts()
+        registry.register(*(PASSWORD + text for text in joins))
+        expect(registry.whois("expand AS64496:AS-REFERRED"), b"AS64496\nAS64511\n", "a set that takes members by reference")
+        expect(registry.whois("expand AS64496:AS-LISTED"), b"AS64496\n", "a set that lists its members")
+        expect(registry.whois("prefixes AS64496:RS-OUT"), b"0.0.0.0/0^+\n", "a set that lists a name of one component")
+        expect(texts(), before, "the texts of the sets")
+        refused = registry.post(mine + f"as-set:AS-JUNK\ndelete:x\n\nmntner:{holder}\ndelete:x\n")
+        expect(refused, b"1 as-set AS-JUNK: refused E11\n2 mntner A-MNT: refused E17\n% items 2\n", "a mntner that others name")
+    return "joined by reference and by a name of one component; not by name"
+
+
+# Peers that wait, asked directly: what a proxy in front is for.
+
+def held(script, text, most, closes=False, drips=False):
+    """How long another peer waits after one that sent this, which has to be at most so long."""
+    with Registry(script, made(script, f"held{time.monotonic_ns()}")) as registry, contextlib.closing(registry.connect()) as peer:
+        peer.sendall(text)
+        if closes:
+            read_all(peer)
+        stop = threading.Event()
+        if drips:
+            threading.Thread(target=drip, args=(peer, stop), daemon=True).start()
+        time.sleep(0.2)
+        start = time.monotonic()
+        registry.whois("ROOT-MNT")
+        waited = time.monotonic() - start
+        stop.set()
+    at_most(waited, most, f"after {text[:20]!r} the next peer waits")
+    return f"the next peer waits {waited:.1f} s"
+
+
+def drip(peer, stop):
+    with contextlib.suppress(OSError):
+        while not stop.wait(5):
+            peer.sendall(b"a")
+
+
+@case("a silent peer, directly")
+def silent(script):
+    return held(script, b"", 12)
+
+
+@case("a peer that was answered and does not close, directly")
+def lingering(script):
+    return held(script, b"ROOT-MNT\r\n", 2, closes=True)
+
+
+@case("a peer that begins TLS, directly", is_long=True)
+def hello(script):
+    return held(script, bytes.fromhex("1603010040") + b"\x01" * 64, 12)
+
+
+@case("a dripping submission, directly", is_long=True)
+def dripping(script):
+    return held(script, b"POST /submissions HTTP/1.1\r\nContent-Length: 100\r\n\r\n", 65, drips=True)
+
+
+# What stands round the program.
+
+@case("the check restarts only what a restart mends")
+def checked(script):
+    check = os.path.join(TOP, "units", "irrdesk-check")
+
+    def status(url, *more):
+        ran = subprocess.run([check, url, *more], capture_output=True, text=True, timeout=60, check=False)
+        expect(bool(ran.stdout), ran.returncode != 0, "whether it says what it saw")
+        return ran.returncode
+
+    folder = made(script, "checked")
+    with Registry(script, folder) as registry:
+        url, place = f"http://127.0.0.1:{registry.port}/query/ROOT-MNT", f"127.0.0.1:{registry.port}"
+        expect(status(url, place), 0, "a registry that answers")
+        expect(status(f"http://{place}/nothing"), 3, "another server's answer")
+        expect(status(url, "127.0.0.1:1"), 2, "a whois port on which nothing listens")
+        with contextlib.closing(registry.connect()):
+            expect(status(url, place, "2"), 1, "a registry that does not answer")
+    expect(status(url), 3, "a refused connection")
+    with Registry(script, folder) as registry:
+        limit = os.path.getsize(os.path.join(folder, "irr.db-wal")) if os.path.exists(os.path.join(folder, "irr.db-wal")) else 0
+        subprocess.run(["prlimit", f"--pid={registry.process.pid}", f"--fsize={limit + 4096}"], check=True)
+        reply = registry.ask(attacks.posted(attacks.stranger() + PASSWORD + attacks.crumbs("AS-X")))
+        expect(b"refused E91" in reply, True, "whether the database failed")
+        expect(status(f"http://127.0.0.1:{registry.port}/query/ROOT-MNT"), 1, "a registry whose database failed")
+    return "7 states"

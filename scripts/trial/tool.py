@@ -162,7 +162,8 @@ def expect_line(ran, status, pattern, what):
 
 def items(count, tail=b""):
     """Paragraphs that add inetnums."""
-    return [b"inetnum: 10.%d.%d.0/24\nmnt-by: ROOT-MNT\nsource: TEST\n%s" % (*divmod(number, 256), tail) for number in range(count)]
+    return [b"inetnum: 10.%d.%d.%d/27\nmnt-by: ROOT-MNT\nsource: TEST\n%s" % (number >> 11, number >> 3 & 255, 32 * (number & 7), tail)
+            for number in range(count)]
 
 
 @contextlib.contextmanager

@@ -81,7 +81,7 @@ def say(failure: Failure, words: list[str]) -> None:
     """The one line of a failure, on standard error."""
     name = words[0] if words and words[0] in BY_NAME else ""
     line = f"irr {name}: {failure}" if name else f"irr: {failure}"
-    print(texts.shown(line), file=sys.stderr)
+    print(texts.shown_line(line), file=sys.stderr)
 
 
 def main(words: list[str] | None = None) -> int:
@@ -90,6 +90,9 @@ def main(words: list[str] | None = None) -> int:
     for number in (signal.SIGTERM, signal.SIGHUP):
         # A command tidies up before it ends: it may have files that are nobody else's to read.
         signal.signal(number, lambda number, _: sys.exit(128 + number))
+    for stream in sys.stdout, sys.stderr:
+        # A terminal that lacks a letter gets its number.
+        stream.reconfigure(errors="backslashreplace")  # type: ignore[union-attr]
     try:
         status = do(words)
         sys.stdout.flush()

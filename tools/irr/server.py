@@ -1,5 +1,6 @@
 """The registry's server over HTTP: `GET /query/..`, `POST /submissions` and `GET /dump`."""
 import argparse
+import contextlib
 import http.client
 import os
 from typing import Iterator
@@ -100,7 +101,9 @@ class Server:
         fields = {"Connection": "close", "User-Agent": "irr"} | self.credentials()
         try:
             connection = self.connect()
-            connection.request(method, self.path + path, body, fields)
+            # A server that takes no body of this length may answer, and close, before all of it is there.
+            with contextlib.suppress(BrokenPipeError, ConnectionResetError):
+                connection.request(method, self.path + path, body, fields)
             reply = connection.getresponse()
         except OSError as error:
             raise Failure(self.url, self.trouble(error)) from None
@@ -132,11 +135,11 @@ class Server:
         import base64
         import netrc
         try:
-            # The library looks only at the modes of the file that it finds by itself.
-            found = netrc.netrc(None if path == os.path.expanduser("~/.netrc") else path).authenticators(self.host)
-        except (netrc.NetrcParseError, OSError, UnicodeDecodeError) as error:
-            words = error.msg if isinstance(error, netrc.NetrcParseError) else "it cannot be read"
-            raise Failure(path, f"{words}; correct it, and let nobody else read it (chmod 600)") from None
+            if os.stat(path).st_mode & 0o077:
+                raise Failure(path, "others can read it; chmod 600 it")
+            found = netrc.netrc(path).authenticators(self.host)
+        except (netrc.NetrcParseError, OSError, UnicodeDecodeError):
+            raise Failure(path, "it cannot be read; write lines `machine HOST login USER password PASSWORD`") from None
         if not found:
             return {}
         both = f"{found[0]}:{found[2]}".encode()
@@ -150,9 +153,9 @@ class Server:
                     yield piece
                 if reply.length:
                     raise http.client.IncompleteRead(b"", reply.length)
-            except OSError as error:
+            except TimeoutError as error:
                 raise Failure(self.url, self.trouble(error)) from None
-            except http.client.HTTPException:
+            except (OSError, http.client.HTTPException):
                 raise Failure(self.url, "the answer was cut off; ask again") from None
 
     def refuse(self, reply: http.client.HTTPResponse) -> None:

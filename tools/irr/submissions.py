@@ -3,7 +3,7 @@ import functools
 import os
 from typing import Callable, Iterable, Iterator, NamedTuple
 
-from irr import answers, files, rpsl
+from irr import answers, files, rpsl, texts
 from irr.errors import ARGUMENTS, Failure, system_words
 from irr.rpsl import Attribute, Paragraph
 from irr.server import TooLarge
@@ -75,6 +75,8 @@ class Source:
     def __init__(self, path: str) -> None:
         self.name = "standard input" if path == "-" else path
         self.file = files.opened(path)
+        if self.file.isatty():
+            texts.note("irr: reading a submission from the terminal; control-D ends it")
         try:
             start = self.file.peek(4_096)  # type: ignore[attr-defined]
         except OSError:

@@ -77,7 +77,7 @@ def put_all(pieces: Iterable[bytes]) -> None:
 
 def note(words: str) -> None:
     """A line on standard error that is no failure."""
-    print(shown(words), file=sys.stderr)
+    print(shown_line(words), file=sys.stderr)
 
 
 def columns(rows: Iterable[Iterable[str]], gap: int = 2) -> list[str]:

@@ -1,0 +1,106 @@
+"""The tool `irr` by itself: its unit tests, its one file, its help, what shells read, and its pages."""
+import os
+import re
+import shutil
+import subprocess
+import sys
+import time
+
+from irr.codes import TABLE as CODES
+from trial.running import TOP, expect, run, write
+
+
+def own_tests(_script):
+    """The unit tests of its modules, and what pyflakes finds."""
+    done = subprocess.run([sys.executable, "-B", "-m", "unittest", "discover", "-s", "tests", "-t", "."], cwd=os.path.join(TOP, "tools"),
+                          capture_output=True, text=True, check=False)
+    last = done.stderr.strip().splitlines()[-1:] or [""]
+    expect((done.returncode, last[0].split(" ")[0]), (0, "OK"), f"the unit tests, {done.stderr[-600:]}")
+    if shutil.which("pyflakes3"):
+        found = subprocess.run(["pyflakes3", "tools", "tools/build"], cwd=TOP, capture_output=True, text=True, check=False)
+        expect(found.stdout + found.stderr, "", "what pyflakes finds")
+    return re.search(r"Ran \d+ tests", done.stderr)[0]
+
+
+def packing(script, tool):
+    """The one file: the same bytes each time, and all commands in it."""
+    folder = script.place("packed")
+    paths = [os.path.join(folder, name) for name in ("one", "two")]
+    for path in paths:
+        subprocess.run([os.path.join(TOP, "tools", "build"), path], check=True)
+        time.sleep(1.1)
+    texts = [open(path, "rb").read() for path in paths]
+    expect((texts[0] == texts[1], texts[0][:23]), (True, b"#!/usr/bin/env python3\n"), "two packings")
+    expect(os.access(paths[0], os.X_OK), True, "that it can be run")
+    listed = re.findall(r"^  (\S+) ", tool("--help").printed.decode(), re.M)
+    for name in listed:
+        for words in [name, "--help"], ["help", name]:
+            ran = tool(*words)
+            expect((ran.status, ran.said, b"\nExamples:\n  irr " in ran.printed), (0, b"", True), f"the help of {name}")
+    expect(tool("--version").printed.startswith(b"irr "), True, "the version")
+    return f"{len(listed)} commands"
+
+
+def completions(script, tool):
+    """What shells read is read by them, and bash completes commands, options and codes."""
+    folder, tried = script.place("completion"), []
+    for shell in "bash", "zsh", "fish":
+        ran = tool("completion", shell)
+        path = write(folder, f"irr.{shell}", ran.printed)
+        expect((ran.status, ran.printed.count(b"--dry-run") > 0), (0, True), f"the words for {shell}")
+        if shutil.which(shell):
+            expect(run([shell, "-n", path], folder).said, b"", f"what {shell} says of them")
+            tried.append(shell)
+    for line, wanted in [("irr que", "query"), ("irr submit --dr", "--dry-run"), ("irr explain E1", "E10 E11 E12 E13 E14 E15 E16 E17 E18"),
+                         ("irr completion f", "fish"), ("irr query inv", "inverse")]:
+        words = line.split()
+        given = " ".join(f"'{word}'" for word in words)
+        asked = f". {folder}/irr.bash; COMP_WORDS=({given}); COMP_CWORD={len(words) - 1}; _irr; echo ${{COMPREPLY[*]}}"
+        expect(run(["bash", "-c", asked], folder).printed.decode().strip(), wanted, f"{line}<tab>")
+    return ", ".join(tried)
+
+
+def pages(_script, tool):
+    """The manual names each command and option, is clean, and its codes are those of the table; so is the page for holders."""
+    parts = {}
+    for name in "irrdesk.1", "irr.1", "irr-register.1", "irr-filter.1", "irr-keep.1":
+        path = os.path.join(TOP, "man", name)
+        if os.path.exists(path):
+            with open(path, encoding="utf-8") as file:
+                parts[name] = file.read()
+    for name in "irr.1", "irr-register.1":
+        path = os.path.join(TOP, "man", name)
+        for command in ["mandoc", "-Tlint", path], ["groff", "-ww", "-mdoc", "-Tutf8", "-z", path]:
+            if shutil.which(command[0]):
+                ran = run(command, TOP)
+                # The other pages are not installed.
+                said = [line for line in (ran.printed + ran.said).decode().splitlines() if "referenced manual not found" not in line]
+                expect(said, [], f"what {command[0]} says of {name}")
+    listed = {}
+    for group, names in re.findall(r"^([a-z]+):\n((?:  .*\n)+)", tool("--help").printed.decode(), re.M):
+        listed |= {name: group for name in re.findall(r"^  (\S+) ", names, re.M)}
+    page = {"ask": "irr.1", "about": "irr.1", "register": "irr-register.1", "filter": "irr-filter.1", "keep": "irr-keep.1"}
+    for name, group in listed.items():
+        text = parts.get(page[group])
+        if text is None and group in ("filter", "keep"):
+            continue
+        expect(f".It Cm {name}" in text or f".Cm {name}" in text, True, f"{name} in {page[group]}")
+        for option in re.findall(r"^  (-[^ ,]+)(?:[^,\n]*, (--[a-z-]+))?", tool(name, "--help").printed.decode(), re.M):
+            word = (option[1] or option[0])
+            if word != "--help":
+                expect(f"Fl {word[1:]}" in text, True, f"{word} of {name} in {page[group]}")
+    table = {code.code: code for code in CODES}
+    expect(plain(tool("explain").printed.decode()), plain(" ".join(" ".join(code) for code in CODES)), "what `irr explain` prints")
+    manual = dict(re.findall(r"^\.It Li (E\d\d)\n((?:(?!\.It|\.El).*\n)+)", parts["irrdesk.1"], re.M))
+    with open(os.path.join(TOP, "docs", "SUBMITTING.md"), encoding="utf-8") as file:
+        listed = dict(re.findall(r"^- \*\*(E\d\d)\*\*: ((?:.+\n)(?:  .+\n)*)", file.read(), re.M))
+    expect((sorted(manual), sorted(listed)), (sorted(table), sorted(table)), "the codes of the manual and of the page")
+    for name, code in table.items():
+        expect(plain(re.sub(r"^\.\w+ ", "", manual[name], flags=re.M)), plain(code.sentence), f"{name} in the manual")
+        expect(plain(listed[name]), plain(f"{code.sentence} {code.causes} *Remedy:* {code.remedy}"), f"{name} in the page for holders")
+    return f"{len(table)} codes"
+
+
+def plain(words):
+    """Words without what marks code, and with single blanks; mdoc sets a blank before a comma or a full stop."""
+    return re.sub(r" ([.,;:])", r"\1", " ".join(words.replace("`", "").split()))

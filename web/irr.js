@@ -98,7 +98,7 @@ const ATTRIBUTES = {
 const asMember = item => isAs(item) || isSet(item, ['as-']) || /^as-any$/i.test(item);
 const rangeMember = item => isRange(item) || ((isAs(item.split('^')[0]) || isSet(item.split('^')[0]) || /^[ar]s-any$/i.test(item.split('^')[0])) && isBound(item));
 const CLASSES = {
-    'mntner': ['a name, as A-MNT', isMaintainer, 'nothing else', {'auth': '1+', 'mnt-by': '1+', 'source': '1'}],
+    'mntner': ['A-MNT', isMaintainer, '', {'auth': '1+', 'mnt-by': '1+', 'source': '1'}],
     'as-block': ['AS64496 - AS64511', text => /^\s*as\d+\s*-\s*as\d+\s*$/i.test(text) && text.split('-').every(part => isAs(part.trim())),
         'the closest block around it; it crosses no other block', {'mnt-lower': '0+', 'mnt-by': '1+', 'source': '1'}],
     'aut-num': ['AS64496', isAs, 'the closest as-block around it', {'member-of': '0+', 'mnt-lower': '0+', 'mnt-routes': '0+', 'mnt-by': '1+', 'source': '1'}],
@@ -189,12 +189,13 @@ async function copy(text, said, words) {
         await navigator.clipboard.writeText(text);
     } catch {
         // Without TLS there is no such clipboard: the old way, by a selection.
-        const held = el('textarea', {'aria-hidden': 'true'});
+        const held = el('textarea', {'aria-hidden': 'true'}), before = document.activeElement;
         held.value = text;
         document.body.append(held);
         held.select();
         const done = document.execCommand('copy');
         held.remove();
+        before?.focus();
         if (!done) words = 'This browser did not let the page copy: select the text by hand.';
     }
     said.textContent = words;
@@ -217,8 +218,16 @@ class Wire {
         this.said.classList.toggle('bad', bad);
     }
 
+    // What is no longer wanted says nothing more.
+    end() {
+        const old = this.current;
+        this.current = null;
+        this.stop.hidden = true;
+        old?.abort();
+    }
+
     async run(work) {
-        this.current?.abort();
+        this.end();
         const mine = this.current = new AbortController();
         this.stop.hidden = false;
         try {
@@ -248,7 +257,7 @@ class Wire {
         try {
             const reply = await fetch(path, {method: body === undefined ? 'GET' : 'POST', body, signal: cut.signal, cache: 'no-store', redirect: 'error'})
                 .catch(() => { throw new Trouble(this.why(signal, cut, `The server can't be reached, or it ended the connection. Ask again in a minute.${doubt}`, doubt)); });
-            if (reply.status !== 200) throw new Trouble((STATUSES[reply.status] ?? `The server answers with status ${reply.status}.`) + (reply.status > 500 ? doubt : ''));
+            if (reply.status !== 200) throw new Trouble((STATUSES[reply.status] ?? `The server answers with status ${reply.status}.`) + (reply.status >= 500 ? doubt : ''));
             if (!/^text\/plain\b/i.test(reply.headers.get('Content-Type') ?? '')) throw new Trouble(`What answers is not a registry: the server's operator has to hand ${path.split('/')[1]} on to it.`);
             const parts = [], reader = reply.body.getReader();
             for (;;) {
@@ -317,7 +326,7 @@ function kindOf(text) {
     if (text === '% no entries\n' || text === '% empty\n') return 'none';
     if (/^% error [1-6]\n$/.test(text)) return 'error';
     if (KINDS.includes(text.slice(0, text.indexOf(':')))) return text.endsWith('\n\n') ? 'objects' : 'cut';
-    if (!text.endsWith('\n')) return /^(?:$|[%A\d])/.test(text) ? 'cut' : 'strange';
+    if (!text.endsWith('\n')) return /^[%A\d]/.test(text) || KINDS.some(kind => kind.startsWith(text)) ? 'cut' : 'strange';
     return text.slice(0, -1).split('\n').every(line => MEMBER.test(line) || MISSING.test(line)) ? 'expansion' : 'strange';
 }
 
@@ -394,10 +403,11 @@ function linked(object, name, line) {
 }
 
 function objectBox(object) {
-    const place = object.kind === 'inetnum' || object.kind === 'route' ? prefixOf(object.name) : null;
+    const span = object.kind === 'inetnum' || object.kind === 'route' ? spanOf(object.name) : null, place = span && prefixOf(object.name);
     const also = queryFor[object.kind] ? [link(queryFor[object.kind][1](object), queryFor[object.kind][0])] : [];
     if (object.kind.endsWith('-set')) also.push(link(`prefixes ${object.key}`, 'Its prefixes'));
-    if (place) also.push(link(`less ${prefixText(place)}`, 'Around it'), link(`more ${prefixText(place)}`, 'Inside it'), mapLink(place, 'Map'));
+    if (place) also.push(link(`less ${prefixText(place)}`, 'Around it'), link(`more ${prefixText(place)}`, 'Inside it'));
+    if (span) also.push(mapLink(around(span), 'Map'));
     const name = `${object.kind} ${shown(object.key)}`;
     return el('article', {class: 'object', 'aria-label': name},
         el('h3', {}, `${object.kind} `, link(`object ${object.kind} ${object.key}`, object.key)),
@@ -458,7 +468,8 @@ function showLook(query) {
     $('answer').replaceChildren();
     $('queries').open = !query;
     look.say('');
-    if (!query) return look.current?.abort();
+    look.end();
+    if (!query) return;
     look.run(async signal => {
         const text = await look.query(signal, query), kind = kindOf(text);
         if (kind === 'none' || kind === 'error') return look.say(wordsOf(text), kind === 'error');
@@ -538,6 +549,7 @@ async function draw() {
     pen.scale(scale, scale);
     pen.font = '11px ui-monospace, "DejaVu Sans Mono", monospace';
     pen.textBaseline = 'top';
+    pen.lineJoin = 'round';
     // Which box is seen in each square of 8 points: the last one drawn there.
     const letter = pen.measureText('0').width, columns = Math.ceil(side / 8) + 1, seen = new Int32Array(columns * columns).fill(-1);
     const cells = (x, y, w, h) => [Math.floor(x / 8), Math.floor(y / 8), Math.floor((x + w) / 8), Math.floor((y + h) / 8)];
@@ -547,8 +559,8 @@ async function draw() {
         if (!holder && !isRouted) continue;
         for (const place of placesOf(box)) {
             const x = place.x * side, y = place.y * side, w = Math.max(1, place.w * side), h = Math.max(1, place.h * side), isSmall = Math.min(w, h) < 5;
-            const fill = holder ? holder.holders[0] : '';
-            if (fill !== filled) pen.fillStyle = fill ? colourOf(fill) : route;
+            const fill = (holder || box.objects[0]).holders[0];
+            if (fill !== filled) pen.fillStyle = colourOf(fill);
             filled = fill;
             if (holder || isSmall) pen.fillRect(x, y, w, h);
             const [left, top, right, bottom] = cells(x, y, w - 1, h - 1);
@@ -670,7 +682,7 @@ function showMap(given, isAnew = false) {
     const prefix = prefixOf(given);
     $('prefix').value = given;
     if (prefix && space.root && !isAnew && space.root.first <= prefix.first && lastOf(prefix) <= lastOf(space.root)) return present(prefix);
-    map.current?.abort();
+    map.end();
     space.root = null;
     space.drawings += 1;
     delete canvas.dataset.drawn;
@@ -719,20 +731,22 @@ function field(name, needs, about, check, isLong) {
     const input = el(isLong ? 'textarea' : 'input', {id: `field-${name}`, 'aria-describedby': `about-${name} fault-${name}`, spellcheck: 'false', autocapitalize: 'none', ...isLong ? {rows: '3'} : {}});
     fields[name] = {input, check, needs, fault: el('p', {id: `fault-${name}`, class: 'fault', hidden: true})};
     if (needs.startsWith('1')) input.setAttribute('aria-required', 'true');
-    return el('div', {class: 'field tall', 'data-name': name}, el('label', {for: `field-${name}`}, name + {'1': '', '1+': ' (one or more)', '0+': ' (if any)'}[needs]),
+    return el('div', {class: 'field tall', 'data-name': name}, el('label', {for: `field-${name}`}, (name === 'other' ? 'other attributes' : name) + {'1': '', '1+': ' (one or more)', '0+': ' (if any)'}[needs]),
         input, el('p', {id: `about-${name}`, class: 'hint'}, about), fields[name].fault);
 }
 
 function showClass() {
-    const kind = $('class').value, [example, check, needs, attributes, members, aboutMembers] = CLASSES[kind], source = fields.source?.input.value ?? '';
+    const kind = $('class').value, [example, check, needs, attributes, members, aboutMembers] = CLASSES[kind];
+    const before = Object.entries(fields).map(([name, {input}]) => [name, input.value]);
     for (const name of Object.keys(fields)) delete fields[name];
     const rows = Object.entries(attributes).map(([name, need]) => field(name, need, name === 'members' ? aboutMembers : ATTRIBUTES[name][0],
         name === 'members' ? members : ATTRIBUTES[name][1], name === 'auth' || name === 'members'));
     const other = field('other', '0+', 'Any other attributes, one a line, as "descr: Example Networks". They are kept as text, and shown to all.',
         text => text.split('\n').every(line => /^(?:[a-z][\w-]{0,63}\s*:|[ \t+])/i.test(line) && !/^(?:password|delete)\s*:/i.test(line)), true);
-    $('class-needs').textContent = `Besides a password of its own mnt-by, a new one needs the word of: ${needs}.`;
+    $('class-needs').textContent = `A new one needs a password of its own mnt-by${needs && `, and the word of ${needs}`}.`;
     $('attributes').replaceChildren(field(kind, '1', `as ${example}`, check), ...kind === 'mntner' ? [digestMaker()] : [], other, ...rows);
-    fields.source.input.value = source;
+    // What was written for another class stays where this one has the same attribute.
+    for (const [name, value] of before) if (name in fields && name !== 'members') fields[name].input.value = value;
     preview();
 }
 
@@ -751,7 +765,10 @@ function digestMaker() {
     };
     return el('fieldset', {}, el('legend', {}, 'A new password for it'), el('div', {class: 'field tall'}, el('label', {for: 'new-password'}, 'New password'), input,
         el('p', {id: 'about-new', class: 'hint'}, 'Its digest is made on this page. Take a long one, made by chance: others may try to guess it.')),
-        el('button', {type: 'button', click: () => faultOf(input.value) || !input.value ? send.say(faultOf(input.value) || 'Write the new password first.', true) : make()}, 'Make its auth line'));
+        el('button', {type: 'button', click: () => {
+            const fault = !isSafe ? 'Without TLS no password is taken.' : faultOf(input.value) || (input.value ? '' : 'Write the new password first.');
+            return fault ? send.say(fault, true) : make();
+        }}, 'Make its auth line'));
 }
 
 const faultOf = password => password !== password.trim() ? 'A password has no blank at its ends: the registry takes these away.' :

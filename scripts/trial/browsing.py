@@ -16,7 +16,7 @@ from trial.running import TOP, Failure, expect
 from trial.serving import free_port
 
 HOST = "irr.example.net"
-PATIENCE = 30
+PATIENCE = 60
 POLICY = ("default-src 'none'; script-src 'self'; style-src 'self'; img-src 'self' data:; connect-src 'self'; form-action 'self'; "
           "base-uri 'none'; frame-ancestors 'none'")
 NGINX = """

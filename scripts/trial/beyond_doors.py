@@ -13,7 +13,7 @@ from trial.costs import ROOT, at_most
 from trial.doors import HOST, PAGE, PASSWORD as DOOR_PASSWORD, USER, Haproxy, Nginx
 from trial.running import Failure, Skipped, expect
 
-# The most seconds that a client's request may keep another's waiting.
+# The most seconds that a client's request may keep another's waiting, beside what that waits on an idle registry of this machine.
 MOST_WAIT = 1.0
 TRIES = 3
 LET_IN, STRANGER, VICTIM = 1, 50, 200
@@ -92,20 +92,21 @@ class Victim:
 
 
 def waiting(door, ask, attack):
-    """The most that another client waits during the attack; the least of some tries."""
+    """How much longer than before it another client waits during the attack, at most; the least of some tries."""
     found = []
     for turn in range(TRIES):
         with Victim(ask) as victim:
-            time.sleep(0.3)
+            time.sleep(1.5)
+            idle = len(victim.waits)
             with contextlib.ExitStack() as held:
                 attack(door, held, STRANGER + 10 * turn)
                 time.sleep(2.5)
         if victim.bad:
-            raise Failure(f"another client was answered {victim.bad[0]!r}")
-        found.append(max(victim.waits))
+            raise Failure(f"{attack.__name__}: another client was answered {victim.bad[0]!r}")
+        found.append(max(victim.waits[idle:], default=0.0) - max(victim.waits[:idle], default=0.0))
         if found[-1] <= MOST_WAIT:
             break
-    return min(found)
+    return max(min(found), 0.0)
 
 
 def over_https(door):
@@ -124,7 +125,9 @@ def request(path, fields=""):
 
 def opened(door, held, last, text=b"", window=None):
     peer = held.enter_context(contextlib.closing(door.connect(last, window=window)))
-    peer.sendall(text)
+    # The proxy may answer and close before it has read all.
+    with contextlib.suppress(OSError):
+        peer.sendall(text)
     return peer
 
 
@@ -196,13 +199,13 @@ def whois_takes_slowly(door, held, last):
 
 
 def tried_all(script, kind, ask, tries):
-    """The most that another waits for each attack."""
+    """How much longer another waits during each attack."""
     told = []
     folder = made(script, f"{kind.__name__}-{ask.__name__}", dump=large())
     for attack in tries:
         with guarded(script, kind, attack.__name__, folder) as (_, door):
             waited = waiting(door, ask(door), attack)
-            at_most(waited, MOST_WAIT, f"{attack.__name__}: another client waits")
+            at_most(waited, MOST_WAIT, f"{attack.__name__}: another client waits longer by")
             told.append(f"{attack.__name__} {waited:.2f} s")
     return ", ".join(told)
 
@@ -327,7 +330,7 @@ def replaced_readers(script, kind):
         def seen(ask=None):
             """Which of the three answer: the set that only one of them has is asked for."""
             found = set()
-            for turn in range(12):
+            for turn in range(4):
                 for name in names:
                     query = f"AS-{name.upper()}"
                     text = door.whois(query, 20 + turn) if ask else door.get(f"/query/{query}", 20 + turn)[2]

@@ -170,7 +170,7 @@ def mixed(count):
 def weighed(script):
     """An object takes at most 900 bytes beside its canonical text."""
     sizes, texts = [], []
-    counts = [20_000, 60_000]
+    counts = script.pick([10_000, 30_000], [20_000, 200_000])
     for count in counts:
         folder = made(script, f"objects{count}", dump=mixed(count))
         ran = script.run(folder, "dump", "s.toml", "--full", timeout=attacks.LONGEST)
@@ -184,46 +184,31 @@ def weighed(script):
 
 @case("opened within the memory that served it")
 def reopened(script):
-    """Under each limit from the least one on, under which these were taken, the registry is opened within a tenth more."""
-    bodies = [attacks.stranger(), *(attacks.crumbs_in(mark) for mark in script.pick("AB", "ABCDEFGH"))]
-    empty, turn = made(script, "empty"), iter(range(1_000_000))
+    """Under each limit, a registry that took submissions until memory was wanting is opened again within a tenth more."""
+    told = []
+    for limit in script.pick([64, 96], range(48, 400, 32)):
+        folder, count = made(script, f"filled{limit}"), 0
+        with contextlib.suppress(Failure, OSError), Registry(script, folder, limit << 20) as registry:
+            registry.register(attacks.stranger())
+            while count < 1_000:
+                registry.register(attacks.crumbs_in(f"{count}-", 200_000))
+                count += 1
+        expect(0 < count < 1_000, True, f"whether {count} submissions fill {limit} MB")
+        needed = next(percent for percent in range(60, 400, 10) if opens(script, folder, limit * percent << 20, count))
+        at_most(needed / 100, 1.1, f"filled under {limit} MB by {count} submissions it is opened within", "times that")
+        told.append(f"{limit} MB: {needed} %")
+    return f"what opening takes of the limit under which it was filled: {', '.join(told)}"
 
-    def copied(folder):
-        copy = os.path.join(script.work, f"within{next(turn)}")
-        subprocess.run(["cp", "-r", folder, copy], check=True)
-        return copy
 
-    def served(memory):
-        """Whether all are taken; the folder is then as they left it."""
-        folder = copied(empty)
-        try:
-            with Registry(script, folder, memory) as registry:
-                registry.register(*bodies)
-            return folder
-        except (Failure, OSError):
-            return None
-
-    def opened(folder, memory):
-        try:
-            with Registry(script, copied(folder), memory) as registry:
-                return registry.whois("AS-TAX0")[:6] == b"as-set"
-        except (Failure, OSError):
-            return False
-
-    low, high = 1 << 20, 1 << 31
-    full = served(high)
-    if not full:
-        raise Failure("2 GB are not enough to serve them")
-    while high - low > high // 50:
-        middle = (low + high) // 2
-        low, high = (low, middle) if served(middle) else (middle, high)
-    within = high
-    low, high = 1 << 20, 1 << 32
-    while high - low > high // 50:
-        middle = (low + high) // 2
-        low, high = (low, middle) if opened(full, middle) else (middle, high)
-    at_most(high / within, 1.1, f"opening takes {high >> 20} MB where serving took {within >> 20}", "times")
-    return f"served within {within >> 20} MB, opened within {high >> 20}"
+def opens(script, folder, hundredths, count):
+    """Whether a registry is opened in this memory, with what the last submission that was taken put into it."""
+    copy = os.path.join(script.work, f"copy{time.monotonic_ns()}")
+    subprocess.run(["cp", "-r", folder, copy], check=True)
+    try:
+        with Registry(script, copy, hundredths // 100) as registry:
+            return registry.whois(f"AS-T{count - 1}-X0")[:6] == b"as-set"
+    except (Failure, OSError):
+        return False
 
 
 # What is stored.

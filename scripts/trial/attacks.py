@@ -135,12 +135,11 @@ def posted(body):
 
 
 class Registry:
-    """A registry in a folder of its own, served, in so many bytes of memory at most if that is said."""
+    """A registry in a folder of its own, served by a command that begins with these words: none, or what sets a limit."""
 
-    def __init__(self, script, folder, memory=None):
+    def __init__(self, script, folder, *within):
         self.port, self.folder = free_port(), folder
         words = ["serve", "s.toml", "--port", str(self.port), "--count", "1000000"]
-        within = ["prlimit", f"--as={memory}"] if memory else []
         self.process = subprocess.Popen([*within, script.program, *words], cwd=folder, stdin=subprocess.DEVNULL,
                                         stdout=subprocess.PIPE, stderr=subprocess.PIPE)
         first = self.process.stdout.readline()

@@ -8,6 +8,7 @@ import time
 
 from trial import attacks
 from trial.attacks import PASSWORD, Registry, made, owned
+from trial.doors import whois_command
 from trial.running import DIGEST, TOP, Failure, expect, write, write_settings
 from trial.serving import read_all
 
@@ -188,7 +189,7 @@ def reopened(script):
     told = []
     for limit in script.pick([64, 96], range(48, 400, 32)):
         folder, count = made(script, f"filled{limit}"), 0
-        with contextlib.suppress(Failure, OSError), Registry(script, folder, limit << 20) as registry:
+        with contextlib.suppress(Failure, OSError), Registry(script, folder, *within(limit << 20)) as registry:
             registry.register(attacks.stranger())
             while count < 1_000:
                 registry.register(attacks.crumbs_in(f"{count}-", 200_000))
@@ -200,12 +201,16 @@ def reopened(script):
     return f"what opening takes of the limit under which it was filled: {', '.join(told)}"
 
 
+def within(memory):
+    return ["prlimit", f"--as={memory}"]
+
+
 def opens(script, folder, hundredths, count):
     """Whether a registry is opened in this memory, with what the last submission that was taken put into it."""
     copy = os.path.join(script.work, f"copy{time.monotonic_ns()}")
     subprocess.run(["cp", "-r", folder, copy], check=True)
     try:
-        with Registry(script, copy, hundredths // 100) as registry:
+        with Registry(script, copy, *within(hundredths // 100)) as registry:
             return registry.whois(f"AS-T{count - 1}-X0")[:6] == b"as-set"
     except (Failure, OSError):
         return False
@@ -366,10 +371,25 @@ def checked(script):
         with contextlib.closing(registry.connect()):
             expect(status(url, place, "2"), 1, "a registry that does not answer")
     expect(status(url), 3, "a refused connection")
-    with Registry(script, folder) as registry:
-        limit = os.path.getsize(os.path.join(folder, "irr.db-wal")) if os.path.exists(os.path.join(folder, "irr.db-wal")) else 0
-        subprocess.run(["prlimit", f"--pid={registry.process.pid}", f"--fsize={limit + 4096}"], check=True)
-        reply = registry.ask(attacks.posted(attacks.stranger() + PASSWORD + attacks.crumbs("AS-X")))
+    with Registry(script, folder, "env", "--ignore-signal=XFSZ") as registry:
+        registry.register(attacks.stranger())
+        size = os.path.getsize(os.path.join(folder, "irr.db-wal"))
+        subprocess.run(["prlimit", f"--pid={registry.process.pid}", f"--fsize={size}"], check=True)
+        reply = registry.post(attacks.crumbs_in("X"))
         expect(b"refused E91" in reply, True, "whether the database failed")
         expect(status(f"http://127.0.0.1:{registry.port}/query/ROOT-MNT"), 1, "a registry whose database failed")
     return "7 states"
+
+
+@case("whois answers that are longer than the unit allows")
+def too_long(script):
+    """Nothing of an answer that the tool's file has no room for is handed on."""
+    dump = ROOT + "".join(owned(f"aut-num:AS{number}", "descr:" + "x" * 60_000, maintainer="ROOT-MNT") for number in range(65_000, 65_005))
+    with Registry(script, made(script, "long", dump=dump)) as registry:
+        command, environment = whois_command(registry.port)
+        for size, wanted in [(1 << 20, b"mntner:"), (100_000, b"% ")]:
+            ran = subprocess.run(["prlimit", f"--fsize={size}", *command], input=b"inverse mnt ROOT-MNT\n", env=environment,
+                                 capture_output=True, timeout=60, check=False)
+            expect(ran.stdout[:len(wanted)], wanted, f"the beginning of what is printed with room for {size} bytes")
+        expect(ran.stdout.count(b"\n"), 1, "the lines that are printed where there is no room")
+    return "a line that says so, and nothing of the answer"

@@ -17,7 +17,7 @@ ERRORS = {
 ERROR = re.compile(rb"% error ([1-6])\n")
 EXPANSION = re.compile(rb"AS[0-9]{1,10}|[0-9.]{7,15}/[0-9]{1,2}(?:\^(?:[+-]|[0-9]{1,2}(?:-[0-9]{1,2})?))?")
 MISSING = b"% missing "
-ITEM = re.compile(r"([0-9]+) (?:(-)|([a-z-]+) ([^:]+(?::[^:]+)*)): (added|changed|unchanged|deleted|refused (E[0-9]{2}))")
+ITEM = re.compile(r"([0-9]+) (-|[a-z-]+ [A-Za-z0-9./:_ -]+): (added|changed|unchanged|deleted|refused (E[0-9]{2}))")
 END = re.compile(r"% (?:items ([0-9]+)|read fault after ([0-9]+) items|stopped after ([0-9]+) items|memory after (0) items)")
 DUMP_END = re.compile(rb"% end ([0-9]+)\n")
 
@@ -105,15 +105,20 @@ def looks_like_objects(text: bytes) -> bool:
 
 
 class Item(NamedTuple):
-    """A line of a report: the item's number, its key if that could be read, the word, and the code if it was refused."""
+    """A line of a report: the item's number, its class and key as they are printed, or `-`, the word, and the code if it was refused."""
     number: int
-    key: keys.Key | None
+    name: str
     word: str
     code: str
 
+    @property
+    def key(self) -> keys.Key | None:
+        """The class and key, if they could be read."""
+        kind, _, text = self.name.partition(" ")
+        return keys.Key(kind, text) if text else None
+
     def text(self) -> str:
-        key = f"{self.key.kind} {self.key.text}" if self.key else "-"
-        return f"{self.number} {key}: {'refused ' + self.code if self.code else self.word}"
+        return f"{self.number} {self.name}: {'refused ' + self.code if self.code else self.word}"
 
 
 class Report:
@@ -121,18 +126,19 @@ class Report:
     or nothing if it was cut off."""
 
     def __init__(self, text: bytes, place: str = "the report") -> None:
-        self.text, self.items, self.end, self.count = text, [], "", 0
-        for line in text.split(b"\n")[:-1]:
-            words = line.decode("latin-1")
-            end, item = END.fullmatch(words), ITEM.fullmatch(words)
-            if self.end or not (end or item):
+        self.text, self.end, self.count = text, "", 0
+        self.items: list[Item] = []
+        for line in text.decode("latin-1").split("\n")[:-1]:
+            item = ITEM.fullmatch(line)
+            end = None if item else END.fullmatch(line)
+            if self.end or not (item or end):
                 raise Failure(place, "it answers what no registry of irrdesk answers; correct the address")
-            if end:
-                self.end = words[2:].split(" after")[0].split(" items")[0].rstrip("0123456789 ")
+            if item:
+                number, name, word, code = item.groups()
+                self.items.append(Item(int(number), name, "refused" if code else word, code or ""))
+            elif end:
+                self.end = line[2:].split(" after")[0].split(" items")[0].rstrip("0123456789 ")
                 self.count = int(next(number for number in end.groups() if number is not None))
-            else:
-                key = None if item[2] else keys.Key(item[3], item[4])
-                self.items.append(Item(int(item[1]), key, item[5].split(" ")[0], item[6] or ""))
 
     @property
     def refused(self) -> int:

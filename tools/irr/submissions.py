@@ -1,6 +1,8 @@
 """A submission on its way: its blocks, the passwords that count, and the parts in which it is sent."""
 import functools
 import os
+import threading
+from itertools import chain
 from typing import Callable, Iterable, Iterator, NamedTuple
 
 from irr import answers, files, rpsl, texts
@@ -20,8 +22,14 @@ BINARY = {b"\x1f\x8b": "it is compressed by gzip; unpack it", b"PK": "it is a zi
 class Item:
     """A block of a submission, and the place where it stands. It is read only when somebody asks what it says."""
 
-    def __init__(self, place: str, block: rpsl.Block) -> None:
-        self.place, self.block = place, block
+    def __init__(self, name: str, block: rpsl.Block) -> None:
+        self.name, self.block = name, block
+        self.may_have_password = b"password" in block.text.lower()
+
+    @property
+    def place(self) -> str:
+        """The file and line where it stands, for people."""
+        return f"{self.name}: line {self.block.line}"
 
     @functools.cached_property
     def read(self) -> Paragraph | rpsl.TextFault:
@@ -43,7 +51,7 @@ class Item:
 
     def passwords(self) -> list[Attribute]:
         """The passwords that it gives; none if it has a fault."""
-        if b"password" not in self.block.text.lower() or not self.paragraph:
+        if not self.may_have_password or not self.paragraph:
             return []
         return [attribute for attribute in self.paragraph.attributes if attribute.name == b"password"]
 
@@ -90,11 +98,7 @@ class Source:
         """Its blocks, none of which is waited for longer than needed."""
         with self.file:
             for block in rpsl.blocks(rpsl.chunks(self.file), rpsl.LARGEST + 1):
-                yield item_of(block, self.name)
-
-
-def item_of(block: rpsl.Block, name: str) -> Item:
-    return Item(f"{name}: line {block.line}", block)
+                yield Item(self.name, block)
 
 
 def password_item(secret: str, name: str) -> Item:
@@ -104,7 +108,7 @@ def password_item(secret: str, name: str) -> Item:
         raise Failure(name, "the password has a control character; choose another one", ARGUMENTS)
     if data != data.strip(rpsl.BLANKS):
         raise Failure(name, "the password has a blank at an end, which `password:` can't say; choose another one", ARGUMENTS)
-    return item_of(rpsl.Block(1, 0, b"password: " + data), f"password of {name}")
+    return Item(f"password of {name}", rpsl.Block(1, 0, b"password: " + data))
 
 
 class Reported(NamedTuple):
@@ -114,80 +118,138 @@ class Reported(NamedTuple):
     has_password: bool
 
 
+class Part(NamedTuple):
+    """Items that are sent at once, and the passwords that were given before them, as they are written."""
+    items: list[Item]
+    passwords: dict[bytes, bytes]
+
+    def body(self) -> bytes:
+        return front(self.passwords) + b"\n".join(item.text() for item in self.items)
+
+    def halves(self) -> "tuple[Part, Part]":
+        half = len(self.items) // 2
+        later = self.passwords | given(self.items[:half])
+        return Part(self.items[:half], self.passwords), Part(self.items[half:], later)
+
+
+def given(items: Iterable[Item]) -> dict[bytes, bytes]:
+    """The passwords of some items, each with the lines that give it."""
+    return {secret_of(attribute): attribute.short_text() for item in items for attribute in item.passwords()}
+
+
+def front(passwords: dict[bytes, bytes]) -> bytes:
+    """Paragraphs that give these passwords."""
+    paragraphs: list[list[bytes]] = []
+    size = 0
+    for text in passwords.values():
+        if not paragraphs or size + len(text) > rpsl.LARGEST:
+            paragraphs.append([])
+            size = 0
+        paragraphs[-1].append(text)
+        size += len(text)
+    return b"".join(b"".join(lines) + b"\n" for lines in paragraphs)
+
+
+class Posting(threading.Thread):
+    """A part on its way: the next one is made, and the report before it is shown, while the server judges it. It may take several
+    reports, the last of which may be a failure."""
+
+    def __init__(self, work: Callable[[], list[tuple[list[Item], answers.Report | Failure]]]) -> None:
+        super().__init__(daemon=True)
+        self.work = work
+        self.reports: list[tuple[list[Item], answers.Report | Failure]] = []
+        self.fault: BaseException | None = None
+        self.start()
+
+    def run(self) -> None:
+        try:
+            self.reports = self.work()
+        except BaseException as fault:
+            self.fault = fault
+
+    def result(self) -> list[tuple[list[Item], answers.Report | Failure]]:
+        self.join()
+        if self.fault:
+            raise self.fault
+        return self.reports
+
+
 class Sender:
     """Sends a submission in as many parts as it takes. `post` sends one part, of at most `most` bytes, and gives its report."""
 
     def __init__(self, post: Callable[[bytes], answers.Report], part: int = PART, most: int = MOST) -> None:
         self.post, self.part, self.most = post, part, most
-        # How many items are decided, how the report ends, and the passwords of the parts that were sent.
-        self.count, self.end = 0, "items"
-        self.passwords: dict[bytes, bytes] = {}
-
-    def front(self) -> bytes:
-        """The passwords that count for what comes."""
-        texts = list(self.passwords.values())
-        paragraphs, size = [], 0
-        for text in texts:
-            if not paragraphs or size + len(text) > rpsl.LARGEST:
-                paragraphs.append([])
-                size = 0
-            paragraphs[-1].append(text)
-            size += len(text)
-        return b"".join(b"".join(lines) + b"\n" for lines in paragraphs)
+        # How many items are decided, how the report ends, and whether a password was given before the item that is told.
+        self.count, self.end, self.has_password = 0, "items", False
+        self.read_fault = ""
 
     def send(self, items: Iterable[Item]) -> Iterator[Reported]:
         """The report, item by item, as it comes; `end` and `count` say then how it ends. A file that can't be read on ends the
         submission as `irrdesk submit` ends it."""
+        posting: Posting | None = None
+        for part in chain(self.parts(items), [None]):
+            reports = posting.result() if posting else []
+            is_good = all(isinstance(report, answers.Report) and report.is_whole for _, report in reports)
+            posting = Posting(functools.partial(self.post_part, part)) if part and is_good else None
+            for sent, report in reports:
+                yield from self.told(sent, report)
+            if not is_good:
+                return
+        if self.read_fault:
+            self.end = f"read fault ({self.read_fault})"
+
+    def parts(self, items: Iterable[Item]) -> Iterator[Part]:
+        """The items in parts, each with the passwords before it."""
+        passwords: dict[bytes, bytes] = {}
         waiting: list[Item] = []
-        size = len(self.front())
-        source = iter(items)
+        size, source = 0, iter(items)
         while True:
             try:
                 item = next(source, None)
             except OSError as error:
-                self.end = f"read fault ({system_words(error)})"
-                item = None
+                self.read_fault, item = system_words(error), None
+            length = len(item.text()) + 1 if item else 0
+            if waiting and (item is None or size + length > self.part):
+                yield Part(waiting, passwords)
+                passwords = passwords | given(waiting)
+                waiting, size = [], len(front(passwords))
             if item is None:
-                break
-            length = len(item.text()) + 1
-            if waiting and size + length > self.part:
-                yield from self.send_part(waiting)
-                if self.end != "items":
-                    return
-                waiting, size = [], len(self.front())
+                return
             waiting.append(item)
             size += length
-        if waiting:
-            fault, self.end = self.end, "items"
-            yield from self.send_part(waiting)
-            if self.end == "items":
-                self.end = fault
 
-    def send_part(self, items: list[Item]) -> Iterator[Reported]:
-        """The report of some items that are sent at once; in halves if the server takes no such length."""
-        body = self.front() + b"\n".join(item.text() for item in items)
+    def post_part(self, part: Part) -> list[tuple[list[Item], answers.Report | Failure]]:
+        """The report of a part; two of its halves, if the server takes no such length."""
+        body = part.body()
         try:
             if len(body) > self.most:
                 raise TooLarge("", f"a part with all passwords before it is over {self.most:,} bytes; leave out passwords")
-            report = self.post(body)
-        except TooLarge:
-            if len(items) == 1:
-                raise
+            return [(part.items, self.post(body))]
+        except TooLarge as failure:
+            if len(part.items) == 1:
+                return [(part.items, failure)]
             self.part = max(len(body) // 2, 1)
-            half = len(items) // 2
-            yield from self.send_part(items[:half])
-            if self.end == "items":
-                yield from self.send_part(items[half:])
-            return
-        numbered, lines = [item for item in items if item.is_item], iter(report.items)
+            first, second = part.halves()
+            found = self.post_part(first)
+            last = found[-1][1]
+            return found + (self.post_part(second) if isinstance(last, answers.Report) and last.is_whole else [])
+        except Failure as failure:
+            return [(part.items, failure)]
+
+    def told(self, items: list[Item], report: answers.Report | Failure) -> Iterator[Reported]:
+        """The items of a part with what the report says of them."""
+        if isinstance(report, Failure):
+            raise report
+        lines, count = iter(report.items), 0
         for item in items:
-            for attribute in item.passwords():
-                self.passwords.setdefault(secret_of(attribute), attribute.short_text())
-            line = next(lines, None) if item.is_item else None
-            if line:
-                yield Reported(item, line._replace(number=self.count + line.number), bool(self.passwords))
-        if report.is_whole and report.count != len(numbered):
-            raise Failure("the report", f"it counts {report.count} items where {len(numbered)} were sent; look at the last item above")
+            self.has_password = self.has_password or bool(item.passwords())
+            if item.is_item:
+                count += 1
+                line = next(lines, None)
+                if line:
+                    yield Reported(item, line._replace(number=self.count + line.number), self.has_password)
+        if report.is_whole and report.count != count:
+            raise Failure("the report", f"it counts {report.count} items where {count} were sent; look at the last item above")
         self.count += report.count if report.end else len(report.items)
         self.end = report.end if report.is_whole or report.end != "items" else ""
 

@@ -8,11 +8,11 @@ from irr import rpsl, submissions
 from irr.answers import Report
 from irr.errors import Failure
 from irr.server import TooLarge
-from irr.submissions import Sender, Source, item_of
+from irr.submissions import Item, Sender, Source
 
 
 def items_of(text):
-    return [item_of(block, "a file") for block in rpsl.blocks([text], rpsl.LARGEST + 1)]
+    return [Item("a file", block) for block in rpsl.blocks([text], rpsl.LARGEST + 1)]
 
 
 class Registry:

@@ -1,10 +1,9 @@
 """`irr submit FILE..`: sends a submission, and says why items were refused; `--dry-run` only looks what would be answered."""
 import argparse
-import sys
 from itertools import chain
 from typing import Iterable
 
-from irr import answers, asking, codes, server, submissions, texts
+from irr import asking, codes, server, submissions, texts
 from irr.errors import ARGUMENTS, DONE, FAILED, REFUSED, Failure
 from irr.reasons import Reasons
 from irr.submissions import Item, Reported, Sender, Source
@@ -46,26 +45,24 @@ def run(options: argparse.Namespace) -> int:
     if options.whose:
         raise Failure("--whose", "it goes with --dry-run; add that, or leave it out", ARGUMENTS)
     front = [submissions.password_item(asking.ask(f"password of {name}: "), name) for name in options.names]
-
-    def post(text: bytes) -> answers.Report:
-        # What is decided is shown before the next part is waited for.
-        sys.stdout.flush()
-        return place.submit(text)
-
-    return send(Sender(post), chain(front, *(source.items() for source in sources)), Printer(place, options.raw))
+    return send(Sender(place.submit), chain(front, *(source.items() for source in sources)), Printer(place, options.raw))
 
 
 class Printer:
     """Prints a report item by item, and why what is refused was refused."""
 
     def __init__(self, registry, raw: bool) -> None:
-        self.reasons, self.raw = Reasons(registry), raw
+        self.reasons, self.raw, self.is_coloured = Reasons(registry), raw, texts.has_colours()
         self.refused = 0
 
     def show(self, reported: Reported, word: str = "") -> None:
         """Prints what the report says of an item, or another word in place of that."""
-        front, mark, end = reported.line.text().rpartition(": ")
-        print(front + mark + texts.painted(word or end, COLOURS.get(reported.line.word, "")))
+        line = reported.line
+        if word or self.is_coloured:
+            word = word or (f"refused {line.code}" if line.code else line.word)
+            print(f"{line.number} {line.name}: {texts.painted(word, COLOURS[line.word])}")
+        else:
+            print(line.text())
         if reported.line.word == "refused":
             self.refused += 1
             if not self.raw:

@@ -180,7 +180,7 @@ def takes_slowly(door, held, last):
 
 
 def whois_asks_dearly(door, held, last):
-    for number in range(8):
+    for number in range(4):
         for turn in range(3):
             peer = held.enter_context(contextlib.closing(door.raw(door.whois_port, last + number)))
             with contextlib.suppress(OSError):

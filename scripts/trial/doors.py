@@ -185,7 +185,7 @@ def whois_command(registry):
     words = next(line.partition("=")[2].split() for line in units("irrdesk-whois@.service") if line.startswith("ExecStart="))
     place, environment = f"127.0.0.1:{registry}", dict(os.environ, PYTHONPATH=os.path.join(TOP, "tools"))
     if words[0].endswith("/irr-whois"):
-        return [os.path.join(TOP, "examples", "irr-whois"), place], environment
+        return [sys.executable, os.path.join(TOP, "examples", "irr-whois"), place], environment
     return [sys.executable, "-m", "irr", *words[1:-1], place], environment
 
 

@@ -32,6 +32,8 @@ class Attribute(NamedTuple):
 
     def meaning(self) -> bytes:
         """What the value says: its lines without comments, joined by one space."""
+        if len(self.lines) == 1:
+            return self.lines[0].partition(b"#")[0].strip(BLANKS)
         return b" ".join(line.partition(b"#")[0].strip(BLANKS) for line in self.lines).strip(BLANKS)
 
     def text(self) -> bytes:
@@ -39,6 +41,8 @@ class Attribute(NamedTuple):
         first = self.name + b":"
         if self.lines[0]:
             first = first.ljust(15) + b" " + self.lines[0]
+        if len(self.lines) == 1:
+            return first + b"\n"
         return b"".join(line + b"\n" for line in [first, *(b" " * 16 + line if line else b"+" for line in self.lines[1:])])
 
     def short_text(self) -> bytes:
@@ -87,7 +91,7 @@ class Paragraph:
 
     def text(self) -> bytes:
         """Canonical text."""
-        return b"".join(attribute.text() for attribute in self.attributes)
+        return b"".join([attribute.text() for attribute in self.attributes])
 
 
 def read(text: bytes) -> Paragraph:
@@ -100,10 +104,11 @@ def read(text: bytes) -> Paragraph:
 def read_any(text: bytes) -> Paragraph:
     """The same of a block of any size, as answers and dumps have them: canonical text may be longer than what was submitted."""
     attributes: list[Attribute] = []
+    has_bad = BAD_BYTE.search(text)
     for line in text.removesuffix(b"\n").split(b"\n"):
         if line[:1] in (b"#", b"%"):
             continue
-        if BAD_BYTE.search(line):
+        if has_bad and BAD_BYTE.search(line):
             raise TextFault("E01", "it has a control character")
         if line[:1] in (b" ", b"\t", b"\r", b"+"):
             if not attributes:

@@ -29,6 +29,8 @@ TABLE = (
     Command("auth", REGISTER, "auth", "make a password and its auth line"),
     Command("delegate", REGISTER, "delegate", "write the text that hands space and AS numbers over"),
     Command("explain", REGISTER, "explain", "say what a code of a report means, and what to do"),
+    Command("import", KEEP, "import_", "make a registry of another one's dump"),
+    Command("export", KEEP, "export", "write the public dump in files of one class each"),
     Command("completion", ABOUT, "completion", "print what a shell needs to complete the words of irr"),
 )
 BY_NAME = {command.name: command for command in TABLE}

@@ -1,0 +1,120 @@
+"""`irr import FILE..`: makes of dumps of other registries one that `irrdesk load` takes."""
+import argparse
+import contextlib
+import re
+import shutil
+import sys
+import tempfile
+from pathlib import Path
+from typing import Iterable, Iterator
+
+from irr import checking, files, importing, keys, texts
+from irr.errors import ARGUMENTS, DONE, Failure
+from irr.mending import KINDS, MNTNER, PASSWORD, Mender
+from irr.tally import Tally
+
+GIVEN = re.compile(r"([^ \t=]+)=(.*)", re.S)
+EXAMPLES = """
+irr import ripe.db.*.gz --source EXAMPLE --root ROOT-MNT --auth 'SHA256-PW salt:..' > full.rpsl
+irrdesk load irr.toml full.rpsl             the registry of it
+irr import radb.db --source EXAMPLE --root ROOT-MNT --auth @holders.auth --check -o full.rpsl
+                                            holders.auth has the root's line and lines A-MNT=SHA256-PW ..
+"""
+
+
+def arguments(parser: argparse.ArgumentParser) -> None:
+    parser.add_argument("files", nargs="+", metavar="FILE", help="a dump, plain or gzip'd; `-` for standard input")
+    parser.add_argument("--source", required=True, metavar="NAME", help="the name of the registry to be made")
+    parser.add_argument("--root", required=True, metavar="MNT", help="its root maintainer")
+    parser.add_argument("--auth", action="append", default=[], metavar="[MNT=]LINE",
+                        help="the root's `auth`, as `irr auth` makes it; with MNT= that of another maintainer; @FILE for a file of such "
+                        "lines; may be given several times")
+    parser.add_argument("-o", "--output", metavar="FILE", help="put the result into a file, in one step once it is whole")
+    parser.add_argument("--check", action="store_true",
+                        help="load the result into a scratch registry and compare its dump, object by object, before anything is printed")
+    parser.add_argument("--left-out", metavar="FILE", help="list all that is left out: cause, place and first line, with tabs between them")
+    parser.add_argument("--renamed", metavar="FILE",
+                        help="list all maintainers that got another name: old and new, with a tab between them")
+    mended = parser.add_argument_group("what is mended", "Each option turns one off; what needs it is left out then.")
+    for kind in KINDS.values():
+        mended.add_argument(f"--no-{kind.name}", dest="off", action="append_const", const=kind.name, help=kind.words)
+    parser.set_defaults(off=[])
+
+
+def run(options: argparse.Namespace) -> int:
+    root, source = keys.read_maintainer(options.root), keys.NAME.fullmatch(options.source)
+    if root is None:
+        raise Failure(options.root, "this is not a maintainer's name; correct --root", ARGUMENTS)
+    if source is None:
+        raise Failure(options.source, "this is not a name; correct --source", ARGUMENTS)
+    if options.files.count("-") > 1:
+        raise Failure("-", "standard input can be read once; give it once", ARGUMENTS)
+    auths = read_auths(options.auth, root)
+    if not auths.get(root):
+        raise Failure("--auth", "the root maintainer has no line; give one, as `irr auth` makes it", ARGUMENTS)
+    with contextlib.ExitStack() as stack:
+        tally = Tally(stack.enter_context(files.written(options.left_out)) if options.left_out else None)
+        made = importing.Import(Mender(options.source.upper(), root, frozenset(options.off)), auths, tally)
+        stack.callback(made.spool.close)
+        made.read(options.files)
+        if options.check:
+            checked(made, options, root, auths[root][0])
+        elif options.output:
+            with files.written(options.output, files.PRIVATE) as out:
+                made.write(out)
+        else:
+            sys.stdout.flush()
+            made.write(sys.stdout.buffer)
+            sys.stdout.buffer.flush()
+        if options.renamed:
+            files.put(options.renamed, (f"{old}\t{new}\n".encode("latin-1") for old, new in sorted(tally.renamed.items())))
+    for line in [*tally.lines(), *notes(made, root)]:
+        print(texts.shown_line(line), file=sys.stderr)
+    return DONE
+
+
+def notes(made: importing.Import, root: str) -> Iterator[str]:
+    if root in made.taken[MNTNER] and made.tally.made:
+        yield f"{root} was in a dump: its objects are the root maintainer's now; take another --root if that is not yours"
+
+
+def read_auths(given: Iterable[str], root: str) -> dict[str, list[bytes]]:
+    """The values of `auth` of each maintainer that has some."""
+    found: dict[str, list[bytes]] = {}
+    for words in unfolded(given):
+        named = GIVEN.fullmatch(words)
+        name, line = (named[1].upper(), named[2]) if named else (root, words)
+        line = " ".join(re.sub("^auth:", "", line.strip()).split())
+        if not PASSWORD.fullmatch(line.encode("utf-8", "surrogateescape")):
+            raise Failure("--auth", f"the line for {name} is not what `irr auth` makes; write SHA256-PW and salt:hash", ARGUMENTS)
+        found.setdefault(name, []).append(line.encode())
+    return found
+
+
+def unfolded(given: Iterable[str]) -> Iterator[str]:
+    """What was given, with the lines of each file in place of its name; comments and blank lines are passed over."""
+    for words in given:
+        if not words.startswith("@"):
+            yield words
+            continue
+        with files.opened(words[1:]) as source:
+            lines = source.read().decode("latin-1").split("\n")
+        yield from (line.strip() for line in lines if line.strip() and not line.startswith("#"))
+
+
+def checked(made: importing.Import, options: argparse.Namespace, root: str, auth: bytes) -> None:
+    """Writes the result once a registry was made of it that shows just that."""
+    with tempfile.TemporaryDirectory(prefix="irr-") as folder:
+        path = Path(folder) / "full.rpsl"
+        with open(path, "wb") as out:
+            made.write(out)
+        checking.check(path, options.source, root, auth.decode(), made.tally.taken + made.tally.made)
+        with open(path, "rb") as whole:
+            if options.output:
+                with files.written(options.output, files.PRIVATE) as out:
+                    shutil.copyfileobj(whole, out)
+            else:
+                sys.stdout.flush()
+                shutil.copyfileobj(whole, sys.stdout.buffer)
+                sys.stdout.buffer.flush()
+    texts.note(f"checked: irrdesk loads it, and its dump has these {made.tally.taken + made.tally.made:,} objects")

@@ -148,7 +148,7 @@ def unchunked(text):
 
 
 class Handed:
-    """The whois socket: an irr-whois for each connection, no more at once than the unit says, and no more of one address."""
+    """The whois socket: an `irr whois` for each connection, no more at once than the unit says, and no more of one address."""
 
     def __init__(self, port, registry):
         unit = dict(line.split("=", 1) for line in units("irrdesk-whois.socket") if "=" in line)
@@ -184,13 +184,11 @@ def whois_command(registry):
     """The command of the whois unit, run from the checkout, and its environment."""
     words = next(line.partition("=")[2].split() for line in units("irrdesk-whois@.service") if line.startswith("ExecStart="))
     place, environment = f"127.0.0.1:{registry}", dict(os.environ, PYTHONPATH=os.path.join(TOP, "tools"))
-    if words[0].endswith("/irr-whois"):
-        return [sys.executable, os.path.join(TOP, "examples", "irr-whois"), place], environment
     return [sys.executable, "-m", "irr", *words[1:-1], place], environment
 
 
 class Nginx(Door):
-    """nginx, with whois by an irr-whois for each connection, as the unit of the socket has it."""
+    """nginx, with whois by an `irr whois` for each connection, as the unit of the socket has it."""
 
     def __init__(self, *given):
         super().__init__(*given)

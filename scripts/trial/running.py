@@ -14,7 +14,7 @@ TOP = os.path.dirname(os.path.dirname(os.path.dirname(os.path.abspath(__file__))
 DIGEST = "ba7816bf8f01cfea414140de5dae2223b00361a396177a9cb410ff61f20015ad"
 AUTH = f"SHA256-PW a:{DIGEST}"
 # The most seconds that a run may take that takes a hundredth of one where the machine is idle.
-PATIENCE = 60
+PATIENCE = 900
 # The least bytes that a folder in memory has to have free.
 MEMORY_ROOM = 1 << 28
 SETTINGS = f"""source = "TEST"

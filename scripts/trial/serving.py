@@ -8,7 +8,7 @@ import time
 from trial.running import Failure, expect, limited, peak_memory
 
 GIVEN = b"HTTP/1.1 200 OK\r\nContent-Type: text/plain\r\nConnection: close\r\n\r\n"
-LONGEST = 75
+LONGEST = 700
 
 
 def free_port():

@@ -3,7 +3,8 @@ import argparse
 import contextlib
 import http.client
 import os
-from typing import Iterator
+import time
+from typing import Callable, Iterator, TypeVar
 from urllib.parse import quote, urlsplit
 
 from irr import answers, keys, texts
@@ -13,6 +14,8 @@ DEFAULT = "http://127.0.0.1:4343"
 # Seconds until the server takes the connection, and until the next bytes come: others may be served first.
 CONNECTING, WAITING = 10, 150
 LONGEST_QUERY = 1_024
+# Seconds for which a tool that runs by itself tries a refused connection again: in these a server starts again.
+PATIENCE = 30
 LOOPBACK = ("localhost", "::1")
 REMEDIES = {
     400: "the server does not take the request; is it https that it wants?",
@@ -43,6 +46,10 @@ def add_options(parser: argparse.ArgumentParser) -> None:
 class Server:
     """A registry at an address. Each call is a connection of its own; what goes wrong is a Failure in words."""
 
+    # Seconds for which a refused connection is tried again, and the most bytes that an answer may have.
+    patience: float = 0
+    most: int | None = None
+
     def __init__(self, url: str, plain: bool = False) -> None:
         try:
             parts = urlsplit(url)
@@ -71,8 +78,13 @@ class Server:
         if not text:
             raise Failure("", "the query is empty; see `irr query --help`", ARGUMENTS)
         # Of a longer one this much is enough for the registry to say so; all of it would not fit into a head.
-        reply = self.ask("GET", "/query/" + quote(text[:LONGEST_QUERY + 1], safe=""))
-        return answers.Answer(b"".join(self.body_of(reply)), self.url)
+        reply, pieces, size = self.ask("GET", "/query/" + quote(text[:LONGEST_QUERY + 1], safe="")), [], 0
+        for piece in self.body_of(reply):
+            pieces.append(piece)
+            size += len(piece)
+            if self.most is not None and size > self.most:
+                raise Failure(self.url, f"the answer has over {self.most:,} bytes; ask for less")
+        return answers.Answer(b"".join(pieces), self.url)
 
     def query_surely(self, *words: str | bytes) -> answers.Answer:
         """The answer to a query, asked twice: an answer has no end mark, so one that was cut differs from the next one."""
@@ -123,7 +135,7 @@ class Server:
             connection = http.client.HTTPSConnection(self.host, self.port, timeout=CONNECTING, context=ssl.create_default_context())
         else:
             connection = http.client.HTTPConnection(self.host, self.port, timeout=CONNECTING)
-        connection.connect()
+        persistently(connection.connect, self.patience)
         connection.sock.settimeout(WAITING)
         return connection
 
@@ -184,6 +196,21 @@ class Server:
         if name == "gaierror":
             return "the host is not known; correct the address"
         return f"{system_words(error)}; correct the address, or try again later"
+
+
+T = TypeVar("T")
+
+
+def persistently(connect: Callable[[], T], seconds: float) -> T:
+    """What a call gives that connects. One that is refused is tried again for these seconds."""
+    end = time.monotonic() + seconds
+    while True:
+        try:
+            return connect()
+        except ConnectionRefusedError:
+            if time.monotonic() >= end:
+                raise
+            time.sleep(0.2)
 
 
 def shown_url(url: str) -> str:

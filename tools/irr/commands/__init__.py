@@ -22,6 +22,7 @@ class Command(NamedTuple):
 TABLE = (
     Command("query", ASK, "query", "ask a registry"),
     Command("dump", ASK, "dump", "print the public dump"),
+    Command("whois", ASK, "whois", "answer one whois connection"),
     Command("tree", ASK, "tree", "show who holds what below a prefix"),
     Command("held", ASK, "held", "say whether anybody else can touch a prefix, and mend that"),
     Command("submit", REGISTER, "submit", "send a submission, or look what would be answered"),
@@ -29,6 +30,9 @@ TABLE = (
     Command("auth", REGISTER, "auth", "make a password and its auth line"),
     Command("delegate", REGISTER, "delegate", "write the text that hands space and AS numbers over"),
     Command("explain", REGISTER, "explain", "say what a code of a report means, and what to do"),
+    Command("bgpq", FILTER, "bgpq", "answer one connection of bgpq4"),
+    Command("filter", FILTER, "filter", "make a filter for BIRD or FRR"),
+    Command("rov", FILTER, "rov", "compare the registered routes with ROAs"),
     Command("import", KEEP, "import_", "make a registry of another one's dump"),
     Command("export", KEEP, "export", "write the public dump in files of one class each"),
     Command("completion", ABOUT, "completion", "print what a shell needs to complete the words of irr"),

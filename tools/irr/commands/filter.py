@@ -1,0 +1,110 @@
+"""`irr filter FORMAT NAME SET FILE`: a filter of what a set or an AS number stands for, made whole or not at all."""
+import argparse
+import sys
+from typing import Iterator
+
+from irr import files, keys, server, sets, texts
+from irr.errors import ARGUMENTS, DONE, REFUSED, Failure
+from irr.keys import Range
+
+EXAMPLES = """
+irr filter bird CUSTOMERS AS64496:RS-CUSTOMERS /etc/bird/customers.conf
+irr filter frr CUSTOMERS AS64496 -                        the routes of an AS, printed
+irr filter -m bird CUSTOMERS AS64496:AS-CUSTOMERS -       without the sets that are not registered
+irr filter --settings /etc/irrdesk/filters.toml           all filters of a file, each read by its router before it counts
+"""
+# No network has a range above this length, unless the user says so.
+WIDEST = 8
+NAME = "ABCDEFGHIJKLMNOPQRSTUVWXYZ0123456789_"
+
+
+def arguments(parser: argparse.ArgumentParser) -> None:
+    server.add_options(parser)
+    parser.add_argument("-m", "--missing", action="store_true", help="make the filter also if sets are missing, and say which")
+    parser.add_argument("--widest", metavar="LENGTH", default=str(WIDEST),
+                        help=f"the least length of a prefix, or of the prefix of a range: else {WIDEST}; 0 allows 0.0.0.0/0")
+    parser.add_argument("--settings", metavar="FILE", help="make the filters of these settings, and nothing else")
+    parser.add_argument("format", metavar="FORMAT", nargs="?", help="bird or frr")
+    parser.add_argument("name", metavar="NAME", nargs="?", help="the filter's name: capital letters, digits and _, a letter first")
+    parser.add_argument("set", metavar="SET", nargs="?", help="a set, such as AS64496:AS-CUSTOMERS, or an AS number")
+    parser.add_argument("file", metavar="FILE", nargs="?", help="is replaced by the filter if that could be made; - prints it")
+
+
+def run(options: argparse.Namespace) -> int:
+    if options.settings:
+        if options.format:
+            raise Failure(options.format, "with --settings there is nothing else; take it away", ARGUMENTS)
+        from irr import making
+        return making.make_all(options.settings)
+    widest = read_words(options)
+    place = server.Server.from_options(options.server, options.plain)
+    try:
+        found = ranges(place, options.set, options.missing)
+        if wide := [one.text() for one in found if one.prefix.length < widest]:
+            raise Failure(options.set, f"it has ranges wider than /{widest}: {sets.listed(wide)}; look who registered them, "
+                          "or allow them by --widest", REFUSED)
+        text = "".join(line + "\n" for line in FORMATS[options.format](options.name, found, f"{options.set.upper()} at {place.url}"))
+        if options.file == "-":
+            sys.stdout.write(text)
+        else:
+            files.put(options.file, text.encode("ascii"))
+            print(f"{options.file}: {options.set}: {texts.counted(len(found), 'range')}")
+    except Failure as failure:
+        stays = "" if options.file == "-" else f"; {options.file} stays as it was"
+        raise Failure(failure.thing, failure.what + stays, failure.status) from None
+    return DONE
+
+
+def read_words(options: argparse.Namespace) -> int:
+    """The widest length, once each word of the command line is known to be right; a Failure that names the one that is not."""
+    for word, what in [(options.format, "FORMAT"), (options.name, "NAME"), (options.set, "SET"), (options.file, "FILE")]:
+        if not word:
+            raise Failure(what, "it is missing; see `irr filter --help`", ARGUMENTS)
+    if options.format not in FORMATS:
+        raise Failure(options.format, "this is not a format; write bird or frr, and take bgpq4 for other routers", ARGUMENTS)
+    if options.name[0] not in NAME[:26] or options.name.strip(NAME):
+        raise Failure(options.name, "this is not the name of a filter; write capital letters, digits and _, such as CUSTOMERS", ARGUMENTS)
+    if keys.read_as(options.set) is None and keys.read_set(options.set) is None:
+        raise Failure(options.set, "this is not a set or an AS number; write it as AS64496:AS-CUSTOMERS or AS64496", ARGUMENTS)
+    if not options.widest.isdecimal() or int(options.widest) > 32:
+        raise Failure(options.widest, "this is not a length; write a number from 0 to 32 after --widest", ARGUMENTS)
+    return int(options.widest)
+
+
+def ranges(place: server.Server, name: str, without_missing: bool) -> list[Range]:
+    """The ranges that a set or an AS number stands for; there is one at least."""
+    number = keys.read_as(name)
+    if number is not None:
+        found = [Range(prefix, prefix.length, prefix.length) for prefix in sets.routes(place, number)]
+    else:
+        expansion = sets.expansion(place, "prefixes", name)
+        lines = expansion.lines if without_missing else expansion.whole(name)
+        if expansion.missing and without_missing:
+            texts.note(f"irr filter: {name}: made without sets that are not registered: {sets.listed(expansion.missing)}")
+        found = sets.ranges(lines, place.url)
+    if not found:
+        what = "no route has this origin" if number is not None else "the set has no prefixes"
+        raise Failure(name, f"{what}; an empty filter is not made", REFUSED)
+    return found
+
+
+def bird(name: str, found: list[Range], origin: str) -> Iterator[str]:
+    """A constant for BIRD 2, which writes the lengths after each prefix."""
+    yield f"# Made by irr filter of {origin}"
+    yield f"define {name} = ["
+    for place, one in enumerate(found, 1):
+        yield f"    {one.prefix.text()}{{{one.low},{one.high}}}" + ("," if place < len(found) else "")
+    yield "];"
+
+
+def frr(name: str, found: list[Range], origin: str) -> Iterator[str]:
+    """A prefix-list for FRR, which refuses what it does not name."""
+    yield f"! Made by irr filter of {origin}"
+    for place, one in enumerate(found, 1):
+        least = f" ge {one.low}" if one.low > one.prefix.length else ""
+        most = f" le {one.high}" if one.high > one.prefix.length else ""
+        yield f"ip prefix-list {name} seq {5 * place} permit {one.prefix.text()}{least}{most}"
+    yield f"ip prefix-list {name} seq {5 * (len(found) + 1)} deny any"
+
+
+FORMATS = {"bird": bird, "frr": frr}

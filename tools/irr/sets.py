@@ -1,0 +1,62 @@
+"""What a set or an AS number stands for, as filters want it: whole, or a Failure."""
+from typing import NamedTuple
+
+from irr import keys, rpsl
+from irr.errors import REFUSED, Failure
+from irr.keys import Prefix, Range
+from irr.server import Server
+
+# How many names a message has at most.
+MOST_NAMES = 10
+
+
+class Expansion(NamedTuple):
+    """The lines of an expansion, and the names that are missing in it."""
+    lines: list[str]
+    missing: list[str]
+
+    def whole(self, name: str) -> list[str]:
+        """The lines, if nothing is missing."""
+        if self.missing:
+            raise Failure(name, f"sets that it reaches are not registered: {listed(self.missing)}; register them, or take them out",
+                          REFUSED)
+        return self.lines
+
+
+def expansion(place: Server, query: str, name: str) -> Expansion:
+    """The answer to `expand` or `prefixes` of a set that is registered."""
+    answer = place.query_surely(query, name)
+    if answer.error:
+        raise Failure(name, f"% error {answer.error}: {answer.words()}", REFUSED)
+    if answer.has_none:
+        raise Failure(name, "the set is not registered; correct the name, or register it", REFUSED)
+    if not answer.is_empty and answer.kind != "expansion":
+        raise Failure(place.url, "it answers what no registry of irrdesk answers; correct the address")
+    return Expansion(answer.lines(), answer.missing())
+
+
+def ranges(lines: list[str], place: str) -> list[Range]:
+    """The ranges of an expansion. Each has a prefix in it."""
+    found = [keys.read_range(line) for line in lines]
+    if not all(one and one.low <= one.high for one in found):
+        raise Failure(place, "it answers what no registry of irrdesk answers; correct the address")
+    return [one for one in found if one]
+
+
+def routes(place: Server, number: int) -> list[Prefix]:
+    """The prefixes of the routes of an origin, each once and in order."""
+    query = f"inverse origin AS{number}"
+    answer = place.query_surely(query).or_failure(query)
+    found = set()
+    for paragraph in rpsl.paragraphs([answer.text] if answer.kind == "objects" else []):
+        prefix = keys.read_prefix(paragraph.value(b"route"))
+        if prefix is None or keys.read_as(paragraph.value(b"origin")) != number:
+            raise Failure(place.url, "it answers what no registry of irrdesk answers; correct the address")
+        found.add(prefix)
+    return sorted(found)
+
+
+def listed(names: list[str]) -> str:
+    """Names with commas between them: the first ones, and how many more there are."""
+    more = len(names) - MOST_NAMES
+    return ", ".join(names[:MOST_NAMES]) + (f" and {more:,} more" if more > 0 else "")

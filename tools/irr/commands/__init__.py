@@ -35,6 +35,10 @@ TABLE = (
     Command("rov", FILTER, "rov", "compare the registered routes with ROAs"),
     Command("import", KEEP, "import_", "make a registry of another one's dump"),
     Command("export", KEEP, "export", "write the public dump in files of one class each"),
+    Command("mirror", KEEP, "mirror", "serve readers: copies of a registry that answer its queries"),
+    Command("backup", KEEP, "backup", "make a tried copy of a registry, served or not"),
+    Command("history", KEEP, "history", "keep each public state of a registry, and show what was"),
+    Command("reset", KEEP, "reset", "give a maintainer of a stopped registry another password"),
     Command("completion", ABOUT, "completion", "print what a shell needs to complete the words of irr"),
 )
 BY_NAME = {command.name: command for command in TABLE}

@@ -1,0 +1,114 @@
+"""`irr backup FOLDER`: a tried copy of a registry, served or not."""
+import argparse
+import os
+import re
+import shutil
+import tempfile
+import time
+from pathlib import Path
+
+from irr import files, stores, texts
+from irr.errors import ARGUMENTS, DATABASE, DONE, Failure
+from irr.stores import Copy, Settings
+
+EXAMPLES = """
+irr backup /var/backups/irrdesk                       of /etc/irrdesk/irr.toml, which may be served
+irr backup --settings irr.toml --keep 30 backups
+irr backup --copy /snapshot/irr.db backups            of a snapshot of the file system
+
+To restore one, stop the server, put the file irr.db of the backup in the place of the database, and remove the
+log of what stood there, irr.db-wal. Or load its dump.rpsl as a new registry.
+"""
+NAME = re.compile("[0-9]{8}T[0-9]{6}Z")
+
+
+def arguments(parser: argparse.ArgumentParser) -> None:
+    parser.add_argument("--settings", metavar="FILE", default=stores.DEFAULT, help=f"those of the registry; {stores.DEFAULT} otherwise")
+    parser.add_argument("--keep", metavar="COUNT", type=int, default=7, help="how many backups are kept, 7 otherwise")
+    parser.add_argument("--hold", metavar="SECONDS", type=float, default=30,
+                        help="how long a server may be held still while its database is copied, 30 otherwise")
+    parser.add_argument("--copy", metavar="FILE", help="take this database and the log beside it, of a snapshot of the file system")
+    parser.add_argument("folder", metavar="FOLDER", help="where the backups are kept, each in a folder named after its time")
+
+
+def run(options: argparse.Namespace) -> int:
+    if options.keep < 1 or not 0 < options.hold <= 300:
+        raise Failure("", "--keep takes a number from 1, and --hold seconds up to 300; correct them", ARGUMENTS)
+    os.umask(0o077)
+    settings = Settings.read(options.settings)
+    place = files.folder(options.folder, 0o700)
+    if place.stat().st_mode & 0o077:
+        raise Failure(options.folder, "others may enter the folder, and backups hold each hash; chmod 700 it")
+    with files.locked(place):
+        for left in place.glob(".new-*"):
+            shutil.rmtree(left)
+        with tempfile.TemporaryDirectory(prefix=".new-", dir=place) as work:
+            made, held = make(settings, options, Path(work))
+            name = time.strftime("%Y%m%dT%H%M%SZ", time.gmtime())
+            if (place / name).exists():
+                raise Failure(str(place / name), "there is a backup of this second; try again")
+            why = tried(Path(work), settings, made)
+            os.rename(made.folder, place / name)
+            files.sync_folder(place)
+        for old in sorted(entry for entry in place.iterdir() if NAME.fullmatch(entry.name))[:-options.keep]:
+            shutil.rmtree(old)
+    if why:
+        raise Failure(str(place / name), f"its irr.db is good, but it has no dump, because that cannot be loaded: {why}", DATABASE)
+    objects = texts.counted(count_of(place / name / "dump.rpsl"), "object")
+    print(texts.shown_line(f"{place / name}: {objects}, the database was held for {held:.2f} s"))
+    return DONE
+
+
+def make(settings: Settings, options: argparse.Namespace, work: Path) -> tuple[Copy, float]:
+    """The backup in a folder of the working one: SQLite's copy of the database as it stands, and the settings beside it. And the seconds
+    for which the database was held."""
+    held, made = Copy(work / "held", settings.text()), Copy(work / "made", settings.text())
+    start = time.monotonic()
+    if options.copy:
+        stores.copied_store(Path(options.copy), Path(options.copy + "-wal"), held)
+        seconds = 0.0
+    else:
+        with stores.still(settings, options.hold):
+            stores.copied_store(settings.store, settings.log, held)
+        seconds = time.monotonic() - start
+    # SQLite writes the log into the file when it closes; what it copies is what both had.
+    as_it_was = Copy(work / "as-it-was", settings.text())
+    stores.copied_store(held.store, held.log, as_it_was)
+    stores.sqlite_copy(held.store, made.store)
+    as_it_was.dump(work / "full.rpsl", full=True)
+    return made, seconds
+
+
+def tried(work: Path, settings: Settings, made: Copy) -> str:
+    """Opens the backup and compares it with the copy; loads its dump and compares that too. The words of the program if the dump of a
+    good copy cannot be loaded, else nothing."""
+    full = work / "full.rpsl"
+    opened = Copy(work / "opened", settings.text())
+    stores.copied(made.store, opened.store)
+    opened.dump(work / "opened.rpsl", full=True)
+    if not stores.same(full, work / "opened.rpsl"):
+        raise Failure(str(settings.store), "SQLite's backup has other objects than the database; look at the disk", DATABASE)
+    dump, loaded = made.folder / "dump.rpsl", Copy(work / "loaded", settings.text())
+    files.put(dump, stores.pressed(stores.blocks_of(full)), files.PRIVATE)
+    why = ""
+    try:
+        loaded.load(dump)
+    except Failure as failure:
+        why = failure.what.partition(": ")[2].partition("dump.rpsl")[2].lstrip(":, ") or failure.what
+        dump.unlink()
+    else:
+        loaded.dump(work / "loaded.rpsl", full=True)
+        if not stores.same(full, work / "loaded.rpsl"):
+            raise Failure(str(settings.store), "the dump gives other objects than the database when it is loaded; tell it as a fault "
+                          "of irr", DATABASE)
+    for path in made.folder.iterdir():
+        with open(path, "rb") as file:
+            os.fsync(file.fileno())
+    files.sync_folder(made.folder)
+    return why
+
+
+def count_of(dump: Path) -> int:
+    with open(dump, "rb") as file:
+        file.seek(max(0, dump.stat().st_size - 64))
+        return int(file.read().rpartition(b"% end ")[2])

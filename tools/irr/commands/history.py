@@ -1,0 +1,108 @@
+"""`irr history FOLDER`, `irr history show KEY` and `irr history at TIME WORD..`: what a registry had, and what it answered."""
+import argparse
+import hashlib
+import os
+import time
+from pathlib import Path
+from typing import Iterable, Iterator
+
+from irr import answers, files, rpsl, scratch, server, texts
+from irr.errors import ARGUMENTS, DONE, REFUSED, Failure
+from irr.past import Repository, note_of_age, read_key, read_time, shown_time, told
+
+DEFAULT = "/var/lib/irrdesk-history"
+EXAMPLES = """
+irr history /var/lib/irrdesk-history                   fetch the public dump, and commit what has changed
+irr history show route 192.0.2.0/24 AS64496            the versions of an object, with their times
+irr history at 2026-11-26T12:00Z closest 192.0.2.1     what was answered then
+git -C /var/lib/irrdesk-history log --stat             what git has: a file for each object
+
+`show` and `at` read the folder of --folder, or of IRR_HISTORY, or /var/lib/irrdesk-history. A change is dated by the
+fetch that saw it; of two between two fetches the second alone is seen. Passwords are not public, so a new one is not
+seen. Nor is who changed what: the log of the proxy in front of /submissions has that.
+"""
+
+
+def arguments(parser: argparse.ArgumentParser) -> None:
+    server.add_options(parser)
+    parser.add_argument("--folder", metavar="FOLDER", help="that of `show` and `at`")
+    parser.add_argument("--limit", metavar="COUNT", type=int, default=10_000,
+                        help="for `at`: `limit` of the registry's settings, 10000 otherwise")
+    parser.add_argument("words", nargs="+", metavar="WORD", help="FOLDER, `show` and a key, or `at`, a time and a query")
+
+
+def run(options: argparse.Namespace) -> int:
+    first, *rest = options.words
+    if first in ("show", "at"):
+        repository = Repository(Path(options.folder or os.environ.get("IRR_HISTORY") or DEFAULT))
+        if not repository.is_there:
+            raise Failure(str(repository.folder), "there is no history; give its folder by --folder, or begin one by `irr history FOLDER`",
+                          ARGUMENTS)
+        if len(rest) < (1 if first == "show" else 2):
+            raise Failure(first, "a word is missing; see `irr history --help`", ARGUMENTS)
+        return show(repository, rest) if first == "show" else answer_at(repository, rest[0], rest[1:], options.limit)
+    if rest or options.folder:
+        raise Failure(first, "take one FOLDER, or the word `show` or `at`; see `irr history --help`", ARGUMENTS)
+    return record(Path(first), server.Server.from_options(options.server, options.plain))
+
+
+def record(place: Path, source: server.Server) -> int:
+    files.folder(place)
+    with files.locked(place):
+        # The dump comes whole or not at all, before anything is looked at.
+        dump, digest = place / "fetched", hashlib.sha256()
+        now = int(time.time())
+        files.put(dump, source.dump())
+        try:
+            with open(dump, "rb") as file:
+                counts = Repository(place).record(rpsl.blocks(digested(rpsl.chunks(file), digest)), digest.hexdigest, now)
+        finally:
+            dump.unlink()
+    if counts:
+        print(texts.shown_line(f"{place}: {counts}"))
+    return DONE
+
+
+def digested(pieces: Iterable[bytes], digest) -> Iterator[bytes]:
+    for piece in pieces:
+        digest.update(piece)
+        yield piece
+
+
+def show(repository: Repository, words: list[str]) -> int:
+    key, found = read_key(words), False
+    for version in repository.versions(key):
+        found = True
+        texts.put(told(version))
+    if not found:
+        texts.note(f"irr history: {key.kind} {key.text}: it was never seen")
+    return DONE if found else REFUSED
+
+
+def answer_at(repository: Repository, when: str, words: list[str], limit: int) -> int:
+    """Makes the registry of then in a temporary folder, and asks it."""
+    asked = read_time(when)
+    state = repository.state(asked)
+    if state is None:
+        began = f"the history begins at {shown_time(repository.first())}" if repository.state() else "the history is empty"
+        raise Failure(when, f"{began}; ask for a later time", ARGUMENTS)
+    objects = repository.objects(state)
+    first = next(objects)
+    source = rpsl.read_any(first[:-1]).value(b"source").decode("latin-1")
+
+    def pieces() -> Iterator[bytes]:
+        yield first
+        yield from objects
+    with scratch.Scratch(source, limit=limit) as then:
+        loadable = then.folder / "then.rpsl"
+        files.put(loadable, scratch.loadable(pieces()), files.PRIVATE)
+        then.load(loadable)
+        if hashlib.sha256(then.dump()).hexdigest() != state.dump:
+            raise Failure(str(repository.folder), f"commit {state.commit} does not give the dump that it was made of; the repository was "
+                          "changed, or irrdesk is another one")
+        answer = answers.Answer(then.query(*words), when)
+    note_of_age(repository, asked)
+    texts.put(answer.text)
+    if answer.error:
+        texts.note(f"irr history: {' '.join(words)}: {answer.words()}")
+    return REFUSED if answer.error else DONE

@@ -1,0 +1,68 @@
+"""`irr mirror FOLDER`: readers, which are registries made of the public dump of another one."""
+import argparse
+import os
+import time
+
+from irr import files, readers, scratch, server, texts
+from irr.errors import ARGUMENTS, Failure
+
+EXAMPLES = """
+irr mirror readers                                           one reader of the registry of IRR_SERVER, at port 4344
+irr mirror -s https://irr.example.net --port 4344 --port 4345 --agent 4340 /var/lib/irrdesk-mirror
+
+A reader answers each query as the registry does that it is made of, and goes on while that is stopped. It lets nobody
+submit, and has no hash of a password. Give two ports at least: one reader after the other is started again on new
+objects, so that one always answers. In a proxy each port is a server: see examples/haproxy.cfg.
+"""
+
+
+def arguments(parser: argparse.ArgumentParser) -> None:
+    server.add_options(parser)
+    parser.add_argument("--port", metavar="PORT", type=int, action="append", help="a port of 127.0.0.1 that a reader serves, 4344 "
+                        "otherwise; several of these options are several readers")
+    parser.add_argument("--every", metavar="SECONDS", type=float, default=60, help="when the dump is fetched again, after 60 otherwise")
+    parser.add_argument("--limit", metavar="COUNT", type=int, default=10_000, help="`limit` of the registry's settings, 10000 otherwise")
+    parser.add_argument("--agent", metavar="PORT", type=int, help="the port of 127.0.0.1 at which HAProxy asks which readers end soon")
+    parser.add_argument("folder", metavar="FOLDER", help="where the readers' databases are kept")
+
+
+def run(options: argparse.Namespace) -> int:
+    ports = options.port or [4344]
+    if not all(0 < port < 65_536 for port in [*ports, options.agent or 1]) or len({*ports, options.agent}) != len(ports) + 1:
+        raise Failure("", "the ports are not from 1 to 65535, each another one; correct them", ARGUMENTS)
+    if options.every < 1 or not 1 <= options.limit <= 1_000_000:
+        raise Failure("", "--every takes seconds from 1, and --limit a number from 1 to 1000000; correct them", ARGUMENTS)
+    place = server.Server.from_options(options.server, options.plain)
+    scratch.find_program()
+    os.umask(0o077)
+    folder = files.folder(options.folder, 0o700)
+    with files.locked(folder):
+        keeper = readers.Keeper(folder, ports, readers.Agent(options.agent) if options.agent else None)
+        try:
+            keep(keeper, place, options)
+        finally:
+            keeper.end()
+
+
+def keep(keeper: readers.Keeper, place: server.Server, options: argparse.Namespace) -> None:
+    """Goes on until a signal ends it. A failure is said each time, and the readers go on with what they have."""
+    attempt(keeper.start)
+    next_time = time.monotonic()
+    while True:
+        if time.monotonic() >= next_time:
+            if attempt(lambda: keeper.renew(place, options.limit)):
+                print(texts.shown_line(f"irr mirror: the readers have {readers.told(keeper.made)}"), flush=True)
+            next_time = time.monotonic() + options.every
+        attempt(keeper.revive)
+        time.sleep(0.2)
+
+
+def attempt(do) -> bool:
+    """What a step gives; a failure of it is one line, and nothing."""
+    try:
+        return bool(do())
+    except Failure as failure:
+        texts.note(f"irr mirror: {failure}")
+    except OSError as error:
+        texts.note(f"irr mirror: {error.filename or 'a file'}: {(error.strerror or str(error)).lower()}; the readers go on as they are")
+    return False

@@ -1,0 +1,137 @@
+"""`irr reset NAME`: another password for a maintainer of a registry that is stopped."""
+import argparse
+import os
+import tempfile
+from pathlib import Path
+from typing import Iterator
+
+from irr import asking, files, hashes, keys, rpsl, stores, submissions, texts
+from irr.commands import auth as auths
+from irr.errors import ARGUMENTS, DATABASE, DONE, Failure
+from irr.rpsl import Attribute, Paragraph
+from irr.stores import Copy, Settings
+
+EXAMPLES = """
+irr reset EXAMPLE-MNT --auth 'SHA256-PW k3:ccda..'     the line that its holder made by `irr auth`
+irr reset EXAMPLE-MNT --save new.password              a new password, in a file that only you can read
+irr reset EXAMPLE-MNT --settings irr.toml              a new password, which the terminal shows
+
+Stop the server before: systemctl stop irrdesk. All `auth` lines of the maintainer are replaced by the new one.
+Make sure that you speak to the holder: whoever has the new password has all that the maintainer holds.
+"""
+
+
+def arguments(parser: argparse.ArgumentParser) -> None:
+    parser.add_argument("--settings", metavar="FILE", default=stores.DEFAULT, help=f"those of the registry; {stores.DEFAULT} otherwise")
+    how = parser.add_mutually_exclusive_group()
+    how.add_argument("--auth", metavar="VALUE", help="the value of the new `auth` line, as `irr auth` prints it")
+    how.add_argument("--ask", action="store_true", help="ask for the new password, twice; otherwise one of 96 random bits is made")
+    how.add_argument("--save", metavar="FILE", help="write the new password into a new file that only you can read, as a `password:` line")
+    parser.add_argument("name", metavar="NAME", help="the maintainer")
+
+
+def run(options: argparse.Namespace) -> int:
+    name = keys.read_maintainer(options.name)
+    if name is None:
+        raise Failure(options.name, "this is not a maintainer's name; correct it", ARGUMENTS)
+    os.umask(0o077)
+    settings = Settings.read(options.settings)
+    if not settings.store.exists():
+        raise Failure(str(settings.store), "there is no database; correct `store`, or run this in the folder that the program runs in", DATABASE)
+    settle(settings)
+    with stores.alone(settings) as is_alone, tempfile.TemporaryDirectory(prefix=".irr-reset-", dir=settings.store.parent) as folder:
+        if not is_alone:
+            raise Failure(str(settings.store), "another process has the database open; stop the server first", DATABASE)
+        if settings.log.exists() and settings.log.stat().st_size >= stores.EMPTY_LOG:
+            raise Failure(str(settings.log), "the log is not empty; try again", DATABASE)
+        work = Path(folder)
+        before = Copy(work / "before", settings.text())
+        stores.copied_store(settings.store, settings.log, before)
+        full, wanted = work / "full.rpsl", work / "wanted.rpsl"
+        before.dump(full, full=True)
+        if not any(stores.is_maintainer(piece, name) for piece in stores.blocks_of(full)):
+            raise Failure(name, "there is no such maintainer; correct the name", ARGUMENTS)
+        value = new_auth(options)
+        files.put(wanted, ended(replaced(full, name, value)), files.PRIVATE)
+        put_in_place(settings, made_of(settings, wanted, work))
+    print(texts.shown_line(f"mntner {name}: its auth is replaced, and nothing else; start the server again"))
+    return DONE
+
+
+def settle(settings: Settings) -> None:
+    """Has the program open the registry and close it, which writes the log into the database."""
+    import subprocess
+    from irr import scratch
+    done = subprocess.run([scratch.find_program(), "query", str(settings.path), settings.root], stdin=subprocess.DEVNULL,
+                          capture_output=True, check=False)
+    if done.returncode > 1:
+        raise Failure(str(settings.path), scratch.said(done), done.returncode)
+
+
+def new_auth(options: argparse.Namespace) -> bytes:
+    """The value of the new `auth` line."""
+    if options.auth:
+        value = options.auth.removeprefix("auth:").strip()
+        if not lets_in(value):
+            raise Failure("--auth", "this is not an auth line that lets anybody in; take what `irr auth` prints", ARGUMENTS)
+        return value.encode("ascii")
+    password = asking.ask_twice("new password") if options.ask else hashes.new_password()
+    item = submissions.password_item(password, "new password")
+    if options.save:
+        auths.save(options.save, item.block.text + b"\n")
+    elif not options.ask:
+        auths.show(password)
+    return hashes.auth_of(submissions.secret_of(item.passwords()[0]), hashes.new_salt()).encode()
+
+
+def lets_in(value: str) -> bool:
+    """Whether it is the scheme, a salt, and a digest (profile)."""
+    import re
+    return bool(re.fullmatch("SHA256-PW [A-Za-z0-9]{1,16}:[0-9a-fA-F]{64}", value))
+
+
+def replaced(full: Path, name: str, value: bytes) -> Iterator[bytes]:
+    """The objects of a full dump, with another `auth` for one maintainer, where its first one stood."""
+    for piece in stores.blocks_of(full):
+        if stores.is_maintainer(piece, name):
+            attributes = rpsl.read_any(piece[:-1]).attributes
+            first = next(place for place, attribute in enumerate(attributes) if attribute.name == b"auth")
+            kept = [Attribute(b"auth", [value]) if place == first else attribute for place, attribute in enumerate(attributes)
+                    if place == first or attribute.name != b"auth"]
+            piece = Paragraph(kept).text() + b"\n"
+        yield piece
+
+
+def ended(pieces: Iterator[bytes]) -> Iterator[bytes]:
+    count = 0
+    for count, piece in enumerate(pieces, 1):
+        yield piece
+    yield b"%% end %d\n" % count
+
+
+def made_of(settings: Settings, wanted: Path, work: Path) -> Path:
+    """One file with the registry of a full dump, which gives that dump byte by byte."""
+    made, loadable, seen, single = Copy(work / "made", settings.text()), work / "loadable.rpsl", work / "seen.rpsl", work / "single.db"
+    files.put(loadable, stores.pressed(stores.blocks_of(wanted)), files.PRIVATE)
+    made.load(loadable)
+    stores.sqlite_copy(made.store, single)
+    tried = Copy(work / "tried", settings.text())
+    stores.copied(single, tried.store)
+    tried.dump(seen, full=True)
+    if not stores.same(wanted, seen):
+        raise Failure(str(settings.store), "the new registry has other objects than it should; nothing was changed, tell it as a fault of irr",
+                      DATABASE)
+    return single
+
+
+def put_in_place(settings: Settings, single: Path) -> None:
+    """Puts the new database into the place of the old one. The old log, which has nothing, goes first: it must not lie beside the new one."""
+    was = settings.store.stat()
+    with open(single, "r+b") as file:
+        os.fchmod(file.fileno(), was.st_mode & 0o777)
+        if (was.st_uid, was.st_gid) != (os.geteuid(), os.getegid()):
+            os.fchown(file.fileno(), was.st_uid, was.st_gid)
+        os.fsync(file.fileno())
+    settings.log.unlink(missing_ok=True)
+    os.replace(single, settings.store)
+    files.sync_folder(settings.store.parent)

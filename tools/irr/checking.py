@@ -33,8 +33,8 @@ def check(path: str | Path, source: str, root: str, auth: str, count: int) -> No
             for place, (own, other) in enumerate(zip_longest(public(wanted), texts), 1):
                 if own != other:
                     first = (own or other or b"").partition(b"\n")[0].decode("latin-1")
-                    raise Failure("--check", f"object {place} of the registry differs from that of the result, `{first}`; this is a fault of "
-                                  "irr: report it")
+                    raise Failure("--check", f"object {place} of the registry differs from that of the result, `{first}`; this is a "
+                                  "fault of irr: report it")
             found.seek(-len(b"%% end %d\n" % count), 2)
             if place != count or found.read() != b"% end " + str(count).encode() + b"\n":
                 raise Failure("--check", f"the registry has {place:,} objects and not {count:,}; this is a fault of irr: report it")

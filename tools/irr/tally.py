@@ -44,9 +44,10 @@ class Tally:
         left = self.causes.total()
         yield f"{texts.counted(self.read, 'paragraph')} of {texts.counted(self.files, 'file')}: {self.taken:,} taken, {left:,} left out"
         yield f"{texts.counted(self.taken + self.made, 'object')} written: {self.taken:,} taken, {self.made:,} added"
-        if self.mended:
+        if any(self.mended.values()):
             yield "mended:"
-            yield from texts.columns([f"  {self.mended[name]:>11,}", f"--no-{name}", kind.words] for name, kind in KINDS.items()
+            width = max(len(f"{count:,}") for count in self.mended.values())
+            yield from texts.columns([f"  {self.mended[name]:>{width},}", f"--no-{name}", kind.words] for name, kind in KINDS.items()
                                      if self.mended[name])
         if self.renamed:
             yield "renamed:"

@@ -87,7 +87,8 @@ class Mending(unittest.TestCase):
 
     def test_what_is_missing(self):
         text, kinds = mended(obj("mntner: A-MNT", "mnt-by:", "source: TEST"))
-        self.assertEqual(text, b"mntner:         A-MNT\nauth:           FILTERED\nmnt-by:\nmnt-by:         ROOT-MNT\nsource:         TEST\n")
+        self.assertEqual(text, b"mntner:         A-MNT\nauth:           FILTERED\nmnt-by:\nmnt-by:         ROOT-MNT\n"
+                               b"source:         TEST\n")
         self.assertEqual(kinds, {"auth", "mnt-by"})
 
     def test_auth(self):
@@ -173,7 +174,8 @@ class Importing(unittest.TestCase):
 
     def test_what_covers_everything(self):
         for blocks, wanted in [(["AS0 - AS4294967295"], []), (["AS0 - AS65535"], ["AS65536 - AS4294967295"]),
-                               (["AS60000 - AS70000"], ["AS0 - AS4294967295"]), (["AS1 - AS2"], ["AS0 - AS65535", "AS65536 - AS4294967295"])]:
+                               (["AS60000 - AS70000"], ["AS0 - AS4294967295"]),
+                               (["AS1 - AS2"], ["AS0 - AS65535", "AS65536 - AS4294967295"])]:
             dump, _ = made(b"".join(obj(f"as-block: {block}", "mnt-by: ROOT-MNT") for block in blocks))
             self.assertEqual(sorted(keys_of(dump)), sorted(["ROOT-MNT", *blocks, *wanted, "0.0.0.0 - 255.255.255.255"]))
 

@@ -28,6 +28,8 @@ def arguments(parser: argparse.ArgumentParser) -> None:
     parser.add_argument("name", metavar="NAME", nargs="?", help="the filter's name: capital letters, digits and _, a letter first")
     parser.add_argument("set", metavar="SET", nargs="?", help="a set, such as AS64496:AS-CUSTOMERS, or an AS number")
     parser.add_argument("file", metavar="FILE", nargs="?", help="is replaced by the filter if that could be made; - prints it")
+    # Options may stand between these, which are not there with --settings.
+    parser.parse_args = parser.parse_intermixed_args  # type: ignore[method-assign]
 
 
 def run(options: argparse.Namespace) -> int:

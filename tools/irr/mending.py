@@ -103,10 +103,9 @@ def with_items(attribute: Attribute, pattern: re.Pattern[bytes], change: Callabl
         if lost:
             for place, text in EMPTY_PLACES:
                 new = place.sub(text, new)
-            new = new.strip(b", \t\r")
-            has_lost = True
-        if not lost or new or mark:
-            lines.append((new.rstrip(rpsl.BLANKS) + b" " + mark + comment if mark and lost else new + mark + comment).strip(rpsl.BLANKS))
+            new, has_lost = new.strip(b", \t\r") + b" " * bool(mark), True
+        if new or mark or not lost:
+            lines.append((new + mark + comment).strip(rpsl.BLANKS))
     kept = Attribute(attribute.name, lines)
     return kept if lines and (not has_lost or any(lines)) else None
 

@@ -1,10 +1,12 @@
 """What an import read, took, mended and left out, and the report of it."""
+import re
 from collections import Counter
 from typing import BinaryIO, Iterator, NamedTuple
 
 from irr import texts
 from irr.mending import KINDS
 
+ORIGIN = re.compile(rb"^origin[ \t]*:[ \t]*([^ \t\r\n#]+)", re.I | re.M)
 SHOWN = 10
 LONGEST_SHOWN = 60
 
@@ -63,6 +65,7 @@ class Tally:
 
 
 def entry(place: Place, text: bytes) -> str:
-    """Where a paragraph stands, and its first line."""
-    line = b" ".join(text.partition(b"\n")[0].split())
-    return f"{place.text()}\t{texts.shown_line(line)[:LONGEST_SHOWN]}"
+    """Where a paragraph stands, and its first line, of a route with the origin."""
+    words = text.partition(b"\n")[0].split()
+    origin = ORIGIN.search(text) if words[:1] and words[0].lower().startswith(b"route") else None
+    return f"{place.text()}\t{texts.shown_line(b' '.join(words + ([origin[1]] if origin else [])))[:LONGEST_SHOWN]}"

@@ -222,6 +222,9 @@ class Importing(unittest.TestCase):
         listed = io.BytesIO()
         _, tally = made(b"".join(obj(f"person: Jo {number}") for number in range(15)), left_out=listed)
         lines = listed.getvalue().decode().split("\n")
+        _, other = made(b"".join(obj("route:  192.0.2.0/24", "descr: x", f"origin:AS{number} # x") for number in (1, 1, 1 << 32)))
+        self.assertEqual([one.partition("  ")[2] for found in other.first.values() for one in found],
+                         ["route: 192.0.2.0/24 AS1", "route: 192.0.2.0/24 AS4294967296"])
         self.assertEqual((len(lines), lines[14].split("\t")[0], lines[14].split("\t")[2]), (16, "class person", "person: Jo 14"))
         report = list(tally.lines())
         self.assertEqual((report[-1], sum("person: Jo" in line for line in report)), ("  and 5 more", 10))

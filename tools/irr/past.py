@@ -65,7 +65,8 @@ class Repository:
         """What a command of git prints. Settings of the user or the machine have no part in it."""
         environment = {name: value for name, value in os.environ.items() if not name.startswith("GIT_")}
         environment |= {"GIT_CONFIG_NOSYSTEM": "1", "GIT_CONFIG_GLOBAL": os.devnull, "LC_ALL": "C", "TZ": "UTC"}
-        command = ["git", "-c", "safe.directory=*", "-c", "core.hooksPath=/dev/null", "-c", "gc.autoDetach=false", f"--git-dir={self.folder}", *words]
+        set_here = ("safe.directory=*", "core.hooksPath=/dev/null", "gc.autoDetach=false")
+        command = ["git", *(word for each in set_here for word in ("-c", each)), f"--git-dir={self.folder}", *words]
         try:
             done = subprocess.run(command, input=given if given is not None else b"", capture_output=True, env=environment, check=False)
         except FileNotFoundError:

@@ -167,6 +167,8 @@ class Agent:
         end = time.monotonic() + ASKING
         while port not in self.heard and time.monotonic() < end:
             time.sleep(0.02)
+        # The proxy has still to read it.
+        time.sleep(0.1)
 
     def ready(self, port: int) -> None:
         self.draining.discard(port)

@@ -180,7 +180,7 @@ def stopped(number: int, seconds: float, settings: Settings) -> Iterator[None]:
                 raise Failure(str(settings.store), f"the server could not be held still within {seconds:g} s; try again")
             time.sleep(0.001)
         yield
-        if not is_still(number):
+        if time.monotonic() > end or not is_still(number):
             raise Failure(str(settings.store), f"copying took longer than the {seconds:g} s for which the server is held still; give it "
                           "more by --hold, or copy from a snapshot by --copy")
     except PermissionError:

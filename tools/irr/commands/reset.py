@@ -37,7 +37,8 @@ def run(options: argparse.Namespace) -> int:
     os.umask(0o077)
     settings = Settings.read(options.settings)
     if not settings.store.exists():
-        raise Failure(str(settings.store), "there is no database; correct `store`, or run this in the folder that the program runs in", DATABASE)
+        raise Failure(str(settings.store), "there is no database; correct `store`, or run this in the folder that the program runs in",
+                      DATABASE)
     settle(settings)
     with stores.alone(settings) as is_alone, tempfile.TemporaryDirectory(prefix=".irr-reset-", dir=settings.store.parent) as folder:
         if not is_alone:
@@ -119,13 +120,14 @@ def made_of(settings: Settings, wanted: Path, work: Path) -> Path:
     stores.copied(single, tried.store)
     tried.dump(seen, full=True)
     if not stores.same(wanted, seen):
-        raise Failure(str(settings.store), "the new registry has other objects than it should; nothing was changed, tell it as a fault of irr",
-                      DATABASE)
+        raise Failure(str(settings.store), "the new registry has other objects than it should; nothing was changed, tell it as a "
+                      "fault of irr", DATABASE)
     return single
 
 
 def put_in_place(settings: Settings, single: Path) -> None:
-    """Puts the new database into the place of the old one. The old log, which has nothing, goes first: it must not lie beside the new one."""
+    """Puts the new database into the place of the old one. The old log, which has nothing, goes first: it must not lie beside the new
+    one."""
     was = settings.store.stat()
     with open(single, "r+b") as file:
         os.fchmod(file.fileno(), was.st_mode & 0o777)

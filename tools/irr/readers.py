@@ -39,14 +39,14 @@ def digest(path: Path) -> str:
 def make(place: Server, limit: int, work: Path, known: str) -> Made | None:
     """Fetches the public dump, and makes a registry of it whose own public dump is the same bytes; None if the dump is the known one."""
     made = Made(work)
-    files.put(made.dump, place.dump())
+    files.put(made.dump, place.dump(), files.PRIVATE)
     if made.digest() == known:
         return None
     source = next((rpsl.read_any(piece[:-1]).value(b"source") for piece in stores.blocks_of(made.dump)), b"").decode("latin-1")
     if not source:
         raise Failure(place.url, "the registry has no objects; nothing is made of that")
     loadable, seen = work / "loadable.rpsl", work / "seen.rpsl"
-    files.put(loadable, scratch.loadable(block.text + b"\n" for block in blocks(made.dump)))
+    files.put(loadable, scratch.loadable(block.text + b"\n" for block in blocks(made.dump)), files.PRIVATE)
     copy = Copy(work, scratch.SETTINGS.format(source=source, root="ROOT-MNT", auth=scratch.AUTH, limit=limit))
     copy.load(loadable)
     copy.dump(seen)
@@ -177,8 +177,8 @@ class Agent:
 class Keeper:
     """The readers of a folder, and what they serve."""
 
-    def __init__(self, folder: Path, ports: list[int], agent: Agent | None) -> None:
-        self.folder, self.agent = folder, agent
+    def __init__(self, folder: Path, ports: list[int], agent: Agent | None, pause: float) -> None:
+        self.folder, self.agent, self.pause = folder, agent, pause
         self.made = Made(folder / "made")
         self.readers = [Reader(folder, port) for port in ports]
         self.known = ""
@@ -216,11 +216,14 @@ class Keeper:
             shutil.rmtree(work, ignore_errors=True)
 
     def roll(self, made: Made) -> None:
-        """Starts one reader after the other on what was made. If one fails, it goes back to what it served, and the others stay."""
-        for reader in self.readers:
+        """Starts one reader after the other on what was made. If one fails, it goes back to what it served, and the others stay.
+        Before the next one ends, a proxy has time to see that the one before answers again."""
+        for number, reader in enumerate(self.readers):
             reader.prepare(made)
-            if self.agent and not reader.has_ended:
-                self.agent.drain(reader.port)
+            if not reader.has_ended:
+                time.sleep(self.pause if number else 0)
+                if self.agent:
+                    self.agent.drain(reader.port)
             reader.end()
             try:
                 reader.start()

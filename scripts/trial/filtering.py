@@ -35,7 +35,7 @@ class Bridge:
         words = [{"http://127.0.0.1:4343": url}.get(word, word) for word in command]
         listen = f"TCP4-LISTEN:{self.port},bind=127.0.0.1,reuseaddr,fork,backlog=64"
         self.process = subprocess.Popen([program("socat"), listen, "EXEC:" + " ".join(words).replace(":", "\\:")], env=tool.environment,
-                                        stdin=subprocess.DEVNULL, stderr=subprocess.DEVNULL, start_new_session=True)
+                                        stdin=subprocess.DEVNULL, stderr=subprocess.DEVNULL)
 
     def __enter__(self):
         end = time.monotonic() + PATIENCE

@@ -11,7 +11,7 @@ use rr_number::Name;
 use rr_object::{Auth, Object, ObjectFault};
 use rr_registry::{LoadFault, Registry};
 use rr_store::{StoreFault, upper_object};
-use rr_text::{Attribute, Paragraph};
+use rr_text::{LineAttribute, Paragraph};
 use std::alloc::{AllocError, Global};
 
 /// The objects that a registry of these settings opens with: the root maintainer, the blocks of AS numbers of two and of
@@ -153,7 +153,7 @@ fn read_object(alloc: Global, paragraph: Paragraph, source: &Name) -> Result<Obj
 /// The paragraph of these attributes, of the settings' source and maintained by the root.
 fn owned(
     alloc: Global,
-    attributes: Vec<Attribute>,
+    attributes: Vec<LineAttribute>,
     settings: &Settings,
 ) -> Result<Paragraph, AllocError>
     requires { AreFields attributes.items }
@@ -162,19 +162,19 @@ fn owned(
     settings.are_good();
     let attributes = with_line(alloc, attributes, b"mnt-by", settings.root().as_bytes())?;
     let attributes = with_line(alloc, attributes, b"source", settings.source().as_bytes())?;
-    Ok(Paragraph::new(attributes))
+    Paragraph::new(alloc, &attributes)
 }
 
 /// The attributes with one of a single line behind them.
 fn with_line(
     alloc: Global,
-    mut attributes: Vec<Attribute>,
+    mut attributes: Vec<LineAttribute>,
     name: &[u8],
     line: &[u8],
-) -> Result<Vec<Attribute>, AllocError>
+) -> Result<Vec<LineAttribute>, AllocError>
     ensures { IfOk result (λ made. made.items ≡ attributes.items ++ one_line name.now line.now ∷ []) }
 {
-    attributes.push(Attribute::of_line(alloc, name, line)?)?;
+    attributes.push(LineAttribute::new(alloc, name, line)?)?;
     Ok(attributes)
 }
 

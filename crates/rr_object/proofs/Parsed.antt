@@ -1,7 +1,7 @@
 -- The object of a paragraph, from what its attributes say.
-use Rattle.std.proofs.Common.{◌≡◌, ℕ, List, Some, Result, Ok, Err, Bool, true, false, refl, ap, sym, ◌∙◌, if◌then◌else◌}
+use Rattle.std.proofs.Common.{◌≡◌, ℕ, List, [], ◌∷◌, Some, Result, Ok, Err, Bool, true, false, refl, ap, sym, ◌∙◌, if◌then◌else◌}
 use Rattle.rr_text.specs.Fields.{Field}
-use Rattle.rr_object.specs.declared.fault.ObjectFault.TheVariants.{BadCount, BadValue, OtherSource}
+use Rattle.rr_object.specs.declared.fault.ObjectFault.TheVariants.{UnknownClass, BadCount, BadValue, OtherSource}
 use Rattle.rr_object.specs.declared.fault.ObjectFault.{ObjectFault}
 use Rattle.rr_object.specs.declared.key.Key.{Key}
 use Rattle.rr_object.specs.declared.kind.Kind.TheVariants.{MntBy, MntLower, MntRoutes, Auth, Members, MbrsByRef, MemberOf}
@@ -10,7 +10,7 @@ use Rattle.rr_object.specs.Auths.{auth_item}
 use Rattle.rr_object.specs.Grants.{grants_of}
 use Rattle.rr_object.specs.Items.{meant}
 use Rattle.rr_object.specs.Keys.{class_of}
-use Rattle.rr_object.specs.KeySpellings.{key_of}
+use Rattle.rr_object.specs.KeySpellings.{key_from, key_of}
 use Rattle.rr_object.specs.Members.{set_item}
 use Rattle.rr_object.specs.Objects.{Obj}
 use Rattle.rr_object.specs.Parts.{AuthParts, ByRefParts, GrantParts}
@@ -132,3 +132,12 @@ of_any_source fields source object e = of_source object source fields (obj_of fi
 pub keyless : (fields : List Field) (source : List ℕ) (fault : ObjectFault) → key_of fields ≡ Err fault → object_of fields source ≡ Err fault
 unfolding object_of obj_of
 keyless fields source fault e = rw e refl
+
+-- the key of a paragraph, by whether it has a first attribute
+pub key_first : (fields rest : List Field) (first : Field) → fields ≡ first ∷ rest → key_of fields ≡ key_from first fields
+unfolding key_of
+key_first fields rest first e = rw e refl
+
+pub key_none : (fields : List Field) → fields ≡ [] → key_of fields ≡ Err UnknownClass
+unfolding key_of
+key_none fields e = rw e refl

@@ -75,7 +75,11 @@ abbrev pub key_in : Option Class → List ℕ → List Field → Result Key Obje
 key_in None text fields = Err UnknownClass
 key_in (Some found) text fields = or_bad_key (key_at found text fields)
 
+-- the key of a paragraph with this first attribute
+abbrev pub key_from : Field → List Field → Result Key ObjectFault
+key_from first fields = key_in (class_named first.name) (value_meaning first.lines) fields
+
 -- the key of a paragraph: its first attribute names the class, and the value of that is the key (RFC 2622, 2)
 unfoldable pub key_of : List Field → Result Key ObjectFault
 key_of [] = Err UnknownClass
-key_of (first ∷ others) = key_in (class_named first.name) (value_meaning first.lines) (first ∷ others)
+key_of (first ∷ others) = key_from first (first ∷ others)

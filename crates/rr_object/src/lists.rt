@@ -6,21 +6,15 @@ ghost use Rattle.rr_object.specs.Items.{items, joined, spaced, values_of};
 ghost use Rattle.rr_object.specs.Readings.{count_named};
 
 use rr_bytes::{ByteSet, parts_between};
-use rr_text::{Attribute, Paragraph, Text, meaning};
+use rr_text::{Paragraph, Text, meaning};
 use std::alloc::{AllocError, Global};
 
 /// How many attributes have this name.
 pub(crate) fn count_named(paragraph: &Paragraph, name: &[u8]) -> usize
     ensures { result ≡ count_named name.now paragraph.now }
 {
-    count_among(paragraph.attributes(), name)
-}
-
-fn count_among(attributes: &[Attribute], name: &[u8]) -> usize
-    ensures { result ≡ count_by (has_name name.now) attributes.now }
-{
-    attributes
-        .iter()
+    paragraph
+        .attributes()
         .filter(|attribute| attribute.has_name(name))
         .count()
 }
@@ -33,20 +27,10 @@ pub(crate) fn values_of(
 ) -> Result<Vec<Text>, AllocError>
     ensures { IfOk result (λ values. values.items ≡ values_of name.now paragraph.now) }
 {
-    values_among(alloc, paragraph.attributes(), name)
-}
-
-fn values_among(
-    alloc: Global,
-    attributes: &[Attribute],
-    name: &[u8],
-) -> Result<Vec<Text>, AllocError>
-    ensures { IfOk result (λ values. values.items ≡ values_of name.now attributes.now) }
-{
     let mut values = Vec::new(alloc);
-    'attributes: for attribute in attributes {
+    for attribute in paragraph.attributes() {
         if attribute.has_name(name) {
-            values.push(meaning(alloc, attribute)?)?;
+            values.push(meaning(alloc, &attribute)?)?;
         }
     }
     Ok(values)

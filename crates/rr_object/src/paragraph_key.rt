@@ -2,7 +2,7 @@
 
 ghost use Rattle.std.specs.Prelude.{◌≡◌, ◌≢◌, Err, IfErr, IfOk, Ok};
 ghost use Rattle.rr_object.specs.Items.{only};
-ghost use Rattle.rr_object.specs.KeySpellings.{key_at, key_of, route_key_of};
+ghost use Rattle.rr_object.specs.KeySpellings.{key_at, key_from, key_of, route_key_of};
 ghost use Rattle.rr_object.specs.declared.fault.ObjectFault.TheVariants.{Memory};
 ghost use Rattle.rr_object.specs.declared.class.Class.TheVariants as class;
 ghost use Rattle.std.specs.Option.{option_and_then};
@@ -23,22 +23,17 @@ pub fn key_of(alloc: Global, paragraph: &Paragraph) -> Result<Key, ObjectFault>
     ensures ok { IfOk result (λ key. key_of paragraph.now ≡ Ok key) }
     ensures fault { IfErr result (λ fault. fault ≢ Memory → key_of paragraph.now ≡ Err fault) }
 {
-    key_among(alloc, paragraph, paragraph.attributes())
+    match paragraph.attributes().next() {
+        Some(first) => key_by(alloc, paragraph, &first),
+        None => Err(ObjectFault::UnknownClass),
+    }
 }
 
-#[tactic(auto, unfolding(crate::specs::KeySpellings::key_of))]
-fn key_among(
-    alloc: Global,
-    paragraph: &Paragraph,
-    attributes: &[Attribute],
-) -> Result<Key, ObjectFault>
-    requires { attributes.now ≡ paragraph.now }
-    ensures ok { IfOk result (λ key. key_of attributes.now ≡ Ok key) }
-    ensures fault { IfErr result (λ fault. fault ≢ Memory → key_of attributes.now ≡ Err fault) }
+/// The key of a paragraph of which this is the first attribute.
+fn key_by(alloc: Global, paragraph: &Paragraph, first: &Attribute) -> Result<Key, ObjectFault>
+    ensures ok { IfOk result (λ key. key_from first.now paragraph.now ≡ Ok key) }
+    ensures fault { IfErr result (λ fault. fault ≢ Memory → key_from first.now paragraph.now ≡ Err fault) }
 {
-    let [first, ..] = attributes else {
-        return Err(ObjectFault::UnknownClass);
-    };
     let Some(class) = Class::named(first.name()) else {
         return Err(ObjectFault::UnknownClass);
     };

@@ -59,7 +59,7 @@ pub(crate) fn read_source(
     ensures source { IfOk result (λ source. source_of paragraph.now ≡ Some source) }
     ensures bad { IfErr result (λ fault. fault ≢ Memory → (fault ≡ BadValue) × (has_bad_text paragraph.now ≡ true)) }
 {
-    if has_kept_out(paragraph.attributes()) {
+    if has_kept_out(paragraph) {
         return Err(ObjectFault::BadValue);
     }
     match source_among(alloc, sources)? {
@@ -68,10 +68,12 @@ pub(crate) fn read_source(
     }
 }
 
-fn has_kept_out(attributes: &[Attribute]) -> bool
-    ensures { result ≡ list_any is_kept_out attributes.now }
+fn has_kept_out(paragraph: &Paragraph) -> bool
+    ensures { result ≡ list_any is_kept_out paragraph.now }
 {
-    attributes.iter().any(|attribute| is_kept_out(attribute))
+    paragraph
+        .attributes()
+        .any(|attribute| is_kept_out(&attribute))
 }
 
 fn is_kept_out(attribute: &Attribute) -> bool

@@ -2,7 +2,6 @@
 
 ghost use Rattle.std.specs.Prelude.{◌≡◌, IfOk, IfSome};
 ghost use Rattle.std.specs.List.{AllByRecursion, find};
-ghost use Rattle.std.specs.Option.{option_copied};
 ghost use Rattle.rr_text.specs.Fields.{has_name};
 ghost use Rattle.rr_text.specs.CanonicalText.{canonical};
 ghost use Rattle.rr_object.specs.Kinds.{kind_name};
@@ -21,18 +20,18 @@ use sqlite::Row;
 use std::alloc::{AllocError, Global};
 
 /// The first attribute `source`.
-fn first_named(attributes: &[Attribute]) -> Option<&Attribute>
-    ensures { option_copied result ≡ find (has_name (kind_name Source)) attributes.now }
+fn first_named(paragraph: &Paragraph) -> Option<Attribute<'_>>
+    ensures { result ≡ find (has_name (kind_name Source)) paragraph.now }
 {
-    attributes.iter().find(|attribute| attribute.has_name(Kind::Source.name().as_bytes()))
+    paragraph.attributes().find(|attribute| attribute.has_name(Kind::Source.name().as_bytes()))
 }
 
 /// The source that it names, if it names one.
 fn first_source(alloc: Global, paragraph: &Paragraph) -> Result<Option<Name>, AllocError>
     ensures { IfOk result (λ source. source ≡ first_source paragraph.now) }
 {
-    match first_named(paragraph.attributes()) {
-        Some(attribute) => Name::read(alloc, meaning(alloc, attribute)?.as_slice()),
+    match first_named(paragraph) {
+        Some(attribute) => Name::read(alloc, meaning(alloc, &attribute)?.as_slice()),
         None => Ok(None),
     }
 }

@@ -10,19 +10,23 @@ ghost use Rattle.rr_store.specs.declared.fault.StoreFault.TheVariants.{Store};
 use crate::fault::StoreFault;
 use rr_number::Name;
 use rr_object::{Object, ObjectFault};
-use rr_text::{Attribute, Paragraph};
+use rr_text::{LineAttribute, Paragraph};
 use std::alloc::{AllocError, Global};
 
 /// The AS numbers of more than two octets (RFC 6793).
 const UPPER: &[u8] = b"AS65536 - AS4294967295";
 
-fn upper_attributes(alloc: Global, root: &Name, source: &Name) -> Result<Vec<Attribute>, AllocError>
+fn upper_attributes(
+    alloc: Global,
+    root: &Name,
+    source: &Name,
+) -> Result<Vec<LineAttribute>, AllocError>
     ensures { IfOk result (λ attributes. attributes.items ≡ upper_block root.now source.now) }
 {
     let mut attributes = Vec::with_capacity(alloc, 3)?;
-    attributes.push(Attribute::of_line(alloc, b"as-block", UPPER)?)?;
-    attributes.push(Attribute::of_line(alloc, b"mnt-by", root.as_bytes())?)?;
-    attributes.push(Attribute::of_line(alloc, b"source", source.as_bytes())?)?;
+    attributes.push(LineAttribute::new(alloc, b"as-block", UPPER)?)?;
+    attributes.push(LineAttribute::new(alloc, b"mnt-by", root.as_bytes())?)?;
+    attributes.push(LineAttribute::new(alloc, b"source", source.as_bytes())?)?;
     Ok(attributes)
 }
 
@@ -33,7 +37,7 @@ fn upper_paragraph(alloc: Global, root: &Name, source: &Name) -> Result<Paragrap
     let _root = root.as_bytes();
     let _source = source.as_bytes();
     let attributes = upper_attributes(alloc, root, source)?;
-    Ok(Paragraph::new(attributes))
+    Paragraph::new(alloc, &attributes)
 }
 
 /// The block of the AS numbers of more than two octets, which the root maintains. The fault is want of memory, or that of a

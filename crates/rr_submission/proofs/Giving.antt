@@ -12,8 +12,3 @@ given_or_not false x xs = refl
 -- an attribute and those after it
 pub secrets_of-front : (x : Field) (xs : List Field) → secrets_of (x ∷ xs) ≡ secrets_of (x ∷ []) ++ secrets_of xs
 secrets_of-front x xs = given_or_not (is_password x) x _
-
--- the attribute at a place and those after it
-pub secrets_of-next : (xs : List Field) (i : ℕ) (d : Field) → i < length xs →
-    secrets_of (drop i xs) ≡ secrets_of (get_or xs i d ∷ []) ++ secrets_of (drop (i + 1) xs)
-secrets_of-next xs i d h = rw (add-one, drop-cons xs i d h) (secrets_of-front (get_or xs i d) (drop (suc i) xs))

@@ -81,7 +81,7 @@ fn own_secrets(alloc: Global, paragraph: &Paragraph) -> Result<Secrets, AllocErr
 {
     let mut own = Secrets::new(alloc);
     'attributes: for attribute in paragraph.attributes() {
-        add_secret(alloc, attribute, &mut own)?;
+        add_secret(alloc, &attribute, &mut own)?;
     }
     Ok(own)
 }

@@ -38,7 +38,9 @@ impl Request {
         ensures tied { IsTied source.now result }
     {
         let deletes = asks_deletion(&paragraph);
-        let own = own_paragraph(paragraph);
+        let Ok(own) = own_paragraph(alloc, paragraph) else {
+            return Request::unread(Code::E90);
+        };
         match key_of(alloc, &own) {
             Ok(key) => Request::about(alloc, own, source, key, deletes),
             Err(fault) => Request::unread(fault.code()),

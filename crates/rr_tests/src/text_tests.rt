@@ -77,8 +77,8 @@ const NAMES: &[&str] = &["mntner", "descr", "auth", "mnt-by", "source"];
 #[test]
 fn attributes_have_their_names_in_lower_case(rt: HostRuntime) -> Result<(), Fail> {
     let (paragraph, _) = first(rt.alloc(), FOLDED.as_bytes())?;
-    assert_eq!(rt; paragraph.attributes().len(), NAMES.len());
-    for (attribute, name) in paragraph.attributes().iter().zip(NAMES.iter()) {
+    assert_eq!(rt; paragraph.attributes().count(), NAMES.len());
+    for (attribute, name) in paragraph.attributes().zip(NAMES.iter()) {
         assert!(rt; attribute.name() == name.as_bytes(), "{name}");
     }
     Ok(())
@@ -87,9 +87,9 @@ fn attributes_have_their_names_in_lower_case(rt: HostRuntime) -> Result<(), Fail
 #[test]
 fn meaning_leaves_comments_out(rt: HostRuntime) -> Result<(), Fail> {
     let (paragraph, _) = first(rt.alloc(), FOLDED.as_bytes())?;
-    let descr = paragraph.attributes().get(1).ok_or("descr")?;
-    assert_eq!(rt; descr.lines().len(), 4);
-    let said = meaning(rt.alloc(), descr)?;
+    let descr = paragraph.attributes().nth(1).ok_or("descr")?;
+    assert_eq!(rt; descr.lines(rt.alloc())?.len(), 4);
+    let said = meaning(rt.alloc(), &descr)?;
     assert_eq!(rt; said.as_slice(), b"first second  third".as_slice());
     Ok(())
 }
@@ -137,7 +137,7 @@ fn paragraphs_are_changed(rt: HostRuntime) -> Result<(), Fail> {
     let (paragraph, _) = first(rt.alloc(), text)?;
     let hidden = paragraph
         .with_values(rt.alloc(), b"auth", b"# filtered")?
-        .without(b"password");
+        .without(rt.alloc(), b"password")?;
     let wanted = "mntner:         A-MNT\nauth:           # filtered\nauth:           # filtered\n";
     assert!(rt; is_printed(rt.alloc(), &hidden, wanted)?);
     Ok(())

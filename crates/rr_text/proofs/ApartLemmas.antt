@@ -1,17 +1,17 @@
 -- Lemmas on lines that are cut, on what a blank line closes, and on the one block of a text.
-use Rattle.std.proofs.Common.{◌≡◌, ◌≢◌, ℕ, ◌+◌, ◌<◌, Bool, true, false, not, ◌&&◌, ◌||◌, List, [], ◌∷◌, ◌++◌, length, length-append, map, refl, sym, ap, ◌∙◌, arith, append_assoc, if◌then◌else◌}
+use Rattle.std.proofs.Common.{◌≡◌, ◌≢◌, ℕ, ◌<◌, Bool, true, false, ◌&&◌, List, [], ◌∷◌, ◌++◌, length, map, refl, sym, ap, ◌∙◌, arith, append_assoc}
 use Rattle.std.proofs.lemmas.List.{append-nil, map-append}
-use Rattle.std.proofs.lemmas.List.Folds.{list_any-append, concat-append}
+use Rattle.std.proofs.lemmas.List.Folds.{concat-append}
 use Rattle.std.specs.List.{list_any, concat, onto_first}
 use Rattle.rr_bytes.specs.Blanks.{is_line_feed}
-use Rattle.rr_text.specs.Lines.{text_lines, are_whole_lines, IsWholeLine, is_blank_line, is_paragraph_line}
+use Rattle.rr_text.specs.Lines.{text_lines, are_whole_lines, IsWholeLine, is_blank_line}
 use Rattle.rr_text.specs.Blocks.{blocks}
 use Rattle.rr_text.specs.Entries.{entries, block_entry}
 use Rattle.rr_text.specs.WholePart.{closes, kept_before, closed_lines, whole_part, whole_entries}
 use Rattle.rr_text.proofs.LineSoFarLemmas.{or_none, unended}
 use Rattle.rr_text.proofs.LineLemmas.{text_lines-append, are_whole_lines-append}
-use Rattle.rr_text.proofs.BlockLemmas.{blocks_passed, blocks_apart, no_blocks, IsFront, front_of}
-use Rattle.rr_text.proofs.EntryLemmas.{concat-text_lines, entries_joined}
+use Rattle.rr_text.proofs.BlockLemmas.{blocks_apart, no_blocks}
+use Rattle.rr_text.proofs.EntryLemmas.{concat-text_lines}
 
 -- lines of a text, cut between two of them
 pub record IsSplit (xs ys : List (List ℕ)) : Type 0 where

@@ -1,14 +1,12 @@
 -- What stands in a text behind a front.
-use Rattle.std.proofs.Common.{◌≡◌, ◌≢◌, ◌==◌, ◌<◌, ◌+◌, ℕ, Bool, true, false, List, [], ◌∷◌, ◌++◌, length, take, drop, refl, sym, ap, ◌∙◌, arith, cond, Option, Some, None, get_or, Bor}
+use Rattle.std.proofs.Common.{◌≡◌, ◌≢◌, ◌==◌, ◌&&◌, ◌<◌, ◌+◌, ℕ, Bool, true, false, List, [], ◌∷◌, ◌++◌, length, take, drop, refl, sym, ap, ◌∙◌, arith, cond, Option, Some, None, Bor}
 use Rattle.std.specs.Prelude.{MatchOption}
 use Rattle.std.specs.Cmp.Lexicographic.{pointwise}
-use Rattle.std.specs.List.{flat_map}
+use Rattle.std.specs.Str.{bytes_eq}
 use Rattle.std.specs.Option.{option_and_then, option_map}
 use Rattle.std.proofs.lemmas.Bool.Decides.{nat_tests, Decides-eqb}
 use Rattle.std.proofs.Math.Dec.{eqb}
-use Rattle.std.proofs.lemmas.List.{append-nil}
 use Rattle.std.proofs.lemmas.Slice.Eq.{strip_prefix_is}
-use Rattle.rr_io.proofs.Transfers.{flat_map-next}
 use Rattle.rr_text.specs.CanonicalText.{value_column, behind_blanks, further_line}
 use Rattle.rr_text.specs.PrivateParts.{left_behind}
 
@@ -60,42 +58,28 @@ left_joined [] back text = refl
 left_joined (b ∷ front) back [] = refl
 left_joined (b ∷ front) back (c ∷ text) = joined_first front back text (b == c) (left_joined front back text)
 
--- nothing is left behind all of a text
-pub all_left : (form text : List ℕ) → form ≡ text → left_behind form text ≡ Some []
-all_left form text same = ap (λ t. left_behind form t) (sym same ∙ sym (append-nil form)) ∙ left_found form []
+-- whether nothing is left
+abbrev pub is_all : Option (List ℕ) → Bool
+is_all None = false
+is_all (Some left) = length left == 0
 
-pub whole_text : (form text left : List ℕ) → left_behind form text ≡ Some left → left ≡ [] → form ≡ text
-whole_text form text left h none = sym (left_is form text left h ∙ (ap (λ l. form ++ l) none ∙ append-nil form))
+some_left : (c : ℕ) (text : List ℕ) → (length (c ∷ text) == 0) ≡ false
+some_left c text = grind (arith, nat_tests)
+
+all_first : (b c : ℕ) (front text : List ℕ) (t : Bool) → is_all (left_behind front text) ≡ pointwise eqb front text
+    → is_all (cond t (left_behind front text) None) ≡ (t && pointwise eqb front text)
+all_first b c front text true h = h
+all_first b c front text false h = refl
+
+-- nothing is left behind all of a text, and behind no other front
+pub all_left : (form text : List ℕ) → is_all (left_behind form text) ≡ bytes_eq form text
+unfolding left_behind
+all_left [] [] = refl
+all_left [] (c ∷ text) = some_left c text
+all_left (b ∷ form) [] = refl
+all_left (b ∷ form) (c ∷ text) = all_first b c form text (b == c) (all_left form text)
 
 -- a further line that is not empty
 pub further_is : (line : List ℕ) → 0 < length line → further_line line ≡ behind_blanks value_column line
 further_is [] some = absurd (omega arith)
 further_is (b ∷ bs) some = refl
-
--- the form of the next element, and those of the elements behind it
-next_joined : {X : Type 0} (form : X → List ℕ) (xs : List X) (i : ℕ) (x : X) (text : List ℕ) → i < length xs → x ≡ get_or xs i x
-    → left_behind (flat_map form (drop i xs)) text ≡ option_and_then (left_behind (flat_map form (drop (i + 1) xs))) (left_behind (form x) text)
-next_joined form xs i x text h is =
-    ap (λ front. left_behind front text) (flat_map-next form xs i x h ∙ ap (λ y. form y ++ flat_map form (drop (i + 1) xs)) (sym is))
-    ∙ left_joined (form x) (flat_map form (drop (i + 1) xs)) text
-
--- where the next element's form does not stand, those of all elements do not
-pub next_missing : {X : Type 0} (form : X → List ℕ) (xs : List X) (i : ℕ) (x : X) (rest text : List ℕ) (found : Option (Bor (List ℕ)))
-    → i < length xs → x ≡ get_or xs i x
-    → left_behind (flat_map form (drop i xs)) rest ≡ left_behind (flat_map form xs) text
-    → option_map (λ left. left.now) found ≡ left_behind (form x) rest → found ≡ None → left_behind (flat_map form xs) text ≡ None
-next_missing form xs i x rest text found h is so_far here none =
-    let next = next_joined form xs i x rest h is in
-    let missing : left_behind (form x) rest ≡ None = sym here ∙ ap (option_map (λ left. left.now)) none in
-    sym so_far ∙ (next ∙ ap (option_and_then (left_behind (flat_map form (drop (i + 1) xs)))) missing)
-
--- behind it, those of the others are looked for
-pub next_passed : {X : Type 0} (form : X → List ℕ) (xs : List X) (i : ℕ) (x : X) (rest text : List ℕ) (found : Option (Bor (List ℕ))) (left : Bor (List ℕ))
-    → i < length xs → x ≡ get_or xs i x
-    → left_behind (flat_map form (drop i xs)) rest ≡ left_behind (flat_map form xs) text
-    → option_map (λ left. left.now) found ≡ left_behind (form x) rest → found ≡ Some left
-    → left_behind (flat_map form (drop (i + 1) xs)) left.now ≡ left_behind (flat_map form xs) text
-next_passed form xs i x rest text found left h is so_far here some =
-    let next = next_joined form xs i x rest h is in
-    let passed : left_behind (form x) rest ≡ Some left.now = sym here ∙ ap (option_map (λ left. left.now)) some in
-    sym (next ∙ ap (option_and_then (left_behind (flat_map form (drop (i + 1) xs)))) passed) ∙ so_far

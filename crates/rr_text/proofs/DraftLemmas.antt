@@ -1,5 +1,5 @@
 -- Lemmas on what a draft has of the text so far.
-use Rattle.std.proofs.Common.{◌≡◌, ◌≢◌, ℕ, ◌+◌, ◌-◌, ◌<◌, ◌≤◌, Bool, true, false, not, ◌&&◌, ◌||◌, List, [], ◌∷◌, ◌++◌, ◌⊎◌, inl, inr, length, length-append, take, map, refl, sym, ap, subst, ◌∙◌, arith, append_assoc, if◌then◌else◌}
+use Rattle.std.proofs.Common.{◌≡◌, ℕ, ◌+◌, ◌-◌, ◌<◌, ◌≤◌, Bool, true, false, ◌&&◌, ◌||◌, List, [], ◌∷◌, ◌++◌, ◌⊎◌, inl, inr, length, length-append, take, map, refl, sym, ap, subst, ◌∙◌, arith, append_assoc, if◌then◌else◌}
 use Rattle.std.proofs.lemmas.List.{append-nil, take_all, take_at, take-append-le}
 use Rattle.std.proofs.Math.Bool.{or-true, and-false}
 use Rattle.std.proofs.lemmas.List.Folds.{list_any-append}
@@ -12,14 +12,14 @@ use Rattle.rr_text.specs.declared.line_so_far.LineEnd.TheVariants.{Passed, Taken
 use Rattle.rr_text.specs.LineParts.{line_so_far, line_with, end_of_line}
 use Rattle.rr_text.specs.DraftParts.{IsCutSo, KeepsBlock, IsBegun, HasEntry, IsClosed, GathersLines, Finishes, HasNoText, KeepsPiece, TakesLine, EndsLine}
 use Rattle.rr_bytes.specs.Blanks.{is_line_feed}
-use Rattle.rr_text.specs.Lines.{text_lines, are_whole_lines, IsWholeLine, is_blank_line, is_skipped_line, is_paragraph_line}
+use Rattle.rr_text.specs.Lines.{text_lines, are_whole_lines, IsWholeLine, is_blank_line, is_paragraph_line}
 use Rattle.rr_text.specs.Blocks.{blocks, from_blank}
 use Rattle.rr_text.specs.PrivateParts.{starts_block, until_blank}
 use Rattle.rr_text.specs.Entries.{entries, block_entry, size_limit}
 use Rattle.rr_text.specs.WholePart.{closes, closed_lines, whole_part, whole_entries}
 use Rattle.rr_text.proofs.LineLemmas.{text_lines-append, are_whole_lines-append}
 use Rattle.rr_text.proofs.LineSoFarLemmas.{or_none, unended, single_behind, whole_behind, line_with-append, EndsSo, ends_so}
-use Rattle.rr_text.proofs.BlockLemmas.{blocks_passed, blocks_apart, no_blocks, IsFront, front_of}
+use Rattle.rr_text.proofs.BlockLemmas.{blocks_passed, blocks_apart, no_blocks, front_of}
 use Rattle.rr_text.proofs.ApartLemmas.{IsSplit, lines_split, closed_front, closed_before, whole_closed}
 
 -- lines of no paragraph before others give no block

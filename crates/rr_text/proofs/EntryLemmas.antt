@@ -1,6 +1,6 @@
 -- Lemmas on what the lines of a block give.
-use Rattle.std.proofs.Common.{◌≡◌, ℕ, ◌<◌, ◌≤◌, Bool, true, false, List, [], ◌∷◌, ◌++◌, ◌⊎◌, inl, inr, length, drop, map, refl, sym, ap, ◌∙◌, arith, append_assoc, Option, Err, nat_lt, if◌then◌else◌}
-use Rattle.std.proofs.lemmas.List.{append-nil, drop_all, map-append}
+use Rattle.std.proofs.Common.{◌≡◌, ℕ, ◌<◌, ◌≤◌, Bool, true, false, List, [], ◌∷◌, ◌++◌, length, drop, map, refl, sym, ap, ◌∙◌, arith, Option, Err, nat_lt, if◌then◌else◌}
+use Rattle.std.proofs.lemmas.List.{drop_all, map-append}
 use Rattle.std.specs.List.{concat, onto_first}
 use Rattle.std.proofs.lemmas.Bool.Decides.{nat_tests}
 use Rattle.rr_text.specs.declared.fault.TextFault.{TextFault}
@@ -12,8 +12,7 @@ use Rattle.rr_bytes.specs.Blanks.{is_line_feed}
 use Rattle.rr_bytes.specs.Trims.{trim_end, trim_start}
 use Rattle.rr_text.specs.Lines.{text_lines, are_whole_lines, IsWholeLine, is_blank_line, is_skipped_line, line_kind}
 use Rattle.rr_text.specs.Blocks.{blocks}
-use Rattle.rr_text.specs.Fields.{Field}
-use Rattle.rr_text.specs.PrivateParts.{added_lines, opens_attribute, OpensOrEnds}
+use Rattle.rr_text.specs.PrivateParts.{added_lines, opens_attribute}
 use Rattle.rr_text.proofs.BlockLemmas.{blocks_none, blocks_apart, blocks_blank, blocks_skipped}
 use Rattle.rr_text.proofs.LineLemmas.{text_lines-append}
 use Rattle.rr_text.specs.Entries.{added_value, continued, opened_field, block_fields, block_entry, entries, size_limit, unless_fault}
@@ -38,7 +37,7 @@ further_by Opening line others e h = cc
 pub further : (line : List ℕ) (kind : LineKind) (others : List (List ℕ)) → kind ≡ line_kind line → opens_attribute kind ≡ false → IsFurther line kind others
 further line kind others e h = further_by kind line others (sym e) h
 
-opened_kind : (kind : LineKind) → opens_attribute kind ≡ true → kind ≡ Opening
+pub opened_kind : (kind : LineKind) → opens_attribute kind ≡ true → kind ≡ Opening
 opened_kind Blank h = cc
 opened_kind Skipped h = cc
 opened_kind Continuation h = cc
@@ -59,44 +58,6 @@ pub entries_none : (text : List ℕ) → length text ≡ 0 → (continued (text_
 unfolding text_lines continued block_fields
 entries_none [] h = (refl, refl)
 entries_none (b ∷ bs) h = absurd (omega arith)
-
--- one step through the lines that continue a value
-pub continued_step : (done new : List (List ℕ)) (rest line after : List ℕ) (kind : LineKind) (all : List (List ℕ)) → done ++ continued (text_lines rest) ≡ all
-    → text_lines rest ≡ line ∷ text_lines after → kind ≡ line_kind line → opens_attribute kind ≡ false → new ≡ done ++ added_lines line kind → new ++ continued (text_lines after) ≡ all
-continued_step done new rest line after kind all now lines e h is =
-    let step : IsFurther line kind (text_lines after) = further line kind (text_lines after) e h in
-    let more : continued (text_lines rest) ≡ added_lines line kind ++ continued (text_lines after) = ap continued lines ∙ step.lines in
-    ap (λ ls. ls ++ continued (text_lines after)) is ∙ (append_assoc done (added_lines line kind) (continued (text_lines after)) ∙ (ap (λ ls. done ++ ls) (sym more) ∙ now))
-
--- where the next attribute begins, or the text ends, a value is whole
-pub continued_end : (done : List (List ℕ)) (lines : List (List ℕ)) (all : List (List ℕ)) → done ++ continued lines ≡ all → continued lines ≡ [] → done ≡ all
-continued_end done lines all now none = sym (append-nil done) ∙ (ap (λ ls. done ++ ls) (sym none) ∙ now)
-
--- one attribute more
-pub fields_step : (done new : List Field) (line after next behind : List ℕ) (field : Field) (all : List Field) → OpensOrEnds line after → 0 < length line
-    → done ++ block_fields (line ∷ text_lines after) ≡ all → field ≡ opened_field line (continued (text_lines after))
-    → block_fields (next ∷ text_lines behind) ≡ block_fields (text_lines after) → new ≡ done ++ field ∷ [] → new ++ block_fields (next ∷ text_lines behind) ≡ all
-fields_step done new line after next behind field all (inr none) some now value same is = absurd (let empty = ap length none.0 in omega arith)
-fields_step done new line after next behind field all (inl kind) some now value same is =
-    let one : block_fields (line ∷ text_lines after) ≡ opened_field line (continued (text_lines after)) ∷ block_fields (text_lines after) =
-    (opened line Opening (text_lines after) (sym kind) refl).fields in
-    let added : new ++ block_fields (next ∷ text_lines behind) ≡ done ++ (field ∷ block_fields (text_lines after)) =
-    ap (λ fs. fs ++ block_fields (next ∷ text_lines behind)) is ∙ (append_assoc done (field ∷ []) (block_fields (next ∷ text_lines behind)) ∙ ap (λ fs. done ++ (field ∷ fs)) same) in
-    added ∙ (ap (λ f. done ++ (f ∷ block_fields (text_lines after))) value ∙ (ap (λ fs. done ++ fs) (sym one) ∙ now))
-
-pub no_line : (text : List ℕ) → length text ≡ 0 → block_fields (text ∷ text_lines text) ≡ block_fields (text_lines text)
-unfolding line_kind block_fields text_lines
-no_line [] none = refl
-no_line (b ∷ bs) none = absurd (omega arith)
-
-no_line_opens : (after : List ℕ) → OpensOrEnds [] after → block_fields ([] ∷ text_lines after) ≡ []
-unfolding line_kind block_fields text_lines
-no_line_opens after (inl kind) = cc
-no_line_opens after (inr none) = rw (none.1) refl
-
-pub fields_end : (done : List Field) (line after : List ℕ) (all : List Field) → done ++ block_fields (line ∷ text_lines after) ≡ all → OpensOrEnds line after → length line ≡ 0 → done ≡ all
-fields_end done [] after all now ends none = sym (append-nil done) ∙ (ap (λ fields. done ++ fields) (sym (no_line_opens after ends)) ∙ now)
-fields_end done (b ∷ bs) after all now ends none = absurd (omega arith)
 
 concat_onto : (b : ℕ) (lines : List (List ℕ)) → concat (onto_first b lines) ≡ b ∷ concat lines
 concat_onto b [] = refl

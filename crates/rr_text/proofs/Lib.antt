@@ -9,6 +9,7 @@ pub mod MeaningLemmas
 pub mod ComparingLemmas
 pub mod PrintLemmas
 pub mod RoundTrip
+pub mod KeptLemmas
 pub mod LineSoFarLemmas
 pub mod ApartLemmas
 pub mod DraftLemmas

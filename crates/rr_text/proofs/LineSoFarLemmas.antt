@@ -1,16 +1,14 @@
 -- Lemmas on lines of which a front was read.
-use Rattle.std.proofs.Common.{◌≡◌, ◌≢◌, ℕ, ◌+◌, ◌-◌, ◌<◌, Bool, true, false, not, ◌&&◌, ◌||◌, nat_eq, List, [], ◌∷◌, ◌++◌, length, length-append, get_or, suc, refl, sym, ap, ◌∙◌, arith, if◌then◌else◌}
+use Rattle.std.proofs.Common.{◌≡◌, ◌≢◌, ℕ, ◌-◌, ◌<◌, Bool, true, false, not, ◌&&◌, ◌||◌, nat_eq, List, [], ◌∷◌, ◌++◌, length, length-append, get_or, suc, refl, ap, ◌∙◌, arith}
 use Rattle.std.proofs.lemmas.Bool.Decides.{nat_tests}
 use Rattle.std.proofs.Math.Bool.{and-false}
-use Rattle.std.proofs.lemmas.List.Folds.{list_any-append, list_all-append}
-use Rattle.std.specs.List.{list_any, list_all, onto_first}
-use Rattle.rr_text.specs.declared.line_so_far.LineSoFar.{LineSoFar}
-use Rattle.rr_text.specs.declared.line_so_far.LineSoFar.TheVariants.{Nothing, Blank, Skipped, Kept}
+use Rattle.std.proofs.lemmas.List.Folds.{list_all-append}
+use Rattle.std.specs.List.{list_any, onto_first}
 use Rattle.rr_text.specs.declared.line_so_far.LineEnd.{LineEnd}
 use Rattle.rr_text.specs.declared.line_so_far.LineEnd.TheVariants.{Passed, Taken, Closed}
 use Rattle.rr_text.specs.LineParts.{line_so_far, line_with, end_of_line}
 use Rattle.rr_bytes.specs.Blanks.{is_blank_or_line_feed, is_line_feed}
-use Rattle.rr_text.specs.Lines.{text_lines, are_whole_lines, is_blank_line, is_skipped_line, is_paragraph_line, is_remark_sign}
+use Rattle.rr_text.specs.Lines.{text_lines, are_whole_lines, is_blank_line, is_paragraph_line, is_remark_sign}
 
 pub or_none : (a b : Bool) → (a || b) ≡ false → (a ≡ false) × (b ≡ false)
 or_none false b h = (refl, h)

@@ -1,9 +1,9 @@
 -- Lemmas on the reading of a text paragraph by paragraph.
-use Rattle.std.proofs.Common.{◌≡◌, ◌≢◌, ℕ, ◌+◌, ◌-◌, ◌*◌, ◌^◌, ◌<◌, ◌≤◌, max, Bool, true, false, List, [], ◌∷◌, ◌++◌, ◌⊎◌, inl, inr, length, length-append, take, drop, Option, Some, None, Result, Ok, Err, IfOk, IfSome, refl, sym, ap, subst, ◌∙◌, arith, append_assoc}
+use Rattle.std.proofs.Common.{◌≡◌, ℕ, ◌+◌, ◌-◌, ◌*◌, ◌^◌, ◌<◌, ◌≤◌, max, List, [], ◌∷◌, ◌++◌, ◌⊎◌, inl, inr, length, length-append, take, Option, Some, None, Result, Ok, Err, IfOk, IfSome, refl, sym, ap, subst, ◌∙◌, arith, append_assoc}
 use Rattle.std.proofs.lemmas.Bool.{cases_lt}
 use Rattle.std.proofs.lemmas.List.{append-nil, length-drop, length-take}
-use Rattle.rr_io.specs.Told.{Told, Fails, Counts}
-use Rattle.rr_io.specs.Receiving.{Gives, IsSpent, CountsReads, BreaksOff, Reads}
+use Rattle.rr_io.specs.Told.{Told, Counts}
+use Rattle.rr_io.specs.Receiving.{Gives, CountsReads}
 use Rattle.rr_io.specs.declared.receiving.ReadEnd.TheVariants as end
 use Rattle.rr_io.proofs.Transfers.{Gives-none, Gives-then}
 use Rattle.rr_text.specs.declared.fault.TextFault.{TextFault}
@@ -15,11 +15,11 @@ use Rattle.rr_text.specs.declared.paragraphs.Paragraphs.{Paragraphs}
 use Rattle.rr_text.specs.Fields.{Field, AreFields}
 use Rattle.rr_text.specs.Entries.{entries}
 use Rattle.rr_text.specs.WholePart.{whole_part, whole_entries}
-use Rattle.rr_text.specs.DraftParts.{IsBegun, IsClosed, HasEntry, GivesOne}
-use Rattle.rr_text.specs.ReaderParts.{TakesClosed, TakesAll, FillsMore, FillsNone, FillsNot, Fills, GivesBy, Reading, GathersClosed, GathersRest, Gathers, GivesFound, GivesLast}
-use Rattle.rr_text.specs.ParagraphReaders.{Entry, state_of, reads_of, held, IsNew, KeepsApart, HasGiven, HasEnded, entries_by, GivesNext, left_of, Nearer}
+use Rattle.rr_text.specs.DraftParts.{IsBegun}
+use Rattle.rr_text.specs.ReaderParts.{TakesAll, FillsMore, Fills, Reading, GathersClosed, GathersRest, Gathers, GivesFound, GivesLast}
+use Rattle.rr_text.specs.ParagraphReaders.{Entry, state_of, reads_of, held, IsNew, KeepsApart, HasGiven, HasEnded, GivesNext, left_of, Nearer}
 use Rattle.rr_text.proofs.ApartLemmas.{no_entries, no_whole, joins, whole_joined}
-use Rattle.rr_text.proofs.DraftLemmas.{begun_none, begun_whole}
+use Rattle.rr_text.proofs.DraftLemmas.{begun_whole}
 
 -- a text that is being gathered: a front of what was held and given is in the draft
 pub record IsGathering (before now : Told) (left : List ℕ) (made : ℕ) (cur : Paragraphs) : Type 0 where

@@ -53,16 +53,16 @@ ended_lines : (line rest : List ℕ) → list_any is_line_feed line ≡ false �
 ended_lines line rest h = text_lines-append (ended line) rest (ended_whole line) ∙ ap (λ ls. ls ++ text_lines rest) (ended_lone line h)
 
 -- the lines that a value is printed as
-further_lines : List (List ℕ) → List (List ℕ)
+unfoldable pub further_lines : List (List ℕ) → List (List ℕ)
 further_lines [] = []
 further_lines (line ∷ others) = ended (further_line line) ∷ further_lines others
 
-value_lines : List ℕ → List (List ℕ) → List (List ℕ)
+unfoldable pub value_lines : List ℕ → List (List ℕ) → List (List ℕ)
 value_lines name [] = []
 value_lines name (first ∷ further) = ended (opening_line name first) ∷ further_lines further
 
 -- the lines of a paragraph's canonical text
-pub canonical_lines : List Field → List (List ℕ)
+unfoldable pub canonical_lines : List Field → List (List ℕ)
 canonical_lines [] = []
 canonical_lines (field ∷ others) = value_lines field.name field.lines ++ canonical_lines others
 
@@ -104,10 +104,10 @@ any_further p [] h k e = any_cons p 43 [] k refl
 any_further p (b ∷ bs) h k e = any_append p (replicate 16 32) (b ∷ bs) (any_blanks p h 16) e
 
 -- what a good attribute's name is made of
-name_bytes : (field : Field) → IsField field → list_all is_name_byte field.name ≡ true
+pub name_bytes : (field : Field) → IsField field → list_all is_name_byte field.name ≡ true
 name_bytes field good = and_right (begins is_ascii_alphabetic field.name) _ (and_left (begins is_ascii_alphabetic field.name && list_all is_name_byte field.name) _ good.named)
 
-name_begins : (field : Field) → IsField field → begins is_ascii_alphabetic field.name ≡ true
+pub name_begins : (field : Field) → IsField field → begins is_ascii_alphabetic field.name ≡ true
 name_begins field good = and_left _ _ (and_left (begins is_ascii_alphabetic field.name && list_all is_name_byte field.name) _ good.named)
 
 -- the lines of canonical text
@@ -269,7 +269,7 @@ pub record IsOpeningOf (name first line : List ℕ) : Type 0 where
   pub name_is : written_name line ≡ name
   pub value_is : opened_value line ≡ first
 
-opening_of : (name first : List ℕ) → list_all is_name_byte name ≡ true → trim is_blank_or_line_feed first ≡ first → IsOpeningOf name first (ended (opening_line name first))
+pub opening_of : (name first : List ℕ) → list_all is_name_byte name ≡ true → trim is_blank_or_line_feed first ≡ first → IsOpeningOf name first (ended (opening_line name first))
 opening_of name first bytes trimmed =
     let n = max 1 (value_column - (length name + 1)) in
     let rest = behind_blanks n first ++ 10 ∷ [] in
@@ -301,7 +301,7 @@ fields_opened : (line : List ℕ) (others : List (List ℕ)) → line_kind line 
 unfolding block_fields
 fields_opened line others h = rw h refl
 
-further_continued : (further rest : List (List ℕ)) → AllByRecursion IsLine further → continued (further_lines further ++ rest) ≡ further ++ continued rest
+pub further_continued : (further rest : List (List ℕ)) → AllByRecursion IsLine further → continued (further_lines further ++ rest) ≡ further ++ continued rest
 unfolding further_lines
 further_continued [] rest good = refl
 further_continued (line ∷ others) rest good =

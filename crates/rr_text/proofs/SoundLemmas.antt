@@ -16,7 +16,7 @@ use Rattle.rr_bytes.specs.NameBytes.{begins, is_attribute_name, is_name_byte}
 use Rattle.rr_bytes.specs.Trims.{before_trimmed, trim, trim_end, trim_start}
 use Rattle.rr_text.specs.Bytes.{is_colon, is_refused}
 use Rattle.rr_text.specs.Lines.{text_lines, line_kind, is_blank_line, is_skipped_line, is_continuation_sign}
-use Rattle.rr_text.specs.PrivateParts.{starts_block}
+use Rattle.rr_text.specs.PrivateParts.{opens_attribute, opens_first, starts_block}
 use Rattle.rr_text.specs.Faults.{written_name, opening_fault, fault_by_kind, line_fault, later_fault, block_fault}
 use Rattle.rr_text.specs.Fields.{IsLine, IsField, AreFields}
 use Rattle.rr_text.specs.Entries.{continued, opened_field, opened_by, block_fields}
@@ -317,3 +317,12 @@ some_fields (line ∷ others) h none =
     let fields : block_fields (line ∷ others) ≡ opened_field line (continued others) ∷ block_fields others =
     ap (λ kind. opened_by line kind (continued others) (block_fields others)) is
     in rw fields (omega arith)
+
+-- and it begins with a line that opens one
+pub opens_block : (lines : List (List ℕ)) → starts_block lines ≡ true → block_fault lines ≡ None → opens_first lines ≡ true
+unfolding block_fault line_kind
+opens_block [] h none = cc
+opens_block (line ∷ others) h none =
+    let first = first_good line (or_none (line_fault true line) (later_fault others) none).0 in
+    let is : line_kind line ≡ Opening = kind_by (is_blank_line line) (is_skipped_line line) (begins is_continuation_sign line) h first.1 in
+    ap opens_attribute is

@@ -5,10 +5,10 @@ pub mod Faults
 pub mod Fields
 pub mod FieldEquality
 pub mod Entries
-pub mod HeldLines
 pub mod PrivateParts
 pub mod Meanings
 pub mod CanonicalText
+pub mod KeptText
 pub mod WholePart
 pub mod Laws
 pub mod LineParts

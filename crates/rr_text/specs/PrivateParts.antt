@@ -1,5 +1,5 @@
 -- What private functions alone speak of: no rule of RPSL stands here.
-use Rattle.std.specs.Prelude.{◌≡◌, ◌⊎◌, ℕ, Bool, true, false, ◌==◌, List, [], ◌∷◌, Option, Some, None, if◌then◌else◌}
+use Rattle.std.specs.Prelude.{◌≡◌, ◌<◌, ℕ, Bool, true, false, ◌==◌, length, List, [], ◌∷◌, Option, Some, None, if◌then◌else◌}
 use Rattle.rr_text.specs.declared.line.LineKind.{LineKind}
 use Rattle.rr_text.specs.declared.line.LineKind.TheVariants.{Blank, Skipped, Continuation, Opening}
 use Rattle.rr_text.specs.Lines.{is_blank_line, is_paragraph_line, line_kind}
@@ -12,14 +12,20 @@ opens_attribute Skipped = false
 opens_attribute Continuation = false
 opens_attribute Opening = true
 
--- a line that opens an attribute and the text behind it, or nothing at the end of a text
-abbrev pub OpensOrEnds : List ℕ → List ℕ → Type 0
-OpensOrEnds line after = (line_kind line ≡ Opening) ⊎ ((line ≡ []) × (after ≡ []))
+-- a line that opens an attribute and the text after it, or nothing at the end of a text
+pub record OpensOrEnds (line after : List ℕ) : Type 0 where
+  pub opens : 0 < length line → opens_attribute (line_kind line) ≡ true
+  pub ends : length line ≡ 0 → after ≡ []
 
 -- the first line is neither blank nor skipped
 abbrev pub starts_block : List (List ℕ) → Bool
 starts_block [] = false
 starts_block (line ∷ others) = is_paragraph_line line
+
+-- the first line opens an attribute
+abbrev pub opens_first : List (List ℕ) → Bool
+opens_first [] = false
+opens_first (line ∷ others) = opens_attribute (line_kind line)
 
 -- the lines before the first blank one
 unfoldable pub until_blank : List (List ℕ) → List (List ℕ)

@@ -1,9 +1,8 @@
 -- One call of a reader of paragraphs: parts that its contract does not name.
-use Rattle.std.specs.Prelude.{◌≡◌, ◌≢◌, ℕ, ◌+◌, ◌*◌, ◌<◌, ◌≤◌, List, [], ◌∷◌, ◌++◌, length, Option, Some, None, Result, Ok, Err}
+use Rattle.std.specs.Prelude.{◌≡◌, ◌≢◌, ℕ, ◌+◌, ◌*◌, ◌<◌, ◌≤◌, List, [], ◌++◌, length, Option, Some, None, Result, Ok, Err}
 use Rattle.rr_io.specs.Told.{Told, Fails}
 use Rattle.rr_io.specs.Receiving.{Gives, IsSpent, CountsReads, BreaksOff}
 use Rattle.rr_text.specs.declared.fault.TextFault.{TextFault}
-use Rattle.rr_text.specs.declared.draft.Draft.{Draft}
 use Rattle.rr_text.specs.declared.paragraphs.ReaderState.{ReaderState}
 use Rattle.rr_text.specs.declared.paragraphs.ReaderState.TheVariants.{Open, Ended, Broken, Endless}
 use Rattle.rr_text.specs.declared.paragraphs.Paragraphs.{Paragraphs}

@@ -1,112 +1,146 @@
 //! Attributes: a name, and a value of one line or more.
 
-ghost use Rattle.std.specs.Prelude.{◌≡◌, ◌∷◌, IfOk};
+ghost use Rattle.std.specs.Prelude.{◌≡◌, ◌∷◌, ◌++◌, [], IfOk, IfSome, OnOk, map, false};
+ghost use Rattle.rr_text.specs.Lines.{text_lines};
+ghost use Rattle.rr_text.specs.Entries.{continued};
+ghost use Rattle.rr_text.specs.PrivateParts.{added_lines};
 
-use crate::text::Text;
-use crate::value_lines::ValueLines;
+use crate::line::{LineKind, added_value, opened_value, split_line, written_name};
+use crate::printing::{push_continuations, push_opening};
 use std::alloc::{AllocError, Global};
 use std::marker::Model;
 
-/// An attribute: a name and the lines of a value. By itself it may hold any bytes; that the name is in lower case and
-/// that there is at least one line, each without blanks round it, is a fact of the attributes inside a `Paragraph`.
+/// An attribute of a paragraph: the line that opens it, and the text after that line, whose first lines continue the
+/// value. It is lent from the text of the paragraph.
 #[derive(Debug, Drop)]
-pub struct Attribute {
-    name: Text,
-    lines: ValueLines,
+pub struct Attribute<'a> {
+    line: &'a [u8],
+    after: &'a [u8],
 }
 
-impl Model for Attribute {
+impl<'a> Model for Attribute<'a> {
     ghost use Rattle.rr_text.specs.Fields.{Field};
+    ghost use Rattle.rr_text.specs.Lines.{text_lines};
+    ghost use Rattle.rr_text.specs.Entries.{continued};
+    ghost use Rattle.rr_text.specs.KeptText.{kept_field};
 
     ghost Value = { Field };
 
-    ghost view = { λ a. record { name = a.name; lines = a.lines } };
+    ghost view = { λ a. kept_field a.line.now (continued (text_lines a.after.now)) };
 }
 
-impl Attribute {
-    ghost use Rattle.rr_text.specs.Fields.{has_name, one_line};
+impl<'a> Attribute<'a> {
+    ghost use Rattle.rr_text.specs.Fields.{has_name, with_value};
+    ghost use Rattle.rr_text.specs.CanonicalText.{field_text};
+    ghost use Rattle.rr_text.specs.KeptText.{kept_field};
 
-    /// The attribute of this name and these lines, which are taken as they are.
-    pub fn new(name: Text, lines: Vec<Text>) -> Attribute
-        ensures name { result.name ≡ name }
-        ensures lines { result.lines ≡ lines.items }
+    /// The attribute that this line opens, where this text stands after it.
+    pub(crate) fn opened(line: &'a [u8], after: &'a [u8]) -> Attribute<'a>
+        ensures { result ≡ kept_field line.now (continued (text_lines after.now)) }
     {
-        Attribute {
-            name,
-            lines: ValueLines::from_vec(lines),
-        }
+        Attribute { line, after }
     }
 
-    /// The attribute of this name, this first line and these that follow it, which are taken as they are; the error is
-    /// want of memory.
-    pub(crate) fn of_lines(
-        name: Text,
-        first: Text,
-        further: Vec<Text>,
-    ) -> Result<Attribute, AllocError>
-        ensures name { IfOk result (λ made. made.name ≡ name) }
-        ensures lines { IfOk result (λ made. made.lines ≡ first ∷ further.items) }
-    {
-        let lines = ValueLines::joined(first, further)?;
-        Ok(Attribute { name, lines })
-    }
-
-    /// The attribute of this name whose value is this line, which are taken as they are; the error is want of memory.
-    pub fn of_line(alloc: Global, name: &[u8], line: &[u8]) -> Result<Attribute, AllocError>
-        ensures { IfOk result (λ made. made ≡ one_line name.now line.now) }
-    {
-        let name = Text::from_slice(alloc, name)?;
-        let lines = ValueLines::of_one(Text::from_slice(alloc, line)?);
-        Ok(Attribute { name, lines })
-    }
-
-    /// The name, which is in lower case inside a `Paragraph`.
-    pub fn name(&self) -> &[u8]
+    /// The name, in lower case.
+    pub fn name(&self) -> &'a [u8]
         ensures { result.now ≡ self.now.name }
     {
-        self.name.as_slice()
+        written_name(self.line)
     }
 
-    /// The lines of the value; inside a `Paragraph` at least one, each without the blanks round it.
-    pub fn lines(&self) -> &[Text]
-        ensures { result.now ≡ self.now.lines }
-    {
-        self.lines.as_slice()
-    }
-
-    /// Whether the name has these bytes; inside a `Paragraph` it is in lower case.
+    /// Whether the name has these bytes, which are given in lower case.
     pub fn has_name(&self, name: &[u8]) -> bool
         ensures { result ≡ has_name name.now self.now }
     {
         self.name() == name
     }
 
-    /// An equal attribute; the error is want of memory.
-    pub fn copy(&self, alloc: Global) -> Result<Attribute, AllocError>
-        ensures { IfOk result (λ copy. copy ≡ self.now) }
+    /// The lines of the value: at least one, each without the blanks round it. The error is out of memory.
+    pub fn lines(&self, alloc: Global) -> Result<Vec<&'a [u8]>, AllocError>
+        ensures { IfOk result (λ lines. map (λ line. line.now) lines.items ≡ self.now.lines) }
     {
-        let name = self.name.copy(alloc)?;
-        let lines = self.lines.copy(alloc)?;
-        Ok(Attribute { name, lines })
+        let mut lines = Vec::new(alloc);
+        lines.push(opened_value(self.line))?;
+        push_continued(&mut lines, self.after)?;
+        Ok(lines)
     }
 
-    /// A copy with this one line as its value; the error is want of memory.
-    pub fn with_line(&self, alloc: Global, line: &[u8]) -> Result<Attribute, AllocError>
-        ensures { IfOk result (λ made. made ≡ one_line self.now.name line.now) }
+    /// The line of the value, if it has no further one.
+    pub fn only_line(&self) -> Option<&'a [u8]>
+        ensures { IfSome result (λ line. self.now.lines ≡ line.now ∷ []) }
     {
-        Attribute::of_line(alloc, self.name(), line)
+        if continues(self.after) {
+            return None;
+        }
+        Some(opened_value(self.line))
+    }
+
+    /// Appends the canonical text of the attribute.
+    pub(crate) fn print_onto(&self, out: &mut Vec<u8>) -> Result<(), AllocError>
+        ensures { OnOk result (out.new.items ≡ out.old.items ++ field_text self.now) }
+    {
+        push_opening(out, self.name(), opened_value(self.line))?;
+        push_continuations(out, self.after)
+    }
+
+    /// The same with this line as its value, if the attribute has this name.
+    pub(crate) fn print_onto_with_value(
+        &self,
+        out: &mut Vec<u8>,
+        name: &[u8],
+        line: &[u8],
+    ) -> Result<(), AllocError>
+        ensures { OnOk result (out.new.items ≡ out.old.items ++ field_text (with_value name.now line.now self.now)) }
+    {
+        if self.has_name(name) {
+            push_opening(out, self.name(), line)
+        } else {
+            self.print_onto(out)
+        }
     }
 }
 
-impl PartialEq for Attribute {
-    ghost use Rattle.rr_text.specs.Fields.{field_eq};
-    ghost use Rattle.rr_text.specs.FieldEquality.{field_eq-laws};
+/// Whether a text begins with a line that may continue a value.
+fn continues(text: &[u8]) -> bool
+    ensures { result ≡ false → continued (text_lines text.now) ≡ [] }
+{
+    if text.is_empty() {
+        return false;
+    }
+    let (line, _) = split_line(text);
+    !LineKind::of(line).opens_attribute()
+}
 
-    ghost eq = { field_eq };
+/// Adds the lines that continue a value.
+fn push_continued<'t>(lines: &mut Vec<&'t [u8]>, text: &'t [u8]) -> Result<(), AllocError>
+    ensures { OnOk result (map (λ line. line.now) lines.new.items ≡ map (λ line. line.now) lines.old.items ++ continued (text_lines text.now)) }
+{
+    let mut rest = text;
+    'lines: while !rest.is_empty() {
+        let (line, after) = split_line(rest);
+        let kind = LineKind::of(line);
+        if kind.opens_attribute() {
+            return Ok(());
+        }
+        push_added(lines, line, kind)?;
+        rest = after;
+    }
+    Ok(())
+}
 
-    ghost laws = { field_eq-laws };
-
-    fn eq(&self, other: &Attribute) -> bool {
-        self.name == other.name && self.lines() == other.lines()
+/// Adds what a line adds to the lines of a value.
+fn push_added<'t>(
+    lines: &mut Vec<&'t [u8]>,
+    line: &'t [u8],
+    kind: LineKind,
+) -> Result<(), AllocError>
+    ensures { OnOk result (map (λ line. line.now) lines.new.items ≡ map (λ line. line.now) lines.old.items ++ added_lines line.now kind) }
+{
+    match kind {
+        LineKind::Continuation => {
+            lines.push(added_value(line))?;
+            Ok(())
+        }
+        LineKind::Blank | LineKind::Skipped | LineKind::Opening => Ok(()),
     }
 }

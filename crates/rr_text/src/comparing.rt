@@ -1,17 +1,19 @@
-//! Canonical text found in a text, without printing it.
+//! Lines that are as they are printed, found without printing them.
 
-ghost use Rattle.std.specs.Prelude.{◌≡◌, ◌↔◌, ◌≤◌, replicate, true};
-ghost use Rattle.std.specs.List.{flat_map};
+ghost use Rattle.std.specs.Prelude.{◌≡◌, ◌≤◌};
+ghost use Rattle.std.specs.List.{list_all};
 ghost use Rattle.std.specs.Option.{option_map};
+ghost use Rattle.std.specs.Str.{bytes_eq};
+ghost use Rattle.rr_bytes.specs.LetterCase.{lowered};
+ghost use Rattle.rr_text.specs.Lines.{text_lines};
 ghost use Rattle.rr_text.specs.CanonicalText as canon;
+ghost use Rattle.rr_text.specs.KeptText.{is_printed};
 ghost use Rattle.rr_text.specs.PrivateParts.{left_behind};
 
-use crate::attribute::Attribute;
-use crate::canonical::{VALUE_COLUMN, blanks, blanks_after};
-use crate::paragraph::Paragraph;
-use crate::text::Text;
+use crate::line::{LineKind, added_value, opened_value, split_line, written_name};
+use crate::printing::{VALUE_COLUMN, blanks, blanks_after};
 
-/// What stands in a text behind these bytes, where it begins with them.
+/// What stands in a text after these bytes, where it begins with them.
 #[inline]
 fn after_bytes<'t>(text: &'t [u8], bytes: &[u8]) -> Option<&'t [u8]>
     ensures { option_map (λ left. left.now) result ≡ left_behind bytes.now text.now }
@@ -19,7 +21,7 @@ fn after_bytes<'t>(text: &'t [u8], bytes: &[u8]) -> Option<&'t [u8]>
     text.strip_prefix(bytes)
 }
 
-/// What stands behind a line with so many blanks before it, or behind nothing where the line is empty.
+/// What stands after a line with so many blanks before it, or after nothing where the line is empty.
 #[tactic(auto, using(crate::proofs::ComparingLemmas::left_joined), unfolding(crate::specs::PrivateParts::left_behind))]
 fn after_behind_blanks<'t>(text: &'t [u8], count: usize, line: &[u8]) -> Option<&'t [u8]>
     requires { count ≤ 16 }
@@ -53,46 +55,56 @@ fn after_further<'t>(text: &'t [u8], line: &[u8]) -> Option<&'t [u8]>
     after_bytes(rest, b"\n")
 }
 
-#[tactic(auto, using(crate::proofs::ComparingLemmas::next_missing, crate::proofs::ComparingLemmas::next_passed), unfolding(crate::specs::PrivateParts::left_behind))]
-fn after_further_lines<'t>(text: &'t [u8], lines: &[Text]) -> Option<&'t [u8]>
-    ensures { option_map (λ left. left.now) result
-        ≡ left_behind (flat_map (λ line. canon.ended (canon.further_line line)) lines.now) text.now }
+fn is_opening(text: &[u8], name: &[u8], line: &[u8]) -> bool
+    ensures { result ≡ bytes_eq (canon.ended (canon.opening_line name.now line.now)) text.now }
 {
-    let mut rest = text;
-    for line in lines {
-        rest = after_further(rest, line.as_slice())?;
-    }
-    Some(rest)
-}
-
-#[tactic(auto, using(crate::proofs::ComparingLemmas::left_joined), unfolding(crate::specs::PrivateParts::left_behind))]
-fn after_attribute<'t>(text: &'t [u8], attribute: &Attribute) -> Option<&'t [u8]>
-    ensures { option_map (λ left. left.now) result ≡ left_behind (canon.field_text attribute.now) text.now }
-{
-    let Some((first, further)) = attribute.lines().split_first() else {
-        return Some(text);
-    };
-    let rest = after_opening(text, attribute.name(), first.as_slice())?;
-    after_further_lines(rest, further)
-}
-
-#[tactic(auto, using(crate::proofs::ComparingLemmas::next_missing, crate::proofs::ComparingLemmas::next_passed), unfolding(crate::specs::CanonicalText::canonical, crate::specs::PrivateParts::left_behind))]
-fn after_canonical<'t>(text: &'t [u8], paragraph: &Paragraph) -> Option<&'t [u8]>
-    ensures { option_map (λ left. left.now) result ≡ left_behind (canon.canonical paragraph.now) text.now }
-{
-    let mut rest = text;
-    for attribute in paragraph.attributes() {
-        rest = after_attribute(rest, attribute)?;
-    }
-    Some(rest)
-}
-
-/// Whether a text is the canonical text of a paragraph.
-pub(crate) fn is_canonical_text(text: &[u8], paragraph: &Paragraph) -> bool
-    ensures { result ≡ true ↔ canon.canonical paragraph.now ≡ text.now }
-{
-    match after_canonical(text, paragraph) {
+    match after_opening(text, name, line) {
         Some(rest) => rest.is_empty(),
         None => false,
     }
+}
+
+fn is_further(text: &[u8], line: &[u8]) -> bool
+    ensures { result ≡ bytes_eq (canon.ended (canon.further_line line.now)) text.now }
+{
+    match after_further(text, line) {
+        Some(rest) => rest.is_empty(),
+        None => false,
+    }
+}
+
+fn is_lower(name: &[u8]) -> bool
+    ensures { result ≡ bytes_eq (lowered name.now) name.now }
+{
+    name.iter().all(|byte| byte.to_ascii_lowercase() == *byte)
+}
+
+/// Whether a line is as it is printed.
+#[tactic(auto, unfolding(crate::specs::KeptText::is_printed))]
+fn is_printed(line: &[u8]) -> bool
+    ensures { result ≡ is_printed line.now }
+{
+    match LineKind::of(line) {
+        LineKind::Blank | LineKind::Skipped => false,
+        LineKind::Continuation => is_further(line, added_value(line)),
+        LineKind::Opening => {
+            let name = written_name(line);
+            is_lower(name) && is_opening(line, name, opened_value(line))
+        }
+    }
+}
+
+/// Whether each line of a text is as it is printed.
+pub(crate) fn are_printed(text: &[u8]) -> bool
+    ensures { result ≡ list_all is_printed (text_lines text.now) }
+{
+    let mut rest = text;
+    'lines: while !rest.is_empty() {
+        let (line, after) = split_line(rest);
+        if !is_printed(line) {
+            return false;
+        }
+        rest = after;
+    }
+    true
 }

@@ -2,6 +2,7 @@
 #![tactic(auto)]
 
 pub mod attribute;
+pub mod attributes;
 mod block;
 pub mod canonical;
 mod comparing;
@@ -11,19 +12,22 @@ pub mod fault;
 mod inspect;
 pub mod laws;
 mod line;
+pub mod line_attribute;
 mod line_so_far;
 pub mod paragraph;
 pub mod paragraph_reader;
 pub mod paragraphs;
+mod printing;
 pub mod reader;
 pub mod text;
 pub mod value;
-mod value_lines;
 
 pub use attribute::Attribute;
+pub use attributes::Attributes;
 pub use canonical::{print, print_onto, print_onto_with_values, read_canonical};
 pub use fault::TextFault;
 pub use line::is_refused;
+pub use line_attribute::LineAttribute;
 pub use paragraph::Paragraph;
 pub use paragraph_reader::ParagraphReader;
 pub use paragraphs::{Paragraphs, ReaderState};

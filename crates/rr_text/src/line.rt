@@ -5,9 +5,11 @@ ghost use Rattle.std.specs.List.{list_any};
 ghost use Rattle.rr_bytes.specs.NameBytes.{begins};
 ghost use Rattle.rr_text.specs.Bytes.{is_refused};
 ghost use Rattle.rr_text.specs.Lines.{is_blank_line, is_skipped_line, is_paragraph_line, is_continuation_sign, line_kind, text_lines, are_whole_lines};
+ghost use Rattle.rr_text.specs.Entries.{added_value, opened_value};
+ghost use Rattle.rr_text.specs.Faults.{written_name};
 ghost use Rattle.rr_text.specs.PrivateParts.{opens_attribute};
 
-use rr_bytes::{ByteSet, place_of};
+use rr_bytes::{ByteSet, cut_around, cut_before, place_of, trim, trim_end};
 
 /// What kind of line a line is (RFC 2622, 2).
 #[derive(Clone, Copy, Debug, PartialEq, Eq)]
@@ -120,5 +122,32 @@ pub(crate) fn split_line(text: &[u8]) -> (&[u8], &[u8])
     match place_of(text, b'\n') {
         Some(place) => text.split_at(place + 1),
         None => text.split_at(text.len()),
+    }
+}
+
+/// The name that a line opens with.
+pub(crate) fn written_name(line: &[u8]) -> &[u8]
+    ensures { result.now ≡ written_name line.now }
+{
+    let (name, _) = cut_before(line, b':');
+    trim_end(name, ByteSet::BlanksAndLineFeeds)
+}
+
+/// The line of a value that a line opens with.
+pub(crate) fn opened_value(line: &[u8]) -> &[u8]
+    ensures { result.now ≡ opened_value line.now }
+{
+    let (_, value) = cut_around(line, b':');
+    trim(value, ByteSet::BlanksAndLineFeeds)
+}
+
+/// The line that a continuation adds to a value.
+#[tactic(auto, using(crate::proofs::EntryLemmas::added_empty))]
+pub(crate) fn added_value(line: &[u8]) -> &[u8]
+    ensures { result.now ≡ added_value line.now }
+{
+    match line.split_first() {
+        Some((_, rest)) => trim(rest, ByteSet::BlanksAndLineFeeds),
+        None => line,
     }
 }

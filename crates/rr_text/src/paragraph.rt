@@ -1,66 +1,100 @@
 //! Paragraphs: attributes in order.
 
-ghost use Rattle.std.specs.Prelude.{◌≡◌, ◌↔◌, IsTrue, IfOk, not, map, filter};
+ghost use Rattle.std.specs.Prelude.{◌≡◌, ◌↔◌, ◌<◌, ◌^◌, IsTrue, IfOk, length, not, map, filter};
+ghost use Rattle.std.specs.List.{list_any};
 ghost use Rattle.rr_text.specs.Fields.{AreFields, IsLine, has_name};
 ghost use Rattle.rr_text.specs.Fields as fields;
+ghost use Rattle.rr_text.specs.CanonicalText.{canonical};
+ghost use Rattle.rr_text.specs.KeptText.{IsKept, fields_in};
 
-use crate::attribute::Attribute;
+use crate::attributes::Attributes;
+use crate::canonical::print_onto_with_values;
+use crate::line_attribute::LineAttribute;
 use std::alloc::{AllocError, Global};
 use std::marker::Model;
 
-/// A paragraph: attributes in order, perhaps none. Contracts see the list of them as plain data.
+/// A paragraph: attributes in order, perhaps none. It is kept as its canonical text, in one piece of memory, and contracts
+/// see the list of attributes as plain data.
 #[derive(Debug, Drop)]
 pub struct Paragraph {
-    attributes: Vec<Attribute>,
+    text: Vec<u8>,
 }
 
 impl Model for Paragraph {
     ghost use Rattle.std.specs.Prelude.{List};
-    ghost use Rattle.rr_text.specs.Fields.{Field, AreFields};
+    ghost use Rattle.rr_text.specs.Fields.{Field};
+    ghost use Rattle.rr_text.specs.KeptText.{IsKept, fields_in};
 
     ghost Value = { List Field };
 
-    ghost view = { λ p. p.attributes.items };
+    ghost view = { λ p. fields_in p.text.items };
 
-    ghost invariant = { λ p. AreFields p.attributes.items };
+    ghost invariant = { λ p. IsKept p.text.items };
 }
 
 impl Paragraph {
-    /// The paragraph of these attributes, each of which has a good name and a good value.
-    pub fn new(attributes: Vec<Attribute>) -> Paragraph
-        requires { AreFields attributes.items }
-        ensures { result ≡ attributes.items }
+    /// The paragraph of these attributes, each of which has a good name and a good value; the error is out of memory.
+    pub fn new(alloc: Global, attributes: &[LineAttribute]) -> Result<Paragraph, AllocError>
+        requires { AreFields attributes.now }
+        ensures { IfOk result (λ made. made ≡ attributes.now) }
     {
-        Paragraph { attributes }
+        Ok(Paragraph::kept(printed(alloc, attributes)?))
+    }
+
+    /// The paragraph of this canonical text, in memory that fits it.
+    pub(crate) fn kept(text: Vec<u8>) -> Paragraph
+        requires { IsKept text.items }
+        ensures { result ≡ fields_in text.items }
+    {
+        let mut text = text;
+        text.shrink_to_fit();
+        Paragraph { text }
+    }
+
+    /// The canonical text of the paragraph (profile).
+    pub fn text(&self) -> &[u8]
+        ensures { result.now ≡ canonical self.now }
+    {
+        &self.text
     }
 
     /// The attributes in order.
-    pub fn attributes(&self) -> &[Attribute]
-        ensures value { result.now ≡ self.now }
+    #[tactic(auto, using(crate::proofs::KeptLemmas::fields_few))]
+    pub fn attributes(&self) -> Attributes<'_>
+        ensures value { result ≡ self.now }
         ensures fields { AreFields self.now }
+        ensures few { length self.now < 2 ^ 63 }
     {
-        self.attributes.as_slice()
+        Attributes::of(&self.text)
     }
 
-    /// An equal paragraph; the error is want of memory.
+    /// Whether an attribute has this name, which is given in lower case.
+    pub fn has(&self, name: &[u8]) -> bool
+        ensures { result ≡ list_any (has_name name.now) self.now }
+    {
+        self.attributes().any(|attribute| attribute.has_name(name))
+    }
+
+    /// An equal paragraph; the error is out of memory.
     pub fn copy(&self, alloc: Global) -> Result<Paragraph, AllocError>
         ensures { IfOk result (λ copy. copy ≡ self.now) }
     {
-        let attributes = copy_attributes(alloc, self.attributes())?;
-        Ok(Paragraph { attributes })
+        let text = Vec::from_slice(alloc, &self.text)?;
+        Ok(Paragraph { text })
     }
 
-    /// The paragraph less its attributes of this name, which is given in lower case.
-    pub fn without(self, name: &[u8]) -> Paragraph
-        ensures { result ≡ filter (λ field. not (has_name name.now field)) self }
+    /// The paragraph less its attributes of this name, which is given in lower case; the error is out of memory.
+    pub fn without(self, alloc: Global, name: &[u8]) -> Result<Paragraph, AllocError>
+        ensures { IfOk result (λ made. made ≡ filter (λ field. not (has_name name.now field)) self) }
     {
-        let mut attributes = self.attributes;
-        attributes.retain(|attribute| !attribute.has_name(name));
-        Paragraph { attributes }
+        if !self.has(name) {
+            return Ok(self);
+        }
+        Ok(Paragraph::kept(printed_without(alloc, &self, name)?))
     }
 
     /// A copy in which each attribute of this name, which is given in lower case, has this one
-    /// line as its value; the error is want of memory.
+    /// line as its value; the error is out of memory.
     pub fn with_values(
         &self,
         alloc: Global,
@@ -70,8 +104,10 @@ impl Paragraph {
         requires { IsLine line.now }
         ensures { IfOk result (λ made. made ≡ map (fields.with_value name.now line.now) self.now) }
     {
-        let attributes = with_values(alloc, self.attributes(), name, line)?;
-        Ok(Paragraph { attributes })
+        let mut text = Vec::new(alloc);
+        print_onto_with_values(&mut text, self, name, line)?;
+        let _attributes = self.attributes();
+        Ok(Paragraph::kept(text))
     }
 }
 
@@ -88,47 +124,29 @@ impl PartialEq for Paragraph {
         ensures value { result ≡ fields_eq self.now other.now }
         ensures same { IsTrue result ↔ (self.now ≡ other.now) }
     {
-        self.attributes == other.attributes
+        self.text == other.text
     }
 }
 
-fn copy_attributes(alloc: Global, attributes: &[Attribute]) -> Result<Vec<Attribute>, AllocError>
-    ensures { IfOk result (λ copy. copy.items ≡ attributes.now) }
+#[tactic(auto, unfolding(crate::specs::CanonicalText::canonical))]
+fn printed(alloc: Global, attributes: &[LineAttribute]) -> Result<Vec<u8>, AllocError>
+    ensures { IfOk result (λ text. text.items ≡ canonical attributes.now) }
 {
-    let mut copy = Vec::with_capacity(alloc, attributes.len())?;
+    let mut text = Vec::new(alloc);
     for attribute in attributes {
-        copy.push(attribute.copy(alloc)?)?;
+        attribute.print_onto(&mut text)?;
     }
-    Ok(copy)
+    Ok(text)
 }
 
-/// A copy of an attribute, with this line as its value where it has this name.
-fn with_value(
-    alloc: Global,
-    attribute: &Attribute,
-    name: &[u8],
-    line: &[u8],
-) -> Result<Attribute, AllocError>
-    ensures { IfOk result (λ made. made ≡ fields.with_value name.now line.now attribute.now) }
+fn printed_without(alloc: Global, paragraph: &Paragraph, name: &[u8]) -> Result<Vec<u8>, AllocError>
+    ensures { IfOk result (λ text. text.items ≡ canonical (filter (λ field. not (has_name name.now field)) paragraph.now)) }
 {
-    if attribute.has_name(name) {
-        attribute.with_line(alloc, line)
-    } else {
-        attribute.copy(alloc)
+    let mut text = Vec::new(alloc);
+    for attribute in paragraph.attributes() {
+        if !attribute.has_name(name) {
+            attribute.print_onto(&mut text)?;
+        }
     }
-}
-
-fn with_values(
-    alloc: Global,
-    attributes: &[Attribute],
-    name: &[u8],
-    line: &[u8],
-) -> Result<Vec<Attribute>, AllocError>
-    ensures { IfOk result (λ made. made.items ≡ map (fields.with_value name.now line.now) attributes.now) }
-{
-    let mut made = Vec::with_capacity(alloc, attributes.len())?;
-    for attribute in attributes {
-        made.push(with_value(alloc, attribute, name, line)?)?;
-    }
-    Ok(made)
+    Ok(text)
 }

@@ -17,35 +17,37 @@ fn uncommented(line: &[u8]) -> &[u8]
 }
 
 /// Lines less their comments.
-fn uncommented_lines(alloc: Global, lines: &[Text]) -> Result<Vec<&[u8]>, AllocError>
-    ensures { IfOk result (λ said. map (λ line. line.now) said.items ≡ map meanings.uncommented lines.now) }
+fn uncommented_lines<'t>(alloc: Global, lines: &[&'t [u8]]) -> Result<Vec<&'t [u8]>, AllocError>
+    ensures { IfOk result (λ said. map (λ line. line.now) said.items ≡ map meanings.uncommented (map (λ line. line.now) lines.now)) }
 {
     let mut said = Vec::with_capacity(alloc, lines.len())?;
     'lines: for line in lines {
-        said.push(uncommented(line.as_slice()))?;
+        said.push(uncommented(line))?;
     }
     Ok(said)
 }
 
 /// What the lines of a value say.
-#[tactic(auto, using(crate::proofs::MeaningLemmas::of_one_line), unfolding(crate::specs::Meanings::value_meaning))]
-fn lines_meaning(alloc: Global, lines: &[Text]) -> Result<Text, AllocError>
-    ensures { IfOk result (λ text. text ≡ meanings.value_meaning lines.now) }
+#[tactic(auto, unfolding(crate::specs::Meanings::value_meaning))]
+fn lines_meaning(alloc: Global, lines: &[&[u8]]) -> Result<Text, AllocError>
+    ensures { IfOk result (λ text. text ≡ meanings.value_meaning (map (λ line. line.now) lines.now)) }
 {
-    match lines {
-        [line] => Text::from_slice(alloc, uncommented(line.as_slice())),
-        _ => {
-            let said = uncommented_lines(alloc, lines)?;
-            let joined = joined_by_space(alloc, &said)?;
-            Text::from_slice(alloc, trim(&joined, ByteSet::BlanksAndLineFeeds))
-        }
-    }
+    let said = uncommented_lines(alloc, lines)?;
+    let joined = joined_by_space(alloc, &said)?;
+    Text::from_slice(alloc, trim(&joined, ByteSet::BlanksAndLineFeeds))
 }
 
 /// What the value of an attribute says: its lines without their comments, joined by one space
-/// (RFC 2622, 2; the space: profile). The error is want of memory.
+/// (RFC 2622, 2; the space: profile). The error is out of memory.
+#[tactic(auto, using(crate::proofs::MeaningLemmas::of_one_line))]
 pub fn meaning(alloc: Global, attribute: &Attribute) -> Result<Text, AllocError>
     ensures { IfOk result (λ text. text ≡ meanings.value_meaning attribute.now.lines) }
 {
-    lines_meaning(alloc, attribute.lines())
+    match attribute.only_line() {
+        Some(line) => Text::from_slice(alloc, uncommented(line)),
+        None => {
+            let lines = attribute.lines(alloc)?;
+            lines_meaning(alloc, &lines)
+        }
+    }
 }

@@ -1,7 +1,9 @@
-use Rattle.rr_text.proofs.PrintLemmas.{all_printed}
+use Rattle.std.proofs.Common.{◌∙◌, ap, sym}
+use Rattle.rr_text.specs.CanonicalText.{canonical}
+use Rattle.rr_text.proofs.KeptLemmas.{none_valued}
 use Rattle.rr_text.proofs.canonical.print_onto_with_values.Goals as goal
 
-pub returns : goal.returns
-returns c =
-    all_printed c.args.name.now c.args.line.now c.args.paragraph.now c.attributes-attribute-items.result.now c.loop-attribute.attribute-index c.args.out.now.items c.loop-attribute.out.items
-    c.attributes-attribute-items.ensures.value c.loop-attribute-test.false c.loop-attribute.invariant
+pub returns-then-not-has : goal.returns-then-not-has
+returns-then-not-has c =
+    let same = ap canonical (none_valued c.args.name.now c.args.line.now c.args.paragraph.now (sym c.has.ensures ∙ c.if-not-has.true)) in
+    rw same c.print_onto.ensures

@@ -1,8 +1,13 @@
--- What a block without a fault gives is good.
-use Rattle.std.proofs.Common.{List, sym, subst}
-use Rattle.rr_text.specs.Fields.{Field, AreFields}
-use Rattle.rr_text.proofs.SoundLemmas.{sound}
+use Rattle.std.proofs.Common.{◌∙◌}
+use Rattle.rr_text.specs.Lines.{text_lines}
+use Rattle.rr_text.proofs.KeptLemmas.{block_kept}
+use Rattle.rr_text.proofs.SoundLemmas.{opens_block}
 use Rattle.rr_text.proofs.entry.read_paragraph.Goals as goal
 
-pub new-requires : goal.new-requires
-new-requires c = let P : List Field → Type 0 = AreFields in subst P (sym c.in_ok-fields.ensures) (sound c.args.block.now c.requires)
+pub kept-requires : goal.kept-requires
+kept-requires c =
+    (block_kept c.args.block.now _ (opens_block (text_lines c.args.block.now) c.requires.starts c.requires.good) c.requires.good c.in_ok-printed.ensures).1
+
+pub returns-clause-value : goal.returns-clause-value
+returns-clause-value c =
+    c.kept.ensures ∙ (block_kept c.args.block.now _ (opens_block (text_lines c.args.block.now) c.requires.starts c.requires.good) c.requires.good c.in_ok-printed.ensures).0

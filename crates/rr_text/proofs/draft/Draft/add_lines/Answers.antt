@@ -1,9 +1,8 @@
 -- The lines so far are added, one more or up to the one that closes.
-use Rattle.std.proofs.Common.{◌≡◌, ◌+◌, ◌-◌, ◌<◌, ◌∙◌, ◌++◌, [], List, ℕ, length, length-append, take, sym, ap, subst, append_assoc, arith, refl}
+use Rattle.std.proofs.Common.{◌≡◌, ◌∙◌, ◌++◌, [], List, ℕ, length, sym, ap, subst, append_assoc, arith, refl}
 use Rattle.std.proofs.lemmas.Bool.Decides.{nat_tests}
 use Rattle.std.proofs.lemmas.List.{append-nil}
-use Rattle.rr_text.specs.declared.draft.Draft.{Draft}
-use Rattle.rr_text.specs.DraftParts.{IsBegun, IsClosed}
+use Rattle.rr_text.specs.DraftParts.{IsBegun}
 use Rattle.rr_text.proofs.DraftLemmas.{lines_taken, lines_closed, empty_list}
 use Rattle.rr_text.proofs.draft.Draft.add_lines.Goals as goal
 

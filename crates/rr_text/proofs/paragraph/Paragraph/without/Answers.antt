@@ -1,20 +1,18 @@
-use Rattle.std.proofs.Common.{◌≡◌, ◌∙◌, List, not, filter, sym, ap, subst, rules}
-use Rattle.std.proofs.lemmas.Fn.{filter_same}
-use Rattle.rr_text.specs.Fields.{Field, AreFields, has_name}
+use Rattle.std.proofs.Common.{◌∙◌, sym, subst, not, filter}
+use Rattle.rr_text.specs.Fields.{AreFields, has_name}
 use Rattle.rr_text.proofs.FieldLemmas.{AreFields-filter}
+use Rattle.rr_text.proofs.KeptLemmas.{kept_of, none_left_out}
 use Rattle.rr_text.proofs.paragraph.Paragraph.without.Goals as goal
 
-pub invariant_of-result : goal.invariant_of-result
-invariant_of-result c =
-    let kept : c.retain.new.self.items ≡ filter (λ field. not (has_name c.args.name.now field)) c.self.inside.attributes.items =
-    filter_same _ (λ field. not (has_name c.args.name.now field)) _ (λ x b f k. search rules) _ _ c.retain.ensures.filtered
-    in
-    let P : List Field → Type 0 = AreFields in
-    subst P (sym kept) (AreFields-filter _ _ c.self.invariant)
+pub returns-then-not-has : goal.returns-then-not-has
+returns-then-not-has c = sym (none_left_out (has_name c.args.name.now) c.args.self (sym c.has.ensures ∙ c.if-not-has.true))
+
+pub kept-requires : goal.kept-requires
+kept-requires c =
+    let left = filter (λ field. not (has_name c.args.name.now field)) c.args.self in
+    (kept_of left _ (AreFields-filter _ c.args.self (subst AreFields c.self.view_is c.self.invariant.good)) c.in_ok-printed_without.ensures).1
 
 pub returns : goal.returns
 returns c =
-    let kept : c.retain.new.self.items ≡ filter (λ field. not (has_name c.args.name.now field)) c.self.inside.attributes.items =
-    filter_same _ (λ field. not (has_name c.args.name.now field)) _ (λ x b f k. search rules) _ _ c.retain.ensures.filtered
-    in
-    kept ∙ ap (filter (λ field. not (has_name c.args.name.now field))) c.self.view_is
+    let left = filter (λ field. not (has_name c.args.name.now field)) c.args.self in
+    c.kept.ensures ∙ (kept_of left _ (AreFields-filter _ c.args.self (subst AreFields c.self.view_is c.self.invariant.good)) c.in_ok-printed_without.ensures).0

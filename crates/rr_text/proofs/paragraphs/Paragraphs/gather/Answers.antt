@@ -1,8 +1,6 @@
 -- All that is held is gathered before each read.
-use Rattle.std.proofs.Common.{◌≡◌, ◌<◌, ◌∙◌, refl, arith}
+use Rattle.std.proofs.Common.{◌<◌, ◌∙◌, refl, arith}
 use Rattle.rr_text.specs.ParagraphReaders.{reads_of}
-use Rattle.rr_text.specs.ReaderParts.{GathersRest}
-use Rattle.rr_text.specs.declared.paragraphs.ReaderState.TheVariants.{Open}
 use Rattle.rr_text.proofs.DraftLemmas.{begun_none}
 use Rattle.rr_text.proofs.ReaderLemmas.{gathering_none, gathered_rest, gathering_more, gathers_end}
 use Rattle.rr_text.proofs.paragraphs.Paragraphs.gather.Goals as goal

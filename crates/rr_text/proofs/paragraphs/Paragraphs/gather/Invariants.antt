@@ -1,4 +1,4 @@
-use Rattle.std.proofs.Common.{◌≡◌, ◌++◌, ◌-◌, List, ℕ}
+use Rattle.std.proofs.Common.{◌≡◌, ◌-◌}
 use Rattle.rr_text.proofs.ReaderLemmas.{IsGathering}
 use Rattle.rr_text.specs.ParagraphReaders.{held, reads_of}
 use Rattle.rr_text.proofs.paragraphs.Paragraphs.gather.Given as goal

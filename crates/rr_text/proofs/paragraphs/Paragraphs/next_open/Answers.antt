@@ -1,5 +1,5 @@
 -- By what was gathered the answer is one entry more, or the last.
-use Rattle.std.proofs.Common.{ℕ, ◌∙◌, ◌++◌, ◌+◌, ◌-◌, ◌*◌, List, length, refl, sym, ap, subst}
+use Rattle.std.proofs.Common.{ℕ, ◌∙◌, ◌++◌, refl, sym, subst}
 use Rattle.rr_text.specs.ParagraphReaders.{held, left_of, Nearer}
 use Rattle.rr_text.proofs.ReaderLemmas.{closed_next, left_same, nearer_found, fields_found, last_next, last_nearer, last_fields, broken_end, endless_end}
 use Rattle.rr_text.proofs.paragraphs.Paragraphs.next_open.Goals as goal

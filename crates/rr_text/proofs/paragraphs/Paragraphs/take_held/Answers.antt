@@ -1,7 +1,6 @@
 -- The place behind the line that closes is as far behind the first byte held as that line's end.
-use Rattle.std.proofs.Common.{◌≡◌, ◌+◌, ◌∙◌, ◌++◌, ℕ, List, take, drop, sym, ap, subst}
+use Rattle.std.proofs.Common.{◌≡◌, ◌∙◌, ◌++◌, take, drop, sym, ap}
 use Rattle.std.proofs.lemmas.List.{drop-drop, take-append-drop}
-use Rattle.rr_text.specs.DraftParts.{IsClosed}
 use Rattle.rr_text.specs.ParagraphReaders.{held}
 use Rattle.rr_text.proofs.paragraphs.Paragraphs.take_held.Goals as goal
 

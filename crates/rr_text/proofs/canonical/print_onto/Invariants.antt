@@ -1,7 +1,0 @@
-use Rattle.std.proofs.Common.{◌≡◌, ◌++◌, take}
-use Rattle.std.specs.List.{flat_map}
-use Rattle.rr_text.specs.CanonicalText as canon
-use Rattle.rr_text.proofs.canonical.print_onto.Given as goal
-
-abbrev pub invariant-loop-attribute : goal.invariant-loop-attribute
-invariant-loop-attribute l = l.out.items ≡ l.initial.out.items ++ flat_map canon.field_text (take l.attribute-index l.attribute-items)

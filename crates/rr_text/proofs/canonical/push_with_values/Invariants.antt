@@ -1,0 +1,9 @@
+use Rattle.std.proofs.Common.{◌≡◌, ◌++◌, map}
+use Rattle.rr_text.specs.CanonicalText.{canonical}
+use Rattle.rr_text.specs.Fields.{with_value}
+use Rattle.rr_text.proofs.canonical.push_with_values.Given as goal
+
+abbrev pub invariant-loop-attribute : goal.invariant-loop-attribute
+invariant-loop-attribute l =
+    l.out.items ++ canonical (map (with_value l.name l.line) l.attribute-iterator)
+    ≡ l.initial.out.items ++ canonical (map (with_value l.name l.line) l.paragraph)

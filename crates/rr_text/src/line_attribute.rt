@@ -1,0 +1,45 @@
+//! Attributes that paragraphs are made of.
+
+ghost use Rattle.std.specs.Prelude.{◌≡◌, IfOk};
+
+use crate::printing::push_opening;
+use crate::text::Text;
+use std::alloc::{AllocError, Global};
+use std::marker::Model;
+
+/// An attribute with a value of one line, in memory of its own. By itself it may hold any bytes.
+#[derive(Debug, Drop)]
+pub struct LineAttribute {
+    name: Text,
+    line: Text,
+}
+
+impl Model for LineAttribute {
+    ghost use Rattle.rr_text.specs.Fields.{Field, one_line};
+
+    ghost Value = { Field };
+
+    ghost view = { λ a. one_line a.name a.line };
+}
+
+impl LineAttribute {
+    ghost use Rattle.rr_text.specs.Fields.{one_line};
+    ghost use Rattle.rr_text.specs.CanonicalText.{field_text};
+    ghost use Rattle.std.specs.Prelude.{◌++◌, OnOk};
+
+    /// The attribute of this name whose value is this line, which are taken as they are; the error is out of memory.
+    pub fn new(alloc: Global, name: &[u8], line: &[u8]) -> Result<LineAttribute, AllocError>
+        ensures { IfOk result (λ made. made ≡ one_line name.now line.now) }
+    {
+        let name = Text::from_slice(alloc, name)?;
+        let line = Text::from_slice(alloc, line)?;
+        Ok(LineAttribute { name, line })
+    }
+
+    /// Appends its canonical text.
+    pub(crate) fn print_onto(&self, out: &mut Vec<u8>) -> Result<(), AllocError>
+        ensures { OnOk result (out.new.items ≡ out.old.items ++ field_text self.now) }
+    {
+        push_opening(out, self.name.as_slice(), self.line.as_slice())
+    }
+}

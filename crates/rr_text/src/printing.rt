@@ -1,0 +1,134 @@
+//! The lines of canonical text (profile).
+
+ghost use Rattle.std.specs.Prelude.{◌≡◌, ◌≤◌, ◌<◌, ◌+◌, ◌-◌, ◌^◌, ◌∷◌, ◌++◌, [], max, OnOk, replicate};
+ghost use Rattle.std.specs.List.{flat_map};
+ghost use Rattle.rr_bytes.specs.LetterCase.{lowered};
+ghost use Rattle.rr_text.specs.Lines.{text_lines};
+ghost use Rattle.rr_text.specs.Entries.{continued};
+ghost use Rattle.rr_text.specs.CanonicalText as canon;
+ghost use Rattle.rr_text.specs.KeptText.{printed_by};
+ghost use Rattle.rr_text.specs.PrivateParts.{added_lines};
+
+use crate::line::{LineKind, added_value, opened_value, split_line, written_name};
+use std::alloc::AllocError;
+
+/// The column in which values begin.
+pub(crate) const VALUE_COLUMN: usize = 16;
+
+/// So many blanks.
+#[inline]
+pub(crate) fn blanks(count: usize) -> &'static [u8]
+    requires { count ≤ 16 }
+    ensures { result.now ≡ replicate count 32 }
+{
+    let (blanks, _) = b"                ".split_at(count);
+    blanks
+}
+
+/// The blanks between the colon after a name of this length and its value.
+pub(crate) fn blanks_after(name_len: usize) -> usize
+    requires { name_len < 2 ^ 63 }
+    ensures bound { result ≤ 16 }
+    ensures value { result ≡ max 1 (canon.value_column - (name_len + 1)) }
+{
+    VALUE_COLUMN.saturating_sub(name_len + 1).max(1)
+}
+
+/// The first line of a value after its blanks, or nothing where it is empty.
+fn push_first_line(out: &mut Vec<u8>, count: usize, line: &[u8]) -> Result<(), AllocError>
+    requires { count ≤ 16 }
+    ensures { OnOk result (out.new.items ≡ out.old.items ++ canon.behind_blanks count line.now) }
+{
+    if line.is_empty() {
+        return Ok(());
+    }
+    out.extend_from_slice(blanks(count))?;
+    out.extend_from_slice(line)
+}
+
+/// The colon after a name of this length, and the first line of its value.
+fn push_value(out: &mut Vec<u8>, name_len: usize, line: &[u8]) -> Result<(), AllocError>
+    requires { name_len < 2 ^ 63 }
+    ensures { OnOk result (out.new.items
+        ≡ out.old.items ++ (58 ∷ canon.behind_blanks (max 1 (canon.value_column - (name_len + 1))) line.now) ++ 10 ∷ []) }
+{
+    out.push(b':')?;
+    push_first_line(out, blanks_after(name_len), line)?;
+    out.push(b'\n')?;
+    Ok(())
+}
+
+pub(crate) fn push_opening(out: &mut Vec<u8>, name: &[u8], line: &[u8]) -> Result<(), AllocError>
+    ensures { OnOk result (out.new.items ≡ out.old.items ++ canon.ended (canon.opening_line name.now line.now)) }
+{
+    out.extend_from_slice(name)?;
+    push_value(out, name.len(), line)
+}
+
+fn push_lowered(out: &mut Vec<u8>, name: &[u8]) -> Result<(), AllocError>
+    ensures { OnOk result (out.new.items ≡ out.old.items ++ lowered name.now) }
+{
+    for byte in name {
+        out.push(byte.to_ascii_lowercase())?;
+    }
+    Ok(())
+}
+
+/// The same of a name in any letter case.
+fn push_lowered_opening(out: &mut Vec<u8>, name: &[u8], line: &[u8]) -> Result<(), AllocError>
+    ensures { OnOk result (out.new.items ≡ out.old.items ++ canon.ended (canon.opening_line (lowered name.now) line.now)) }
+{
+    push_lowered(out, name)?;
+    push_value(out, name.len(), line)
+}
+
+fn push_further(out: &mut Vec<u8>, line: &[u8]) -> Result<(), AllocError>
+    ensures { OnOk result (out.new.items ≡ out.old.items ++ canon.ended (canon.further_line line.now)) }
+{
+    if line.is_empty() {
+        out.extend_from_slice(b"+\n")
+    } else {
+        out.extend_from_slice(blanks(VALUE_COLUMN))?;
+        out.extend_from_slice(line)?;
+        out.push(b'\n')?;
+        Ok(())
+    }
+}
+
+/// What a line of a block adds to the canonical text.
+pub(crate) fn push_line(out: &mut Vec<u8>, line: &[u8], kind: LineKind) -> Result<(), AllocError>
+    ensures { OnOk result (out.new.items ≡ out.old.items ++ printed_by line.now kind) }
+{
+    match kind {
+        LineKind::Blank | LineKind::Skipped => Ok(()),
+        LineKind::Continuation => push_further(out, added_value(line)),
+        LineKind::Opening => push_lowered_opening(out, written_name(line), opened_value(line)),
+    }
+}
+
+/// What a line adds to the canonical text of the value before it.
+fn push_continuation(out: &mut Vec<u8>, line: &[u8], kind: LineKind) -> Result<(), AllocError>
+    ensures { OnOk result (out.new.items ≡ out.old.items ++ flat_map (λ line. canon.ended (canon.further_line line)) (added_lines line.now kind)) }
+{
+    match kind {
+        LineKind::Continuation => push_further(out, added_value(line)),
+        LineKind::Blank | LineKind::Skipped | LineKind::Opening => Ok(()),
+    }
+}
+
+/// The lines that continue a value.
+pub(crate) fn push_continuations(out: &mut Vec<u8>, text: &[u8]) -> Result<(), AllocError>
+    ensures { OnOk result (out.new.items ≡ out.old.items ++ flat_map (λ line. canon.ended (canon.further_line line)) (continued (text_lines text.now))) }
+{
+    let mut rest = text;
+    'lines: while !rest.is_empty() {
+        let (line, after) = split_line(rest);
+        let kind = LineKind::of(line);
+        if kind.opens_attribute() {
+            return Ok(());
+        }
+        push_continuation(out, line, kind)?;
+        rest = after;
+    }
+    Ok(())
+}

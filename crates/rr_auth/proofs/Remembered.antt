@@ -1,147 +1,141 @@
 -- What is remembered of secrets, as more of them are tried and as others are added.
-use Rattle.std.proofs.Common.{◌≡◌, ◌+◌, ◌-◌, ℕ, zero, suc, ◌≤◌, ◌<◌, Bool, true, false, cond, not, ◌||◌, List, [], ◌∷◌, ◌++◌, length, take, drop, get_or, arith, length-append, length-drop, refl, sym, ap, subst, ◌∙◌}
-use Rattle.std.specs.Prelude.{Err, IfSome, Ok, OnErr, OnOk, Option, Result, Some}
-use Rattle.std.specs.BTreeMap.{BTreeMap, IsUnchanged, Updates, get, is_at}
+use Rattle.std.proofs.Common.{◌≡◌, ◌+◌, ◌-◌, ℕ, ◌≤◌, ◌<◌, Bool, true, false, cond, ◌||◌, List, [], ◌∷◌, ◌++◌, length, take, drop, get_or, arith, length-append, length-drop, refl, sym, ap, subst, ◌∙◌}
+use Rattle.std.specs.Prelude.{IfSome, Option, Some}
+use Rattle.std.specs.BTreeMap.{BTreeMap, Updates, get, is_at}
 use Rattle.std.specs.BTreeSet.{BTreeSet, contains}
 use Rattle.std.specs.BTreeSet as set
 use Rattle.std.specs.Cmp.Lexicographic.{slice_cmp}
+use Rattle.std.specs.Global.{Vec}
 use Rattle.std.specs.List.{list_any}
 use Rattle.std.specs.Map.{lookup}
 use Rattle.std.specs.Ordering.{nat_cmp}
 use Rattle.std.specs.Str.{bytes_eq}
-use Rattle.std.proofs.lemmas.Bool.{false_from_ne_true, or_from, or_parts, true≢false}
+use Rattle.std.proofs.lemmas.Bool.{false_from_ne_true, true≢false}
 use Rattle.std.proofs.lemmas.List.{take-append-drop, take-append-le, take_all}
 use Rattle.std.proofs.lemmas.List.Folds.{list_any-append, list_any_more}
-use Rattle.std.proofs.lemmas.Map.Lookups.{exact_bytes, exact_pairs}
 use Rattle.std.proofs.lemmas.Map.Text.{is_eq-slice_cmp}
-use Rattle.std.proofs.lemmas.Map.Views.{tells_apart}
 use Rattle.std.proofs.lemmas.Option.{IfSome_then}
 use Rattle.std.proofs.lemmas.Slice.Eq.{bytes_eq-Decides}
 use Rattle.rr_object.specs.Parts.{AuthParts}
-use Rattle.rr_auth.specs.declared.salted.Salted.{Salted}
-use Rattle.rr_auth.specs.declared.tried.Line.{Line}
+use Rattle.rr_auth.specs.declared.tried.Answer.{Answer}
 use Rattle.rr_auth.specs.declared.tried.Trial.{Trial}
 use Rattle.rr_auth.specs.Passing.{fits_line}
-use Rattle.rr_auth.specs.TrialParts.{AreDigests, AreTrials, IsTrial, line_cmp, auth_of}
+use Rattle.rr_auth.specs.TrialParts.{AreAnswers, AreDigests, HasDigests, IsTrial, salt_cmp, some_line_fits}
 
-abbrev Trials : Type 0
-Trials = BTreeMap Line Trial
+abbrev Answers : Type 0
+Answers = BTreeMap (List ℕ) Answer
 
--- what passes a test in a list stands in its front or behind it
+abbrev Digests : Type 0
+Digests = BTreeMap (Vec ℕ) (BTreeSet (List ℕ))
+
+-- what passes a test in a list stands in its front or after it
 any_parted : (p : List ℕ → Bool) (n : ℕ) (xs : List (List ℕ)) → list_any p xs ≡ (list_any p (take n xs) || list_any p (drop n xs))
 any_parted p n xs = ap (list_any p) (sym (take-append-drop n xs)) ∙ list_any-append p (take n xs) (drop n xs)
 
-module _ (secrets : List (List ℕ)) (line : AuthParts) (trial : Trial) (is : IsTrial secrets line trial) where
-  abbrev fits : List ℕ → Bool
-  fits = fits_line line
+or_swap : (a b c d : Bool) → ((a || b) || (c || d)) ≡ ((a || c) || (b || d))
+or_swap true b c d = refl
+or_swap false true true d = refl
+or_swap false true false d = refl
+or_swap false false c d = refl
 
-  parted : list_any fits secrets ≡ (trial.fits || list_any fits (drop trial.tried secrets))
-  parted = any_parted fits trial.tried secrets ∙ ap (λ b. b || list_any fits (drop trial.tried secrets)) (sym is.told)
+some_line_parted : (n : ℕ) (secrets : List (List ℕ)) (lines : List AuthParts)
+    → some_line_fits secrets lines ≡ (some_line_fits (take n secrets) lines || some_line_fits (drop n secrets) lines)
+some_line_parted n secrets [] = refl
+some_line_parted n secrets (line ∷ lines) =
+    (λ i. any_parted (fits_line line) n secrets i || some_line_parted n secrets lines i)
+    ∙ or_swap (list_any (fits_line line) (take n secrets)) (list_any (fits_line line) (drop n secrets)) (some_line_fits (take n secrets) lines) (some_line_fits (drop n secrets) lines)
 
-  -- a line that some secret was seen to fit
-  pub seen_to_fit : trial.fits ≡ true → trial.fits ≡ list_any fits secrets
-  seen_to_fit e = e ∙ sym (parted ∙ ap (λ b. b || list_any fits (drop trial.tried secrets)) e)
+module _ (secrets : List (List ℕ)) (lines : List AuthParts) (trial : Trial) (is : IsTrial secrets lines trial) where
+  parted : some_line_fits secrets lines ≡ (trial.fits || some_line_fits (drop trial.tried secrets) lines)
+  parted = some_line_parted trial.tried secrets lines ∙ ap (λ b. b || some_line_fits (drop trial.tried secrets) lines) (sym is.told)
 
-  -- a line with which each secret was tried
-  pub all_tried : trial.tried ≡ length secrets → trial.fits ≡ list_any fits secrets
-  all_tried e = is.told ∙ ap (list_any fits) (ap (λ n. take n secrets) e ∙ take_all (length secrets) secrets (omega arith))
+  -- lines one of which some secret was seen to fit
+  pub seen_to_fit : trial.fits ≡ true → trial.fits ≡ some_line_fits secrets lines
+  seen_to_fit e = e ∙ sym (parted ∙ ap (λ b. b || some_line_fits (drop trial.tried secrets) lines) e)
+
+  -- lines with which each secret was tried
+  pub all_tried : trial.tried ≡ length secrets → trial.fits ≡ some_line_fits secrets lines
+  all_tried e = is.told ∙ ap (λ (tried : List (List ℕ)). some_line_fits tried lines) (ap (λ n. take n secrets) e ∙ take_all (length secrets) secrets (omega arith))
 
   -- where none of those that were tried fits, the rest decides
-  pub rest_decides : trial.fits ≡ false → list_any fits (take (length secrets - trial.tried) (drop trial.tried secrets)) ≡ list_any fits secrets
+  pub rest_decides : trial.fits ≡ false → some_line_fits (take (length secrets - trial.tried) (drop trial.tried secrets)) lines ≡ some_line_fits secrets lines
   rest_decides e =
-      ap (list_any fits) (take_all (length secrets - trial.tried) (drop trial.tried secrets) (omega (arith, length-drop trial.tried secrets)))
-      ∙ sym (parted ∙ ap (λ b. b || list_any fits (drop trial.tried secrets)) e)
+      ap (λ (rest : List (List ℕ)). some_line_fits rest lines) (take_all (length secrets - trial.tried) (drop trial.tried secrets) (omega (arith, length-drop trial.tried secrets)))
+      ∙ sym (parted ∙ ap (λ b. b || some_line_fits (drop trial.tried secrets) lines) e)
 
--- a line with which all secrets were tried
-pub whole_trial : (secrets : List (List ℕ)) (line : AuthParts) (trial : Trial) → trial.tried ≡ length secrets → trial.fits ≡ list_any (fits_line line) secrets → IsTrial secrets line trial
-whole_trial secrets line trial all told = record {
+-- lines with which all secrets were tried
+pub whole_trial : (secrets : List (List ℕ)) (lines : List AuthParts) (trial : Trial) → trial.tried ≡ length secrets → trial.fits ≡ some_line_fits secrets lines → IsTrial secrets lines trial
+whole_trial secrets lines trial all told = record {
   within = subst (λ n. n ≤ length secrets) (sym all) (omega arith);
-  told = told ∙ ap (list_any (fits_line line)) (sym (ap (λ n. take n secrets) all ∙ take_all (length secrets) secrets (omega arith)));
+  told = told ∙ ap (λ (tried : List (List ℕ)). some_line_fits tried lines) (sym (ap (λ n. take n secrets) all ∙ take_all (length secrets) secrets (omega arith)));
 }
 
-trial_stays : (secrets more : List (List ℕ)) (line : AuthParts) (trial : Trial) → IsTrial secrets line trial → IsTrial (secrets ++ more) line trial
-trial_stays secrets more line trial is = record {
+no_secret_fits : (lines : List AuthParts) → false ≡ some_line_fits [] lines
+no_secret_fits [] = refl
+no_secret_fits (line ∷ lines) = no_secret_fits lines
+
+-- no secret was tried
+pub none_tried : (secrets : List (List ℕ)) (lines : List AuthParts) (trial : Trial) → trial.tried ≡ 0 → trial.fits ≡ false → IsTrial secrets lines trial
+none_tried secrets lines trial zeroth fails = record {
+  within = subst (λ n. n ≤ length secrets) (sym zeroth) (omega arith);
+  told = fails ∙ no_secret_fits lines ∙ ap (λ n. some_line_fits (take n secrets) lines) (sym zeroth);
+}
+
+trial_stays : (secrets more : List (List ℕ)) (answer : Answer) → IsTrial secrets answer.lines.items answer.trial → IsTrial (secrets ++ more) answer.lines.items answer.trial
+trial_stays secrets more answer is = record {
   within = omega (arith, is.within, length-append secrets more);
-  told = is.told ∙ ap (list_any (fits_line line)) (sym (take-append-le trial.tried secrets more is.within));
+  told = is.told ∙ ap (λ (tried : List (List ℕ)). some_line_fits tried answer.lines.items) (sym (take-append-le answer.trial.tried secrets more is.within));
 }
 
--- what is remembered of secrets holds where others are added behind them
-pub trials_stay : (secrets more : List (List ℕ)) (trials : Trials) → AreTrials secrets trials → AreTrials (secrets ++ more) trials
-trials_stay secrets more trials are = λ line.
-    IfSome_then (get line_cmp trials line) (are line) (trial_stays secrets more (auth_of line))
+-- what is remembered of secrets holds where others are added after them
+pub answers_stay : (secrets more : List (List ℕ)) (answers : Answers) → AreAnswers secrets answers → AreAnswers (secrets ++ more) answers
+answers_stay secrets more answers are = λ name.
+    IfSome_then (get (slice_cmp nat_cmp) answers name) (are name) (trial_stays secrets more)
 
 -- of nothing that is remembered all is true
-pub none_tried : (secrets : List (List ℕ)) (trials : Trials) → trials.entries ≡ [] → AreTrials secrets trials
-none_tried secrets trials none = λ line.
-    subst (λ (es : List (Line × Trial)). IfSome (lookup (is_at (line_cmp line)) es) (IsTrial secrets (auth_of line))) (sym none) tt
+pub nothing_remembered : (secrets : List (List ℕ)) (answers : Answers) → answers.entries ≡ [] → AreAnswers secrets answers
+nothing_remembered secrets answers none = λ name.
+    subst (λ (es : List (List ℕ × Answer)). IfSome (lookup (is_at (slice_cmp nat_cmp name)) es) (λ answer. IsTrial secrets answer.lines.items answer.trial)) (sym none) tt
 
--- lines that tie are the same line
-same_line : (a b : Line) → is_at (line_cmp a) b ≡ true → auth_of a ≡ auth_of b
-same_line a b e =
-    let p : List ℕ × List ℕ = (a.digest, a.salt.items) in
-    let q : List ℕ × List ℕ = (b.digest, b.salt.items) in
-    ap (λ (r : List ℕ × List ℕ). let parts : AuthParts = record { salt = r.1; digest = r.0 } in parts)
-    (tells_apart (exact_pairs (slice_cmp nat_cmp) (slice_cmp nat_cmp) exact_bytes exact_bytes) p q e)
+put_at : (secrets : List (List ℕ)) (answer : Answer) (b : Bool) (before : Option Answer) → IsTrial secrets answer.lines.items answer.trial
+    → IfSome before (λ other. IsTrial secrets other.lines.items other.trial) → IfSome (cond b (Some answer) before) (λ other. IsTrial secrets other.lines.items other.trial)
+put_at secrets answer true before is were = is
+put_at secrets answer false before is were = were
 
-put_at : (secrets : List (List ℕ)) (line other : Line) (trial : Trial) (b : Bool) (before : Option Trial) → (b ≡ true → auth_of line ≡ auth_of other)
-    → IsTrial secrets (auth_of line) trial → IfSome before (IsTrial secrets (auth_of other)) → IfSome (cond b (Some trial) before) (IsTrial secrets (auth_of other))
-put_at secrets line other trial true before same is were = subst (λ (l : AuthParts). IsTrial secrets l trial) (same refl) is
-put_at secrets line other trial false before same is were = were
+-- one more answer is remembered
+pub answer_put : (secrets : List (List ℕ)) (name : List ℕ) (answer : Answer) (old new : Answers) → Updates (slice_cmp nat_cmp) old new name (Some answer)
+    → AreAnswers secrets old → IsTrial secrets answer.lines.items answer.trial → AreAnswers secrets new
+answer_put secrets name answer old new put were is = λ other.
+    subst (λ (o : Option Answer). IfSome o (λ a. IsTrial secrets a.lines.items a.trial)) (sym (put.0 other))
+    (put_at secrets answer (is_at (slice_cmp nat_cmp name) other) (get (slice_cmp nat_cmp) old other) is (were other))
 
--- one more trial is remembered
-pub trial_put : (secrets : List (List ℕ)) (line : Line) (trial : Trial) (old new : Trials) → ((other : Line) → get line_cmp new other ≡ cond (is_at (line_cmp line) other) (Some trial) (get line_cmp old other))
-    → AreTrials secrets old → IsTrial secrets (auth_of line) trial → AreTrials secrets new
-trial_put secrets line trial old new put were is = λ other.
-    subst (λ (o : Option Trial). IfSome o (IsTrial secrets (auth_of other))) (sym (put other))
-    (put_at secrets line other trial (is_at (line_cmp line) other) (get line_cmp old other) (same_line line other) is (were other))
+-- where memory is refused, what was remembered stays
+pub answers_kept : (secrets : List (List ℕ)) (old new : Answers) → new.entries ≡ old.entries → AreAnswers secrets old → AreAnswers secrets new
+answers_kept secrets old new same were = λ name.
+    subst (λ (es : List (List ℕ × Answer)). IfSome (lookup (is_at (slice_cmp nat_cmp name)) es) (λ answer. IsTrial secrets answer.lines.items answer.trial)) (sym same) (were name)
 
--- where memory is wanting, what was remembered stays
-pub trials_kept : (secrets : List (List ℕ)) (old new : Trials) → new.entries ≡ old.entries → AreTrials secrets old → AreTrials secrets new
-trials_kept secrets old new same were = λ line.
-    subst (λ (es : List (Line × Trial)). IfSome (lookup (is_at (line_cmp line)) es) (IsTrial secrets (auth_of line))) (sym same) (were line)
+-- of no salts all is true
+pub nothing_salted : (wanted : BTreeSet (List ℕ)) (secrets : List (List ℕ)) (digests : Digests) → digests.entries ≡ [] → AreDigests wanted secrets digests
+nothing_salted wanted secrets digests none = λ salt.
+    subst (λ (es : List (Vec ℕ × BTreeSet (List ℕ))). IfSome (lookup (is_at (salt_cmp salt)) es) (HasDigests salt.items wanted secrets)) (sym none) tt
 
--- what is remembered after a trial was to be put in, as far as there was memory
-pub remembered : {E : Type 0} (r : Result (Option Trial) E) (secrets : List (List ℕ)) (line : Line) (trial : Trial) (old new : Trials) → OnOk r (Updates line_cmp old new line (Some trial)) → OnErr r (IsUnchanged old new)
-    → AreTrials secrets old → IsTrial secrets (auth_of line) trial → AreTrials secrets new
-remembered (Ok before) secrets line trial old new put same were is = trial_put secrets line trial old new put.0 were is
-remembered (Err failed) secrets line trial old new put same were is = trials_kept secrets old new same were
+salt_at : (wanted : BTreeSet (List ℕ)) (secrets : List (List ℕ)) (salt other : List ℕ) (digests : BTreeSet (List ℕ)) (b : Bool) (before : Option (BTreeSet (List ℕ))) → (b ≡ true → salt ≡ other)
+    → HasDigests salt wanted secrets digests → IfSome before (HasDigests other wanted secrets) → IfSome (cond b (Some digests) before) (HasDigests other wanted secrets)
+salt_at wanted secrets salt other digests true before same has were = subst (λ (s : List ℕ). HasDigests s wanted secrets digests) (same refl) has
+salt_at wanted secrets salt other digests false before same has were = were
 
--- what is remembered after secrets were to be added, as far as there was memory
-pub appended : (b : Bool) (old more new : List (List ℕ)) (trials : Trials) → new ≡ cond b (old ++ more) old → AreTrials old trials → AreTrials new trials
-appended true old more new trials is are = subst (λ (secrets : List (List ℕ)). AreTrials secrets trials) (sym is) (trials_stay old more trials are)
-appended false old more new trials is are = subst (λ (secrets : List (List ℕ)). AreTrials secrets trials) (sym is) are
+-- the digests of one more salt
+pub salt_put : (wanted : BTreeSet (List ℕ)) (secrets : List (List ℕ)) (salt : Vec ℕ) (digests : BTreeSet (List ℕ)) (old new : Digests) → Updates salt_cmp old new salt (Some digests)
+    → AreDigests wanted secrets old → HasDigests salt.items wanted secrets digests → AreDigests wanted secrets new
+salt_put wanted secrets salt digests old new put were has = λ other.
+    subst (λ (o : Option (BTreeSet (List ℕ))). IfSome o (HasDigests other.items wanted secrets)) (sym (put.0 other))
+    (salt_at wanted secrets salt.items other.items digests (is_at (salt_cmp salt) other) (get salt_cmp old other)
+    (λ e. (bytes_eq-Decides salt.items other.items).0 (sym (is_eq-slice_cmp salt.items other.items) ∙ e)) has (were other))
 
--- where none of the first m passes, none of fewer does
-front_fails : (p : List ℕ → Bool) (n m : ℕ) (xs : List (List ℕ)) → n ≤ m → list_any p (take m xs) ≡ false → list_any p (take n xs) ≡ false
-front_fails p zero m xs le e = refl
-front_fails p (suc n) zero xs le e = absurd (omega (arith, le))
-front_fails p (suc n) (suc m) [] le e = refl
-front_fails p (suc n) (suc m) (x ∷ xs) le e =
-    let parts = or_parts (p x) (list_any p (take m xs)) e in
-    or_from _ _ parts.0 (front_fails p n m xs (omega (arith, le)) parts.1)
-
--- where none of those that were tried fits, the secrets behind some of these decide
-pub later_decide : (secrets : List (List ℕ)) (line : AuthParts) (trial : Trial) (first : ℕ) → IsTrial secrets line trial → trial.fits ≡ false → first ≤ trial.tried
-    → list_any (fits_line line) (drop first secrets) ≡ list_any (fits_line line) secrets
-later_decide secrets line trial first is fails le =
-    sym (any_parted (fits_line line) first secrets
-    ∙ ap (λ b. b || list_any (fits_line line) (drop first secrets)) (front_fails (fits_line line) first trial.tried secrets le (sym is.told ∙ fails)))
-
-not_false : (b : Bool) → false ≡ not b → b ≡ true
-not_false true e = refl
-not_false false e = cc
-
--- texts that are not found unequal are equal
-pub not_unequal : (s t : List ℕ) (unequal : Bool) → unequal ≡ not (bytes_eq s t) → unequal ≡ false → s ≡ t
-not_unequal s t unequal is e = (bytes_eq-Decides s t).0 (not_false (bytes_eq s t) (sym e ∙ is))
-
--- what the digests of its salt tell of a line that none of the secrets in front of them fits
-pub looked_up : (secrets : List (List ℕ)) (line : Line) (known : Trial) (wanted : BTreeSet (List ℕ)) (salted : Salted) → IsTrial secrets (auth_of line) known → known.fits ≡ false → salted.first ≤ known.tried
-    → line.salt.items ≡ salted.salt.items → contains (slice_cmp nat_cmp) wanted line.digest ≡ true → AreDigests wanted secrets salted → contains (slice_cmp nat_cmp) salted.digests line.digest ≡ list_any (fits_line (auth_of line)) secrets
-looked_up secrets line known wanted salted is fails le same in_wanted are =
-    are line.digest in_wanted
-    ∙ ap (λ (salt : List ℕ). list_any (fits_line (record { salt = salt; digest = line.digest })) (drop salted.first secrets)) (sym same)
-    ∙ later_decide secrets (auth_of line) known salted.first is fails le
+-- where memory is refused, the digests stay
+pub salts_kept : (wanted : BTreeSet (List ℕ)) (secrets : List (List ℕ)) (old new : Digests) → new.entries ≡ old.entries → AreDigests wanted secrets old → AreDigests wanted secrets new
+salts_kept wanted secrets old new same were = λ salt.
+    subst (λ (es : List (Vec ℕ × BTreeSet (List ℕ))). IfSome (lookup (is_at (salt_cmp salt)) es) (HasDigests salt.items wanted secrets)) (sym same) (were salt)
 
 or_false : (b : Bool) → b ≡ (b || false)
 or_false true = refl

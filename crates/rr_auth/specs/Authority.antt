@@ -1,5 +1,6 @@
 -- Whose names an object asks for below it (RFC 2725, 9 and 10).
-use Rattle.std.specs.Prelude.{ℕ, Bool, true, false, ◌==◌, ◌||◌, List, length, map, filter, if◌then◌else◌}
+use Rattle.std.specs.Prelude.{ℕ, Bool, true, false, ◌==◌, ◌||◌, List, length, map, filter}
+use Rattle.std.specs.Prelude.{if◌then◌else◌}
 use Rattle.std.specs.List.{list_any}
 use Rattle.rr_number.specs.Prefixes.{PrefixParts}
 use Rattle.rr_number.specs.Ranges.{admits}
@@ -14,7 +15,8 @@ use Rattle.rr_auth.specs.Registries.{Reg}
 abbrev pub lower_of : Obj → List (List ℕ)
 lower_of o = if length o.lower == 0 then o.maintainers else o.lower
 
--- An entry of mnt-routes grants a prefix where it is for any, or has a range that admits it (RFC 2725, 9).
+-- An entry of mnt-routes grants a prefix where it is for any, or has a range that admits it
+-- (RFC 2725, 9).
 abbrev pub grants : PrefixParts → GrantParts → Bool
 grants p g = g.any || list_any (λ range. admits range p) g.ranges
 
@@ -23,8 +25,9 @@ abbrev pub is_aut_num : Key → Bool
 is_aut_num (AutNum n) = true
 is_aut_num _ = false
 
--- For a route of the prefix the entries of an object's mnt-routes that grant it decide, where it has any entry
--- (RFC 2725, 9); else mnt-by of an aut-num, and of another object what decides below it (profile).
+-- For a route of the prefix the entries of an object's mnt-routes that grant it decide, where it
+-- has any entry (RFC 2725, 9); else mnt-by of an aut-num, and of another object what decides below
+-- it (profile).
 abbrev pub routes_of : Obj → PrefixParts → List (List ℕ)
 routes_of o p =
     if length o.routes == 0 then (if is_aut_num o.key then o.maintainers else lower_of o)

@@ -1,5 +1,6 @@
 -- The closest objects of a class to a span (RFC 2725, 9).
-use Rattle.std.specs.Prelude.{ℕ, Bool, true, false, not, ◌==◌, ◌&&◌, ◌||◌, List, Option, None, Some, nat_le, if◌then◌else◌}
+use Rattle.std.specs.Prelude.{ℕ, Bool, true, false, not, ◌==◌, ◌&&◌, ◌||◌, List, Option, None}
+use Rattle.std.specs.Prelude.{Some, nat_le, if◌then◌else◌}
 use Rattle.std.specs.List.{list_all, find, filter_map}
 use Rattle.std.specs.Option.{option_map_or, option_and_then}
 use Rattle.std.specs.FinMap.{values}
@@ -27,10 +28,11 @@ route_span _ = None
 
 -- The object is not of the class, does not cover s, or is no smaller than t.
 abbrev pub is_no_closer : (Key → Option Ends) → Ends → Ends → Obj → Bool
-is_no_closer class s t x = option_map_or (λ u. not (covers u s) || nat_le (size t) (size u)) (class x.key) true
+is_no_closer class s t x =
+    option_map_or (λ u. not (covers u s) || nat_le (size t) (size u)) (class x.key) true
 
--- An object of a list is closest to a span where it covers the span, and no other of its class that covers the span
--- has a smaller one. An equal span counts (RFC 2725, 9).
+-- An object of a list is closest to a span where it covers the span, and no other of its class that
+-- covers the span has a smaller one. An equal span counts (RFC 2725, 9).
 abbrev pub is_closest : (Key → Option Ends) → List Obj → Ends → Obj → Bool
 is_closest class all s o =
     option_map_or (λ t. covers t s && list_all (is_no_closer class s t) all) (class o.key) false
@@ -43,8 +45,8 @@ is_cover class s o = option_map_or (λ t. covers t s) (class o.key) false
 abbrev pub closest_of : (Key → Option Ends) → List Obj → Ends → Option Obj
 closest_of class all s = find (is_closest class all s) all
 
--- The closest inetnum of a registry (RFC 2725, 9). In a sound registry there is one at most, since its inetnums do not
--- cross; in another this is the first by key.
+-- The closest inetnum of a registry (RFC 2725, 9). In a sound registry there is one at most, since
+-- its inetnums do not cross; in another this is the first by key.
 abbrev pub closest_inetnum : Reg → Ends → Option Obj
 closest_inetnum r s = closest_of inetnum_span (values r) s
 
@@ -57,10 +59,11 @@ abbrev pub route_prefix : Key → Option PrefixParts
 route_prefix (Route p n) = Some p
 route_prefix _ = None
 
--- The prefix of the closest routes to a prefix: there can be several routes, of one prefix and several origins
--- (RFC 2725, 9).
+-- The prefix of the closest routes to a prefix: there can be several routes, of one prefix and
+-- several origins (RFC 2725, 9).
 abbrev pub prefix_of_closest : List Obj → PrefixParts → Option PrefixParts
-prefix_of_closest all p = option_and_then (λ o. route_prefix o.key) (closest_of route_span all (span_of p))
+prefix_of_closest all p =
+    option_and_then (λ o. route_prefix o.key) (closest_of route_span all (span_of p))
 
 -- The prefix of the closest routes of a registry to a prefix (RFC 2725, 9).
 abbrev pub closest_routes : Reg → PrefixParts → Option PrefixParts

@@ -1,5 +1,6 @@
--- The conditions under which an item is refused, E10 to E18 in this order. Each is over a registry, the secrets, and
--- the object or key that the item is about; where the registry is that with a new mntner in it, the verdict says so.
+-- The conditions under which an item is refused, E10 to E18 in this order. Each is over a registry,
+-- the secrets, and the object or key that the item is about; where the registry is that with a new
+-- mntner in it, the verdict says so.
 use Rattle.std.specs.Prelude.{ℕ, Bool, false, not, ◌&&◌, List, Option, None, Some, is_none}
 use Rattle.std.specs.List.{list_any}
 use Rattle.std.specs.Option.{option_map_or}
@@ -7,7 +8,8 @@ use Rattle.std.specs.FinMap.{get, values}
 use Rattle.rr_number.specs.Prefixes.{PrefixParts, span_of}
 use Rattle.rr_number.specs.declared.set_kind.SetKind.TheVariants as kinds
 use Rattle.rr_object.specs.declared.key.Key.{Key}
-use Rattle.rr_object.specs.declared.key.Key.TheVariants.{Mntner, AsBlock, AutNum, Inetnum, Route, AsSet, RouteSet}
+use Rattle.rr_object.specs.declared.key.Key.TheVariants.{Mntner, AsBlock, AutNum, Inetnum, Route}
+use Rattle.rr_object.specs.declared.key.Key.TheVariants.{AsSet, RouteSet}
 use Rattle.rr_object.specs.Objects.{Obj, names_of}
 use Rattle.rr_auth.specs.Registries.{Reg, keys_cross, names_nobody, is_named}
 use Rattle.rr_auth.specs.Closest.{closest_inetnum, closest_block, closest_routes, origins}
@@ -19,13 +21,13 @@ use Rattle.rr_auth.specs.SetParents.{lacks_parent, parent_refuses}
 abbrev pub names_unknown : Reg → Obj → Bool
 names_unknown r o = names_nobody r (names_of o)
 
--- E11: the mnt-by does not pass, of a new object its own, and of one that is changed or deleted that of the stored one
--- (RFC 2725, 9).
+-- E11: the mnt-by does not pass, of a new object its own, and of one that is changed or deleted
+-- that of the stored one (RFC 2725, 9).
 abbrev pub unauthorised : Reg → List (List ℕ) → Obj → Bool
 unauthorised r secrets o = not (names_pass r secrets o.maintainers)
 
--- E12: nothing covers the new object: no route and no inetnum a route, no inetnum an inetnum, no as-block an as-block
--- or an aut-num; or the parent of a set is not registered (RFC 2725, 9).
+-- E12: nothing covers the new object: no route and no inetnum a route, no inetnum an inetnum, no
+-- as-block an as-block or an aut-num; or the parent of a set is not registered (RFC 2725, 9).
 abbrev pub is_uncovered : Reg → Key → Bool
 is_uncovered r (Mntner name) = false
 is_uncovered r (AsBlock s) = is_none (closest_block r s)
@@ -37,21 +39,27 @@ is_uncovered r (RouteSet name) = lacks_parent r kinds.RouteSet name
 
 -- The route of the prefix and this origin authorises a route of the other prefix.
 abbrev pub route_passes : Reg → List (List ℕ) → PrefixParts → PrefixParts → ℕ → Bool
-route_passes r secrets p closest n = option_map_or (routes_pass r secrets p) (get r (Route closest n)) false
+route_passes r secrets p closest n =
+    option_map_or (routes_pass r secrets p) (get r (Route closest n)) false
 
--- Some route of the closest prefix authorises the route, or, where no route covers it, the closest inetnum does
--- (RFC 2725, 9; that one of several closest routes is enough is profile).
+-- Some route of the closest prefix authorises the route, or, where no route covers it, the closest
+-- inetnum does (RFC 2725, 9; that one of several closest routes is enough is profile).
 abbrev pub space_passes : Reg → List (List ℕ) → PrefixParts → Option PrefixParts → Bool
-space_passes r secrets p None = option_map_or (routes_pass r secrets p) (closest_inetnum r (span_of p)) false
-space_passes r secrets p (Some closest) = list_any (route_passes r secrets p closest) (origins r closest)
+space_passes r secrets p None =
+    option_map_or (routes_pass r secrets p) (closest_inetnum r (span_of p)) false
+space_passes r secrets p (Some closest) =
+    list_any (route_passes r secrets p closest) (origins r closest)
 
 -- E13: the closest cover, or the parent of a set, does not authorise the new object (RFC 2725, 9).
 abbrev pub cover_refuses : Reg → List (List ℕ) → Key → Bool
 cover_refuses r secrets (Mntner name) = false
-cover_refuses r secrets (AsBlock s) = not (option_map_or (lower_passes r secrets) (closest_block r s) false)
+cover_refuses r secrets (AsBlock s) =
+    not (option_map_or (lower_passes r secrets) (closest_block r s) false)
 cover_refuses r secrets (AutNum n) =
-    not (option_map_or (lower_passes r secrets) (closest_block r (record { first = n; last = n })) false)
-cover_refuses r secrets (Inetnum s) = not (option_map_or (lower_passes r secrets) (closest_inetnum r s) false)
+    not (option_map_or (lower_passes r secrets)
+    (closest_block r (record { first = n; last = n })) false)
+cover_refuses r secrets (Inetnum s) =
+    not (option_map_or (lower_passes r secrets) (closest_inetnum r s) false)
 cover_refuses r secrets (Route p n) = not (space_passes r secrets p (closest_routes r p))
 cover_refuses r secrets (AsSet name) = parent_refuses r secrets kinds.AsSet name
 cover_refuses r secrets (RouteSet name) = parent_refuses r secrets kinds.RouteSet name
@@ -63,7 +71,8 @@ lacks_origin r _ = false
 
 -- E15: the aut-num of the route's origin does not authorise it (RFC 2725, 9).
 abbrev pub origin_refuses : Reg → List (List ℕ) → Key → Bool
-origin_refuses r secrets (Route p n) = not (option_map_or (routes_pass r secrets p) (get r (AutNum n)) false)
+origin_refuses r secrets (Route p n) =
+    not (option_map_or (routes_pass r secrets p) (get r (AutNum n)) false)
 origin_refuses r secrets _ = false
 
 -- E16: the new object's span crosses one of its class (profile).

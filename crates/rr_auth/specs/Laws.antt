@@ -16,7 +16,8 @@ use Rattle.rr_auth.specs.declared.item.Item.TheVariants.{Submit, Delete}
 use Rattle.rr_auth.specs.declared.verdict.Verdict.{Verdict}
 use Rattle.rr_auth.specs.declared.verdict.Verdict.TheVariants.{Refuse}
 use Rattle.rr_auth.specs.Authority.{routes_pass}
-use Rattle.rr_auth.specs.Closest.{block_span, closest_block, closest_inetnum, closest_routes, inetnum_span, is_closest, is_cover, route_prefix, route_span}
+use Rattle.rr_auth.specs.Closest.{block_span, closest_block, closest_inetnum, closest_routes}
+use Rattle.rr_auth.specs.Closest.{inetnum_span, is_closest, is_cover, route_prefix, route_span}
 use Rattle.rr_auth.specs.Conditions.{cover_refuses}
 use Rattle.rr_auth.specs.Passing.{names_pass}
 use Rattle.rr_auth.specs.Registries.{Reg, Sound}
@@ -36,17 +37,20 @@ RefusalLeaves =
 
 -- A sound registry stays sound, whatever is submitted.
 abbrev pub StaysSound : Type 0
-StaysSound = (r : Reg) (secrets : List (List ℕ)) (i : Item) → Sound r → IsItem i → Sound (step r secrets i)
+StaysSound =
+    (r : Reg) (secrets : List (List ℕ)) (i : Item) → Sound r → IsItem i → Sound (step r secrets i)
 
 -- A registry of a source stays one, whatever is submitted that is read in that source.
 abbrev pub StaysOfSource : Type 0
 StaysOfSource =
-    (source : List ℕ) (r : Reg) (secrets : List (List ℕ)) (i : Item) → IsRegistryOf source r → IsReadIn source i
+    (source : List ℕ) (r : Reg) (secrets : List (List ℕ)) (i : Item)
+    → IsRegistryOf source r → IsReadIn source i
     → IsRegistryOf source (step r secrets i)
 
 -- Each verdict is one that its item can meet.
 abbrev pub VerdictsAreMet : Type 0
-VerdictsAreMet = (r : Reg) (secrets : List (List ℕ)) (i : Item) → is_met_by i (verdict r secrets i) ≡ true
+VerdictsAreMet =
+    (r : Reg) (secrets : List (List ℕ)) (i : Item) → is_met_by i (verdict r secrets i) ≡ true
 
 -- A verdict is a refusal, with some code.
 pub record IsRefusal (v : Verdict) : Type 0 where
@@ -58,16 +62,18 @@ abbrev pub key_about : Item → Key
 key_about (Submit o) = o.key
 key_about (Delete k) = k
 
--- Whether what stands under a key may be touched is decided by its own mnt-by, whatever an item names in its place
--- (RFC 2725, 9).
+-- Whether what stands under a key may be touched is decided by its own mnt-by, whatever an item
+-- names in its place (RFC 2725, 9).
 abbrev pub StoredNamesDecide : Type 0
 StoredNamesDecide =
-    (r : Reg) (secrets : List (List ℕ)) (i : Item) (stored : Obj) → get r (key_about i) ≡ Some stored
+    (r : Reg) (secrets : List (List ℕ)) (i : Item) (stored : Obj)
+    → get r (key_about i) ≡ Some stored
     → names_pass r secrets stored.maintainers ≡ false → IsRefusal (verdict r secrets i)
 
 -- Two lists hold the same secrets, in whatever order and however often each.
 abbrev pub SameSecrets : List (List ℕ) → List (List ℕ) → Type 0
-SameSecrets secrets others = (secret : List ℕ) → list_any (bytes_eq secret) secrets ≡ list_any (bytes_eq secret) others
+SameSecrets secrets others =
+    (secret : List ℕ) → list_any (bytes_eq secret) secrets ≡ list_any (bytes_eq secret) others
 
 -- Secrets are a set: a verdict depends on which are given, and on nothing else of their list.
 abbrev pub SecretsAreASet : Type 0
@@ -75,8 +81,8 @@ SecretsAreASet =
     (r : Reg) (secrets others : List (List ℕ)) (i : Item) → SameSecrets secrets others
     → verdict r secrets i ≡ verdict r others i
 
--- In a sound registry there is one closest inetnum to a span at most: each one that is closest is the one that is
--- given.
+-- In a sound registry there is one closest inetnum to a span at most: each one that is closest is
+-- the one that is given.
 abbrev pub OneClosestInetnum : Type 0
 OneClosestInetnum =
     (r : Reg) (s : Ends) (k : Key) (o : Obj) → Sound r → IsSpan s → get r k ≡ Some o
@@ -92,26 +98,31 @@ OneClosestBlock =
 abbrev pub ClosestRoutesAgree : Type 0
 ClosestRoutesAgree =
     (r : Reg) (p : PrefixParts) (k : Key) (o : Obj) → Sound r → get r k ≡ Some o
-    → is_closest route_span (values r) (span_of p) o ≡ true → closest_routes r p ≡ route_prefix o.key
+    → is_closest route_span (values r) (span_of p) o ≡ true
+    → closest_routes r p ≡ route_prefix o.key
 
--- The closest inetnum to a span is none exactly where no inetnum of the registry covers the span; so are the closest
--- as-block, and the closest routes to a prefix (RFC 2725, 9).
+-- The closest inetnum to a span is none exactly where no inetnum of the registry covers the span;
+-- so are the closest as-block, and the closest routes to a prefix (RFC 2725, 9).
 pub record IsClosestWhereCovered (r : Reg) : Type 0 where
-  pub inetnums : (s : Ends) → is_none (closest_inetnum r s) ≡ not (list_any (is_cover inetnum_span s) (values r))
-  pub blocks : (s : Ends) → is_none (closest_block r s) ≡ not (list_any (is_cover block_span s) (values r))
-  pub routes : (p : PrefixParts) → is_none (closest_routes r p) ≡ not (list_any (is_cover route_span (span_of p)) (values r))
+  pub inetnums : (s : Ends)
+      → is_none (closest_inetnum r s) ≡ not (list_any (is_cover inetnum_span s) (values r))
+  pub blocks : (s : Ends)
+      → is_none (closest_block r s) ≡ not (list_any (is_cover block_span s) (values r))
+  pub routes : (p : PrefixParts)
+      → is_none (closest_routes r p) ≡ not (list_any (is_cover route_span (span_of p)) (values r))
 
--- In every registry, sound or not, nothing is closest exactly where nothing covers: so E12 is as RFC 2725, 9
--- words it.
+-- In every registry, sound or not, nothing is closest exactly where nothing covers: so E12 is as
+-- RFC 2725, 9 words it.
 abbrev pub NothingClosestIsUncovered : Type 0
 NothingClosestIsUncovered = (r : Reg) → IsClosestWhereCovered r
 
--- E13 of a route in a sound registry: the names that decide about it pass for no closest route, or, where no route
--- covers it, not for the closest inetnum.
+-- E13 of a route in a sound registry: the names that decide about it pass for no closest route, or,
+-- where no route covers it, not for the closest inetnum.
 abbrev pub RoutesAskTheClosest : Type 0
 RoutesAskTheClosest =
     (r : Reg) (secrets : List (List ℕ)) (p : PrefixParts) (n : ℕ) → Sound r
     → cover_refuses r secrets (Route p n) ≡ not (
     if list_any (is_cover route_span (span_of p)) (values r)
-    then list_any (λ x. is_closest route_span (values r) (span_of p) x && routes_pass r secrets p x) (values r)
+    then list_any
+    (λ x. is_closest route_span (values r) (span_of p) x && routes_pass r secrets p x) (values r)
     else option_map_or (routes_pass r secrets p) (closest_inetnum r (span_of p)) false)

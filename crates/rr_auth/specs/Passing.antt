@@ -1,5 +1,6 @@
--- Who passes with a set of secrets: a secret fits a line, a maintainer passes where some secret fits one of its lines,
--- and a list of names passes where one of them is that of a maintainer that passes.
+-- Who passes with a set of secrets: a secret fits a line, a maintainer passes where some secret
+-- fits one of its lines, and a list of names passes where one of them is that of a maintainer that
+-- passes.
 use Rattle.std.specs.Prelude.{ℕ, Bool, false, ◌++◌, List}
 use Rattle.std.specs.List.{list_any}
 use Rattle.std.specs.Option.{option_map_or}
@@ -9,7 +10,8 @@ use Rattle.rr_object.specs.Parts.{AuthParts}
 use Rattle.rr_object.specs.Objects.{Obj}
 use Rattle.rr_auth.specs.Registries.{Reg, maintainer}
 
--- A secret fits a line where the digest is that of the salt and then the secret (profile; FIPS 180-4).
+-- A secret fits a line where the digest is that of the salt and then the secret (profile;
+-- FIPS 180-4).
 abbrev pub fits_line : AuthParts → List ℕ → Bool
 fits_line line secret = bytes_eq (sha256 (line.salt ++ secret)) line.digest
 
@@ -21,6 +23,7 @@ passes secrets o = list_any (λ line. list_any (fits_line line) secrets) o.auths
 abbrev pub name_passes : Reg → List (List ℕ) → List ℕ → Bool
 name_passes r secrets name = option_map_or (passes secrets) (maintainer r name) false
 
--- A list of names passes where one of them does: some secret fits one of the maintainers named (RFC 2622, 3).
+-- A list of names passes where one of them does: some secret fits one of the maintainers named
+-- (RFC 2622, 3).
 abbrev pub names_pass : Reg → List (List ℕ) → List (List ℕ) → Bool
 names_pass r secrets names = list_any (name_passes r secrets) names

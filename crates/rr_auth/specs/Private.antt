@@ -1,6 +1,8 @@
--- What private functions of src promise each other: the parts of `place` in `Verdicts`, one for each kind of cover, and
--- what a walk over names stands for. The verdict is made of `place` alone, and no caller reads these.
-use Rattle.std.specs.Prelude.{ℕ, Bool, false, not, ◌&&◌, is_none, List, [], ◌∷◌, map, filter, Option}
+-- What private functions of src promise each other: the parts of `place` in `Verdicts`, one for
+-- each kind of cover, and what a walk over names stands for. The verdict is made of `place` alone,
+-- and no caller reads these.
+use Rattle.std.specs.Prelude.{ℕ, Bool, false, not, ◌&&◌, is_none, List, [], ◌∷◌, map, filter}
+use Rattle.std.specs.Prelude.{Option}
 use Rattle.std.specs.Option.{option_map_or}
 use Rattle.rr_number.specs.Prefixes.{PrefixParts, span_of}
 use Rattle.rr_number.specs.declared.set_kind.SetKind.{SetKind}
@@ -32,7 +34,10 @@ below_parent r secrets kind name = first_of (
 -- What the routes and inetnums above a route say of it.
 abbrev pub below_space : Reg → List (List ℕ) → PrefixParts → Verdict
 below_space r secrets p = first_of (
-    record { holds = is_none (closest_routes r p) && is_none (closest_inetnum r (span_of p)); code = E12 } ∷ (
+    record {
+      holds = is_none (closest_routes r p) && is_none (closest_inetnum r (span_of p));
+      code = E12;
+    } ∷ (
     record { holds = not (space_passes r secrets p (closest_routes r p)); code = E13 } ∷ [])) Add
 
 -- The names of those who decide about routes of the prefix.

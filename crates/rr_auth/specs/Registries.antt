@@ -21,8 +21,8 @@ maintainer r name = get r (Mntner name)
 abbrev pub names_nobody : Reg → List (List ℕ) → Bool
 names_nobody r names = list_any (λ n. is_none (maintainer r n)) names
 
--- A registry with an object in it, where that is a mntner, and else as it is: so a mntner that is added sees itself
--- (profile).
+-- A registry with an object in it, where that is a mntner, and else as it is: so a mntner that is
+-- added sees itself (profile).
 abbrev pub with_mntner : Reg → Key → Obj → Reg
 with_mntner r (Mntner name) o = insert r (Mntner name) o
 with_mntner r _ o = r
@@ -46,8 +46,9 @@ names_another name o = not (is_mntner_of name o.key) && object_names name o
 abbrev pub is_named : Reg → List ℕ → Bool
 is_named r name = list_any (names_another name) (values r)
 
--- A registry is sound where each object stands under its own key, each key is well formed, every maintainer that an
--- object names is in it, and no two inetnums and no two as-blocks cross (profile).
+-- A registry is sound where each object stands under its own key, each key is well formed, every
+-- maintainer that an object names is in it, and no two inetnums and no two as-blocks cross
+-- (profile).
 pub record Sound (r : Reg) : Type 0 where
   pub keyed : (k : Key) (o : Obj) → get r k ≡ Some o → o.key ≡ k
   pub formed : (k : Key) (o : Obj) → get r k ≡ Some o → IsKeyValue k

@@ -13,8 +13,8 @@ use Rattle.rr_object.specs.Objects.{Obj}
 use Rattle.rr_auth.specs.Authority.{lower_passes}
 use Rattle.rr_auth.specs.Registries.{Reg}
 
--- The key of a parent: of an aut-num, or of a set of the same kind (RFC 2622, 5; that several AS numbers alone are
--- none: profile).
+-- The key of a parent: of an aut-num, or of a set of the same kind (RFC 2622, 5; that several AS
+-- numbers alone are none: profile).
 abbrev pub parent_key : SetKind → Parent → Option Key
 parent_key kind (Number n) = Some (AutNum n)
 parent_key kind (Set name) = Some (key_of_kind kind name)
@@ -24,11 +24,14 @@ parent_key kind Bare = None
 abbrev pub parent_object : Reg → SetKind → Parent → Option Obj
 parent_object r kind parent = option_and_then (get r) (parent_key kind parent)
 
--- A set's name has several components, and nothing is registered under all but the last (RFC 2725, 9).
+-- A set's name has several components, and nothing is registered under all but the last
+-- (RFC 2725, 9).
 abbrev pub lacks_parent : Reg → SetKind → List ℕ → Bool
-lacks_parent r kind name = option_map_or (λ parent. is_none (parent_object r kind parent)) (parent_of name) false
+lacks_parent r kind name =
+    option_map_or (λ parent. is_none (parent_object r kind parent)) (parent_of name) false
 
 -- A set's name has several components, and the parent does not authorise it (RFC 2725, 9).
 abbrev pub parent_refuses : Reg → List (List ℕ) → SetKind → List ℕ → Bool
 parent_refuses r secrets kind name = option_map_or
-    (λ parent. not (option_map_or (lower_passes r secrets) (parent_object r kind parent) false)) (parent_of name) false
+    (λ parent. not (option_map_or (lower_passes r secrets) (parent_object r kind parent) false))
+    (parent_of name) false

@@ -9,8 +9,8 @@ use Rattle.rr_auth.specs.declared.item.Item.{Item}
 use Rattle.rr_auth.specs.declared.item.Item.TheVariants.{Submit, Delete}
 use Rattle.rr_auth.specs.Registries.{Reg, Sound}
 
--- A registry is that of a source where it is sound, and each object is what its paragraph reads as in that source
--- (RFC 2622, 2; profile).
+-- A registry is that of a source where it is sound, and each object is what its paragraph reads as
+-- in that source (RFC 2622, 2; profile).
 pub record IsRegistryOf (source : List ℕ) (r : Reg) : Type 0 where
   pub sound : Sound r
   pub read : (k : Key) (o : Obj) → get r k ≡ Some o → object_of o.paragraph source ≡ Ok o

@@ -1,10 +1,12 @@
 -- The verdict on an item, and the registry after it.
-use Rattle.std.specs.Prelude.{ℕ, Bool, true, false, List, [], ◌∷◌, Option, None, Some, if◌then◌else◌}
+use Rattle.std.specs.Prelude.{ℕ, Bool, true, false, List, [], ◌∷◌, Option, None, Some}
+use Rattle.std.specs.Prelude.{if◌then◌else◌}
 use Rattle.std.specs.Option.{option_map_or}
 use Rattle.std.specs.FinMap.{get, insert, remove}
 use Rattle.rr_text.specs.Fields.{fields_eq}
 use Rattle.rr_object.specs.declared.code.Code.{Code}
-use Rattle.rr_object.specs.declared.code.Code.TheVariants.{E10, E11, E12, E13, E14, E15, E16, E17, E18}
+use Rattle.rr_object.specs.declared.code.Code.TheVariants.{E10, E11, E12, E13, E14, E15}
+use Rattle.rr_object.specs.declared.code.Code.TheVariants.{E16, E17, E18}
 use Rattle.rr_object.specs.declared.key.Key.{Key}
 use Rattle.rr_object.specs.Objects.{Obj}
 use Rattle.rr_auth.specs.declared.item.Item.{Item}
@@ -12,7 +14,9 @@ use Rattle.rr_auth.specs.declared.item.Item.TheVariants.{Submit, Delete as Delet
 use Rattle.rr_auth.specs.declared.verdict.Verdict.{Verdict}
 use Rattle.rr_auth.specs.declared.verdict.Verdict.TheVariants.{Add, Change, Same, Delete, Refuse}
 use Rattle.rr_auth.specs.Registries.{Reg, seen_by}
-use Rattle.rr_auth.specs.Conditions.{names_unknown, unauthorised, is_uncovered, cover_refuses, lacks_origin, origin_refuses, crosses_registered, is_in_use, is_unregistered}
+use Rattle.rr_auth.specs.Conditions.{names_unknown, unauthorised, is_uncovered, cover_refuses}
+use Rattle.rr_auth.specs.Conditions.{lacks_origin, origin_refuses, crosses_registered, is_in_use}
+use Rattle.rr_auth.specs.Conditions.{is_unregistered}
 
 -- A condition of refusal with its code.
 pub record Refusal : Type 0 where
@@ -33,27 +37,31 @@ place r secrets k = first_of (
     record { holds = is_uncovered r k; code = E12 } ∷ (
     record { holds = cover_refuses r secrets k; code = E13 } ∷ []))))) Add
 
--- An object whose key is new is added. Its names are looked up in the registry with itself, where it is a mntner: so a
--- new mntner may name itself, and its own secret counts (RFC 2725, 9; profile).
+-- An object whose key is new is added. Its names are looked up in the registry with itself, where
+-- it is a mntner: so a new mntner may name itself, and its own secret counts (RFC 2725, 9;
+-- profile).
 abbrev pub addition : Reg → List (List ℕ) → Obj → Verdict
 addition r secrets o = first_of (
     record { holds = names_unknown (seen_by (Some o) r) o; code = E10 } ∷ (
-    record { holds = unauthorised (seen_by (Some o) r) secrets o; code = E11 } ∷ [])) (place r secrets o.key)
+    record { holds = unauthorised (seen_by (Some o) r) secrets o; code = E11 } ∷ []))
+    (place r secrets o.key)
 
--- An object whose key is registered is a change, which the stored mnt-by decides; the same text changes nothing
--- (RFC 2725, 9; profile).
+-- An object whose key is registered is a change, which the stored mnt-by decides; the same text
+-- changes nothing (RFC 2725, 9; profile).
 abbrev pub change : Reg → List (List ℕ) → Obj → Obj → Verdict
 change r secrets stored o = first_of (
     record { holds = names_unknown r o; code = E10 } ∷ (
     record { holds = unauthorised r secrets stored; code = E11 } ∷ []))
     (if fields_eq stored.paragraph o.paragraph then Same else Change)
 
--- An object is an addition where no object is stored under its key, else a change of that one (RFC 2725, 9).
+-- An object is an addition where no object is stored under its key, else a change of that one
+-- (RFC 2725, 9).
 abbrev pub submission : Option Obj → Reg → List (List ℕ) → Obj → Verdict
 submission None r secrets o = addition r secrets o
 submission (Some stored) r secrets o = change r secrets stored o
 
--- A deletion needs the object, its mnt-by, and that no other object names it (RFC 2725, 9; profile).
+-- A deletion needs the object, its mnt-by, and that no other object names it (RFC 2725, 9;
+-- profile).
 abbrev pub deletion : Option Obj → Reg → List (List ℕ) → Key → Verdict
 deletion stored r secrets k = first_of (
     record { holds = is_unregistered stored; code = E18 } ∷ (
@@ -65,8 +73,8 @@ abbrev pub verdict : Reg → List (List ℕ) → Item → Verdict
 verdict r secrets (Submit o) = submission (get r o.key) r secrets o
 verdict r secrets (DeleteItem k) = deletion (get r k) r secrets k
 
--- A verdict that an item can meet: an object is never deleted by being submitted, and what is to be deleted is deleted
--- or refused (profile).
+-- A verdict that an item can meet: an object is never deleted by being submitted, and what is to be
+-- deleted is deleted or refused (profile).
 abbrev pub is_met_by : Item → Verdict → Bool
 is_met_by (Submit o) Delete = false
 is_met_by (Submit o) _ = true

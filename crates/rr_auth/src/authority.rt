@@ -4,7 +4,8 @@ ghost use Rattle.std.specs.Prelude.{◌≡◌, ◌&&◌, map, filter, IfOk};
 ghost use Rattle.std.specs.List.{list_any};
 ghost use Rattle.rr_number.specs.Prefixes.{PrefixParts};
 ghost use Rattle.rr_number.specs.Ranges.{admits};
-ghost use Rattle.rr_auth.specs.Authority.{grants, is_aut_num, lower_of, lower_passes, routes_of, routes_pass};
+ghost use Rattle.rr_auth.specs.Authority.{grants, is_aut_num, lower_of, lower_passes};
+ghost use Rattle.rr_auth.specs.Authority.{routes_of, routes_pass};
 ghost use Rattle.rr_auth.specs.Passing.{name_passes, names_pass};
 ghost use Rattle.rr_auth.specs.Private.{names_among};
 
@@ -15,7 +16,8 @@ use rr_number::{Name, Prefix, Range};
 use rr_object::{Grant, Key, Object};
 use std::alloc::{AllocError, Global};
 
-/// The names that decide below the object: its mnt-lower where it has one, else its mnt-by (RFC 2725, 9).
+/// The names that decide below the object: its mnt-lower where it has one, else its mnt-by
+/// (RFC 2725, 9).
 pub fn lower_names(object: &Object) -> &[Name]
     ensures { result.now ≡ lower_of object.now }
 {
@@ -26,9 +28,9 @@ pub fn lower_names(object: &Object) -> &[Name]
     }
 }
 
-/// The names that decide about a route of the prefix below the object: those of its mnt-routes that grant the prefix,
-/// where it has mnt-routes; else the mnt-by of an aut-num, and of another object `lower_names` (RFC 2725, 9; profile).
-/// The error is want of memory.
+/// The names that decide about a route of the prefix below the object: those of its mnt-routes that
+/// grant the prefix, where it has mnt-routes; else the mnt-by of an aut-num, and of another object
+/// `lower_names` (RFC 2725, 9; profile). The error is out of memory.
 pub fn route_names(alloc: Global, object: &Object, prefix: Prefix) -> Result<Vec<Name>, AllocError>
     ensures { IfOk result (λ names. names.items ≡ routes_of object.now prefix) }
 {
@@ -46,8 +48,8 @@ enum RouteNames<'a> {
     Named(&'a [Name]),
 }
 
-/// Who decides about routes below the object: its mnt-routes where it has any; else the mnt-by of an aut-num, and of
-/// another object `lower_names` (RFC 2725, 9; profile).
+/// Who decides about routes below the object: its mnt-routes where it has any; else the mnt-by of
+/// an aut-num, and of another object `lower_names` (RFC 2725, 9; profile).
 fn names_for_routes(object: &Object) -> RouteNames<'_>
     ensures { (p : PrefixParts) → names_among p result ≡ routes_of object.now p }
 {
@@ -62,7 +64,8 @@ fn names_for_routes(object: &Object) -> RouteNames<'_>
 
 /// The names of the entries that grant the prefix.
 fn granted_names(alloc: Global, entries: &[Grant], prefix: Prefix) -> Result<Vec<Name>, AllocError>
-    ensures { IfOk result (λ names. names.items ≡ map (λ g. g.name) (filter (grants prefix) entries.now)) }
+    ensures { IfOk result (λ names.
+        names.items ≡ map (λ g. g.name) (filter (grants prefix) entries.now)) }
 {
     let mut names = Vec::new(alloc);
     for entry in entries {
@@ -137,7 +140,8 @@ fn some_grant_passes<B: Book>(
     entries: &[Grant],
     prefix: Prefix,
 ) -> bool
-    ensures answer { result ≡ names_pass (B.contents book.now) secrets.old (map (λ g. g.name) (filter (grants prefix) entries.now)) }
+    ensures answer { result ≡ names_pass (B.contents book.now) secrets.old
+        (map (λ g. g.name) (filter (grants prefix) entries.now)) }
     ensures same_secrets { secrets.new ≡ secrets.old }
 {
     some_entry_passes(book, secrets, entries, prefix)
@@ -149,7 +153,8 @@ fn some_entry_passes<B: Book>(
     entries: &[Grant],
     prefix: Prefix,
 ) -> bool
-    ensures answer { result ≡ list_any (λ g. grants prefix g && name_passes (B.contents book.now) secrets.old g.name) entries.now }
+    ensures answer { result ≡ list_any
+        (λ g. grants prefix g && name_passes (B.contents book.now) secrets.old g.name) entries.now }
     ensures same_secrets { secrets.new ≡ secrets.old }
 {
     'entries: for entry in entries {
@@ -162,7 +167,8 @@ fn some_entry_passes<B: Book>(
 
 /// Whether the entry grants the prefix and its name passes.
 fn entry_passes<B: Book>(book: &B, secrets: &mut Secrets, entry: &Grant, prefix: Prefix) -> bool
-    ensures answer { result ≡ (grants prefix entry.now && name_passes (B.contents book.now) secrets.old entry.now.name) }
+    ensures answer { result ≡ (grants prefix entry.now
+        && name_passes (B.contents book.now) secrets.old entry.now.name) }
     ensures same_secrets { secrets.new ≡ secrets.old }
 {
     grants_prefix(entry, prefix) && name_passes(book, None, secrets, entry.name())

@@ -10,11 +10,13 @@ use rr_number::{AsNumber, Name, Prefix, Span};
 use rr_object::{Key, Object};
 use std::alloc::{AllocError, Global};
 
-/// One sound registry. Its calls are answers over a finite map from keys to objects; none but `origins` takes memory.
+/// One sound registry. Its calls are answers over a finite map from keys to objects; none but
+/// `origins` takes memory.
 pub trait Book {
     ghost use Rattle.rr_auth.specs.Registries.{Reg, Sound, maintainer, is_named};
     ghost use Rattle.rr_auth.specs.Conditions.{crosses_registered};
-    ghost use Rattle.rr_auth.specs.Closest.{closest_inetnum, closest_block, closest_routes, origins};
+    ghost use Rattle.rr_auth.specs.Closest.{closest_inetnum, closest_block, closest_routes};
+    ghost use Rattle.rr_auth.specs.Closest.{origins};
 
     ghost contents: { Self → Reg };
 
@@ -42,12 +44,13 @@ pub trait Book {
     fn closest_routes(&self, prefix: Prefix) -> Option<Prefix>
         ensures { result ≡ closest_routes (contents self.now) prefix };
 
-    /// The origins of the routes of exactly this prefix, ascending; the error is want of memory.
+    /// The origins of the routes of exactly this prefix, ascending; the error is out of memory.
     fn origins(&self, alloc: Global, prefix: Prefix) -> Result<Vec<AsNumber>, AllocError>
         ensures value { IfOk result (λ v. v.items ≡ origins (contents self.now) prefix) }
         ensures ascending { IfOk result (λ v. IsStrictlySortedBy nat_cmp v.items) };
 
-    /// Whether an inetnum or as-block of the registry crosses the key, being of its class (profile).
+    /// Whether an inetnum or as-block of the registry crosses the key, being of its class
+    /// (profile).
     fn crosses(&self, key: &Key) -> bool
         ensures { result ≡ crosses_registered (contents self.now) key.now };
 

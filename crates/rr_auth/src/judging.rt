@@ -10,7 +10,8 @@ ghost use Rattle.rr_auth.specs.Authority.{lower_passes, routes_pass};
 ghost use Rattle.rr_auth.specs.Conditions.{is_in_use, lacks_origin, origin_refuses, route_passes};
 ghost use Rattle.rr_auth.specs.Private.{below, below_parent, below_space};
 ghost use Rattle.rr_auth.specs.SetParents.{parent_key};
-ghost use Rattle.rr_auth.specs.Verdicts.{addition, change, deletion, first_of, place, submission, verdict};
+ghost use Rattle.rr_auth.specs.Verdicts.{addition, change, deletion, submission, verdict};
+ghost use Rattle.rr_auth.specs.Verdicts.{first_of, place};
 
 use crate::authority::{lower_passes, routes_pass};
 use crate::book::Book;
@@ -22,7 +23,8 @@ use rr_number::{AsNumber, Parent, Prefix, SetKind, SetName, Span};
 use rr_object::{Code, Key, Object};
 use std::alloc::{AllocError, Global};
 
-/// The verdict on an item over the book's registry (RFC 2725, 9; profile); the error is want of memory.
+/// The verdict on an item over the book's registry (RFC 2725, 9; profile); the error is out of
+/// memory.
 pub fn judge<B: Book>(
     alloc: Global,
     book: &B,
@@ -45,7 +47,8 @@ fn judge_object<B: Book>(
     secrets: &mut Secrets,
     object: &Object,
 ) -> Result<Verdict, AllocError>
-    ensures verdict { IfOk result (λ v. v ≡ submission (get (B.contents book.now) object.now.key) (B.contents book.now) secrets.old object.now) }
+    ensures verdict { IfOk result (λ v. v ≡ submission
+        (get (B.contents book.now) object.now.key) (B.contents book.now) secrets.old object.now) }
     ensures same_secrets { secrets.new ≡ secrets.old }
 {
     match book.get(object.key()) {
@@ -93,7 +96,8 @@ fn judge_change<B: Book>(
 }
 
 fn judge_deletion<B: Book>(book: &B, secrets: &mut Secrets, key: &Key) -> Verdict
-    ensures verdict { result ≡ deletion (get (B.contents book.now) key.now) (B.contents book.now) secrets.old key.now }
+    ensures verdict { result ≡ deletion
+        (get (B.contents book.now) key.now) (B.contents book.now) secrets.old key.now }
     ensures same_secrets { secrets.new ≡ secrets.old }
 {
     match book.get(key) {
@@ -156,7 +160,8 @@ fn span_of_number(number: AsNumber) -> Span
 
 /// The verdict on an object whose closest cover, or parent, is this one.
 fn judge_below<B: Book>(book: &B, secrets: &mut Secrets, cover: Option<&Object>) -> Verdict
-    ensures verdict { result ≡ below (lower_passes (B.contents book.now) secrets.old) (option_copied cover.entry) }
+    ensures verdict { result ≡ below
+        (lower_passes (B.contents book.now) secrets.old) (option_copied cover.entry) }
     ensures same_secrets { secrets.new ≡ secrets.old }
 {
     match cover {
@@ -179,7 +184,8 @@ fn judge_set<B: Book>(
     kind: SetKind,
     name: &SetName,
 ) -> Result<Verdict, AllocError>
-    ensures verdict { IfOk result (λ v. v ≡ below_parent (B.contents book.now) secrets.old kind name.now) }
+    ensures verdict { IfOk result (λ v.
+        v ≡ below_parent (B.contents book.now) secrets.old kind name.now) }
     ensures same_secrets { secrets.new ≡ secrets.old }
 {
     match name.parent(alloc)? {
@@ -201,7 +207,9 @@ fn parent_key(kind: SetKind, parent: Parent) -> Option<Key>
 
 /// The verdict on a set whose parent has this key.
 fn judge_below_parent<B: Book>(book: &B, secrets: &mut Secrets, parent: Option<Key>) -> Verdict
-    ensures verdict { result ≡ below (lower_passes (B.contents book.now) secrets.old) (option_and_then (get (B.contents book.now)) parent) }
+    ensures verdict { result ≡ below
+        (lower_passes (B.contents book.now) secrets.old)
+        (option_and_then (get (B.contents book.now)) parent) }
     ensures same_secrets { secrets.new ≡ secrets.old }
 {
     match parent {
@@ -219,8 +227,14 @@ fn judge_route<B: Book>(
     origin: AsNumber,
 ) -> Result<Verdict, AllocError>
     ensures verdict { IfOk result (λ v. v ≡ first_of (
-        record { holds = lacks_origin (B.contents book.now) (Key.Route prefix origin); code = Code.E14 } ∷ (
-        record { holds = origin_refuses (B.contents book.now) secrets.old (Key.Route prefix origin); code = Code.E15 } ∷ []))
+        record {
+          holds = lacks_origin (B.contents book.now) (Key.Route prefix origin);
+          code = Code.E14;
+        } ∷ (
+        record {
+          holds = origin_refuses (B.contents book.now) secrets.old (Key.Route prefix origin);
+          code = Code.E15;
+        } ∷ []))
         (below_space (B.contents book.now) secrets.old prefix)) }
     ensures same_secrets { secrets.new ≡ secrets.old }
 {
@@ -261,7 +275,9 @@ fn judge_space<B: Book>(
 
 /// The verdict of the closest inetnum on a route that no route covers.
 fn judge_inetnum_space<B: Book>(book: &B, secrets: &mut Secrets, prefix: Prefix) -> Verdict
-    ensures verdict { result ≡ below (routes_pass (B.contents book.now) secrets.old prefix) (closest_inetnum (B.contents book.now) (span_of prefix)) }
+    ensures verdict { result ≡ below
+        (routes_pass (B.contents book.now) secrets.old prefix)
+        (closest_inetnum (B.contents book.now) (span_of prefix)) }
     ensures same_secrets { secrets.new ≡ secrets.old }
 {
     match book.closest_inetnum(prefix.span()) {
@@ -284,7 +300,8 @@ fn some_route_passes<B: Book>(
     closest: Prefix,
     origins: &[AsNumber],
 ) -> bool
-    ensures answer { result ≡ list_any (route_passes (B.contents book.now) secrets.old prefix closest) origins.now }
+    ensures answer { result ≡ list_any
+        (route_passes (B.contents book.now) secrets.old prefix closest) origins.now }
     ensures same_secrets { secrets.new ≡ secrets.old }
 {
     'origins: for origin in origins {

@@ -1,6 +1,9 @@
 //! Laws of verdicts, for readers and for the proofs of other crates. Nothing calls these functions.
 
-ghost use Rattle.rr_auth.specs.Laws.{ClosestRoutesAgree, NothingClosestIsUncovered, OneClosestBlock, OneClosestInetnum, RefusalLeaves, RoutesAskTheClosest, SecretsAreASet, StaysOfSource, StaysSound, StoredNamesDecide, VerdictsAreMet};
+ghost use Rattle.rr_auth.specs.Laws.{ClosestRoutesAgree, NothingClosestIsUncovered};
+ghost use Rattle.rr_auth.specs.Laws.{OneClosestBlock, OneClosestInetnum, RefusalLeaves};
+ghost use Rattle.rr_auth.specs.Laws.{RoutesAskTheClosest, SecretsAreASet, StaysOfSource};
+ghost use Rattle.rr_auth.specs.Laws.{StaysSound, StoredNamesDecide, VerdictsAreMet};
 
 /// An item that is refused leaves the registry as it was.
 #[tactic(auto, using(crate::proofs::Steps::refusal_leaves))]
@@ -24,7 +27,8 @@ pub fn verdicts_are_met_by_their_items()
     ensures { VerdictsAreMet }
 {}
 
-/// What stands in a registry is changed and deleted by its own maintainers alone, whatever an item names in its place.
+/// What stands in a registry is changed and deleted by its own maintainers alone, whatever an item
+/// names in its place.
 pub fn what_stands_is_touched_by_its_own_maintainers()
     ensures { StoredNamesDecide }
 {}
@@ -50,13 +54,14 @@ pub fn closest_routes_have_one_prefix()
     ensures { ClosestRoutesAgree }
 {}
 
-/// Nothing is closest exactly where nothing covers: no inetnum or as-block to a span, and no route to a prefix.
+/// Nothing is closest exactly where nothing covers: no inetnum or as-block to a span, and no route
+/// to a prefix.
 pub fn nothing_closest_is_uncovered()
     ensures { NothingClosestIsUncovered }
 {}
 
-/// A route is refused by the space that it lies in where no closest route authorises it, or, where no route covers it,
-/// the closest inetnum doesn't.
+/// A route is refused by the space that it lies in where no closest route authorises it, or, where
+/// no route covers it, the closest inetnum doesn't.
 pub fn routes_ask_the_closest_routes_or_inetnum()
     ensures { RoutesAskTheClosest }
 {}

@@ -7,6 +7,7 @@ mod book;
 mod item;
 mod judging;
 pub mod laws;
+mod line;
 mod passing;
 mod salted;
 mod secret;

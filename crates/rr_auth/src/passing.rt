@@ -1,37 +1,24 @@
 //! Which maintainers pass with which secrets.
 
 ghost use Rattle.std.specs.Prelude.{◌≡◌};
-ghost use Rattle.std.specs.List.{list_any};
 ghost use Rattle.std.specs.Option.{option_copied};
 ghost use Rattle.rr_object.specs.Objects.{names_of};
-ghost use Rattle.rr_auth.specs.Passing.{fits_line, name_passes, names_pass, passes};
+ghost use Rattle.rr_auth.specs.Passing.{name_passes, names_pass, passes};
 ghost use Rattle.rr_auth.specs.Registries.{maintainer, names_nobody, seen_by};
 
 use crate::book::Book;
 use crate::secrets::Secrets;
 use rr_number::Name;
-use rr_object::{Auth, Object};
+use rr_object::Object;
 
-/// Whether the maintainer passes: some secret fits one of its lines, so that SHA-256 of the salt and then the secret is
-/// the line's digest (profile; FIPS 180-4). However often it is asked, a secret is hashed with each salt of
-/// its lines once.
+/// Whether the maintainer passes: some secret fits one of its lines, so that SHA-256 of the salt
+/// and then the secret is the line's digest (profile; FIPS 180-4). However often it is asked, a
+/// secret is hashed with each salt of its lines once.
 pub fn passes(maintainer: &Object, secrets: &mut Secrets) -> bool
     ensures answer { result ≡ passes secrets.old maintainer.now }
     ensures same_secrets { secrets.new ≡ secrets.old }
 {
-    some_line_fits(maintainer.auths(), secrets)
-}
-
-fn some_line_fits(lines: &[Auth], secrets: &mut Secrets) -> bool
-    ensures answer { result ≡ list_any (λ line. list_any (fits_line line) secrets.old) lines.now }
-    ensures same_secrets { secrets.new ≡ secrets.old }
-{
-    'lines: for line in lines {
-        if secrets.some_fits(lines, line) {
-            return true;
-        }
-    }
-    false
+    secrets.fit(maintainer)
 }
 
 /// The mntner of the name; the object itself where it is added and is that one.
@@ -41,7 +28,8 @@ pub fn maintainer_seen<'a, B: Book>(
     own: Option<&'a Object>,
     name: &Name,
 ) -> Option<&'a Object>
-    ensures { option_copied result ≡ maintainer (seen_by (option_copied own.entry) (B.contents book.now)) name.now }
+    ensures { option_copied result ≡ maintainer
+        (seen_by (option_copied own.entry) (B.contents book.now)) name.now }
 {
     match own {
         None => book.maintainer(name),
@@ -62,7 +50,8 @@ pub fn name_passes<B: Book>(
     secrets: &mut Secrets,
     name: &Name,
 ) -> bool
-    ensures answer { result ≡ name_passes (seen_by (option_copied own.entry) (B.contents book.now)) secrets.old name.now }
+    ensures answer { result ≡ name_passes
+        (seen_by (option_copied own.entry) (B.contents book.now)) secrets.old name.now }
     ensures same_secrets { secrets.new ≡ secrets.old }
 {
     match maintainer_seen(book, own, name) {
@@ -78,7 +67,8 @@ pub fn names_pass<B: Book>(
     secrets: &mut Secrets,
     names: &[Name],
 ) -> bool
-    ensures answer { result ≡ names_pass (seen_by (option_copied own.entry) (B.contents book.now)) secrets.old names.now }
+    ensures answer { result ≡ names_pass
+        (seen_by (option_copied own.entry) (B.contents book.now)) secrets.old names.now }
     ensures same_secrets { secrets.new ≡ secrets.old }
 {
     'names: for name in names {
@@ -91,7 +81,8 @@ pub fn names_pass<B: Book>(
 
 /// Whether the object names a maintainer that is not registered.
 pub fn object_names_nobody<B: Book>(book: &B, own: Option<&Object>, object: &Object) -> bool
-    ensures { result ≡ names_nobody (seen_by (option_copied own.entry) (B.contents book.now)) (names_of object.now) }
+    ensures { result ≡ names_nobody
+        (seen_by (option_copied own.entry) (B.contents book.now)) (names_of object.now) }
 {
     object
         .maintainers_named()

@@ -1,51 +1,143 @@
-//! The digests of secrets with one salt.
+//! The digests of secrets with the salts of a maintainer's lines.
+//!
+//! A maintainer has up to 786 lines, and a submission up to 40,000 secrets. So a secret is hashed
+//! once with each salt, and not once with each line: its digest is then looked up for all lines of
+//! that salt.
 
-ghost use Rattle.std.specs.Prelude.{◌≡◌, IfOk};
-ghost use Rattle.rr_auth.specs.TrialParts.{AreDigests, HasDigests};
+ghost use Rattle.std.specs.Prelude.{◌≡◌, ℕ, true, IfOk, List};
+ghost use Rattle.std.specs.BTreeSet.{BTreeSet as Digests, contains};
+ghost use Rattle.std.specs.Cmp.Lexicographic.{slice_cmp};
+ghost use Rattle.std.specs.List.{list_any};
+ghost use Rattle.std.specs.Ordering.{nat_cmp};
+ghost use Rattle.rr_auth.specs.Passing.{fits_line};
+ghost use Rattle.rr_auth.specs.TrialParts.{AreDigests, HasDigests, some_line_fits};
 
-use crate::secret::{Secret, salted_digest};
+use crate::secret::{Secret, salted_digest, some_fits};
+use rr_object::Auth;
+use rr_object::auth::DIGEST_BYTES;
 use std::alloc::{AllocError, Global};
-use std::collections::BTreeSet;
+use std::collections::{BTreeMap, BTreeSet};
 
-/// The digests of secrets with a salt, as far as they are wanted. They tell of each line of that salt and a wanted digest
-/// whether one of these secrets fits it.
-#[derive(Drop)]
-pub(crate) struct Salted {
-    pub(crate) salt: Vec<u8>,
-    /// How many of the secrets, from the first on, are left out.
-    pub(crate) first: usize,
-    pub(crate) digests: BTreeSet<[u8; 32]>,
-}
-
-impl Salted {
-    /// The wanted digests of the secrets with the salt, so many first ones left out; the error is want of memory.
-    pub(crate) fn of(
-        alloc: Global,
-        wanted: &BTreeSet<[u8; 32]>,
-        secrets: &[Secret],
-        first: usize,
-        salt: &[u8],
-    ) -> Result<Salted, AllocError>
-        ensures { IfOk result (λ salted. AreDigests wanted.now secrets.now salted) }
-    {
-        let first = first.min(secrets.len());
-        let digests = digests(alloc, wanted, &secrets[first..], salt)?;
-        let salt = Vec::from_slice(alloc, salt)?;
-        Ok(Salted {
-            salt,
-            first,
-            digests,
-        })
+/// Whether one of the secrets fits one of the lines. Each secret is hashed with each of their salts
+/// once, unless memory is refused: then it is hashed with each line.
+pub(crate) fn some_line_fits(alloc: Global, secrets: &[Secret], lines: &[Auth]) -> bool
+    ensures { result ≡ some_line_fits secrets.now lines.now }
+{
+    // One line has one salt.
+    if lines.len() <= 1 {
+        return some_line_fits_alone(secrets, lines);
+    }
+    match some_line_fits_by_salt(alloc, secrets, lines) {
+        Ok(fits) => fits,
+        Err(_) => some_line_fits_alone(secrets, lines),
     }
 }
 
-/// The wanted digests of the secrets with the salt; the error is want of memory.
+/// The same, each line by itself.
+fn some_line_fits_alone(secrets: &[Secret], lines: &[Auth]) -> bool
+    ensures { result ≡ some_line_fits secrets.now lines.now }
+{
+    lines.iter().any(|line| some_fits(secrets, line))
+}
+
+/// The same, each secret hashed with each salt once; the error is out of memory.
+fn some_line_fits_by_salt(
+    alloc: Global,
+    secrets: &[Secret],
+    lines: &[Auth],
+) -> Result<bool, AllocError>
+    ensures { IfOk result (λ fits. fits ≡ some_line_fits secrets.now lines.now) }
+{
+    let wanted = digests_of(alloc, lines)?;
+    let mut salted = Salted::new(alloc);
+    'lines: for line in lines {
+        if salted.some_fits(secrets, &wanted, line)? {
+            return Ok(true);
+        }
+    }
+    Ok(false)
+}
+
+/// The digests of the lines; the error is out of memory.
+fn digests_of(alloc: Global, lines: &[Auth]) -> Result<BTreeSet<[u8; DIGEST_BYTES]>, AllocError> {
+    let mut digests = BTreeSet::new(alloc);
+    for line in lines {
+        digests.insert(*line.digest())?;
+    }
+    Ok(digests)
+}
+
+/// For each salt that was asked about, the wanted ones of the digests of some secrets with it.
+#[derive(Drop)]
+struct Salted {
+    alloc: Global,
+    digests: BTreeMap<Vec<u8>, BTreeSet<[u8; DIGEST_BYTES]>>,
+}
+
+impl Salted {
+    /// No salt was asked about.
+    #[tactic(auto, using(crate::proofs::Remembered::nothing_salted))]
+    fn new(alloc: Global) -> Salted
+        ensures { (wanted : Digests (List ℕ)) (secrets : List (List ℕ))
+            → AreDigests wanted secrets result.digests }
+    {
+        Salted {
+            alloc,
+            digests: BTreeMap::new(alloc),
+        }
+    }
+
+    /// Whether one of the secrets fits the line; the error is out of memory.
+    fn some_fits(
+        &mut self,
+        secrets: &[Secret],
+        wanted: &BTreeSet<[u8; DIGEST_BYTES]>,
+        line: &Auth,
+    ) -> Result<bool, AllocError>
+        requires { AreDigests wanted.now secrets.now self.old.digests }
+        ensures answer { IfOk result (λ fits. fits ≡ list_any (fits_line line.now) secrets.now) }
+        ensures remembers { AreDigests wanted.now secrets.now self.new.digests }
+    {
+        // Each line's digest is wanted. This spares the proof that it is.
+        if !wanted.contains(line.digest()) {
+            return Ok(some_fits(secrets, line));
+        }
+        let salt = Vec::from_slice(self.alloc, line.salt())?;
+        match self.digests.get(&salt) {
+            Some(digests) => Ok(digests.contains(line.digest())),
+            None => self.hash(secrets, wanted, salt, line.digest()),
+        }
+    }
+
+    /// Hashes the secrets with the salt. Whether one of them fits the line of the salt and this
+    /// wanted digest; the error is out of memory.
+    fn hash(
+        &mut self,
+        secrets: &[Secret],
+        wanted: &BTreeSet<[u8; DIGEST_BYTES]>,
+        salt: Vec<u8>,
+        digest: &[u8; DIGEST_BYTES],
+    ) -> Result<bool, AllocError>
+        requires remembered { AreDigests wanted.now secrets.now self.old.digests }
+        requires wanted { contains (slice_cmp nat_cmp) wanted.now digest.now ≡ true }
+        ensures answer { IfOk result (λ fits. fits ≡ list_any
+            (fits_line (record { salt = salt.items; digest = digest.now })) secrets.now) }
+        ensures remembers { AreDigests wanted.now secrets.now self.new.digests }
+    {
+        let digests = digests(self.alloc, wanted, secrets, &salt)?;
+        let fits = digests.contains(digest);
+        self.digests.insert(salt, digests)?;
+        Ok(fits)
+    }
+}
+
+/// The wanted digests of the secrets with the salt; the error is out of memory.
 fn digests(
     alloc: Global,
-    wanted: &BTreeSet<[u8; 32]>,
+    wanted: &BTreeSet<[u8; DIGEST_BYTES]>,
     secrets: &[Secret],
     salt: &[u8],
-) -> Result<BTreeSet<[u8; 32]>, AllocError>
+) -> Result<BTreeSet<[u8; DIGEST_BYTES]>, AllocError>
     ensures { IfOk result (HasDigests salt.now wanted.now secrets.now) }
 {
     let mut digests = BTreeSet::new(alloc);

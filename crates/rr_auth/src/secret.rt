@@ -6,6 +6,7 @@ ghost use Rattle.sha2.specs.Sha256.{sha256};
 ghost use Rattle.rr_auth.specs.Passing.{fits_line};
 
 use rr_object::Auth;
+use rr_object::auth::DIGEST_BYTES;
 use sha2::{Digest, Sha256};
 use std::alloc::{AllocError, Global};
 use std::marker::Model;
@@ -55,7 +56,8 @@ pub(crate) fn some_fits(secrets: &[Secret], line: &Auth) -> bool
     secrets.iter().any(|secret| fits_line(line, secret))
 }
 
-/// Whether SHA-256 of the line's salt and then the secret is the line's digest (profile; FIPS 180-4).
+/// Whether SHA-256 of the line's salt and then the secret is the line's digest (profile;
+/// FIPS 180-4).
 fn fits_line(line: &Auth, secret: &Secret) -> bool
     ensures { result ≡ fits_line line.now secret.now }
 {
@@ -63,7 +65,7 @@ fn fits_line(line: &Auth, secret: &Secret) -> bool
 }
 
 /// SHA-256 of the salt and then the secret (FIPS 180-4).
-pub(crate) fn salted_digest(salt: &[u8], secret: &Secret) -> [u8; 32]
+pub(crate) fn salted_digest(salt: &[u8], secret: &Secret) -> [u8; DIGEST_BYTES]
     ensures { result ≡ sha256 (salt.now ++ secret.now) }
 {
     let mut hasher = Sha256::new();

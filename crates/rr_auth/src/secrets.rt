@@ -1,17 +1,16 @@
 //! Secrets, by which a submission shows who sent it.
 
 ghost use Rattle.std.specs.Prelude.{◌≡◌, [], ◌∷◌, ◌++◌, OnOk, OnErr};
-ghost use Rattle.std.specs.List.{list_any};
-ghost use Rattle.rr_auth.specs.Passing.{fits_line};
+ghost use Rattle.rr_auth.specs.Passing.{passes};
 
 use crate::secret::Secret;
 use crate::tried::Tried;
-use rr_object::Auth;
+use rr_object::Object;
 use std::alloc::{AllocError, Global};
 use std::marker::Model;
 
-/// The secrets given with an item; contracts see the list of them, in the order in which they were added.
-/// Only which secrets are there matters.
+/// The secrets given with an item; contracts see the list of them, in the order in which they were
+/// added. Only which secrets are there matters.
 #[derive(Drop)]
 pub struct Secrets {
     list: Vec<Secret>,
@@ -23,11 +22,11 @@ impl Model for Secrets {
 
     ghost Value = { List (List ℕ) };
 
-    ghost use Rattle.rr_auth.specs.TrialParts.{AreTrials};
+    ghost use Rattle.rr_auth.specs.TrialParts.{AreAnswers};
 
     ghost view = { λ a. a.list.items };
 
-    ghost invariant = { λ a. AreTrials a.list.items a.tried.trials };
+    ghost invariant = { λ a. AreAnswers a.list.items a.tried.answers };
 }
 
 impl Secrets {
@@ -41,8 +40,9 @@ impl Secrets {
         }
     }
 
-    /// Adds the secret of these bytes; the error is want of memory and leaves the secrets as they were.
-    #[tactic(auto, using(crate::proofs::Remembered::trials_stay))]
+    /// Adds the secret of these bytes; the error is out of memory and leaves the secrets as
+    /// they were.
+    #[tactic(auto, using(crate::proofs::Remembered::answers_stay))]
     pub fn add(&mut self, alloc: Global, bytes: &[u8]) -> Result<(), AllocError>
         ensures ok { OnOk result (self.new ≡ self.old ++ bytes.now ∷ []) }
         ensures err { OnErr result (self.new ≡ self.old) }
@@ -52,8 +52,9 @@ impl Secrets {
         Ok(())
     }
 
-    /// Adds the secret of these bytes, which it keeps; the error is want of memory and leaves the secrets as they were.
-    #[tactic(auto, using(crate::proofs::Remembered::trials_stay))]
+    /// Adds the secret of these bytes, which it keeps; the error is out of memory and leaves the
+    /// secrets as they were.
+    #[tactic(auto, using(crate::proofs::Remembered::answers_stay))]
     pub fn add_owned(&mut self, bytes: Vec<u8>) -> Result<(), AllocError>
         ensures ok { OnOk result (self.new ≡ self.old ++ bytes.items ∷ []) }
         ensures err { OnErr result (self.new ≡ self.old) }
@@ -62,8 +63,9 @@ impl Secrets {
         Ok(())
     }
 
-    /// Adds these secrets too, all or none; the error is want of memory and leaves the secrets as they were.
-    #[tactic(auto, using(crate::proofs::Remembered::trials_stay))]
+    /// Adds these secrets too, all or none; the error is out of memory and leaves the secrets as
+    /// they were.
+    #[tactic(auto, using(crate::proofs::Remembered::answers_stay))]
     pub fn add_all(&mut self, more: Secrets) -> Result<(), AllocError>
         ensures ok { OnOk result (self.new ≡ self.old ++ more) }
         ensures err { OnErr result (self.new ≡ self.old) }
@@ -79,12 +81,11 @@ impl Secrets {
         self.list.as_slice()
     }
 
-    /// Whether one of the secrets fits the line, which stands among these lines. It is remembered of all of them, so that
-    /// each secret is hashed with each of their salts once.
-    pub(crate) fn some_fits(&mut self, lines: &[Auth], line: &Auth) -> bool
-        ensures answer { result ≡ list_any (fits_line line.now) self.old }
+    /// Whether one of the secrets fits one of the maintainer's lines, which is remembered.
+    pub(crate) fn fit(&mut self, maintainer: &Object) -> bool
+        ensures answer { result ≡ passes self.old maintainer.now }
         ensures same_secrets { self.new ≡ self.old }
     {
-        self.tried.some_fits(self.list.as_slice(), lines, line)
+        self.tried.passes(self.list.as_slice(), maintainer)
     }
 }

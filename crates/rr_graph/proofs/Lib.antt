@@ -5,3 +5,7 @@ pub mod Backwards
 pub mod OwnPairs
 pub mod CarriedBack
 pub mod KnownNodes
+pub mod Enough
+pub mod Runs
+pub mod Numbers
+pub mod Placing

@@ -8,6 +8,7 @@ use Rattle.std.specs.BTreeMap.{BTreeMap, get}
 use Rattle.std.specs.List.Sorted.{IsStrictlySortedBy}
 use Rattle.rr_graph.specs.Carried.{IsFound}
 use Rattle.rr_graph.specs.Chain.{HasNoRepeats}
+use Rattle.rr_graph.specs.EffectParts.{Makes}
 use Rattle.rr_graph.specs.declared.labels.Edge.{Edge}
 
 -- The edges are those that leave the node.
@@ -47,6 +48,14 @@ module _ {N L V : Type 0} (edge : N → N → L → Type 0) (own : N → V → T
   -- The pair of one of the nodes and a value that is found at it.
   abbrev pub IsFoundAmong : List N → N × V → Type 0
   IsFoundAmong nodes p = Contains nodes p.0 × IsFound edge own passed p.0 p.1
+
+-- The edges lead to the node.
+abbrev pub IsRun : {N L : Type 0} → N → List (Edge N L) → Type 0
+IsRun {N} {L} node edges = (e : Edge N L) → Contains edges e → e.to ≡ node
+
+-- Some of the edges lead to the node and make the value of one of these.
+abbrev pub IsMade : {N L V : Type 0} → (L → V → Option V) → N → List (Edge N L) → List V → V → Type 0
+IsMade {V = V} passed node edges begun v = (w : V) × Contains begun w × Makes passed w edges node v
 
 -- Only nodes of the list are known.
 abbrev pub IsAmong : {N V : Type 0} → List N → (N → Option (List V)) → Type 0

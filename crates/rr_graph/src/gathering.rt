@@ -8,8 +8,9 @@ ghost use Rattle.rr_graph.specs.ReversedParts.{IsCarriedPair};
 
 use crate::backward::reversed;
 use crate::labels::{Edge, Labelled};
+use crate::numbered::Numbered;
 use crate::order::ascending;
-use crate::pairs::{Pairs, own_pairs};
+use crate::pairs::{Pairs, own_pairs, reach_back};
 use crate::settling::settled;
 use crate::{Graph, ReachFault, reach};
 use std::alloc::{AllocError, Global};
@@ -72,11 +73,14 @@ pub struct Gathered<N, V> {
 
 /// Lists what is found at `start`: the nodes that chains of edges lead to from it, itself included, and each value
 /// that a node at the end of such a chain has by itself and that the labels of the chain, from the last to the first,
-/// make into this value, none dropping it. It takes O((P + E) log P) steps for P pairs of a reached node and a value
-/// found at it, and E edges between them, each as often as the graph lists it.
+/// make into this value, none dropping it.
 ///
-/// The fault is `TooMany` exactly where more than `limit` nodes are reached, or more than `limit` such pairs are,
-/// want of memory aside.
+/// The edges of each node are listed twice. The steps are O((KE + F) log F): E counts the edges that are listed, K the
+/// kinds of values that are found at one node, and F, for each pair of a reached node and a value found at it, the pairs
+/// that edges to the node make of it, each once, however many edges do.
+///
+/// The fault is `TooMany` exactly if more than `limit` nodes are reached, or more than `limit` such pairs, unless memory
+/// is refused.
 pub fn gather<G: Labelled>(
     alloc: Global,
     graph: &G,
@@ -91,8 +95,31 @@ pub fn gather<G: Labelled>(
     ensures many { result ≡ Err ReachFault.TooMany → IsTooMany (G.edge graph.now) (G.own graph.now) G.passed limit start.now }
 {
     let nodes = named(alloc, graph, start, limit)?;
-    let values = found_at(alloc, graph, &nodes, start, limit)?;
+    let values = found_among(alloc, graph, &nodes, start, limit)?;
     Ok(Gathered { nodes, values })
+}
+
+/// The values that are found at the start, in ascending order, by the places of the nodes that are reached from it.
+fn found_among<G: Labelled>(
+    alloc: Global,
+    graph: &G,
+    nodes: &[G::Node],
+    start: &G::Node,
+    limit: usize,
+) -> Result<Vec<G::Value>, ReachFault>
+    requires named { (node : G.Node) → Contains nodes.now node ↔ IsNamed (G.edge graph.now) start.now node }
+    requires once { HasNoRepeats nodes.now }
+    ensures found { IfOk result (λ values. (value : G.Value) → Contains values.items value ↔ IsFound (G.edge graph.now) (G.own graph.now) G.passed start.now value) }
+    ensures sorted { IfOk result (λ values. IsStrictlySortedBy G.Value.cmp values.items) }
+    ensures few { OnOk result (¬ MoreThan limit (IsFoundPair (G.edge graph.now) (G.own graph.now) G.passed start.now)) }
+    ensures many { result ≡ Err ReachFault.TooMany → MoreThan limit (IsFoundPair (G.edge graph.now) (G.own graph.now) G.passed start.now) }
+{
+    let numbered = Numbered::new(alloc, graph, nodes)?;
+    let places = numbered.all(alloc)?;
+    match numbered.place(start) {
+        Some(place) => found_at(alloc, &numbered, &places, &place, limit),
+        None => Ok(Vec::new(alloc)),
+    }
 }
 
 /// The values that are found at the start, in ascending order, where the nodes are those that are reached from it.
@@ -152,7 +179,7 @@ fn found_pairs<G: Labelled>(
         graph,
         backward: &backward,
     };
-    reach(alloc, &pairs, starts, limit)
+    reach_back(alloc, &pairs, starts, limit)
 }
 
 /// The values that are paired with the node, in ascending order.

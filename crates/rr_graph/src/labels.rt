@@ -1,6 +1,6 @@
 //! Graphs whose edges carry labels, and whose nodes have values.
 
-ghost use Rattle.std.specs.Prelude.{◌≡◌, ◌↔◌, Contains, IfOk, Option};
+ghost use Rattle.std.specs.Prelude.{◌≡◌, ◌↔◌, Contains, IfOk, None, Option};
 ghost use Rattle.std.proofs.lemmas.Map.Lookups.{CmpEqualImpliesEq};
 
 use std::alloc::{AllocError, Global};
@@ -26,6 +26,9 @@ pub trait Labelled {
     /// A value. Two values compare `Equal` only where they are the same.
     type Value: Ord + Copy + Drop;
 
+    /// What a label looks at in a value, as a range's lengths. Two kinds compare `Equal` only where they are the same.
+    type Kind: Ord + Copy + Drop;
+
     /// An edge with this label leads from the first node to the second.
     ghost edge: { Self → Self.Node → Self.Node → Self.Label → Type 0 };
 
@@ -34,6 +37,9 @@ pub trait Labelled {
 
     /// What the label makes of the value; nothing where it drops it.
     ghost passed: { Self.Label → Self.Value → Option Self.Value };
+
+    /// What labels look at in the value.
+    ghost kind_of: { Self.Value → Self.Kind };
 
     /// Lists the edges that leave the node, in any order, where one may come twice.
     fn edges(
@@ -51,6 +57,10 @@ pub trait Labelled {
     fn pass(&self, label: Self::Label, value: Self::Value) -> Option<Self::Value>
         ensures { result ≡ passed label value };
 
+    /// What labels look at in the value.
+    fn kind(&self, value: Self::Value) -> Self::Kind
+        ensures { result ≡ kind_of value };
+
     /// Makes an equal node.
     fn copy(&self, alloc: Global, node: &Self::Node) -> Result<Self::Node, AllocError>
         ensures { IfOk result (λ same. same ≡ node.now) };
@@ -60,4 +70,13 @@ pub trait Labelled {
 
     /// The order tells values apart.
     ghost exact_values: { CmpEqualImpliesEq Self.Value.cmp };
+
+    /// The order tells kinds apart.
+    ghost exact_kinds: { CmpEqualImpliesEq Self.Kind.cmp };
+
+    /// Labels that make the same of a value make the same of each value of its kind.
+    ghost alike: { (l m : Self.Label) (v w : Self.Value) → kind_of v ≡ kind_of w → passed l v ≡ passed m v → passed l w ≡ passed m w };
+
+    /// A label that drops a value drops each value of its kind.
+    ghost dropped: { (l : Self.Label) (v w : Self.Value) → kind_of v ≡ kind_of w → passed l v ≡ None → passed l w ≡ None };
 }

@@ -6,8 +6,10 @@ ghost use Rattle.std.proofs.lemmas.Map.Lookups.{CmpEqualImpliesEq};
 ghost use Rattle.rr_graph.specs.Chain.{HasNoRepeats, IsReached, MoreThan};
 
 mod backward;
+mod effects;
 mod gathering;
 mod labels;
+mod numbered;
 mod order;
 mod pairs;
 mod settled;

@@ -1,14 +1,19 @@
 //! Pairs of a node and a value that is found at it.
 
 ghost use Rattle.std.specs.Prelude.{◌≡◌, ◌↔◌, ◌++◌, Contains, IfOk, OnOk, map};
+ghost use Rattle.rr_graph.specs.Chain.{IsReached, MoreThan};
+ghost use Rattle.rr_graph.specs.EffectParts.{IsKnown};
 ghost use Rattle.std.specs.List.{filter_map};
 ghost use Rattle.std.specs.Option.{option_map};
 ghost use Rattle.std.proofs.lemmas.Map.Lookups.{exact_pairs};
 ghost use Rattle.rr_graph.specs.ReversedParts.{edges_at, IsOwnPair, LeadsBack};
+ghost use Rattle.rr_graph.specs.SettledParts.{values_at};
 
-use crate::Graph;
 use crate::backward::Backward;
+use crate::effects::Effects;
 use crate::labels::{Edge, Labelled};
+use crate::walk::Found;
+use crate::{Graph, ReachFault};
 use std::alloc::{AllocError, Global};
 
 /// The pairs of a node and a value. An edge leads from a pair to that of a node from which the value is carried back.
@@ -40,6 +45,52 @@ impl<G: Labelled> Graph for Pairs<'_, G> {
     ) -> Result<(G::Node, G::Value), AllocError> {
         Ok((self.graph.copy(alloc, &pair.0)?, pair.1))
     }
+}
+
+/// So many edges are gone over for each value, and of more those alone that are enough for its kind.
+const FEW: usize = 4;
+
+/// The pairs to which the value of the pair is carried back.
+fn carried_back<G: Labelled>(
+    alloc: Global,
+    pairs: &Pairs<'_, G>,
+    effects: &mut Effects<G>,
+    pair: &(G::Node, G::Value),
+) -> Result<Vec<(G::Node, G::Value)>, AllocError>
+    requires { IsKnown G.passed G.kind_of (edges_at G.Node.cmp pairs.now.backward.now.map) (values_at ⟦<(G::Node, G::Kind) as Ord>⟧.cmp effects.old.map) }
+    ensures known { OnOk result (IsKnown G.passed G.kind_of (edges_at G.Node.cmp pairs.now.backward.now.map) (values_at ⟦<(G::Node, G::Kind) as Ord>⟧.cmp effects.new.map)) }
+    ensures carried { IfOk result (λ carried. (q : G.Node × G.Value) → Contains carried.items q ↔ LeadsBack G.passed (edges_at G.Node.cmp pairs.now.backward.now.map) pair.now q) }
+{
+    let edges = pairs.backward.at(&pair.0);
+    if edges.len() <= FEW {
+        return pairs.successors(alloc, pair);
+    }
+    effects.note(alloc, pairs.graph, &pair.0, edges, pair.1)?;
+    let kept = effects.at(alloc, pairs.graph, &pair.0, edges, pair.1)?;
+    carried(alloc, pairs.graph, kept, pair.1)
+}
+
+/// Lists what `reach` does: each pair to which values are carried back from one of `starts`, each effect once.
+pub fn reach_back<G: Labelled>(
+    alloc: Global,
+    pairs: &Pairs<'_, G>,
+    starts: Vec<(G::Node, G::Value)>,
+    limit: usize,
+) -> Result<Vec<(G::Node, G::Value)>, ReachFault>
+    ensures found { IfOk result (λ found. (p : _) → Contains found.items p ↔ IsReached (LeadsBack G.passed (edges_at G.Node.cmp pairs.now.backward.now.map)) starts.items p) }
+    ensures few { OnOk result (¬ MoreThan limit (IsReached (LeadsBack G.passed (edges_at G.Node.cmp pairs.now.backward.now.map)) starts.items)) }
+    ensures many { result ≡ Err ReachFault.TooMany → MoreThan limit (IsReached (LeadsBack G.passed (edges_at G.Node.cmp pairs.now.backward.now.map)) starts.items) }
+{
+    let mut effects = Effects::<G>::new(alloc);
+    let mut found = Found::new(alloc);
+    found.add_all(alloc, pairs, starts, limit)?;
+    let mut done = 0;
+    while done < found.list.len() {
+        let carried = carried_back(alloc, pairs, &mut effects, &found.list[done])?;
+        found.add_all(alloc, pairs, carried, limit)?;
+        done += 1;
+    }
+    Ok(found.into_list())
 }
 
 /// The pairs that the value is carried back to over the edges.

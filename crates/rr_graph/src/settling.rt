@@ -1,14 +1,15 @@
 //! Settles the nodes of a labelled graph from the ends of its chains back to their start, as far as there are no rings.
 
-ghost use Rattle.std.specs.Prelude.{◌≡◌, ◌↔◌, ◌⊎◌, ◌++◌, true, Contains, IfOk, IfSome, OnOk, is_some};
+ghost use Rattle.std.specs.Prelude.{◌≡◌, ◌≤◌, ◌↔◌, ◌⊎◌, ◌++◌, true, Contains, IfOk, IfSome, OnOk, is_some, length, take};
 ghost use Rattle.std.specs.List.{filter_map};
 ghost use Rattle.std.specs.List.Sorted.{IsStrictlySortedBy};
 ghost use Rattle.std.proofs.lemmas.Map.Lookups.{CmpEqualImpliesEq};
 ghost use Rattle.rr_graph.specs.Carried.{IsFound};
 ghost use Rattle.rr_graph.specs.Chain.{MoreThan};
-ghost use Rattle.rr_graph.specs.SettledParts.{HasEdges, IsAmong, IsFoundAmong, IsHeldOr, IsPassed, IsSettled, IsTallied, values_at};
+ghost use Rattle.rr_graph.specs.SettledParts.{HasEdges, IsAmong, IsFoundAmong, IsHeldOr, IsMade, IsPassed, IsRun, IsSettled, IsTallied, values_at};
 
 use crate::ReachFault;
+use crate::effects::Effects;
 use crate::labels::{Edge, Labelled};
 use crate::order::put_in_order;
 use crate::settled::Settled;
@@ -83,7 +84,7 @@ fn found_at<G: Labelled>(
         return Ok(None);
     }
     let mut values = graph.values(alloc, tail.node)?;
-    add_passed(graph, settled, edges, &mut values)?;
+    add_passed(alloc, graph, settled, edges, &mut values)?;
     put_in_order(&mut values);
     Ok(Some(values))
 }
@@ -95,8 +96,9 @@ fn are_settled<G: Labelled>(settled: &Settled<G>, edges: &[Edge<G::Node, G::Labe
     edges.iter().all(|edge| settled.at(&edge.to).is_some())
 }
 
-/// Adds what the labels of the edges make of the values of settled nodes.
+/// Adds what the labels of the edges make of the values of settled nodes, a run of edges to one node at a time.
 fn add_passed<G: Labelled>(
+    alloc: Global,
     graph: &G,
     settled: &Settled<G>,
     edges: &[Edge<G::Node, G::Label>],
@@ -105,10 +107,112 @@ fn add_passed<G: Labelled>(
     ensures { OnOk result ((v : G.Value) → Contains values.new.items v ↔ (Contains values.old.items v ⊎ IsPassed G.passed (values_at G.Node.cmp settled.now.values) edges.now v)) }
 {
     let mut last = values.len();
+    let mut done = 0;
+    while done < edges.len() {
+        let node = &edges[done].to;
+        let next = done + 1 + run_length(node, &edges[done + 1..]);
+        last = add_run(
+            alloc,
+            graph,
+            settled,
+            node,
+            &edges[done..next],
+            values,
+            last,
+        )?;
+        done = next;
+    }
+    Ok(())
+}
+
+/// How many of the edges lead to the node, before one that does not.
+fn run_length<N: Ord + Drop, L: Drop>(node: &N, edges: &[Edge<N, L>]) -> usize
+    ensures within { result ≤ length edges.now }
+    ensures run { CmpEqualImpliesEq N.cmp → IsRun node.now (take result edges.now) }
+{
+    for (place, edge) in edges.iter().enumerate() {
+        if edge.to != *node {
+            return place;
+        }
+    }
+    edges.len()
+}
+
+/// Adds what the labels of edges to the node make of its values, where it is settled.
+fn add_run<G: Labelled>(
+    alloc: Global,
+    graph: &G,
+    settled: &Settled<G>,
+    node: &G::Node,
+    run: &[Edge<G::Node, G::Label>],
+    values: &mut Vec<G::Value>,
+    last: usize,
+) -> Result<usize, AllocError>
+    requires { IsRun node.now run.now }
+    ensures { OnOk result ((v : G.Value) → Contains values.new.items v ↔ (Contains values.old.items v ⊎ IsPassed G.passed (values_at G.Node.cmp settled.now.values) run.now v)) }
+{
+    match settled.at(node) {
+        Some(begun) => pass_run(alloc, graph, node, run, begun, values, last),
+        None => Ok(last),
+    }
+}
+
+/// Adds what the labels of edges to the node make of the values, each effect once.
+fn pass_run<G: Labelled>(
+    alloc: Global,
+    graph: &G,
+    node: &G::Node,
+    run: &[Edge<G::Node, G::Label>],
+    begun: &[G::Value],
+    values: &mut Vec<G::Value>,
+    last: usize,
+) -> Result<usize, AllocError>
+    requires { IsRun node.now run.now }
+    ensures { OnOk result ((v : G.Value) → Contains values.new.items v ↔ (Contains values.old.items v ⊎ IsMade G.passed node.now run.now begun.now v)) }
+{
+    if let [edge] = run {
+        pass_all(graph, edge.label, begun, values)?;
+        return Ok(freed_of_repeats(values, last));
+    }
+    pass_effects(alloc, graph, node, run, begun, values, last)
+}
+
+/// The same, where there may be many edges.
+fn pass_effects<G: Labelled>(
+    alloc: Global,
+    graph: &G,
+    node: &G::Node,
+    run: &[Edge<G::Node, G::Label>],
+    begun: &[G::Value],
+    values: &mut Vec<G::Value>,
+    last: usize,
+) -> Result<usize, AllocError>
+    requires { IsRun node.now run.now }
+    ensures { OnOk result ((v : G.Value) → Contains values.new.items v ↔ (Contains values.old.items v ⊎ IsMade G.passed node.now run.now begun.now v)) }
+{
+    let mut effects = Effects::<G>::new(alloc);
+    let mut last = last;
+    for value in begun {
+        effects.note(alloc, graph, node, run, *value)?;
+        let kept = effects.at(alloc, graph, node, run, *value)?;
+        pass_each(graph, kept, *value, values)?;
+        last = freed_of_repeats(values, last);
+    }
+    Ok(last)
+}
+
+/// Adds what the labels of the edges make of the value.
+fn pass_each<G: Labelled>(
+    graph: &G,
+    edges: &[Edge<G::Node, G::Label>],
+    value: G::Value,
+    values: &mut Vec<G::Value>,
+) -> Result<(), AllocError>
+    ensures { OnOk result (values.new.items ≡ values.old.items ++ filter_map (λ edge. G.passed edge.label value) edges.now) }
+{
     for edge in edges {
-        if let Some(begun) = settled.at(&edge.to) {
-            pass_all(graph, edge.label, begun, values)?;
-            last = freed_of_repeats(values, last);
+        if let Some(passed) = graph.pass(edge.label, value) {
+            values.push(passed)?;
         }
     }
     Ok(())

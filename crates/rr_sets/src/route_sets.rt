@@ -30,12 +30,14 @@ use std::alloc::{AllocError, Global};
 /// are reached, ASes among them, or more than `limit` pairs of one of these and a range that it stands for; want of
 /// memory aside.
 ///
-/// The steps outside the book are O((P + E) log P). P counts the sets reached, the members of each, listed or by
+/// The steps outside the book are O((P + KR + F) log P). P counts the sets reached, the members of each, listed or by
 /// reference, the routes of each AS reached, the names in its `mbrs-by-ref` and in `mnt-by` of its referrers, and those
-/// pairs; E counts for each pair the references to its set, each once, however often it is listed: m route-sets that
-/// each list all the others and the same V ranges have mV pairs and about m²V references to them. The book is asked at
-/// most three times for the `referrers` of each set reached that has `mbrs-by-ref`, and once for the prefixes of each
-/// AS reached; where sets refer to each other in a ring, at most five times and twice.
+/// pairs; R the references of the sets reached; K the least and greatest lengths that ranges of one set have, at most
+/// 561; and F, for each pair, the ranges that references to its set make of it in each set that refers to it, each
+/// once, however many references do: m route-sets that each list all the others, under however many operators, and the
+/// same V ranges of one address have mV pairs, and F is about m²V. The book is asked at most three times for the
+/// `referrers` of each set reached that has `mbrs-by-ref`, and once for the prefixes of each AS reached; if sets refer
+/// to each other in a ring, at most four times and twice.
 pub fn expand_route_set<B: SetBook>(
     alloc: Global,
     book: &B,
@@ -90,7 +92,7 @@ struct RouteSets<'a, B: SetBook> {
 impl<B: SetBook> Labelled for RouteSets<'_, B> {
     ghost use Rattle.rr_number.specs.Applied.{applied};
     ghost use Rattle.rr_sets.specs.RouteSets.{HasRange, Refers};
-    ghost use Rattle.rr_sets.specs.Orders.{exact_member_sets, exact_ranges};
+    ghost use Rattle.rr_sets.specs.Orders.{applied_alike, applied_dropped, exact_lengths, exact_member_sets, exact_ranges, lengths_of};
 
     type Node = MemberSet;
 
@@ -98,15 +100,25 @@ impl<B: SetBook> Labelled for RouteSets<'_, B> {
 
     type Value = Range;
 
+    type Kind = (u8, u8);
+
     ghost edge = { λ s. Refers (B.contents s.book.now) };
 
     ghost own = { λ s. HasRange (B.contents s.book.now) };
 
     ghost passed = { applied };
 
+    ghost kind_of = { lengths_of };
+
     ghost exact_nodes = { exact_member_sets };
 
     ghost exact_values = { exact_ranges };
+
+    ghost exact_kinds = { exact_lengths };
+
+    ghost alike = { applied_alike };
+
+    ghost dropped = { applied_dropped };
 
     fn edges(&self, alloc: Global, set: &MemberSet) -> Result<Vec<Reference>, AllocError> {
         references_of(alloc, self.book, set)
@@ -121,6 +133,10 @@ impl<B: SetBook> Labelled for RouteSets<'_, B> {
 
     fn pass(&self, operator: Operator, range: Range) -> Option<Range> {
         operator.apply(range)
+    }
+
+    fn kind(&self, range: Range) -> (u8, u8) {
+        (range.low(), range.high())
     }
 
     fn copy(&self, alloc: Global, set: &MemberSet) -> Result<MemberSet, AllocError> {

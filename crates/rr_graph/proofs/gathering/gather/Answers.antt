@@ -3,8 +3,8 @@ use Rattle.std.proofs.lemmas.Result.{err_from_is_err_and}
 use Rattle.rr_graph.specs.Carried.{IsNamed}
 use Rattle.rr_graph.proofs.gathering.gather.Goals as goal
 
-pub found_at-requires : goal.found_at-requires
-found_at-requires g c =
+pub found_among-requires-clause-named : goal.found_among-requires-clause-named
+found_among-requires-clause-named g c =
     subst (λ (l : List g.row.G-Node.Denot). (node : g.row.G-Node.Denot) → Contains l node ↔ IsNamed (g.G.Labelled.edge c.args.graph.now) c.args.start.now node) (sym c.deref.ensures.value) c.in_ok-nodes.ensures.found
 
 pub returns-in_err-values-clause-many : goal.returns-in_err-values-clause-many

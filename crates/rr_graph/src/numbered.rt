@@ -1,0 +1,196 @@
+//! A labelled graph whose nodes are numbers.
+
+ghost use Rattle.std.specs.Prelude.{◌≡◌, ◌<◌, ◌↔◌, ℕ, Contains, IfOk, length};
+ghost use Rattle.std.specs.BTreeMap.{get};
+ghost use Rattle.std.specs.List.{filter_map};
+ghost use Rattle.std.specs.Ordering.{nat_cmp};
+ghost use Rattle.rr_graph.specs.Chain.{HasNoRepeats};
+ghost use Rattle.rr_graph.specs.NumberedParts.{IsNumbered, IsPlaced, placed_edge};
+ghost use Rattle.rr_graph.specs.ReversedParts.{edges_at};
+
+use crate::labels::{Edge, Labelled};
+use std::alloc::{AllocError, Global};
+use std::collections::BTreeMap;
+
+/// A labelled graph by the places of its nodes in a list. The edges of each node are listed once, and from then on
+/// nodes are compared and copied as numbers, which is what most of a walk consists of.
+#[derive(Drop)]
+pub struct Numbered<'a, G: Labelled> {
+    graph: &'a G,
+    nodes: &'a [G::Node],
+    places: BTreeMap<G::Node, usize>,
+    edges: BTreeMap<usize, Vec<Edge<usize, G::Label>>>,
+}
+
+impl<G: Labelled> Labelled for Numbered<'_, G> {
+    ghost use Rattle.std.specs.Prelude.{Contains};
+    ghost use Rattle.std.specs.Ordering.{nat_cmp};
+    ghost use Rattle.std.proofs.lemmas.Map.Lookups.{exact_unsigned};
+    ghost use Rattle.rr_graph.specs.NumberedParts.{IsAt};
+    ghost use Rattle.rr_graph.specs.ReversedParts.{edges_at};
+
+    type Node = usize;
+
+    type Label = G::Label;
+
+    type Value = G::Value;
+
+    type Kind = G::Kind;
+
+    ghost edge = { λ s from to label. Contains (edges_at nat_cmp s.edges from) (record { to = to; label = label }) };
+
+    ghost own = { λ s place value. (node : G.Node) × IsAt s.nodes.now place node × G.own s.graph.now node value };
+
+    ghost passed = { G.passed };
+
+    ghost kind_of = { G.kind_of };
+
+    ghost exact_nodes = { exact_unsigned };
+
+    ghost exact_values = { G.exact_values };
+
+    ghost exact_kinds = { G.exact_kinds };
+
+    ghost alike = { G.alike };
+
+    ghost dropped = { G.dropped };
+
+    fn edges(
+        &self,
+        alloc: Global,
+        place: &usize,
+    ) -> Result<Vec<Edge<usize, G::Label>>, AllocError> {
+        match self.edges.get(place) {
+            Some(edges) => copies(alloc, edges),
+            None => Ok(Vec::new(alloc)),
+        }
+    }
+
+    fn values(&self, alloc: Global, place: &usize) -> Result<Vec<G::Value>, AllocError> {
+        match self.nodes.get(*place) {
+            Some(node) => self.graph.values(alloc, node),
+            None => Ok(Vec::new(alloc)),
+        }
+    }
+
+    fn pass(&self, label: G::Label, value: G::Value) -> Option<G::Value> {
+        self.graph.pass(label, value)
+    }
+
+    fn kind(&self, value: G::Value) -> G::Kind {
+        self.graph.kind(value)
+    }
+
+    fn copy(&self, _alloc: Global, place: &usize) -> Result<usize, AllocError> {
+        Ok(*place)
+    }
+}
+
+impl<'a, G: Labelled> Numbered<'a, G> {
+    /// The graph by the places of the nodes, without edges to other nodes.
+    pub fn new(alloc: Global, graph: &'a G, nodes: &'a [G::Node]) -> Result<Self, AllocError>
+        requires { HasNoRepeats nodes.now }
+        ensures graph { IfOk result (λ numbered. numbered.graph.now ≡ graph.now) }
+        ensures nodes { IfOk result (λ numbered. numbered.nodes.now ≡ nodes.now) }
+        ensures places { IfOk result (λ numbered. IsPlaced nodes.now (get G.Node.cmp numbered.places)) }
+        ensures edges { IfOk result (λ numbered. IsNumbered (G.edge graph.now) nodes.now (edges_at nat_cmp numbered.edges)) }
+    {
+        let places = places(alloc, graph, nodes)?;
+        let edges = edges(alloc, graph, nodes, &places)?;
+        Ok(Numbered {
+            graph,
+            nodes,
+            places,
+            edges,
+        })
+    }
+
+    /// The place of the node.
+    pub fn place(&self, node: &G::Node) -> Option<usize>
+        ensures { result ≡ get G.Node.cmp self.now.places node.now }
+    {
+        self.places.get(node).copied()
+    }
+
+    /// All places.
+    pub fn all(&self, alloc: Global) -> Result<Vec<usize>, AllocError>
+        ensures { IfOk result (λ places. (place : ℕ) → Contains places.items place ↔ (place < length self.now.nodes.now)) }
+    {
+        let mut places = Vec::new(alloc);
+        for place in 0..self.nodes.len() {
+            places.push(place)?;
+        }
+        Ok(places)
+    }
+}
+
+/// The place of each node.
+fn places<G: Labelled>(
+    alloc: Global,
+    graph: &G,
+    nodes: &[G::Node],
+) -> Result<BTreeMap<G::Node, usize>, AllocError>
+    requires { HasNoRepeats nodes.now }
+    ensures { IfOk result (λ places. IsPlaced nodes.now (get G.Node.cmp places)) }
+{
+    let mut places = BTreeMap::new(alloc);
+    for (place, node) in nodes.iter().enumerate() {
+        places.insert(graph.copy(alloc, node)?, place)?;
+    }
+    Ok(places)
+}
+
+/// The edges of each node that lead to nodes which have places, under its own place.
+fn edges<G: Labelled>(
+    alloc: Global,
+    graph: &G,
+    nodes: &[G::Node],
+    places: &BTreeMap<G::Node, usize>,
+) -> Result<BTreeMap<usize, Vec<Edge<usize, G::Label>>>, AllocError>
+    requires { IsPlaced nodes.now (get G.Node.cmp places.now) }
+    ensures { IfOk result (λ edges. IsNumbered (G.edge graph.now) nodes.now (edges_at nat_cmp edges)) }
+{
+    let mut all = BTreeMap::new(alloc);
+    for (place, node) in nodes.iter().enumerate() {
+        let edges = graph.edges(alloc, node)?;
+        all.insert(place, placed(alloc, &edges, places)?)?;
+    }
+    Ok(all)
+}
+
+/// The edges with the places of the nodes to which they lead, where these have some.
+fn placed<N: Ord + Drop, L: Copy + Drop>(
+    alloc: Global,
+    edges: &[Edge<N, L>],
+    places: &BTreeMap<N, usize>,
+) -> Result<Vec<Edge<usize, L>>, AllocError>
+    ensures { IfOk result (λ placed. placed.items ≡ filter_map (placed_edge (get N.cmp places.now)) edges.now) }
+{
+    let mut placed = Vec::new(alloc);
+    for edge in edges {
+        if let Some(place) = places.get(&edge.to) {
+            placed.push(Edge {
+                to: *place,
+                label: edge.label,
+            })?;
+        }
+    }
+    Ok(placed)
+}
+
+/// Equal edges.
+fn copies<L: Copy + Drop>(
+    alloc: Global,
+    edges: &[Edge<usize, L>],
+) -> Result<Vec<Edge<usize, L>>, AllocError>
+    ensures { IfOk result (λ copies. copies.items ≡ edges.now) }
+{
+    let mut copies = Vec::new(alloc);
+    for edge in edges {
+        copies.push(Edge {
+            to: edge.to,
+            label: edge.label,
+        })?;
+    }
+    Ok(copies)
+}

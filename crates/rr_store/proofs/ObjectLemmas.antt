@@ -1,5 +1,5 @@
 -- Rows and the objects that they are read as.
-use Rattle.std.proofs.Common.{◌≡◌, Option, Some, None, Result, IfSome, ℕ, zero, suc, ◌<◌, List, [], ◌∷◌, ◌++◌, length, get_or, Ok, refl, sym, ap, subst, ◌∙◌, arith}
+use Rattle.std.proofs.Common.{◌≡◌, Option, Some, None, Result, IfSome, ℕ, ◌<◌, List, [], ◌∷◌, ◌++◌, length, Ok, refl, sym, ap, subst, ◌∙◌, arith}
 use Rattle.sqlite_value.specs.Order.{Row}
 use Rattle.rr_text.specs.Fields.{Field, AreFields}
 use Rattle.rr_text.specs.CanonicalText.{canonical}
@@ -24,11 +24,12 @@ module _ (form : KeyForm) (source : List ℕ) where
   read_more (r ∷ rows) [] row object read is of = absurd read
   read_more (r ∷ rows) (o ∷ os) row object read is of = (read.0, read_more rows os row object read.1 is of)
 
-  pub read_at : (rows : List Row) (objects : List Obj) (i : ℕ) (d : Row) → AreRead form source rows objects → i < length rows → (object : Obj) × IsObjectOf source object × IsRowOf form object (get_or rows i d)
-  read_at [] objects i d read low = absurd (omega arith)
-  read_at (r ∷ rows) [] i d read low = absurd read
-  read_at (r ∷ rows) (o ∷ os) zero d read low = (o, read.0.0, read.0.1)
-  read_at (r ∷ rows) (o ∷ os) (suc i) d read low = read_at rows os i d read.1 (omega arith)
+  pub read_between : (before : List Row) (row : Row) (after : List Row) (objects : List Obj) → AreRead form source (before ++ row ∷ after) objects
+      → (object : Obj) × IsObjectOf source object × IsRowOf form object row
+  read_between [] row after [] read = absurd read
+  read_between [] row after (o ∷ os) read = (o, read.0.0, read.0.1)
+  read_between (r ∷ rows) row after [] read = absurd read
+  read_between (r ∷ rows) row after (o ∷ os) read = read_between rows row after os read.1
 
 no_key : (key : Key) → key_of [] ≡ Ok key → ⊥
 unfolding key_of

@@ -63,17 +63,17 @@ pub(crate) fn check_version<S: Alter>(
 /// The objects of rows that have numbers of their own, in turn.
 fn judge_objects(
     alloc: Global,
-    rows: &[Row],
+    rows: Vec<Row>,
     source: &Name,
     version: Version,
 ) -> Result<Vec<Object>, OpenFault>
-    ensures keyed { OnOk result (AreKeyed rows.now) }
-    ensures ok { IfOk result (λ objects. AreRead (form_of version) source.now (contents rows.now) objects.items) }
+    ensures keyed { OnOk result (AreKeyed rows.items) }
+    ensures ok { IfOk result (λ objects. AreRead (form_of version) source.now (contents rows.items) objects.items) }
     ensures of_source { IfOk result (λ objects. AllByRecursion (IsObjectOf source.now) objects.items) }
-    ensures fault { IfErr result (λ fault. fault ≡ BadRow → AreNone (form_of version) source.now (contents rows.now)) }
+    ensures fault { IfErr result (λ fault. fault ≡ BadRow → AreNone (form_of version) source.now (contents rows.items)) }
     ensures no_other { IfErr result (λ fault. (number : ℕ) → fault ≡ WrongVersion number → ⊥) }
 {
-    match are_numbered(rows) {
+    match are_numbered(&rows) {
         Ok(true) => objects_of_rows(alloc, rows, source, version),
         Ok(false) => Err(OpenFault::Store),
         Err(_) => Err(OpenFault::Store),
@@ -101,7 +101,7 @@ pub(crate) fn check_objects<S: Alter>(
     ensures crash { Survives (state S.Store conn.old) (state S.Store conn.new) (λ _. (state S.Store conn.old).is_open ≡ false) }
 {
     match object_rows(conn) {
-        Ok(rows) => judge_objects(alloc, &rows, source, version),
+        Ok(rows) => judge_objects(alloc, rows, source, version),
         Err(_) => Err(OpenFault::Store),
     }
 }
@@ -240,8 +240,8 @@ pub(crate) fn check_names<S: Alter>(
 }
 
 /// The objects of rows with their numbers, in order of class and key.
-fn ordered_objects(alloc: Global, rows: &[Row], source: &Name) -> Result<Vec<Object>, OpenFault>
-    ensures ok { IfOk result (λ objects. HoldsObjects this_form source.now objects.items (contents rows.now)) }
+fn ordered_objects(alloc: Global, rows: Vec<Row>, source: &Name) -> Result<Vec<Object>, OpenFault>
+    ensures ok { IfOk result (λ objects. HoldsObjects this_form source.now objects.items (contents rows.items)) }
     ensures order { IfOk result (λ objects. AreInOrder objects.items) }
     ensures of_source { IfOk result (λ objects. AllByRecursion (IsObjectOf source.now) objects.items) }
 {
@@ -269,7 +269,7 @@ pub(crate) fn naming_objects<S: Alter>(
     ensures crash { Survives (state S.Store conn.old) (state S.Store conn.new) (λ _. (state S.Store conn.old).is_open ≡ false) }
 {
     match naming_rows(conn, name.as_bytes()) {
-        Ok(rows) => ordered_objects(alloc, &rows, source),
+        Ok(rows) => ordered_objects(alloc, rows, source),
         Err(_) => Err(OpenFault::Store),
     }
 }

@@ -92,19 +92,20 @@ fn read_object(
     }
 }
 
-/// The objects of the source whose rows, with their numbers, these are, if they are those of some.
+/// The objects of the source whose rows, with their numbers, these are, if they are those of some. Each row is freed once its
+/// object is read, so that rows and objects do not both take their whole memory.
 fn read_objects(
     alloc: Global,
-    rows: &[Row],
+    rows: Vec<Row>,
     source: &Name,
     version: Version,
 ) -> Result<Option<Vec<Object>>, AllocError>
-    ensures found { IfOk result (λ read. IfSome read (λ objects. AreRead (form_of version) source.now (contents rows.now) objects.items)) }
-    ensures only { IfOk result (λ read. (objects : _) → AreRead (form_of version) source.now (contents rows.now) objects → IsSome read) }
+    ensures found { IfOk result (λ read. IfSome read (λ objects. AreRead (form_of version) source.now (contents rows.items) objects.items)) }
+    ensures only { IfOk result (λ read. (objects : _) → AreRead (form_of version) source.now (contents rows.items) objects → IsSome read) }
 {
-    let mut objects = Vec::new(alloc);
+    let mut objects = Vec::with_capacity(alloc, rows.len())?;
     for row in rows {
-        match read_object(alloc, row, source, version)? {
+        match read_object(alloc, &row, source, version)? {
             Some(object) => objects.push(object)?,
             None => return Ok(None),
         }
@@ -115,13 +116,13 @@ fn read_objects(
 /// The objects of rows with their numbers, in turn.
 pub(crate) fn objects_of_rows(
     alloc: Global,
-    rows: &[Row],
+    rows: Vec<Row>,
     source: &Name,
     version: Version,
 ) -> Result<Vec<Object>, OpenFault>
-    ensures ok { IfOk result (λ objects. AreRead (form_of version) source.now (contents rows.now) objects.items) }
+    ensures ok { IfOk result (λ objects. AreRead (form_of version) source.now (contents rows.items) objects.items) }
     ensures of_source { IfOk result (λ objects. AllByRecursion (IsObjectOf source.now) objects.items) }
-    ensures fault { IfErr result (λ fault. fault ≡ BadRow → AreNone (form_of version) source.now (contents rows.now)) }
+    ensures fault { IfErr result (λ fault. fault ≡ BadRow → AreNone (form_of version) source.now (contents rows.items)) }
     ensures no_other { IfErr result (λ fault. (number : ℕ) → fault ≡ WrongVersion number → ⊥) }
 {
     match read_objects(alloc, rows, source, version) {

@@ -9,8 +9,8 @@ use Rattle.rr_store.proofs.checks.ordered_objects.Goals as goal
 pub returns-clause-ok : goal.returns-clause-ok
 returns-clause-ok c =
     IfOk-weaker c.in_order.result _ _
-    (λ ordered same. reordered this_form c.args.source.now c.in_ok-objects.objects.items ordered.items (contents c.args.rows.now)
-    (record { rows = contents c.args.rows.now; same = IsPermutation-refl (contents c.args.rows.now); read = c.in_ok-objects.ensures.ok }) same)
+    (λ ordered same. reordered this_form c.args.source.now c.in_ok-objects.objects.items ordered.items (contents c.args.rows.items)
+    (record { rows = contents c.args.rows.items; same = IsPermutation-refl (contents c.args.rows.items); read = c.in_ok-objects.ensures.ok }) same)
     c.in_order.ensures.same
 
 pub returns-clause-of_source : goal.returns-clause-of_source

@@ -1,18 +1,19 @@
 -- Parts of dumps, one after the other.
-use Rattle.std.proofs.Common.{◌≡◌, ℕ, ◌+◌, ◌<◌, ◌≤◌, Bool, Bor, List, [], ◌++◌, length, get_or, drop, sym, ap, ◌∙◌, append_assoc}
-use Rattle.std.specs.Prelude.{flat_map}
+use Rattle.std.proofs.Common.{◌≡◌, ℕ, ◌+◌, ◌<◌, ◌≤◌, Bool, true, false, Bor, List, ◌++◌, length, get_or, drop, sym, ap, ◌∙◌, append_assoc, arith}
+use Rattle.std.specs.Prelude.{codes, decimal, flat_map}
 use Rattle.std.proofs.Math.ListN.{drop_of_length-le}
-use Rattle.std.proofs.lemmas.List.{append-nil, length-map}
+use Rattle.std.proofs.lemmas.List.{append-nil, length-append, length-map}
 use Rattle.std.specs.FinMap.{values}
 use Rattle.rr_auth.specs.Registries.{Reg}
 use Rattle.rr_io.specs.Told.{Told}
 use Rattle.rr_io.specs.Sending.{Takes}
 use Rattle.rr_io.proofs.Transfers.{Takes-then, TakesFront-more, TakesFront-then, flat_map-next}
+use Rattle.rr_text.specs.CanonicalText.{ended}
 use Rattle.rr_object.specs.Objects.{Obj}
 use Rattle.rr_sets.specs.Lists.{lent}
 use Rattle.rr_answer.specs.declared.dumping.DumpFault.{DumpFault}
 use Rattle.rr_answer.specs.declared.dumping.DumpFault.TheVariants.{Write, Memory}
-use Rattle.rr_answer.specs.Dumps.{IsCut, TakesPart, dump, dumped, end_line}
+use Rattle.rr_answer.specs.Dumps.{IsCut, dump, dumped, end_line}
 use Rattle.rr_answer.proofs.Lists.{texts_lent}
 
 part_whole : (xs ys zs front rest : List ℕ) → ys ≡ front ++ rest → xs ++ (ys ++ zs) ≡ (xs ++ front) ++ (rest ++ zs)
@@ -27,6 +28,7 @@ cut_between start middle end xs ys zs Memory p q = record {
   front = xs ++ q.front;
   rest = q.rest ++ zs;
   whole = part_whole xs ys zs q.front q.rest q.whole;
+  some_left = let l : 0 < length q.rest = q.some_left in rw length-append (omega arith);
   takes = Takes-then xs q.front p q.takes;
 }
 
@@ -38,8 +40,24 @@ cut_behind start middle end xs ys Memory p q = record {
   front = xs ++ q.front;
   rest = q.rest;
   whole = ap (λ l. xs ++ l) q.whole ∙ sym (append_assoc xs q.front q.rest);
+  some_left = q.some_left;
   takes = Takes-then xs q.front p q.takes;
 }
+
+-- a line has its end
+pub line_has_bytes : (line : List ℕ) → 0 < length (ended line)
+line_has_bytes line = rw length-append (omega arith)
+
+-- an object in a dump has the empty line behind it
+pub object_has_bytes : (full : Bool) (o : Obj) → 0 < length (dumped full o)
+object_has_bytes true o = line_has_bytes _
+object_has_bytes false o = line_has_bytes _
+
+-- a dump has its last line
+pub dump_has_bytes : (full : Bool) (r : Reg) → 0 < length (dump full r)
+dump_has_bytes full r =
+    let l : 0 < length (end_line (length (values r))) = line_has_bytes (codes "% end " ++ decimal (length (values r))) in
+    rw length-append (omega arith)
 
 -- the next object, and those after it
 pub next_of : (full : Bool) (objects : List (Bor Obj)) (i : ℕ) (object : Bor Obj) (taken : List ℕ) → i < length objects → object ≡ get_or objects i object

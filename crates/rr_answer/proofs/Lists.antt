@@ -1,13 +1,11 @@
 -- Lists of objects that are lent.
 use Rattle.std.proofs.Common.{◌≡◌, ℕ, Bool, true, false, cond, Bor, List, [], ◌∷◌, ◌++◌, refl, ap, ◌∙◌}
-use Rattle.std.specs.Prelude.{Option, None, Some, filter, map}
+use Rattle.std.specs.Prelude.{Option, None, Some, filter}
 use Rattle.std.specs.List.{cons_option, flat_map}
 use Rattle.std.proofs.lemmas.List.{map-append}
 use Rattle.std.proofs.lemmas.List.Folds.{flat_map-map}
 use Rattle.rr_object.specs.Objects.{Obj}
 use Rattle.rr_sets.specs.Lists.{lent}
-use Rattle.rr_answer.specs.Dumps.{dumped}
-use Rattle.rr_answer.specs.Texts.{public_text}
 
 -- what is kept of a list is lent of it
 pub filtered : (test : Obj → Bool) (objects : List (Bor Obj)) → lent (filter (λ object. test object.now) objects) ≡ filter test (lent objects)

@@ -1,5 +1,5 @@
 -- What a dump writes.
-use Rattle.std.specs.Prelude.{◌≡◌, ℕ, Bool, true, false, List, ◌++◌, codes, decimal, length, Result, Ok, Err}
+use Rattle.std.specs.Prelude.{◌≡◌, ◌<◌, ℕ, Bool, true, false, List, ◌++◌, codes, decimal, length, Result, Ok, Err}
 use Rattle.std.specs.FinMap.{values}
 use Rattle.std.specs.List.{flat_map}
 use Rattle.rr_io.specs.Sending.{Takes, TakesFront}
@@ -25,11 +25,12 @@ end_line count = ended (codes "% end " ++ decimal count)
 abbrev pub dump : Bool → Reg → List ℕ
 dump full r = flat_map (dumped full) (values r) ++ end_line (length (values r))
 
--- Some front of these bytes was taken, and no call failed (profile).
+-- Some front of these bytes was taken, and not all of them, and no call failed (profile).
 pub record TakesPart (old new : Told) (bytes : List ℕ) : Type 0 where
   pub front : List ℕ
   pub rest : List ℕ
   pub whole : bytes ≡ front ++ rest
+  pub some_left : 0 < length rest
   pub takes : Takes old new front
 
 -- A dump was cut short: a write failed, or memory was wanting (profile).

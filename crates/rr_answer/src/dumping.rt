@@ -50,7 +50,8 @@ impl From<AllocError> for DumpFault {
 
 /// Writes the objects by class and key, each with an empty line, and a last line that counts them; `full` says whether
 /// with all their text, or as they are answered (profile). It answers their number. Each object is written by itself:
-/// after a fault the writer has taken a front of these bytes.
+/// after a fault the writer has taken a front of these bytes, and not all of them.
+#[tactic(auto, using(crate::proofs::Dumped::dump_has_bytes))]
 pub fn dump<B: Keeper, W: Sink>(
     alloc: Global,
     registry: &Registry<B>,
@@ -99,6 +100,7 @@ fn dump_objects<W: Sink>(
 }
 
 /// Writes one object, whose text takes the place of what the buffer has.
+#[tactic(auto, using(crate::proofs::Dumped::object_has_bytes))]
 fn dump_object<W: Sink>(
     text: &mut Vec<u8>,
     object: &Object,
@@ -126,6 +128,7 @@ fn push_dumped(text: &mut Vec<u8>, object: &Object, full: bool) -> Result<(), Al
 }
 
 /// Writes the last line.
+#[tactic(auto, using(crate::proofs::Dumped::line_has_bytes))]
 fn dump_end<W: Sink>(alloc: Global, writer: &mut W, count: usize) -> Result<(), DumpFault>
     ensures writes { WritesDump (end_line count) (W.told writer.old) (W.told writer.new) result }
     ensures aside { W.aside writer.new ≡ W.aside writer.old }

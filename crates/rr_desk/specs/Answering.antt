@@ -1,9 +1,11 @@
 -- What a desk answers to queries.
 use Rattle.std.specs.Prelude.{◌≡◌, ◌⊎◌, ◌||◌, ℕ, Bool, true, false, List, Result, Ok, Err, IfOk}
+use Rattle.std.specs.List.{AllByRecursion}
 use Rattle.rr_io.specs.Sending.{Writes}
 use Rattle.rr_io.specs.Told.{Told}
 use Rattle.rr_object.specs.Objects.{Obj}
 use Rattle.rr_auth.specs.Registries.{Reg}
+use Rattle.rr_rows.specs.Maps.{IsObjectOf}
 use Rattle.rr_answer.specs.declared.fault.QueryFault.{QueryFault}
 use Rattle.rr_answer.specs.declared.fault.QueryFault.TheVariants.{Bad, TooLong, TooMany, Memory, Store, Stopped}
 use Rattle.rr_answer.specs.declared.query.Query.TheVariants.{Naming}
@@ -34,9 +36,12 @@ abbrev pub told_number : Result (List ℕ) QueryFault → ℕ
 told_number (Ok text) = 0
 told_number (Err fault) = error_number fault
 
--- a text is that of some objects as they are answered, which has their public forms and nothing else of them (profile)
+-- a text is that of some objects of one source as they are answered, which has their public forms and nothing else of them
+-- (profile)
 pub record IsPublic (text : List ℕ) : Type 0 where
   pub objects : List Obj
+  pub source : List ℕ
+  pub of_source : AllByRecursion (IsObjectOf source) objects
   pub is_text : text ≡ objects_text objects
 
 -- what the tables have of the objects that name a maintainer is public in any case, and where the disk gives back what was written

@@ -11,6 +11,7 @@ ghost use Rattle.rr_rows.specs.Tables.{HasTables};
 ghost use Rattle.rr_store.specs.Kept.{IsLeft};
 ghost use Rattle.rr_store.specs.declared.fault.CreateFault.TheVariants.{NotEmpty};
 ghost use Rattle.rr_store.specs.declared.fault.OpenFault.TheVariants.{BadRow, WrongVersion};
+ghost use Rattle.rr_submission.specs.SubmissionLaws.{ConfinesTexts};
 ghost use Rattle.rr_submission.specs.Submissions.{Submits, UnlessStoreFault};
 ghost use Rattle.rr_submission.specs.declared.submission.DeskFault.TheVariants.{Stopped};
 ghost use Rattle.rr_desk.specs.Opened.{HasNoRegistry, HasOpeningRows};
@@ -129,7 +130,7 @@ impl<S: Alter> Desk<S> {
     /// Submits what the reader gives, and writes the report. The items are decided one by one, in order, each with its rows
     /// in one transaction before its line is written. Where the line of an item cannot be written, that item and those before
     /// it stand, and those behind it are not read. Where the store fails at an item, those before it stand, and the desk is
-    /// stopped; a stopped desk reads and writes nothing.
+    /// stopped; a stopped desk reads and writes nothing. What the holders of a prefix hold is changed by nobody else.
     pub fn submit<R: Source, W: Sink>(
         &mut self,
         alloc: Global,
@@ -146,6 +147,8 @@ impl<S: Alter> Desk<S> {
           after = self.new.stored.registry;
         }) self.old.stored self.new.stored result }
         ensures runs { self.old.stored.stopped ≡ false → UnlessStoreFault result (self.new.stored.stopped ≡ false) }
+        ensures confined { self.old.stored.stopped ≡ false
+            → ConfinesTexts self.old.settings.source self.old.stored.registry }
         ensures rows { self.new.stored.stopped ≡ false → HasCleanDisk (state S.Store self.new.stored.store) → Holds self.new.stored.registry (state S.Store self.new.stored.store) }
         ensures settings { self.new.settings ≡ self.old.settings }
         ensures of_source { IsRegistryOf self.old.settings.source self.old.stored.registry → IsRegistryOf self.new.settings.source self.new.stored.registry }

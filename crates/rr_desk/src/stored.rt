@@ -2,6 +2,7 @@
 
 ghost use Rattle.std.specs.Prelude.{◌≡◌, false, true, IsTrue, IfOk, OnErr, OnOk, is_some};
 ghost use Rattle.std.specs.FinMap.{get};
+ghost use Rattle.std.specs.List.{AllByRecursion};
 ghost use Rattle.sqlite.specs.Held.{state};
 ghost use Rattle.sqlite.specs.State.{HasCleanDisk, Survives};
 ghost use Rattle.rr_answer.specs.declared.query.Query.TheVariants.{Naming};
@@ -9,7 +10,7 @@ ghost use Rattle.rr_answer.specs.Selections.{asked};
 ghost use Rattle.rr_auth.specs.Laws.{key_about};
 ghost use Rattle.rr_registry.specs.Runs.{IsStep};
 ghost use Rattle.rr_rows.specs.Entries.{TreesOf};
-ghost use Rattle.rr_rows.specs.Maps.{HasRows};
+ghost use Rattle.rr_rows.specs.Maps.{HasRows, IsObjectOf};
 ghost use Rattle.rr_desk.specs.Halts.{IsHalted, changes};
 ghost use Rattle.rr_desk.specs.LookupParts.{is_refused};
 ghost use Rattle.rr_desk.specs.Private.{Follows, FollowsGain, FollowsNew, puts_one};
@@ -102,6 +103,7 @@ impl<S: Alter> Stored<S> {
     ) -> Result<Vec<Object>, StoreFault>
         requires running { self.old.stopped ≡ false }
         ensures found { HasCleanDisk (state S.Store self.new.store) → IfOk result (λ objects. objects.items ≡ asked (Naming name.now) self.old.registry) }
+        ensures of_source { IfOk result (λ objects. AllByRecursion (IsObjectOf source.now) objects.items) }
         ensures stops { self.new.stopped ≡ is_refused result }
         ensures registry { self.new.registry ≡ self.old.registry }
         ensures keeps { KeepsRows self.old.registry (state S.Store self.new.store) }

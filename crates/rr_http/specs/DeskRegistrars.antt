@@ -9,7 +9,7 @@ use Rattle.rr_answer.specs.Dumps.{dump}
 use Rattle.rr_submission.specs.declared.ledger.Ledger as ledger
 use Rattle.rr_desk.specs.declared.desk.Desk.{Desk}
 use Rattle.rr_desk.specs.Answering as desk_answering
-use Rattle.rr_desk.specs.Rows.{KeepsRows}
+use Rattle.rr_desk.specs.Rows.{Holds, KeepsRows}
 use Rattle.rr_desk.specs.Stocks.{stock_ledger}
 use Rattle.rr_http.specs.declared.registrar.Registrar as registrar
 
@@ -31,6 +31,12 @@ pub record IsDeskAnswer {S : Type 0} (g : store.Ghosts S) (before : Desk S) (que
   pub keeps : before.stored.stopped ≡ false → KeepsRows before.stored.registry (state g after.stored.store)
   pub still : before.stored.stopped ≡ true → after ≡ before
 
+-- where the disk gives back what was written, the rows of a desk that runs are those of its registry, and a stop leaves these
+abbrev pub IsKept : {S : Type 0} → store.Ghosts S → Desk S → Type 0
+IsKept g desk =
+    desk.stored.stopped ≡ false → HasCleanDisk (state g desk.stored.store)
+    → Holds desk.stored.registry (state g desk.stored.store)
+
 -- a desk answers queries, gives the public dump of its registry, and takes submissions until it is stopped
 abbrev pub desk_registrar : {S : Type 0} → store.Ghosts S → registrar.Ghosts (Desk S)
 desk_registrar g = record {
@@ -39,4 +45,5 @@ desk_registrar g = record {
   stops = λ desk. desk.stored.stopped;
   Answers = λ before query text after. IsDeskAnswer g before query text after;
   dumped = λ desk. dump false desk.stored.registry;
+  Kept = λ desk. IsKept g desk;
 }

@@ -7,6 +7,7 @@ use Rattle.rr_io.specs.Sending.{Takes, TakesFront}
 use Rattle.rr_submission.specs.declared.submission.Done.{Done}
 use Rattle.rr_submission.specs.declared.submission.DeskFault.{DeskFault}
 use Rattle.rr_auth.specs.Sources.{IsRegistryOf}
+use Rattle.rr_submission.specs.SubmissionLaws.{ConfinesTexts}
 use Rattle.rr_submission.specs.Submissions.{UnlessStoreFault}
 use Rattle.rr_http.specs.declared.asking.Refusal.TheVariants.{Unavailable}
 use Rattle.rr_http.specs.declared.body_reading.BodyEnd.{BodyEnd}
@@ -29,14 +30,17 @@ answer_by Short true = Err conn_fault.Write
 answer_by Whole false = Ok tt
 answer_by Short false = Ok tt
 
--- the head of the reply was written, and the body submitted: its report follows. Only a fault of the store stops the desk, and a
--- registry of its source stays one
+-- the head of the reply was written, and the body submitted: its report follows. Only a fault of the store stops the desk, and after
+-- any other end the rows are those of its registry; a registry of its source stays one, and what the holders of a prefix hold is
+-- changed by nobody else
 pub record IsSubmitted {D : Type 0} (desk : Ghosts D) (body : List ℕ) (size : ℕ) (end : BodyEnd) (before after : D) (old new : Told) (result : Answer) : Type 0 where
   pub between : Told
   pub done : Result Done DeskFault
   pub head : Takes old between given_head
   pub submits : SubmitsBody desk.ledger (desk.settings before).source body (size - length body) before after between new done
   pub runs : UnlessStoreFault done (desk.stops after ≡ false)
+  pub confined : ConfinesTexts (desk.settings before).source (desk.ledger.registry before)
+  pub kept : UnlessStoreFault done (desk.Kept after)
   pub of_source : IsRegistryOf (desk.settings before).source (desk.ledger.registry before) → IsRegistryOf (desk.settings after).source (desk.ledger.registry after)
   pub answer : result ≡ answer_by end (nat_lt old.faults new.faults)
 

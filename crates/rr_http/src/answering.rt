@@ -3,6 +3,7 @@
 ghost use Rattle.std.specs.Prelude.{◌≡◌, ◌≤◌, ◌⊎◌, [], Err, IfOk, false, length};
 ghost use Rattle.percent_encoding.specs.Percent.{percent_decode};
 ghost use Rattle.rr_auth.specs.Sources.{IsRegistryOf};
+ghost use Rattle.rr_submission.specs.SubmissionLaws.{ConfinesTexts};
 ghost use Rattle.rr_submission.specs.Submissions.{UnlessStoreFault};
 ghost use Rattle.rr_http.specs.Answering.{AnswersDump, AnswersQuery, IsAnswered, IsHeadCut, SubmitsBody, Tells, dump_answer};
 ghost use Rattle.rr_http.specs.Replies.{given_head, refusal_reply};
@@ -134,6 +135,8 @@ pub fn submit_body<D: Registrar, W: Sink>(
     requires running { D.stops desk.old ≡ false }
     ensures submits { SubmitsBody D.ledger (D.settings desk.old).source bytes.now missing desk.old desk.new (W.told writer.old) (W.told writer.new) result }
     ensures runs { UnlessStoreFault result (D.stops desk.new ≡ false) }
+    ensures confined { ConfinesTexts (D.settings desk.old).source (D.ledger.registry desk.old) }
+    ensures kept { UnlessStoreFault result (D.Kept desk.new) }
     ensures of_source { IsRegistryOf (D.settings desk.old).source (D.ledger.registry desk.old) → IsRegistryOf (D.settings desk.new).source (D.ledger.registry desk.new) }
     ensures settings { D.settings desk.new ≡ D.settings desk.old }
     ensures aside { W.aside writer.new ≡ W.aside writer.old }

@@ -2,7 +2,7 @@
 
 ghost use Rattle.std.specs.Prelude.{◌≡◌, false};
 ghost use Rattle.rr_answer.specs.Dumps.{dump};
-ghost use Rattle.rr_http.specs.DeskRegistrars.{IsDeskAnswer, desk_ledger};
+ghost use Rattle.rr_http.specs.DeskRegistrars.{IsDeskAnswer, IsKept, desk_ledger};
 
 use crate::registrar::Registrar;
 use rr_desk::{Answered, Desk, DeskFault, Done, DumpFault, WriteFault};
@@ -20,6 +20,8 @@ impl<S: Alter> Registrar for Desk<S> {
     ghost Answers = { λ before query text after. IsDeskAnswer S.Store before query text after };
 
     ghost dumped = { λ desk. dump false desk.stored.registry };
+
+    ghost Kept = { λ desk. IsKept S.Store desk };
 
     fn stopped(&self) -> bool {
         Desk::stopped(self)

@@ -1,4 +1,4 @@
-use Rattle.std.proofs.Common.{◌++◌, ◌∙◌, ap, sym, append_assoc}
+use Rattle.std.proofs.Common.{◌∙◌, sym, append_assoc}
 use Rattle.std.proofs.lemmas.Result.{err_from_is_err_and}
 use Rattle.rr_io.proofs.Transfers.{Takes-then}
 use Rattle.rr_answer.proofs.Dumped.{all_taken, cut_between, next_lent, next_of}

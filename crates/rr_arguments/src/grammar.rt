@@ -8,7 +8,7 @@ use std::alloc::{AllocError, Global};
 pub fn program<'a>(alloc: Global) -> Result<clap::Command<'a>, AllocError> {
     let program = clap::Command::new(alloc, "irrdesk")
         .bin_name("irrdesk")?
-        .version("1.0.0")
+        .version("1.1.0")
         .about(help::PROGRAM)
         .after_help(help::PROGRAM_EXAMPLE)
         .disable_help_subcommand(true)

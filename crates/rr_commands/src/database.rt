@@ -8,7 +8,9 @@ use sqlite::{Alter, Connection};
 use sqlite_std_file::File;
 use sqlite_store::FileStore;
 use std::fs;
+use std::fs::OpenOptions;
 use std::io::ErrorKind;
+use std::os::unix::fs::OpenOptionsExt;
 
 /// What is done in a database, wherever that is kept.
 pub trait DatabaseTask {
@@ -48,10 +50,24 @@ pub fn perform_making<T: DatabaseTask + Drop>(
 fn open_or_make(rt: &HostRuntime, store: &str) -> Result<Connection<FileStore<File>>, Trouble>
     ensures { IfOk result (λ conn. conn.in_transaction ≡ false) }
 {
+    make_private(rt, store);
     match Connection::open(rt, store) {
         Ok(conn) => Ok(conn),
         Err(error) => Err(Trouble::Database(DatabaseCause::of(error))),
     }
+}
+
+/// Makes the file of a database if there is none: readable by its owner alone, whatever the umask, because the digests of
+/// all secrets stand in it. Its log gets the permissions of the file. If it can't be made, the opening says why.
+fn make_private(rt: &HostRuntime, store: &str) {
+    if store == ":memory:" || store.starts_with("file:") || !is_missing(rt, store) {
+        return;
+    }
+    let _ = OpenOptions::new()
+        .write(true)
+        .create_new(true)
+        .mode(0o600)
+        .open(rt, store);
 }
 
 /// Does a task in a database, and closes that. What the commits left in its log goes into its file; where that fails it stays

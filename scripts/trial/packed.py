@@ -36,8 +36,8 @@ def packing(script, tool):
     for name in listed:
         for words in [name, "--help"], ["help", name]:
             ran = tool(*words)
-            examples = ran.printed.partition(b"\nExamples:\n")[2].decode()
-            expect((ran.status, ran.said, f"irr {name}" in examples), (0, b"", True), f"the help of {name}")
+            examples = ran.printed.partition(b"\nExamples:\n")[2]
+            expect((ran.status, ran.said, b"irr %s" % name.encode() in examples), (0, b"", True), f"the help of {name}")
     expect(tool("--version").printed.startswith(b"irr "), True, "the version")
     return f"{len(listed)} commands"
 

@@ -286,3 +286,20 @@ def any_dump(chance, count):
         out += chance.choice([[""], [""], ["", ""], [" \t"], ["", "% between", ""], ["", "# and"]])
     out += chance.choice([[], ["# EOF"], ["EOF"]])
     return (chance.choice(["", "", "\xef\xbb\xbf"]) + end.join(out) + chance.choice([end, ""])).encode("latin-1")
+
+
+def damaged(chance, dump):
+    """A dump with bytes changed, lost, added and doubled."""
+    text = bytearray(dump)
+    for _ in range(chance.choice([0, 1, 5, 40])):
+        place, turn = chance.randrange(len(text) + 1), chance.randrange(4)
+        if turn == 0:
+            text[place:place + 1] = bytes([chance.randrange(256)])
+        elif turn == 1:
+            del text[place:place + chance.randrange(30)]
+        elif turn == 2:
+            text[place:place] = bytes(chance.choice(b"\n\r \t:#%+,{}^-\0\xff") for _ in range(chance.randrange(5)))
+        else:
+            start = chance.randrange(len(text) + 1)
+            text[place:place] = text[start:start + chance.randrange(200)]
+    return bytes(text)

@@ -139,6 +139,9 @@ class Import:
         self.stubs = {self.new.get(name, name) for name in named if name not in mntners}
         if "initial" not in self.off:
             self.stubs -= {self.root}
+        elif self.stubs and self.root not in mntners:
+            # They name it.
+            self.stubs.add(self.root)
         for name in self.auths:
             if name not in self.stubs and name not in mntners and name != self.root and name not in self.got_name:
                 raise Failure(name, "no object names this maintainer; correct --auth", ARGUMENTS)

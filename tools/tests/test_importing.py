@@ -144,6 +144,8 @@ class Importing(unittest.TestCase):
         self.assertTrue(dump.endswith(b"\n\n% end 4\n"))
         self.assertEqual((tally.read, tally.taken, tally.made), (0, 0, 4))
         self.assertEqual(made(b"", off=["initial"])[0], b"% end 0\n")
+        dump, _ = made(obj("aut-num: AS1", "mnt-by: A-MNT", "source: TEST"), off=["initial"])
+        self.assertEqual(keys_of(dump), ["A-MNT", "ROOT-MNT", "AS1"])
 
     def test_its_own_dump_stays(self):
         first, _ = made(obj("route: 192.0.2.0/24", "origin: AS1", "mnt-by: 1-MNT"), obj("mntner: B-MNT", "auth: X", "mnt-by: B-MNT"))

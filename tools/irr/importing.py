@@ -167,12 +167,12 @@ class Import:
 
     def leave_out_nameless(self) -> None:
         """Leaves out each object that names a maintainer without a mntner, until none is left."""
-        mntners, is_done = self.taken[MNTNER], False
+        mntners, added, is_done = self.taken[MNTNER], set() if "initial" in self.off else {self.root}, False
         while not is_done:
             is_done = True
             for number, of_class in enumerate(self.taken):
                 for key, place in list(of_class.items()):
-                    if any(name not in mntners and name != self.root for name in self.names[place]):
+                    if any(name not in mntners and name not in added for name in self.names[place]):
                         self.drop(number, key, "a maintainer without a mntner")
                         is_done = is_done and number != MNTNER
 

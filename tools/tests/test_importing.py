@@ -208,6 +208,7 @@ class Importing(unittest.TestCase):
         dump, tally = made(text, off=["mntner"])
         self.assertEqual(keys_of(dump)[0:1] + keys_of(dump)[3:4], ["ROOT-MNT", "AS2"])
         self.assertEqual((tally.taken, dict(tally.causes)), (1, {"a maintainer without a mntner": 2}))
+        self.assertEqual(made(text, off=["mntner", "initial"])[0], b"% end 0\n")
 
     def test_real_files(self):
         text = b"\xef\xbb\xbf% The RIPE Database\r\n\r\n# a header\r\naut-num:\tAS1  \r\ndescr: caf\xe9 \x85 \xc3\xa9\r\n  more\r\n+\r\n" \

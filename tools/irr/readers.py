@@ -2,6 +2,7 @@
 import contextlib
 import hashlib
 import os
+import re
 import shutil
 import signal
 import socketserver
@@ -17,6 +18,8 @@ from irr.stores import Copy
 
 # Seconds until a reader answers; until a proxy asked the agent; and until a peer that is being served has its answer.
 OPENING, ASKING, SERVING = 600, 10, 160
+# After how many seconds readers that ended are started once more.
+AGAIN = 1
 # The states in /proc/net/tcp of a connection that has an end open towards its peer: established, half made, and closed by the peer alone.
 CONNECTED = ("01", "03", "08")
 
@@ -108,6 +111,13 @@ class Reader:
             time.sleep(0.005)
         self.kill()
 
+    def last_words(self) -> str:
+        """How a process that has ended did, and what it said."""
+        if not self.process:
+            return ""
+        said = self.process.communicate()[1].decode("utf-8", "replace").strip()
+        return f" with status {self.process.returncode}" + (f", {said}" if said else "")
+
     def kill(self) -> None:
         if self.process:
             self.process.kill()
@@ -179,20 +189,24 @@ class Keeper:
 
     def __init__(self, folder: Path, ports: list[int], agent: Agent | None, pause: float) -> None:
         self.folder, self.agent, self.pause = folder, agent, pause
-        self.made = Made(folder / "made")
+        self.made, self.old = Made(folder / "made"), folder / "made.old.next"
         self.readers = [Reader(folder, port) for port in ports]
-        self.known = ""
+        self.known, self.later = "", 0.0
 
-    def start(self) -> None:
+    def start(self, limit: int) -> None:
         """Serves what was made before, if anything was, so that readers answer while there is no primary."""
+        if self.old.exists() and not self.made.folder.exists():
+            os.rename(self.old, self.made.folder)
         for left in self.folder.glob("*.next"):
             shutil.rmtree(left)
-        if not (self.made.folder / "irr.db").exists():
+        if not self.made.store.exists():
             return
-        self.known = self.made.digest()
+        settings = self.made.folder / "irr.toml"
+        settings.write_text(re.sub("limit = [0-9]+", f"limit = {limit}", settings.read_text(encoding="ascii")), encoding="ascii")
         for reader in self.readers:
             reader.prepare(self.made)
             reader.start()
+        self.known = self.made.digest()
 
     def renew(self, place: Server, limit: int) -> bool:
         """Lets the readers serve what the registry has now. Whether that differs from before."""
@@ -204,13 +218,12 @@ class Keeper:
             if made is None:
                 return False
             self.roll(made)
-            old = self.folder / "made.old.next"
             if self.made.folder.exists():
-                os.rename(self.made.folder, old)
+                os.rename(self.made.folder, self.old)
             os.rename(work, self.made.folder)
             files.sync_folder(self.folder)
             self.known = self.made.digest()
-            shutil.rmtree(old, ignore_errors=True)
+            shutil.rmtree(self.old, ignore_errors=True)
             return True
         finally:
             shutil.rmtree(work, ignore_errors=True)
@@ -239,8 +252,9 @@ class Keeper:
     def revive(self) -> None:
         """Starts the readers again that have ended, by their count or a fault."""
         for reader in self.readers:
-            if self.known and reader.has_ended:
-                reader.kill()
+            if self.known and reader.has_ended and time.monotonic() > self.later:
+                self.later = time.monotonic() + AGAIN
+                texts.note(f"irr mirror: reader at port {reader.port}: it has ended{reader.last_words()}; it is started again")
                 reader.start()
 
     def end(self) -> None:

@@ -143,7 +143,8 @@ def server_of(settings: Settings) -> int:
 
 
 def serves(number: int, settings: Settings) -> bool:
-    """Whether a process is `irrdesk serve` with these settings. What it has open shows it; where that is hidden, its words do."""
+    """Whether a process is `irrdesk serve` with these settings. What it has open shows it; where that is hidden, its words do, unless
+    they name the settings from a folder that is hidden too."""
     try:
         words = Path(f"/proc/{number}/cmdline").read_bytes().split(b"\0")
         if words[1:2] != [b"serve"]:
@@ -153,7 +154,8 @@ def serves(number: int, settings: Settings) -> bool:
             places = [os.stat(entry.path) for entry in os.scandir(f"/proc/{number}/fd")]
             return any((place.st_dev, place.st_ino) == (wanted.st_dev, wanted.st_ino) for place in places)
         except PermissionError:
-            return os.path.realpath(os.fsdecode(words[2])) == str(settings.path)
+            path = os.fsdecode(words[2])
+            return os.path.isabs(path) and os.path.realpath(path) == str(settings.path)
     except (OSError, IndexError):
         return False
 

@@ -48,7 +48,7 @@ def run(options: argparse.Namespace) -> int:
 
 def keep(keeper: readers.Keeper, place: server.Server, options: argparse.Namespace) -> None:
     """Goes on until a signal ends it. A failure is said each time, and the readers go on with what they have."""
-    attempt(keeper.start)
+    attempt(lambda: keeper.start(options.limit))
     next_time = time.monotonic()
     while True:
         if time.monotonic() >= next_time:

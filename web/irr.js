@@ -544,6 +544,7 @@ const placesOf = box => (lastOf(box.prefix) === box.last ? [box.prefix] : blocks
 
 async function draw() {
     const turn = space.drawings += 1, breathe = breather({aborted: false}), scale = devicePixelRatio || 1, side = canvas.clientWidth;
+    if (!side) return;
     const pen = canvas.getContext('2d'), {ink, page, edge, route} = colours(), labels = [];
     canvas.width = canvas.height = Math.round(side * scale);
     pen.scale(scale, scale);

@@ -17,8 +17,8 @@ from trial.serving import free_port
 
 HOST = "irr.example.net"
 PATIENCE = 60
-POLICY = ("default-src 'none'; script-src 'self'; style-src 'self'; img-src 'self' data:; connect-src 'self'; form-action 'self'; "
-          "base-uri 'none'; frame-ancestors 'none'")
+POLICY = ("default-src 'none'; script-src 'self'; style-src 'self'; connect-src 'self'; img-src data:; base-uri 'none'; "
+          "form-action 'none'; frame-ancestors 'none'")
 NGINX = """
 daemon off;
 user root;

@@ -137,6 +137,18 @@ class Readers(Folder):
         self.assertEqual(readers.Agent.word(agent, b"nonsense"), b"ready\n")
         self.assertEqual(agent.heard, {4344})
 
+    def test_stopped_in_mid_change(self):
+        keeper = readers.Keeper(self.folder, [], None, 0)
+        keeper.start(5)
+        self.assertEqual(keeper.known, "")
+        keeper.old.mkdir()
+        (self.folder / "made.next").mkdir()
+        for name, text in ("irr.toml", TEXT), ("irr.db", "rows"), ("dump.rpsl", "% end 0\n"):
+            (keeper.old / name).write_text(text)
+        keeper.start(5)
+        self.assertEqual((keeper.known, os.listdir(self.folder)), (readers.digest(keeper.made.dump), ["made"]))
+        self.assertEqual((keeper.made.folder / "irr.toml").read_text(), TEXT.replace("limit = 10", "limit = 5"))
+
     def test_connected(self):
         import socket
         with socket.create_server(("127.0.0.1", 0)) as listener:

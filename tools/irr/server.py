@@ -3,19 +3,17 @@ import argparse
 import contextlib
 import http.client
 import os
-import time
-from typing import Callable, Iterator, TypeVar
+from typing import Iterator
 from urllib.parse import quote, urlsplit
 
 from irr import answers, keys, texts
+from irr.connecting import CONNECTING, persistently
 from irr.errors import ARGUMENTS, Failure, system_words
 
 DEFAULT = "http://127.0.0.1:4343"
-# Seconds until the server takes the connection, and until the next bytes come: others may be served first.
-CONNECTING, WAITING = 10, 150
+# Seconds until the next bytes come: others may be served first.
+WAITING = 150
 LONGEST_QUERY = 1_024
-# Seconds for which a tool that runs by itself tries a refused connection again: in these a server starts again.
-PATIENCE = 30
 LOOPBACK = ("localhost", "::1")
 REMEDIES = {
     400: "the server does not take the request; is it https that it wants?",
@@ -196,21 +194,6 @@ class Server:
         if name == "gaierror":
             return "the host is not known; correct the address"
         return f"{system_words(error)}; correct the address, or try again later"
-
-
-T = TypeVar("T")
-
-
-def persistently(connect: Callable[[], T], seconds: float) -> T:
-    """What a call gives that connects. One that is refused is tried again for these seconds."""
-    end = time.monotonic() + seconds
-    while True:
-        try:
-            return connect()
-        except ConnectionRefusedError:
-            if time.monotonic() >= end:
-                raise
-            time.sleep(0.2)
 
 
 def shown_url(url: str) -> str:

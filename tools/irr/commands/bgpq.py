@@ -3,7 +3,7 @@ import argparse
 import io
 import time
 
-from irr import irrd, peers, server, texts
+from irr import connecting, irrd, peers, server, texts
 from irr.errors import DONE, REFUSED, Failure
 
 EXAMPLES = """
@@ -25,7 +25,7 @@ def arguments(parser: argparse.ArgumentParser) -> None:
 
 def run(options: argparse.Namespace) -> int:
     place = server.Server.from_options(options.server, options.plain)
-    place.patience, place.most = server.PATIENCE, MOST
+    place.patience, place.most = connecting.PATIENCE, MOST
     peer, answerer = peers.Peer(LONGEST), irrd.Answerer(place, options.source)
     stays, end = False, time.monotonic() + LASTING
     try:

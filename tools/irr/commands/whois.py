@@ -9,8 +9,8 @@ import tempfile
 from typing import BinaryIO
 
 from irr import peers
+from irr.connecting import CONNECTING, PATIENCE, persistently
 from irr.errors import ARGUMENTS, DONE, REFUSED, Failure, system_words
-from irr.server import CONNECTING, PATIENCE, persistently
 
 EXAMPLES = """
 socat TCP4-LISTEN:43,reuseaddr,fork,max-children=64 EXEC:"irr whois"

@@ -9,14 +9,16 @@ import ssl
 import threading
 import time
 
+from irr.readers import Agent
 from trial import attacks
 from trial.attacks import PASSWORD, Registry, made, owned
 from trial.costs import ROOT, at_most
 from trial.doors import HOST, PAGE, PASSWORD as DOOR_PASSWORD, USER, Haproxy, Nginx
 from trial.running import Failure, Skipped, expect
 
-# The most seconds that a client's request may keep another's waiting, beside what that waits on an idle registry of this machine.
-MOST_WAIT = 1.0
+# The most seconds that a client's request may keep another's waiting, beside what that waits where nobody asks: a second, or so many
+# times that wait, which is above a tenth of a second only where the machine is slow or does other things.
+MOST_WAIT, IDLE_WAITS = 1.0, 10
 TRIES = 3
 LET_IN, STRANGER, VICTIM = 1, 50, 200
 CASES = []
@@ -94,21 +96,22 @@ class Victim:
 
 
 def waiting(door, ask, attack):
-    """How much longer than before it another client waits during the attack, at most; the least of some tries."""
+    """How much longer than before it another client waits during the attack, at most, and the bound of that; the least of some tries."""
     found = []
     for turn in range(TRIES):
         with Victim(ask) as victim:
             time.sleep(1.5)
-            idle = len(victim.waits)
+            count = len(victim.waits)
             with contextlib.ExitStack() as held:
                 attack(door, held, STRANGER + 10 * turn)
                 time.sleep(2.5)
         if victim.bad:
             raise Failure(f"{attack.__name__}: another client was answered {victim.bad[0]!r}")
-        found.append(max(victim.waits[idle:], default=0.0) - max(victim.waits[:idle], default=0.0))
-        if found[-1] <= MOST_WAIT:
+        idle = max(victim.waits[:count], default=0.0)
+        found.append((max(victim.waits[count:], default=0.0) - idle, max(MOST_WAIT, IDLE_WAITS * idle)))
+        if found[-1][0] <= found[-1][1]:
             break
-    return max(min(found), 0.0)
+    return found[-1]
 
 
 def over_https(door):
@@ -213,9 +216,9 @@ def tried_all(script, kind, ask, tries):
     folder = made(script, f"{kind.__name__}-{ask.__name__}", dump=large())
     for attack in tries:
         with guarded(script, kind, attack.__name__, folder) as (_, door):
-            waited = waiting(door, ask(door), attack)
-            at_most(waited, MOST_WAIT, f"{attack.__name__}: another client waits longer by")
-            told.append(f"{attack.__name__} {waited:.2f} s")
+            waited, most = waiting(door, ask(door), attack)
+            at_most(waited, most, f"{attack.__name__}: another client waits longer by")
+            told.append(f"{attack.__name__} {max(waited, 0.0):.2f} s" + (f" (of {most:.1f})" if most > MOST_WAIT else ""))
     return ", ".join(told)
 
 
@@ -277,9 +280,9 @@ def submitted(script, kind):
     return "strangers 401, holders 200, 64 KB at most, other sites 403"
 
 
-@case("what is guessed in a minute")
+@case("what is guessed in ten seconds")
 def guessing(script, kind):
-    """How many passwords of a root one client, who is let in, can try in ten seconds, which is at most 64 KB ten times."""
+    """How many passwords of a root one client, who is let in, can try in ten seconds: 64 KB twelve times at most."""
     with guarded(script, kind, "guessing") as (registry, door):
         tries = 4_500
         body, taken, end = attacks.guesses(tries).encode(), 0, time.monotonic() + 10
@@ -288,7 +291,7 @@ def guessing(script, kind):
         while time.monotonic() < end:
             status = door.post(body, LET_IN)[0]
             taken, refused = taken + (status == 200), refused + (status == 429)
-        expect(taken <= 10, True, f"whether {taken} submissions are few")
+        expect(0 < taken <= 12, True, f"whether {taken} submissions are few")
     return f"{taken * tries:,} passwords in ten seconds, in {taken} submissions"
 
 
@@ -357,6 +360,12 @@ def replaced_readers(script, kind):
                     raise Failure(f"{what}: answered by {found} and not {wanted}")
 
         comes_to({"one", "two"}, "with both readers")
+        if kind is Haproxy:
+            with contextlib.closing(Agent(door.agent_port)) as agent:
+                agent.drain(4345)
+                comes_to({"two"}, "with a reader that is about to end")
+                agent.ready(4345)
+                comes_to({"one", "two"}, "with both readers again")
         registries[1].__exit__()
         comes_to({"two"}, "with one reader")
         report = door.post(b"password: bc\n\n", LET_IN)

@@ -46,7 +46,7 @@ class Door:
 
     def __init__(self, script, name, primary, readers):
         self.name, self.folder = name, script.place(f"door-{name}-{time.monotonic_ns()}")
-        self.https, self.http, self.whois_port = free_port(), free_port(), free_port()
+        self.https, self.http, self.whois_port, self.agent_port = free_port(), free_port(), free_port(), free_port()
         self.cert, self.key = certificate(script.work)
         os.chmod(self.folder, 0o755)
         web = os.path.join(self.folder, "web")
@@ -165,7 +165,7 @@ class Handed:
                 with peer:
                     self.running = [(of, process) for of, process in self.running if process.poll() is None]
                     if len(self.running) < self.most and sum(of == address for of, _ in self.running) < self.most_of_one:
-                        started = subprocess.Popen(self.command, stdin=peer, stdout=peer, env=self.environment)
+                        started = subprocess.Popen(self.command, stdin=peer, stdout=peer, stderr=subprocess.DEVNULL, env=self.environment)
                         self.running.append((address, started))
 
     def end(self):
@@ -230,7 +230,7 @@ class Haproxy(Door):
             ("    user haproxy\n    group haproxy\n", ""), ("log /dev/log local0", "log stdout format raw local0"),
             ("bind :443", f"bind 127.0.0.1:{self.https}"), ("bind :80", f"bind 127.0.0.1:{self.http}"),
             ("bind :43\n", f"bind 127.0.0.1:{self.whois_port}\n"), ("/etc/haproxy/irr.example.net.pem", f"{self.folder}/both.pem"),
-            ("/usr/share/irrdesk/web", web), ("userlist holders\n", f"userlist holders\n    user {USER} password {crypted()}\n"),
+            ("agent-port 4340", f"agent-port {self.agent_port}"), ("/usr/share/irrdesk/web", web), ("userlist holders\n", f"userlist holders\n    user {USER} password {crypted()}\n"),
             *servers(primary, readers)])
         write(self.folder, "haproxy.cfg", text.encode())
         return ["haproxy", "-db", "-f", f"{self.folder}/haproxy.cfg"]
@@ -244,4 +244,4 @@ def crypted():
 def servers(primary, readers):
     """Where the registries of the example are; all of them in one place where there is one process alone."""
     ports = [primary, *(readers or (primary, primary))]
-    return [(f"127.0.0.1:{4343 + number}", f"127.0.0.1:{port}") for number, port in enumerate(ports)]
+    return [(f"127.0.0.1:{number}", f"127.0.0.1:{port}") for number, port in zip((4343, 4345, 4346), ports)]

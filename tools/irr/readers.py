@@ -183,6 +183,10 @@ class Agent:
     def ready(self, port: int) -> None:
         self.draining.discard(port)
 
+    def close(self) -> None:
+        self.listener.shutdown()
+        self.listener.server_close()
+
 
 class Keeper:
     """The readers of a folder, and what they serve."""

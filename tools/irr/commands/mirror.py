@@ -7,8 +7,8 @@ from irr import files, readers, scratch, server, texts
 from irr.errors import ARGUMENTS, Failure
 
 EXAMPLES = """
-irr mirror readers                                           one reader of the registry of IRR_SERVER, at port 4344
-irr mirror -s https://irr.example.net --port 4344 --port 4345 --agent 4340 /var/lib/irrdesk-mirror
+irr mirror readers                                           one reader of the registry of IRR_SERVER, at port 4345
+irr mirror -s https://irr.example.net --port 4345 --port 4346 --agent 4340 /var/lib/irrdesk-mirror
 
 A reader answers each query as the registry does that it is made of, and goes on while that is stopped. It lets nobody
 submit, and has no hash of a password. Give two ports at least: one reader after the other is started again on new
@@ -18,7 +18,7 @@ objects, so that one always answers. In a proxy each port is a server: see examp
 
 def arguments(parser: argparse.ArgumentParser) -> None:
     server.add_options(parser)
-    parser.add_argument("--port", metavar="PORT", type=int, action="append", help="a port of 127.0.0.1 that a reader serves, 4344 "
+    parser.add_argument("--port", metavar="PORT", type=int, action="append", help="a port of 127.0.0.1 that a reader serves, 4345 "
                         "otherwise; several of these options are several readers")
     parser.add_argument("--every", metavar="SECONDS", type=float, default=60, help="when the dump is fetched again, after 60 otherwise")
     parser.add_argument("--limit", metavar="COUNT", type=int, default=10_000, help="`limit` of the registry's settings, 10000 otherwise")
@@ -29,7 +29,7 @@ def arguments(parser: argparse.ArgumentParser) -> None:
 
 
 def run(options: argparse.Namespace) -> int:
-    ports = options.port or [4344]
+    ports = options.port or [4345]
     if not all(0 < port < 65_536 for port in [*ports, options.agent or 1]) or len({*ports, options.agent}) != len(ports) + 1:
         raise Failure("", "the ports are not from 1 to 65535, each another one; correct them", ARGUMENTS)
     if options.every < 1 or not 0 <= options.pause <= 3_600 or not 1 <= options.limit <= 1_000_000:

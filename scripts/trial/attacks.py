@@ -2,7 +2,6 @@
 import contextlib
 import hashlib
 import itertools
-import os
 import socket
 import string
 import subprocess
@@ -20,7 +19,6 @@ SECRET = "a secret of the stranger"
 PASSWORD = f"password: {SECRET}\n\n"
 # The most seconds that a command or an answer may take.
 LONGEST = 600
-TICK = os.sysconf("SC_CLK_TCK")
 
 
 def auth(secret, salt="s"):
@@ -181,9 +179,8 @@ class Registry:
 
     def seconds(self):
         """The processor's time so far."""
-        with open(f"/proc/{self.process.pid}/stat", encoding="ascii") as opened:
-            words = opened.read().rpartition(")")[2].split()
-        return (int(words[11]) + int(words[12])) / TICK
+        with open(f"/proc/{self.process.pid}/schedstat", encoding="ascii") as opened:
+            return int(opened.read().split()[0]) / 1e9
 
     def resident(self):
         """The bytes that it holds in memory."""

@@ -223,10 +223,10 @@ def sqlite_copy(source: Path, target: Path) -> None:
             old.backup(new)
             found = new.execute("PRAGMA integrity_check").fetchall()
     except sqlite3.Error as error:
-        raise Failure(str(source), f"SQLite finds no whole database in the copy: {error}; see OPERATING.md, 'A damaged file'",
+        raise Failure(str(source), f"SQLite finds no whole database in the copy: {error}; see BACKUP.md, 'Failures'",
                       DATABASE) from None
     if found != [("ok",)]:
-        raise Failure(str(source), f"SQLite finds the database damaged: {found[0][0]}; see OPERATING.md, 'A damaged file'", DATABASE)
+        raise Failure(str(source), f"SQLite finds the database damaged: {found[0][0]}; see BACKUP.md, 'Failures'", DATABASE)
 
 
 def blocks_of(path: Path) -> Iterator[bytes]:

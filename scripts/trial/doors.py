@@ -236,6 +236,11 @@ class Haproxy(Door):
         return ["haproxy", "-db", "-f", f"{self.folder}/haproxy.cfg"]
 
 
+def lifted(text):
+    """HAProxy's file without the bounds of a client's rates and connections, for one client that stands for many."""
+    return re.sub(r"((?:rate|conn_cur)\(\d\)) gt \d+", r"\1 gt 1000000", text)
+
+
 def crypted():
     made = subprocess.run(["openssl", "passwd", "-6", "-salt", "doorsalt", PASSWORD], capture_output=True, text=True, check=True)
     return made.stdout.strip()

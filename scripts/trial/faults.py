@@ -3,6 +3,7 @@ import os
 import re
 import subprocess
 import sys
+import time
 
 from trial.running import expect, run, write
 from trial.tool import World, answering, certificate, expect_line, items, nginx
@@ -65,6 +66,24 @@ def bad_servers(script, tool):
             expect_line(ran, 5 if "listens" in words or "known" in words and ran.status == 5 else 2, f"[^\n]*{words}", url)
             expect(b"secret" in ran.said, False, "whether a password of an address is shown")
     return f"{len(strange)} servers asked by {len(asked)} commands, {len(cuts)} answers and {len(reports)} reports cut off"
+
+
+def busy_servers(script, tool):
+    """A server that asks to wait is asked again, as often as it asks, and not for ever."""
+    place = write(script.place("busy"), "a.rpsl", items(1)[0])
+    report = b"1 inetnum 10.0.0.0 - 10.0.0.31: added\n% items 1\n"
+    waits = [HEAD % (status, b"Content-Length: 0\r\nRetry-After: %s\r\n" % after) for status, after in [
+        (b"429 Too Many Requests", b"2"), (b"503 Service Unavailable", b"Thu, 01 Jan 1970 00:00:00 GMT")]]
+    with answering(*waits, GOOD + report) as url:
+        start = time.monotonic()
+        ran = tool.at(IRR_SERVER=url)("submit", place)
+        expect((ran.status, ran.printed), (0, report), f"the report, {ran.said!r}")
+        expect(re.findall(rb"it is asked again after (.*)\n", ran.said), [b"2 seconds", b"1 second"], f"what is said meanwhile, {ran.said!r}")
+        expect(time.monotonic() - start > 3, True, "whether it waits so long")
+    for after, words in [(b"86400", "again after 86,400 seconds"), (b"soon", "again later")]:
+        with answering(HEAD % (b"429 Too Many Requests", b"Content-Length: 0\r\nRetry-After: %s\r\n" % after)) as url:
+            expect_line(tool.at(IRR_SERVER=url)("submit", place), 5, f"{url}: status 429: .*; ask {words}", f"Retry-After: {after}")
+    return "429 and 503"
 
 
 def doors(script, tool):

@@ -1,5 +1,6 @@
 """The tool `irr` as it is installed, proxies in front of a registry, and servers that answer wrongly."""
 import contextlib
+import itertools
 import os
 import pty
 import re
@@ -216,8 +217,9 @@ def certificate(folder):
 
 
 @contextlib.contextmanager
-def answering(reply, is_reset=False, tls=None):
-    """The address of a server that gives everybody this reply, whatever is asked, and then closes or resets the connection."""
+def answering(*replies, is_reset=False, tls=None):
+    """The address of a server that gives these replies one after the other, and then the last one to everybody, whatever is asked, and
+    closes or resets the connection."""
     listener = socket.create_server(("127.0.0.1", 0))
     context = None
     if tls:
@@ -225,7 +227,7 @@ def answering(reply, is_reset=False, tls=None):
         context.load_cert_chain(*tls)
 
     def serve():
-        while True:
+        for reply in itertools.chain(replies, itertools.repeat(replies[-1])):
             try:
                 peer, _ = listener.accept()
             except OSError:

@@ -19,6 +19,9 @@ EXPANSION = re.compile(rb"AS[0-9]{1,10}|[0-9.]{7,15}/[0-9]{1,2}(?:\^(?:[+-]|[0-9
 MISSING = b"% missing "
 ITEM = re.compile(r"([0-9]+) (-|[a-z-]+ [A-Za-z0-9./:_ -]+): (added|changed|unchanged|deleted|refused (E[0-9]{2}))")
 END = re.compile(r"% (?:items ([0-9]+)|read fault after ([0-9]+) items|stopped after ([0-9]+) items|memory after (0) items)")
+# A name has 255 bytes at most.
+LONGEST_LINE = 1_024
+STRANGE = "the server answers what no registry of irrdesk answers; correct the address"
 DUMP_END = re.compile(rb"% end ([0-9]+)\n")
 
 
@@ -122,32 +125,41 @@ class Item(NamedTuple):
 
 
 class Report:
-    """The report of a submission, as far as it came: its items, and how it ended, which is `items`, `read fault`, `stopped`, `memory`,
-    or nothing if it was cut off."""
+    """The report of a submission, or of a part of one before which so many items were decided, as it comes: how many items it has so
+    far, and how it ended, which is `items`, `read fault`, `stopped`, `memory`, or nothing as long as its end has not come."""
 
-    def __init__(self, text: bytes, place: str = "the report") -> None:
-        self.text, self.end, self.count = text, "", 0
-        self.items: list[Item] = []
-        for line in text.decode("latin-1").split("\n")[:-1]:
-            item = ITEM.fullmatch(line)
-            end = None if item else END.fullmatch(line)
-            if self.end or not (item or end):
-                raise Failure(place, "it answers what no registry of irrdesk answers; correct the address")
-            if item:
-                number, name, word, code = item.groups()
-                self.items.append(Item(int(number), name, "refused" if code else word, code or ""))
-            elif end:
-                self.end = line[2:].split(" after")[0].split(" items")[0].rstrip("0123456789 ")
-                self.count = int(next(number for number in end.groups() if number is not None))
+    def __init__(self, before: int = 0) -> None:
+        self.before, self.seen, self.end, self.count = before, 0, "", 0
+        self.is_ordered = True
+        self.rest = b""
 
-    @property
-    def refused(self) -> int:
-        return sum(item.word == "refused" for item in self.items)
+    def read(self, piece: bytes) -> Iterator[Item]:
+        """The items whose lines end in this piece, numbered through all parts."""
+        text, newline, self.rest = (self.rest + piece).rpartition(b"\n")
+        if len(self.rest) > LONGEST_LINE:
+            raise Failure("the report", STRANGE)
+        for line in text.decode("latin-1").split("\n") if newline else []:
+            found = None if self.end else ITEM.fullmatch(line)
+            if found:
+                number, name, word, code = found.groups()
+                self.seen += 1
+                self.is_ordered = self.is_ordered and int(number) == self.seen
+                yield Item(self.before + self.seen, name, "refused" if code else word, code or "")
+            else:
+                self.read_end(line)
+
+    def read_end(self, line: str) -> None:
+        """Takes the line that ends the report."""
+        found = None if self.end else END.fullmatch(line)
+        if not found:
+            raise Failure("the report", STRANGE)
+        self.end = line[2:].split(" after")[0].split(" items")[0].rstrip("0123456789 ")
+        self.count = int(next(number for number in found.groups() if number is not None))
 
     @property
     def is_whole(self) -> bool:
-        """Whether all that was sent was read, and all of its items are here."""
-        return self.end == "items" and [item.number for item in self.items] == list(range(1, self.count + 1))
+        """Whether all that was sent was read, and all of its items were here."""
+        return self.end == "items" and self.is_ordered and self.seen == self.count and not self.rest
 
 
 def whole_dump(pieces: Iterable[bytes], place: str) -> Iterator[bytes]:

@@ -40,7 +40,7 @@ def run(place: Server, sources: list[Source], names: list[str], whose: list[str]
         scratch.load(dump)
         printer = printer_of(Served(scratch, stack))
         size = sum(len(item.text()) + 1 for item in items) + rpsl.LARGEST * (len(asked) + 1)
-        sender = Sender(lambda text: answers.Report(scratch.submit(text)), size, size)
+        sender = Sender(lambda text: [scratch.submit(text)], size, size)
         unknown = show(sender, [*(item for _, item in asked), *items], hidden, printer)
         status = printer.end(sender)
     tell(passwords, unknown)

@@ -3,6 +3,7 @@ import argparse
 import contextlib
 import http.client
 import os
+import time
 from typing import Iterator
 from urllib.parse import quote, urlsplit
 
@@ -14,6 +15,8 @@ DEFAULT = "http://127.0.0.1:4343"
 # Seconds until the next bytes come: others may be served first.
 WAITING = 150
 LONGEST_QUERY = 1_024
+# Seconds for which a submission waits in all, each time that the server is too busy for it.
+BUSY = 600
 LOOPBACK = ("localhost", "::1")
 REMEDIES = {
     400: "the server does not take the request; is it https that it wants?",
@@ -33,6 +36,14 @@ REMEDIES = {
 
 class TooLarge(Failure):
     """The server takes no submission of this length (413); nothing of it was read."""
+
+
+class Busy(Failure):
+    """The server asks to come again after some seconds (429 or 503 with Retry-After); nothing was done."""
+
+    def __init__(self, thing: str, what: str, seconds: int) -> None:
+        super().__init__(thing, what.replace("again later", f"again after {texts.counted(seconds, 'second')}"))
+        self.seconds = seconds
 
 
 def add_options(parser: argparse.ArgumentParser) -> None:
@@ -91,16 +102,12 @@ class Server:
             raise Failure(self.url, "two answers differ: one was cut off, or the registry has changed; ask again")
         return second
 
-    def submit(self, text: bytes) -> answers.Report:
-        """The report of a submission that the server takes at once. What came of it before the connection failed is its report too,
-        which is then not whole."""
-        reply, came = self.ask("POST", "/submissions", text), []
-        try:
-            for piece in self.body_of(reply):
-                came.append(piece)
-        except Failure:
-            pass
-        return answers.Report(b"".join(came), self.url)
+    def submit(self, text: bytes) -> Iterator[bytes]:
+        """The report of a submission that the server takes at once, in pieces as it comes. What came of it before the connection failed
+        is its report too, which is then not whole."""
+        reply = self.ask_patiently("POST", "/submissions", text)
+        with contextlib.suppress(Failure):
+            yield from self.body_of(reply)
 
     def dump(self) -> Iterator[bytes]:
         """The public dump in pieces; a Failure after the last one if it is not whole."""
@@ -125,6 +132,18 @@ class Server:
             reply.close()
             raise Failure(self.url, "the server is not a registry of irrdesk; correct the address")
         return reply
+
+    def ask_patiently(self, method: str, path: str, body: bytes) -> http.client.HTTPResponse:
+        """The same of a server that may ask to be asked again later."""
+        end = time.monotonic() + BUSY
+        while True:
+            try:
+                return self.ask(method, path, body)
+            except Busy as busy:
+                if time.monotonic() + busy.seconds > end:
+                    raise
+                texts.note(f"irr: {busy.thing}: the server is busy; it is asked again after {texts.counted(busy.seconds, 'second')}")
+                time.sleep(busy.seconds)
 
     def connect(self) -> http.client.HTTPConnection:
         """A connection that stands."""
@@ -175,6 +194,9 @@ class Server:
         if status in (301, 302, 303, 307, 308) and place:
             raise Failure(self.url, f"the server is at {texts.shown_line(shown_url(place))}; take that address")
         words = REMEDIES.get(status, "the server does not take the request; correct the address")
+        seconds = seconds_of(reply.headers.get("Retry-After", "")) if status in (429, 503) else None
+        if seconds is not None:
+            raise Busy(self.url, f"status {status}: {words}", seconds)
         kind = TooLarge if status == 413 else Failure
         raise kind(self.url, f"status {status}: {words}")
 
@@ -194,6 +216,17 @@ class Server:
         if name == "gaierror":
             return "the host is not known; correct the address"
         return f"{system_words(error)}; correct the address, or try again later"
+
+
+def seconds_of(retry_after: str) -> int | None:
+    """The seconds that the field asks to wait for, as a number or as a date (RFC 9110, 10.2.3); at least one."""
+    if retry_after.isascii() and retry_after.isdecimal():
+        return max(1, int(retry_after))
+    from email.utils import parsedate_to_datetime
+    try:
+        return max(1, round(parsedate_to_datetime(retry_after).timestamp() - time.time()))
+    except ValueError:
+        return None
 
 
 def shown_url(url: str) -> str:

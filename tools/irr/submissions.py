@@ -1,8 +1,8 @@
 """A submission on its way: its blocks, the passwords that count, and the parts in which it is sent."""
 import functools
 import os
+import queue
 import threading
-from itertools import chain
 from typing import Callable, Iterable, Iterator, NamedTuple
 
 from irr import answers, files, rpsl, texts
@@ -150,34 +150,34 @@ def front(passwords: dict[bytes, bytes]) -> bytes:
     return b"".join(b"".join(lines) + b"\n" for lines in paragraphs)
 
 
-class Posting(threading.Thread):
-    """A part on its way: the next one is made, and the report before it is shown, while the server judges it. It may take several
-    reports, the last of which may be a failure."""
+class Ahead(threading.Thread):
+    """Makes the next part while the server judges the one before it and its report is shown."""
 
-    def __init__(self, work: Callable[[], list[tuple[list[Item], answers.Report | Failure]]]) -> None:
+    def __init__(self, parts: Iterator[Part]) -> None:
         super().__init__(daemon=True)
-        self.work = work
-        self.reports: list[tuple[list[Item], answers.Report | Failure]] = []
-        self.fault: BaseException | None = None
+        self.parts = parts
+        self.made: queue.Queue[Part | BaseException | None] = queue.Queue(1)
         self.start()
 
     def run(self) -> None:
         try:
-            self.reports = self.work()
+            for part in self.parts:
+                self.made.put(part)
+            self.made.put(None)
         except BaseException as fault:
-            self.fault = fault
+            self.made.put(fault)
 
-    def result(self) -> list[tuple[list[Item], answers.Report | Failure]]:
-        self.join()
-        if self.fault:
-            raise self.fault
-        return self.reports
+    def all(self) -> Iterator[Part]:
+        while part := self.made.get():
+            if isinstance(part, BaseException):
+                raise part
+            yield part
 
 
 class Sender:
-    """Sends a submission in as many parts as it takes. `post` sends one part, of at most `most` bytes, and gives its report."""
+    """Sends a submission in as many parts as it takes. `post` sends one part, of at most `most` bytes, and gives its report in pieces."""
 
-    def __init__(self, post: Callable[[bytes], answers.Report], part: int = PART, most: int = MOST) -> None:
+    def __init__(self, post: Callable[[bytes], Iterable[bytes]], part: int = PART, most: int = MOST) -> None:
         self.post, self.part, self.most = post, part, most
         # How many items are decided, how the report ends, and whether a password was given before the item that is told.
         self.count, self.end, self.has_password = 0, "items", False
@@ -186,14 +186,9 @@ class Sender:
     def send(self, items: Iterable[Item]) -> Iterator[Reported]:
         """The report, item by item, as it comes; `end` and `count` say then how it ends. A file that can't be read on ends the
         submission as `irrdesk submit` ends it."""
-        posting: Posting | None = None
-        for part in chain(self.parts(items), [None]):
-            reports = posting.result() if posting else []
-            is_good = all(isinstance(report, answers.Report) and report.is_whole for _, report in reports)
-            posting = Posting(functools.partial(self.post_part, part)) if part and is_good else None
-            for sent, report in reports:
-                yield from self.told(sent, report)
-            if not is_good:
+        for part in Ahead(self.parts(items)).all():
+            yield from self.send_part(part)
+            if self.end != "items":
                 return
         if self.read_fault:
             self.end = f"read fault ({self.read_fault})"
@@ -218,40 +213,48 @@ class Sender:
             waiting.append(item)
             size += length
 
-    def post_part(self, part: Part) -> list[tuple[list[Item], answers.Report | Failure]]:
-        """The report of a part; two of its halves, if the server takes no such length."""
+    def send_part(self, part: Part) -> Iterator[Reported]:
+        """The report of a part; those of its halves, if the server takes no such length."""
         body = part.body()
-        try:
-            if len(body) > self.most:
-                raise TooLarge("", f"a part with all passwords before it is over {self.most:,} bytes; leave out passwords")
-            return [(part.items, self.post(body))]
-        except TooLarge as failure:
-            if len(part.items) == 1:
-                return [(part.items, failure)]
-            self.part = max(len(body) // 2, 1)
-            first, second = part.halves()
-            found = self.post_part(first)
-            last = found[-1][1]
-            return found + (self.post_part(second) if isinstance(last, answers.Report) and last.is_whole else [])
-        except Failure as failure:
-            return [(part.items, failure)]
+        if len(body) <= self.part or len(part.items) == 1:
+            try:
+                if len(body) > self.most:
+                    raise TooLarge("", f"a part with all passwords before it is over {self.most:,} bytes; leave out passwords")
+                yield from self.told(part.items, self.post(body))
+                return
+            except TooLarge:
+                if len(part.items) == 1:
+                    raise
+                self.part = len(body) // 2
+        for half in part.halves():
+            yield from self.send_part(half)
+            if self.end != "items":
+                return
 
-    def told(self, items: list[Item], report: answers.Report | Failure) -> Iterator[Reported]:
-        """The items of a part with what the report says of them."""
-        if isinstance(report, Failure):
-            raise report
-        lines, count = iter(report.items), 0
+    def told(self, items: list[Item], pieces: Iterable[bytes]) -> Iterator[Reported]:
+        """The items of a part with what the report says of them, as it comes."""
+        report, rest, sent = answers.Report(self.count), iter(items), 0
+        for line in (line for piece in pieces for line in report.read(piece)):
+            self.count = line.number
+            item = self.next_item(rest)
+            if item:
+                sent += 1
+                yield Reported(item, line, self.has_password)
+        while self.next_item(rest):
+            sent += 1
+        if report.is_whole and report.count != sent:
+            raise Failure("the report", f"it counts {report.count} items where {sent} were sent; look at the last item above")
+        if report.end:
+            self.count = report.before + report.count
+        self.end = report.end if report.is_whole or report.end != "items" else ""
+
+    def next_item(self, items: Iterator[Item]) -> Item | None:
+        """The next one that is in the report."""
         for item in items:
             self.has_password = self.has_password or bool(item.passwords())
             if item.is_item:
-                count += 1
-                line = next(lines, None)
-                if line:
-                    yield Reported(item, line._replace(number=self.count + line.number), self.has_password)
-        if report.is_whole and report.count != count:
-            raise Failure("the report", f"it counts {report.count} items where {count} were sent; look at the last item above")
-        self.count += report.count if report.end else len(report.items)
-        self.end = report.end if report.is_whole or report.end != "items" else ""
+                return item
+        return None
 
     def last_line(self) -> str:
         """The line that ends the report; nothing if it was cut off."""

@@ -29,23 +29,33 @@ class Answers(unittest.TestCase):
             ["route", "10.0.0.0/8"], ["origin", "AS1"], ["descr", "\xe9\n\nx"], ["descr", "y"]]})
 
 
+def read(text, size=1_000, before=0):
+    """The report of a text that comes in pieces, and its lines."""
+    report = Report(before)
+    lines = [item.text() for place in range(0, len(text), size) for item in report.read(text[place:place + size])]
+    return report, lines
+
+
 class Reports(unittest.TestCase):
     def test_whole(self):
         text = b"1 aut-num AS1: added\n2 -: refused E03\n3 as-set AS1:AS-X: unchanged\n% items 3\n"
-        report = Report(text)
-        self.assertEqual("".join(item.text() + "\n" for item in report.items) + "% items 3\n", text.decode())
-        self.assertEqual((report.end, report.count, report.refused, report.is_whole), ("items", 3, 1, True))
+        for size in 1, 7, 1_000:
+            report, lines = read(text, size)
+            self.assertEqual([*lines, "% items 3"], text.decode().splitlines())
+            self.assertEqual((report.end, report.count, report.is_whole), ("items", 3, True))
+        self.assertEqual(read(text, before=5)[1][-1], "8 as-set AS1:AS-X: unchanged")
 
     def test_not_whole(self):
         for text, end, count in [(b"1 aut-num AS1: added\n", "", 0), (b"% read fault after 2 items\n", "read fault", 2),
                                  (b"1 -: refused E91\n% stopped after 0 items\n", "stopped", 0), (b"% items 1\n", "items", 1),
+                                 (b"2 -: refused E01\n% items 1\n", "items", 1), (b"% items 0\nx", "items", 0),
                                  (b"% memory after 0 items\n", "memory", 0), (b"", "", 0), (b"% items 1", "", 0)]:
-            report = Report(text)
+            report, _ = read(text)
             self.assertEqual((report.end, report.count, report.is_whole), (end, count, False), text)
 
     def test_strange(self):
-        for text in [b"<html>\n", b"% items 0\n% items 0\n", b"1 aut-num AS1: \x1b\n"]:
-            self.assertRaises(Failure, Report, text)
+        for text in [b"<html>\n", b"% items 0\n% items 0\n", b"1 aut-num AS1: \x1b\n", b"x" * 2_000]:
+            self.assertRaises(Failure, read, text)
 
 
 class Dumps(unittest.TestCase):

@@ -5,7 +5,6 @@ import tempfile
 import unittest
 
 from irr import rpsl, submissions
-from irr.answers import Report
 from irr.errors import Failure
 from irr.server import TooLarge
 from irr.submissions import Item, Sender, Source
@@ -19,10 +18,11 @@ class Registry:
     """Takes parts of at most so many bytes, and adds each item under a key that tells the passwords before it."""
 
     def __init__(self, most=submissions.MOST):
-        self.most, self.parts = most, []
+        self.most, self.parts, self.refused = most, [], 0
 
     def post(self, text):
         if len(text) > self.most:
+            self.refused += 1
             raise TooLarge("the server", "status 413")
         self.parts.append(text)
         lines, given = [], set()
@@ -30,7 +30,8 @@ class Registry:
             given |= {submissions.secret_of(attribute) for attribute in item.passwords()}
             if item.is_item:
                 lines.append(f"{len(lines) + 1} mntner N{len(given)}-{item.fault.code if item.fault else 'X'}: added\n")
-        return Report("".join([*lines, f"% items {len(lines)}\n"]).encode())
+        text = "".join([*lines, f"% items {len(lines)}\n"]).encode()
+        return [text[place:place + 7] for place in range(0, len(text), 7)]
 
 
 TEXT = b"""mntner: A
@@ -78,6 +79,8 @@ class Parts(unittest.TestCase):
         registry, lines = self.report(text, 1 << 20, most=200)
         self.assertEqual((len(lines), lines[-1]), (101, "% items 100"))
         self.assertTrue(all(len(part) <= 200 for part in registry.parts))
+        # What was made ahead before the first refusal is not sent at its length.
+        self.assertLess(registry.refused, 12)
         with self.assertRaises(TooLarge):
             self.report(text, 1 << 20, most=20)
 
@@ -89,11 +92,27 @@ class Parts(unittest.TestCase):
     def test_ends(self):
         for text, end, count, last in [(b"1 -: refused E01\n", "", 1, ""), (b"% stopped after 0 items\n", "stopped", 0, "% stopped after 0 items"),
                                        (b"% items 2\n", "", 2, "")]:
-            sender = Sender(lambda _, text=text: Report(text))
+            sender = Sender(lambda _, text=text: [text])
             list(sender.send(items_of(b"a\n\nb\n")))
             self.assertEqual((sender.end, sender.count, sender.last_line()), (end, count, last))
         with self.assertRaises(Failure):
-            list(Sender(lambda _: Report(b"% items 0\n")).send(items_of(b"a\n")))
+            list(Sender(lambda _: [b"% items 0\n"]).send(items_of(b"a\n")))
+
+    def test_told_as_it_comes(self):
+        """An item is told when its line has come, and a part goes out when the report of the last one is whole."""
+        seen = []
+
+        def post(text):
+            seen.append(text)
+            yield b"1 -: refused E01\n2 -: ref"
+            seen.append("more")
+            yield b"used E02\n% items 2\n" if len(seen) < 4 else b"used E02\n"
+        sender = Sender(post, part=6)
+        for reported in sender.send(items_of(b"a\n\nb\n\nc\n\nd\n\ne\n")):
+            seen.append(reported.line.text())
+        self.assertEqual(seen, [b"a\n\nb\n", "1 -: refused E01", "more", "2 -: refused E02",
+                                b"c\n\nd\n", "3 -: refused E01", "more", "4 -: refused E02"])
+        self.assertEqual((sender.end, sender.count), ("", 4))
 
     def test_read_fault(self):
         def broken():

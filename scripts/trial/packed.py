@@ -5,6 +5,7 @@ import shutil
 import subprocess
 import sys
 import time
+import zipimport
 
 from irr.codes import TABLE as CODES
 from trial.running import TOP, expect, run, write
@@ -23,7 +24,7 @@ def own_tests(_script):
 
 
 def packing(script, tool):
-    """The one file: the same bytes each time, and all commands in it."""
+    """The one file: the same bytes each time, compiled, and all commands in it."""
     folder = script.place("packed")
     paths = [os.path.join(folder, name) for name in ("one", "two")]
     for path in paths:
@@ -32,6 +33,8 @@ def packing(script, tool):
     texts = [open(path, "rb").read() for path in paths]
     expect((texts[0] == texts[1], texts[0][:23]), (True, b"#!/usr/bin/env python3\n"), "two packings")
     expect(os.access(paths[0], os.X_OK), True, "that it can be run")
+    importer = zipimport.zipimporter(os.path.join(paths[0], "irr"))
+    expect(importer.get_code("main").co_filename, "irr/main.py", "whether what was compiled at the packing is taken")
     listed = re.findall(r"^  (\S+) ", tool("--help").printed.decode(), re.M)
     for name in listed:
         for words in [name, "--help"], ["help", name]:

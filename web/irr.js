@@ -32,7 +32,7 @@ const CODES = {
     E16: ["The range overlaps another one of its class, and neither is inside the other.",
         "Ask `less` for the first and for the last address: what contains exactly one of them overlaps. Cut the range there."],
     E17: ["Other objects still name the maintainer that is to be deleted.",
-        "List them with `inverse mnt NAME`, and change or delete them first."],
+        "List them with `inverse mnt NAME`. Change or delete what is yours; the rest only its holders, or the registry's operator, can change."],
     E18: ["There is no object of this class and key to delete.",
         "Compare the key with that in an answer."],
     E90: ["The server ran out of memory.",

@@ -59,7 +59,8 @@ TABLE = (
          "Ask `less` for the first and for the last address: what contains exactly one of them overlaps. Cut the range there."),
     Code("E17", "Other objects still name the maintainer that is to be deleted.",
          "They may be anybody's, since any maintainer can be named in `mnt-lower` and `mnt-routes`.",
-         "List them with `inverse mnt NAME`, and change or delete them first."),
+         "List them with `inverse mnt NAME`. Change or delete what is yours; the rest only its holders, or the registry's operator, can "
+         "change."),
     Code("E18", "There is no object of this class and key to delete.",
          "A key that is mistyped; for a route another `origin`.",
          "Compare the key with that in an answer."),

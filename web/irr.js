@@ -119,19 +119,27 @@ const prefixText = prefix => `${textOf(prefix.first)}/${prefix.length}`;
 const blockOf = (address, length) => ({first: length ? (address & -1 << 32 - length) >>> 0 : 0, length});
 const lastOf = prefix => prefix.first + 2 ** (32 - prefix.length) - 1;
 
+// A map reads a hundred thousand of these, so nothing is made of its parts.
 function prefixOf(text) {
-    const found = /^(\d{1,3})\.(\d{1,3})\.(\d{1,3})\.(\d{1,3})(?:\/(\d{1,2}))?$/.exec(text.trim());
-    if (!found) return null;
-    const [, one, two, three, four, length = 32] = found;
-    if (Math.max(one, two, three, four) > 255 || length > 32) return null;
-    return blockOf(one * 2 ** 24 + two * 2 ** 16 + three * 256 + Number(four), Number(length));
+    if (!/^\s*\d{1,3}(?:\.\d{1,3}){3}(?:\/\d{1,2})?\s*$/.test(text)) return null;
+    let address = 0, number = 0, isLength = false;
+    for (let at = 0; at <= text.length; at += 1) {
+        const code = text.charCodeAt(at);
+        if (code >= 48 && code <= 57) number = number * 10 + code - 48;
+        else if (code === 46 || code === 47 || (at === text.length && !isLength)) {
+            if (number > 255) return null;
+            address = address * 256 + number;
+            number = 0;
+            isLength = code === 47;
+        }
+    }
+    return number > 32 ? null : blockOf(address, isLength ? number : 32);
 }
 
 function spanOf(text) {
-    const ends = text.includes('-') ? text.split('-').map(prefixOf) : [prefixOf(text)];
-    if (ends.includes(null) || ends.length > 2 || (ends.length === 2 && text.includes('/'))) return null;
-    const span = {first: ends[0].first, last: ends[1]?.first ?? lastOf(ends[0])};
-    return span.first <= span.last ? span : null;
+    const [first, last = first, more] = text.split('-').map(prefixOf);
+    if (!first || !last || more !== undefined || (text.includes('-') && text.includes('/'))) return null;
+    return first.first <= last.first ? {first: first.first, last: lastOf(last)} : null;
 }
 
 // The smallest prefix round a span, and the prefixes that make it up.
@@ -151,7 +159,9 @@ function blocksOf(span) {
 const $ = name => document.getElementById(name);
 const ODD = /[\x00-\x08\x0a-\x1f\x7f-\x9f\u00ad\u061c\u200b-\u200f\u2028-\u202e\u2060-\u206f\ufeff]/g;
 const shown = text => text.replace(ODD, odd => odd < '\u0100' ? `\\x${odd.charCodeAt(0).toString(16).padStart(2, '0')}` : `\\u${odd.charCodeAt(0).toString(16).padStart(4, '0')}`);
-const counted = (number, thing, things = `${thing}s`) => `${number.toLocaleString('en')} ${number === 1 ? thing : things}`;
+// Not toLocaleString, whose first call takes a tenth of a second.
+const decimal = number => String(number).replace(/\B(?=(?:\d{3})+$)/g, ',');
+const counted = (number, thing) => `${decimal(number)} ${thing}${number === 1 ? '' : 's'}`;
 
 function el(name, given = {}, ...inside) {
     const made = document.createElement(name);
@@ -176,7 +186,7 @@ function listing(place, things, make) {
     const more = () => {
         const from = next;
         for (next = Math.min(things.length, next + AT_ONCE); place.childElementCount < next;) place.append(make(things[place.childElementCount]));
-        button.textContent = `Show ${Math.min(AT_ONCE, things.length - next)} more of ${things.length.toLocaleString('en')}`;
+        button.textContent = `Show ${Math.min(AT_ONCE, things.length - next)} more of ${decimal(things.length)}`;
         if (next === things.length) button.remove();
         if (from) place.children[from].querySelector('a, button')?.focus();
     };
@@ -333,26 +343,39 @@ function kindOf(text) {
 const wordsOf = text => text === '% no entries\n' ? 'Nothing is registered there.' :
     text === '% empty\n' ? 'The set is registered, and it has no members.' : ERRORS[text[8]];
 
-// An object: its text, class, attributes with their lines, and key.
+// An object of an answer. What is in it is read when it is asked for: a map has a hundred thousand objects, and shows few of them in words.
+const BEGINS = {}, VALUE = /[^\n]*(?:\n[ \t+][^\n]*)*/y;
 class RpslObject {
     constructor(text) {
         this.text = text;
-        this.attributes = [];
-        for (const line of text.split('\n')) {
-            const end = ' \t+'.includes(line[0]) ? 0 : line.indexOf(':'), value = line.slice(end + 1).trim();
-            if (end) this.attributes.push([line.slice(0, end), [value]]);
-            else this.attributes.at(-1)?.[1].push(value);
-        }
-        this.kind = this.attributes[0]?.[0];
+        this.kind = KINDS.find(kind => text.startsWith(kind) && text[kind.length] === ':');
         this.name = this.meaning(this.kind);
-        this.key = this.kind === 'route' ? `${this.name} ${this.meaning('origin')}` : this.name;
-        this.holders = this.items('mnt-by');
     }
 
-    // The items of all attributes of a name; the text of all of them without comments.
+    get key() { return this.kind === 'route' ? `${this.name} ${this.meaning('origin')}` : this.name; }
+    get holders() { return this.held ??= this.items('mnt-by'); }
+
+    // All attributes, each with its lines.
+    get attributes() {
+        const found = [];
+        for (const line of this.text.split('\n')) {
+            const end = ' \t+'.includes(line[0]) ? 0 : line.indexOf(':'), value = line.slice(end + 1).trim();
+            if (end) found.push([line.slice(0, end), [value]]);
+            else found.at(-1)?.[1].push(value);
+        }
+        return found;
+    }
+
+    // The text of all attributes of a name, without comments; and its items. Lines end in LF alone, and a value may hold a CR.
     meaning(name) {
-        const plain = line => line.includes('#') ? line.slice(0, line.indexOf('#')).trim() : line;
-        return this.attributes.filter(given => given[0] === name).map(([, lines]) => lines.length === 1 ? plain(lines[0]) : lines.map(plain).join(' ').trim()).join(' ');
+        const {text} = this, begin = BEGINS[name] ??= new RegExp(`(?:^|\\n)${name}:`, 'g'), values = [];
+        for (begin.lastIndex = 0; begin.test(text);) {
+            const from = VALUE.lastIndex = begin.lastIndex;
+            VALUE.test(text);
+            values.push(text.slice(from, VALUE.lastIndex));
+        }
+        if (values.length === 1 && !/[\n#]/.test(values[0])) return values[0].trim();
+        return values.join('\n ').split(/\n[ \t+]/).map(line => line.split('#', 1)[0].trim()).filter(Boolean).join(' ');
     }
 
     items(name) {
@@ -376,7 +399,7 @@ async function objectsOf(text, signal) {
     for (let from = 0, end; from < text.length; from = end + 2) {
         end = text.indexOf('\n\n', from);
         const object = new RpslObject(text.slice(from, end));
-        if (!KINDS.includes(object.kind)) throw new Trouble('The server answers what no registry of this kind answers.');
+        if (!object.kind) throw new Trouble('The server answers what no registry of this kind answers.');
         if (found.push(object) % 100 === 0) await breathe();
     }
     return found;
@@ -458,8 +481,8 @@ function expansion(query, text) {
 
 function grouped(objects) {
     const groups = KINDS.map(kind => [kind, objects.filter(object => object.kind === kind)]).filter(group => group[1].length);
-    const parts = groups.flatMap(([kind, ones]) => [el('h2', {}, `${kind} (${ones.length.toLocaleString('en')})`), ...listing(el('div'), ones, objectBox)]);
-    return [`${counted(objects.length, 'object')}: ${groups.map(([kind, ones]) => `${ones.length.toLocaleString('en')} ${kind}`).join(', ')}.`, parts];
+    const parts = groups.flatMap(([kind, ones]) => [el('h2', {}, `${kind} (${decimal(ones.length)})`), ...listing(el('div'), ones, objectBox)]);
+    return [`${counted(objects.length, 'object')}: ${groups.map(([kind, ones]) => `${decimal(ones.length)} ${kind}`).join(', ')}.`, parts];
 }
 
 function showLook(query) {
@@ -496,16 +519,22 @@ function hueOf(name) {
 
 const colourOf = name => `hsl(${hueOf(name)} ${isDark.matches ? '38% 27%' : '62% 83%'})`;
 const isShown = object => space.kinds[object.kind];
+const isInetnum = object => object.kind === 'inetnum';
 
 // Where a prefix lies in the square of the root, of side 1: each bit halves the place, by height and by width in turn.
 function placeOf(prefix, root) {
-    const place = {x: 0, y: 0, w: 1, h: 1};
+    let x = 0, y = 0, w = 1, h = 1;
     for (let bit = root.length; bit < prefix.length; bit += 1) {
-        const isSecond = prefix.first >>> 31 - bit & 1, [from, size] = (bit - root.length) % 2 ? ['x', 'w'] : ['y', 'h'];
-        place[size] /= 2;
-        if (isSecond) place[from] += place[size];
+        const isSecond = prefix.first >>> 31 - bit & 1;
+        if ((bit - root.length) % 2) {
+            w /= 2;
+            x += isSecond * w;
+        } else {
+            h /= 2;
+            y += isSecond * h;
+        }
     }
-    return place;
+    return {x, y, w, h};
 }
 
 function addressAt(x, y, root) {
@@ -519,12 +548,27 @@ function addressAt(x, y, root) {
 }
 
 // One box a span, with its objects: in order of addresses, the larger ones first.
+class Box {
+    constructor({first, last}, object) {
+        this.first = first;
+        this.last = last;
+        this.objects = [object];
+    }
+
+    // The smallest prefix round it, and the prefixes that make it up.
+    get prefix() { return around(this); }
+    get blocks() {
+        const {prefix} = this;
+        return lastOf(prefix) === this.last ? [prefix] : blocksOf(this);
+    }
+}
+
 async function boxesOf(objects, signal) {
     const breathe = breather(signal), boxes = [];
     for (const [at, object] of objects.entries()) {
         const span = spanOf(object.name);
         if (!span) throw new Trouble('The server answers what no registry of this kind answers.');
-        boxes.push({first: span.first, last: span.last, prefix: around(span), text: object.name, objects: [object]});
+        boxes.push(new Box(span, object));
         if (at % 200 === 0) await breathe();
     }
     boxes.sort((one, other) => one.first - other.first || other.last - one.last);
@@ -540,33 +584,50 @@ async function boxesOf(objects, signal) {
 const namesOf = box => [...new Set(box.objects.filter(isShown).flatMap(object => object.kind === 'route' ? object.meaning('origin') : object.holders))].join(' ');
 
 const colours = () => isDark.matches ? {ink: '#e6e8ea', page: '#1e2125', edge: '#868d96', route: '#f3c76b'} : {ink: '#1c1e21', page: '#ffffff', edge: '#767c85', route: '#7a4b00'};
-const placesOf = box => (lastOf(box.prefix) === box.last ? [box.prefix] : blocksOf(box)).map(block => placeOf(block, space.shown));
+const placesOf = box => box.blocks.map(block => placeOf(block, space.shown));
 
-async function draw() {
-    const turn = space.drawings += 1, breathe = breather({aborted: false}), scale = devicePixelRatio || 1, side = canvas.clientWidth;
+// Small boxes are put in as pixels, over the larger ones, which are drawn: the small ones may be a hundred thousand.
+async function draw(turn = space.drawings += 1) {
+    const breathe = breather({aborted: false}), scale = devicePixelRatio || 1, side = canvas.clientWidth;
     if (!side) return;
-    const pen = canvas.getContext('2d'), {ink, page, edge, route} = colours(), labels = [];
-    canvas.width = canvas.height = Math.round(side * scale);
+    const pen = canvas.getContext('2d'), {ink, page, edge, route} = colours(), labels = [], known = new Map();
+    const size = canvas.width = canvas.height = space.picture.width = space.picture.height = Math.round(side * scale);
+    const dots = pen.createImageData(size, size), pixels = new Uint32Array(dots.data.buffer);
     pen.scale(scale, scale);
     pen.font = '11px ui-monospace, "DejaVu Sans Mono", monospace';
     pen.textBaseline = 'top';
     pen.lineJoin = 'round';
+    // A maintainer's colour as a pixel, whose bytes are red, green, blue and opaque.
+    const pixelOf = holder => {
+        if (!known.has(holder)) {
+            pen.fillStyle = colourOf(holder);
+            const [red, green, blue] = pen.fillStyle.match(/[0-9a-f]{2}/g).map(digits => parseInt(digits, 16));
+            known.set(holder, new Uint32Array(new Uint8Array([red, green, blue, 255]).buffer)[0]);
+        }
+        return known.get(holder);
+    };
     // Which box is seen in each square of 8 points: the last one drawn there.
     const letter = pen.measureText('0').width, columns = Math.ceil(side / 8) + 1, seen = new Int32Array(columns * columns).fill(-1);
-    const cells = (x, y, w, h) => [Math.floor(x / 8), Math.floor(y / 8), Math.floor((x + w) / 8), Math.floor((y + h) / 8)];
-    let filled = null;
+    const cells = (x, y, w, h) => [x, y, x + w, y + h].map(at => Math.floor(at / 8));
+    const pixelAt = at => Math.floor(at * size);
     for (const [at, box] of space.inside.entries()) {
-        const holder = space.kinds.inetnum && box.objects.find(object => object.kind === 'inetnum'), isRouted = space.kinds.route && box.objects.some(object => object.kind === 'route');
+        if (at % 50 === 0) await breathe();
+        if (turn !== space.drawings) return;
+        const holder = space.kinds.inetnum && box.objects.find(isInetnum), isRouted = space.kinds.route && !box.objects.every(isInetnum);
         if (!holder && !isRouted) continue;
+        const [fill] = (holder || box.objects[0]).holders;
         for (const place of placesOf(box)) {
-            const x = place.x * side, y = place.y * side, w = Math.max(1, place.w * side), h = Math.max(1, place.h * side), isSmall = Math.min(w, h) < 5;
-            const fill = (holder || box.objects[0]).holders[0];
-            if (fill !== filled) pen.fillStyle = colourOf(fill);
-            filled = fill;
-            if (holder || isSmall) pen.fillRect(x, y, w, h);
+            const x = place.x * side, y = place.y * side, w = place.w * side, h = place.h * side;
+            if (Math.min(w, h) < 5) {
+                const left = pixelAt(place.x), right = Math.max(left + 1, pixelAt(place.x + place.w)), top = pixelAt(place.y), pixel = pixelOf(fill);
+                for (let row = top; row === top || row < pixelAt(place.y + place.h); row += 1) pixels.fill(pixel, row * size + left, row * size + right);
+                seen[Math.floor(y / 8) * columns + Math.floor(x / 8)] = at;
+                continue;
+            }
             const [left, top, right, bottom] = cells(x, y, w - 1, h - 1);
             for (let row = top; row <= bottom; row += 1) seen.fill(at, row * columns + left, row * columns + right + 1);
-            if (isSmall) continue;
+            pen.fillStyle = colourOf(fill);
+            if (holder) pen.fillRect(x, y, w, h);
             pen.lineWidth = 1;
             pen.strokeStyle = edge;
             if (holder) pen.strokeRect(x + .5, y + .5, w - 1, h - 1);
@@ -575,9 +636,9 @@ async function draw() {
             if (isRouted) pen.strokeRect(x + 2.5, y + 2.5, w - 5, h - 5);
             if (w > 9 * letter && h > 19) labels.push({x: x + 5, y: y + 5, w: w - 10, end: y + h - 14, at, box});
         }
-        if (at % 50 === 0) await breathe();
-        if (turn !== space.drawings) return;
     }
+    space.picture.getContext('2d').putImageData(dots, 0, 0);
+    pen.drawImage(space.picture, 0, 0, side, side);
     // The smallest boxes are named first; a larger one in a line where nothing else is seen, or else in one without a name.
     pen.fillStyle = ink;
     const taken = [];
@@ -588,7 +649,7 @@ async function draw() {
         return true;
     };
     for (const label of labels.sort((one, other) => one.w * (one.end - one.y) - other.w * (other.end - other.y))) {
-        const text = shown(`${label.box.text} ${namesOf(label.box)}`).slice(0, Math.floor(label.w / letter)), right = label.x + text.length * letter;
+        const text = shown(`${label.box.objects[0].name} ${namesOf(label.box)}`).slice(0, Math.floor(label.w / letter)), right = label.x + text.length * letter;
         const lines = [];
         for (let y = label.y; y <= label.end && lines.length < 60; y += 13) lines.push(y);
         const y = lines.find(line => isFree(label.x, line, right) && isOwn(label.x, line, right, label.at)) ?? lines.find(line => isFree(label.x, line, right));
@@ -599,7 +660,6 @@ async function draw() {
         pen.fillText(text, label.x, y);
         taken.push({x: label.x, y, right});
     }
-    space.picture.width = space.picture.height = canvas.width;
     space.picture.getContext('2d').drawImage(canvas, 0, 0);
     canvas.dataset.drawn = prefixText(space.shown);
 }
@@ -646,16 +706,22 @@ function keyed(event) {
     event.preventDefault();
 }
 
-function present(prefix) {
-    const last = lastOf(prefix), name = prefixText(prefix);
+async function present(prefix) {
+    const turn = space.drawings += 1, breathe = breather({aborted: false}), last = lastOf(prefix), name = prefixText(prefix);
     space.shown = prefix;
     space.chosen = -1;
     space.kinds = {inetnum: $('with-inetnums').checked, route: $('with-routes').checked};
     space.inside = space.boxes.filter(box => prefix.first <= box.first && box.last <= last);
-    const objects = space.inside.flatMap(box => box.objects.filter(isShown)), count = kind => objects.filter(object => object.kind === kind).length;
-    const words = objects.length ? `${counted(count('inetnum'), 'inetnum')} and ${counted(count('route'), 'route')} inside ${name}` : `Nothing is registered inside ${name}`;
-    const holders = new Map();
-    for (const {kind, holders: [holder]} of objects) if (kind === 'inetnum') holders.set(holder, (holders.get(holder) ?? 0) + 1);
+    const objects = [], holders = new Map();
+    for (const [at, box] of space.inside.entries()) {
+        objects.push(...box.objects.filter(isShown));
+        const [holder] = (space.kinds.inetnum && box.objects.find(isInetnum))?.holders ?? [];
+        if (holder) holders.set(holder, (holders.get(holder) ?? 0) + 1);
+        if (at % 100 === 0) await breathe();
+        if (turn !== space.drawings) return;
+    }
+    const inetnums = objects.filter(isInetnum).length;
+    const words = objects.length ? `${counted(inetnums, 'inetnum')} and ${counted(objects.length - inetnums, 'route')} inside ${name}` : `Nothing is registered inside ${name}`;
     const largest = [...holders].sort((one, other) => other[1] - one[1]).slice(0, 12);
     $('legend').replaceChildren(el('ul', {class: 'legend'}, ...largest.map(([holder, number]) => {
         const swatch = el('span', {class: 'swatch'});
@@ -667,7 +733,7 @@ function present(prefix) {
         const span = spanOf(object.name), box = around(span);
         return el('tr', {}, el('th', {scope: 'row'}, mapLink(box, shown(object.name))), el('td', {}, link(`object ${object.kind} ${object.key}`, object.kind)),
             el('td', {}, ...object.kind === 'route' ? [link(object.meaning('origin'))] : []),
-            el('td', {}, ...object.holders.flatMap(holder => [link(holder), ' '])), el('td', {class: 'number'}, (span.last - span.first + 1).toLocaleString('en')));
+            el('td', {}, ...object.holders.flatMap(holder => [link(holder), ' '])), el('td', {class: 'number'}, decimal(span.last - span.first + 1)));
     };
     const [body, ...more] = listing(el('tbody'), objects, row);
     $('listed').replaceChildren(el('table', {}, el('caption', {}, `${words}, in order of addresses.`), el('thead', {}, head), body), ...more);
@@ -676,7 +742,7 @@ function present(prefix) {
     $('map-shown').hidden = false;
     point(null, false);
     map.say(`${words}.`);
-    return draw();
+    await draw(turn);
 }
 
 function showMap(given, isAnew = false) {

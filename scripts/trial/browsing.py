@@ -119,6 +119,16 @@ class BadHandler(socketserver.StreamRequestHandler):
             pass
 
 
+def started(options, tries=3):
+    """A browser, which on a busy machine may not be there in time."""
+    for left in reversed(range(tries)):
+        try:
+            return webdriver.Chrome(service=Service("/usr/bin/chromedriver"), options=options)
+        except WebDriverException:
+            if not left:
+                raise
+
+
 class Browser:
     """Chromium without a window. Names are ids of the page."""
 
@@ -128,10 +138,12 @@ class Browser:
         options.accept_insecure_certs = True
         for word in ["--headless=new", "--no-sandbox", "--disable-dev-shm-usage", "--window-size=1200,950", "--disable-background-networking",
                      "--no-first-run", "--hide-scrollbars", f"--user-data-dir={folder}/profile", "--disable-gpu",
+                     # No process is started for a page that may come, or kept for one that was left.
+                     "--process-per-site", "--disable-features=SpareRendererForSitePerProcess,BackForwardCache",
                      f"--host-resolver-rules=MAP {HOST} 127.0.0.1"]:
             options.add_argument(word)
         options.set_capability("goog:loggingPrefs", {"browser": "ALL", "performance": "ALL"})
-        self.driver = webdriver.Chrome(service=Service("/usr/bin/chromedriver"), options=options)
+        self.driver = started(options)
         self.driver.set_script_timeout(PATIENCE)
         self.driver.set_page_load_timeout(PATIENCE)
         self.pictures, self.requests, self.said = pictures, [], []

@@ -14,11 +14,12 @@ from trial import attacks
 from trial.attacks import PASSWORD, Registry, made, owned
 from trial.costs import ROOT, at_most
 from trial.doors import HOST, PAGE, PASSWORD as DOOR_PASSWORD, USER, Haproxy, Nginx
+from trial.pace import pace
 from trial.running import Failure, Skipped, expect
 
-# The most seconds that a client's request may keep another's waiting, beside what that waits where nobody asks: a second, or so many
-# times that wait, which is above a tenth of a second only where the machine is slow or does other things.
-MOST_WAIT, IDLE_WAITS = 1.0, 10
+# The most seconds that a client's request may keep another's waiting, beside what that waits where nobody asks; as many times more where
+# the machine is slower, or does other things.
+MOST_WAIT = 1.0
 TRIES = 3
 LET_IN, STRANGER, VICTIM = 1, 50, 200
 CASES = []
@@ -96,9 +97,10 @@ class Victim:
 
 
 def waiting(door, ask, attack):
-    """How much longer than before it another client waits during the attack, at most, and the bound of that; the least of some tries."""
-    found = []
+    """How much longer than before it another client waits during the attack, at most, and the bound of that; of some tries one that
+    keeps to it, or the last one."""
     for turn in range(TRIES):
+        slow = pace(time.monotonic)
         with Victim(ask) as victim:
             time.sleep(1.5)
             count = len(victim.waits)
@@ -107,11 +109,11 @@ def waiting(door, ask, attack):
                 time.sleep(2.5)
         if victim.bad:
             raise Failure(f"{attack.__name__}: another client was answered {victim.bad[0]!r}")
-        idle = max(victim.waits[:count], default=0.0)
-        found.append((max(victim.waits[count:], default=0.0) - idle, max(MOST_WAIT, IDLE_WAITS * idle)))
-        if found[-1][0] <= found[-1][1]:
+        waited = max(victim.waits[count:], default=0.0) - max(victim.waits[:count], default=0.0)
+        most = MOST_WAIT * max(slow, pace(time.monotonic))
+        if waited <= most:
             break
-    return found[-1]
+    return max(waited, 0.0), most
 
 
 def over_https(door):
@@ -218,7 +220,7 @@ def tried_all(script, kind, ask, tries):
         with guarded(script, kind, attack.__name__, folder) as (_, door):
             waited, most = waiting(door, ask(door), attack)
             at_most(waited, most, f"{attack.__name__}: another client waits longer by")
-            told.append(f"{attack.__name__} {max(waited, 0.0):.2f} s" + (f" (of {most:.1f})" if most > MOST_WAIT else ""))
+            told.append(f"{attack.__name__} {waited:.2f} s of {most:.1f}")
     return ", ".join(told)
 
 

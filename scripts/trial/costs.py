@@ -1,6 +1,5 @@
 """What a stranger's text costs the program itself, in the processor's time and in memory, and what else it does."""
 import contextlib
-import hashlib
 import os
 import stat
 import subprocess
@@ -10,13 +9,12 @@ import time
 from trial import attacks
 from trial.attacks import PASSWORD, Registry, made, owned
 from trial.doors import units, whois_command
+from trial.pace import pace
 from trial.running import DIGEST, TOP, Failure, expect, run, write, write_settings
 from trial.serving import read_all
 
 ROOT = f"mntner:ROOT-MNT\nauth:SHA256-PW a:{DIGEST}\nmnt-by:ROOT-MNT\nsource:TEST\n\n"
 TRIES = 5
-# The seconds that DIGESTS of these take on the machine of docs/OPEN.md, where nothing else runs.
-DIGESTS, DIGESTING = 50_000, 0.042
 CASES = []
 
 
@@ -31,14 +29,6 @@ def case(name, is_long=False):
 def at_most(found, most, what, unit="s"):
     if found > most:
         raise Failure(f"{what}: {found:.2f} {unit} and not at most {most:.2f}")
-
-
-def pace():
-    """How many times as long a piece of work takes here and now as on the machine of docs/OPEN.md; never less than once."""
-    start = time.process_time()
-    for number in range(DIGESTS):
-        hashlib.sha256(b"s%d" % number).digest()
-    return max(1.0, (time.process_time() - start) / DIGESTING)
 
 
 def least(most, function):
@@ -77,8 +67,9 @@ def secrets_times_salts(script):
 
 @case("items times lines of auth")
 def items_times_lines(script):
-    """An item's cost does not grow with the lines of the maintainers that it names, once they were tried."""
-    count, most = script.pick(1_000, 4_000), 0.1
+    """An item that names maintainers with many lines, once they were tried, takes a thirtieth of what it took in 1.0.0, as
+    CHANGELOG.md says."""
+    count, most = script.pick(1_000, 4_000), 4.45 / 30
 
     def cost(name, lines):
         with Registry(script, made(script, name)) as registry:
@@ -93,7 +84,7 @@ def items_times_lines(script):
             return least(most, once)
 
     one, many = cost("lines1", 1), cost("lines750", 750)
-    at_most(many, 3 * one + most, f"an item with 15 maintainers of 750 lines, where it takes {one:.3f} ms with one", "ms")
+    at_most(many, most, f"an item with 15 maintainers of 750 lines, where it takes {one:.3f} ms with one", "ms")
     return f"{many:.3f} ms an item at 15 maintainers of 750 lines, {one:.3f} at such of one"
 
 

@@ -27,7 +27,7 @@ TABLE = (
          "No `mnt-by`, `source` or `auth`; a second `source`, mostly because a blank line is missing between two objects.",
          "Compare the object with the table of classes, and put a blank line between objects."),
     Code("E05", "An attribute that is read has a bad value.",
-         "A bad name in a list; `ANY` in `mnt-by`; an `auth` whose digest does not have 64 digits; two operators on a range; an empty `auth`.",
+         "A bad name in a list; `ANY` in `mnt-by`; an `auth` whose hash does not have 64 digits; two operators on a range; an empty `auth`.",
          "Look at `mnt-by`, `mnt-lower`, `mnt-routes`, `members`, `mbrs-by-ref`, `member-of`, `auth` and `source`."),
     Code("E06", "The `source` is not this registry's.",
          "An object that was copied from another registry.",
@@ -58,7 +58,7 @@ TABLE = (
          "An inetnum or as-block that begins inside another one and ends outside it.",
          "Ask `less` for the first and for the last address: what contains exactly one of them overlaps. Cut the range there."),
     Code("E17", "Other objects still name the maintainer that is to be deleted.",
-         "They may be anybody's, since any maintainer can be named in `mnt-lower` and `mnt-routes`.",
+         "They may be anybody's, because any maintainer can be named in `mnt-lower` and `mnt-routes`.",
          "List them with `inverse mnt NAME`. Change or delete what is yours; the rest only its holders, or the registry's operator, can "
          "change."),
     Code("E18", "There is no object of this class and key to delete.",

@@ -85,7 +85,7 @@ const isGrants = text => /^name(?: any| \{(?: range)* \})?(?: name(?: any| \{(?:
 const isBound = item => !item.includes('^') || isRange(`0.0.0.0/0^${item.split('^').slice(1).join('^')}`);
 const each = check => text => text.split(/[\s,]+/).filter(Boolean).every(check);
 const ATTRIBUTES = {
-    'auth': ['a password\'s digest, one a line: SHA256-PW, a salt, a colon, 64 digits', text => text.split('\n').every(line => isAuth(line.trim()))],
+    'auth': ['a password\'s hash, one a line: SHA256-PW, a salt, a colon, 64 digits', text => text.split('\n').every(line => isAuth(line.trim()))],
     'origin': ['the AS that announces it, as AS64496', isAs],
     'members': ['what is in it', null],
     'mbrs-by-ref': ['maintainers whose objects join by member-of, or ANY: whoever names one of these in mnt-by gets in', each(item => isMaintainer(item) || /^any$/i.test(item))],
@@ -831,7 +831,7 @@ function digestMaker() {
         preview();
     };
     return el('fieldset', {}, el('legend', {}, 'A new password for it'), el('div', {class: 'field tall'}, el('label', {for: 'new-password'}, 'New password'), input,
-        el('p', {id: 'about-new', class: 'hint'}, 'Its digest is made on this page. Take a long one, made by chance: others may try to guess it.')),
+        el('p', {id: 'about-new', class: 'hint'}, 'Its hash is made on this page. Take a long one, made by chance: others may try to guess it.')),
         el('button', {type: 'button', click: () => {
             const fault = !isSafe ? 'Without TLS no password is taken.' : faultOf(input.value) || (input.value ? '' : 'Write the new password first.');
             return fault ? send.say(fault, true) : make();

@@ -99,8 +99,8 @@ class Victim:
 def waiting(door, ask, attack):
     """How much longer than before it another client waits during the attack, at most, and the bound of that; of some tries one that
     keeps to it, or the last one."""
+    most = MOST_WAIT * pace(time.monotonic)
     for turn in range(TRIES):
-        slow = pace(time.monotonic)
         with Victim(ask) as victim:
             time.sleep(1.5)
             count = len(victim.waits)
@@ -110,7 +110,6 @@ def waiting(door, ask, attack):
         if victim.bad:
             raise Failure(f"{attack.__name__}: another client was answered {victim.bad[0]!r}")
         waited = max(victim.waits[count:], default=0.0) - max(victim.waits[:count], default=0.0)
-        most = MOST_WAIT * max(slow, pace(time.monotonic))
         if waited <= most:
             break
     return max(waited, 0.0), most
@@ -356,7 +355,7 @@ def replaced_readers(script, kind):
             return found
 
         def comes_to(wanted, what):
-            end = time.monotonic() + 15
+            end = time.monotonic() + 90
             while (found := (seen(), seen(True))) != (wanted, wanted):
                 if time.monotonic() > end:
                     raise Failure(f"{what}: answered by {found} and not {wanted}")
@@ -375,7 +374,7 @@ def replaced_readers(script, kind):
         registries[2].__exit__()
         comes_to({"primary"}, "with no reader")
         registries[0].__exit__()
-        end = time.monotonic() + 10
+        end = time.monotonic() + 60
         while (reply := door.get("/query/ROOT-MNT", 99))[0] != 503 and time.monotonic() < end:
             time.sleep(0.2)
         expect((reply[0], reply[2]), (503, b"% the registry does not answer\n"), "with none")

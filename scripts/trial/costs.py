@@ -405,10 +405,10 @@ def too_long(script):
     mine = owned("mntner:E-MNT", f"auth:{attacks.auth(attacks.SECRET)}")
     dump = ROOT + mine + described(540, 65_000, "E-MNT,ROOT-MNT") + described(20, 66_000, "ROOT-MNT")
     with Registry(script, made(script, "long", dump=dump)) as registry:
-        command, environment = whois_command(registry.port)
+        command = whois_command(script, registry.port)
 
         def asked(query):
-            ran = run(["prlimit", f"--fsize={most_file}", *command], script.work, stdin=query, environment=environment)
+            ran = run(["prlimit", f"--fsize={most_file}", *command], script.work, stdin=query)
             at_most(ran.memory / 1024, most_memory / 2**20, "the memory of irr whois", "MiB")
             return ran
 

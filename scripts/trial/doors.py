@@ -150,10 +150,10 @@ def unchunked(text):
 class Handed:
     """The whois socket: an `irr whois` for each connection, no more at once than the unit says, and no more of one address."""
 
-    def __init__(self, port, registry):
+    def __init__(self, script, port, registry):
         unit = dict(line.split("=", 1) for line in units("irrdesk-whois.socket") if "=" in line)
         self.most, self.most_of_one = int(unit["MaxConnections"]), int(unit["MaxConnectionsPerSource"])
-        self.command, self.environment = whois_command(registry)
+        self.command = whois_command(script, registry)
         self.running: list[tuple[str, subprocess.Popen]] = []
         self.listener = socket.create_server(("127.0.0.1", port), backlog=128)
         threading.Thread(target=self.hand_on, daemon=True).start()
@@ -165,7 +165,7 @@ class Handed:
                 with peer:
                     self.running = [(of, process) for of, process in self.running if process.poll() is None]
                     if len(self.running) < self.most and sum(of == address for of, _ in self.running) < self.most_of_one:
-                        started = subprocess.Popen(self.command, stdin=peer, stdout=peer, stderr=subprocess.DEVNULL, env=self.environment)
+                        started = subprocess.Popen(self.command, stdin=peer, stdout=peer, stderr=subprocess.DEVNULL)
                         self.running.append((address, started))
 
     def end(self):
@@ -180,19 +180,21 @@ def units(name):
         return opened.read().splitlines()
 
 
-def whois_command(registry):
-    """The command of the whois unit, run from the checkout, and its environment."""
+def whois_command(script, registry):
+    """The command of the whois unit, with the tool packed as it is installed."""
+    tool = os.path.join(script.work, "irr")
+    if not os.path.exists(tool):
+        subprocess.run([sys.executable, os.path.join(TOP, "tools", "build"), tool], check=True)
     words = next(line.partition("=")[2].split() for line in units("irrdesk-whois@.service") if line.startswith("ExecStart="))
-    place, environment = f"127.0.0.1:{registry}", dict(os.environ, PYTHONPATH=os.path.join(TOP, "tools"))
-    return [sys.executable, "-m", "irr", *words[1:-1], place], environment
+    return [sys.executable, tool, *words[1:-1], f"127.0.0.1:{registry}"]
 
 
 class Nginx(Door):
     """nginx, with whois by an `irr whois` for each connection, as the unit of the socket has it."""
 
-    def __init__(self, *given):
-        super().__init__(*given)
-        self.handed = Handed(self.whois_port, self.balancer)
+    def __init__(self, script, *given):
+        super().__init__(script, *given)
+        self.handed = Handed(script, self.whois_port, self.balancer)
 
     def __exit__(self, *_):
         if hasattr(self, "handed"):

@@ -19,12 +19,12 @@ USER, PASSWORD = "holder", "a word of the door"
 
 
 def replaced(text, changes):
-    """A text in which each of these was found and replaced."""
-    for old, new in changes:
+    """A text in which each of these was found and replaced, all at once, so that nothing is found in what was put in."""
+    wanted = dict(changes)
+    for old in wanted:
         if old not in text:
             raise Failure(f"{old!r} is not in the example")
-        text = text.replace(old, new)
-    return text
+    return re.sub("|".join(map(re.escape, sorted(wanted, key=len, reverse=True))), lambda found: wanted[found[0]], text)
 
 
 def example(name):

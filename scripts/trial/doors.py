@@ -2,6 +2,7 @@
 import contextlib
 import os
 import re
+import shutil
 import socket
 import ssl
 import subprocess
@@ -181,12 +182,12 @@ def units(name):
 
 
 def whois_command(script, registry):
-    """The command of the whois unit, with the tool packed as it is installed."""
-    tool = os.path.join(script.work, "irr")
+    """The command of the whois unit, with the tool packed as it is installed, and the system's Python."""
+    python, tool = shutil.which("python3", path="/usr/bin") or sys.executable, os.path.join(script.work, "irr")
     if not os.path.exists(tool):
-        subprocess.run([sys.executable, os.path.join(TOP, "tools", "build"), tool], check=True)
+        subprocess.run([python, os.path.join(TOP, "tools", "build"), tool], check=True)
     words = next(line.partition("=")[2].split() for line in units("irrdesk-whois@.service") if line.startswith("ExecStart="))
-    return [sys.executable, tool, *words[1:-1], f"127.0.0.1:{registry}"]
+    return [python, tool, *words[1:-1], f"127.0.0.1:{registry}"]
 
 
 class Nginx(Door):

@@ -4,8 +4,8 @@ The registry is asked only once the line is there, and its whole answer is taken
 peer holds it up. What is no whois query, such as a submission over HTTP, does not get to it.
 """
 import argparse
+import io
 import socket
-import tempfile
 from typing import BinaryIO
 
 from irr import peers
@@ -33,24 +33,19 @@ def run(options: argparse.Namespace) -> int:
     host, _, port = options.place.rpartition(":")
     if not host or not port.isdecimal() or int(port) > 65_535:
         raise Failure(options.place, "this is not a place; write it as HOST:PORT, such as 127.0.0.1:4343", ARGUMENTS)
-    peer = peers.Peer(LONGEST)
+    peer, failure = peers.Peer(LONGEST), None
     try:
         line = peer.line(ASKING)
-        with tempfile.SpooledTemporaryFile(IN_MEMORY) as answer:
-            failure = None
-            if b"HTTP/" in line.upper():
-                answer.write(b"% error 1\n")
-            else:
-                try:
-                    take_answer(line, host, int(port), answer)
-                except Failure as found:
-                    failure = found
-                    answer.seek(0)
-                    answer.truncate()
-                    answer.write(b"% " + found.what.partition(";")[0].encode() + b"\n")
-            size = answer.tell()
-            answer.seek(0)
-            peer.give(answer, size)
+        if b"HTTP/" in line.upper():
+            answer: BinaryIO = io.BytesIO(b"% error 1\n")
+        else:
+            try:
+                answer = take_answer(line, host, int(port))
+            except Failure as found:
+                failure, answer = found, io.BytesIO(b"% " + found.what.partition(";")[0].encode() + b"\n")
+        size = answer.seek(0, io.SEEK_END)
+        answer.seek(0)
+        peer.give(answer, size)
     except peers.Gone:
         return REFUSED
     if failure:
@@ -58,21 +53,33 @@ def run(options: argparse.Namespace) -> int:
     return DONE
 
 
-def take_answer(line: bytes, host: str, port: int, answer: BinaryIO) -> None:
-    """Asks the registry, and writes its whole answer into a file."""
-    place = f"{host}:{port}"
+def take_answer(line: bytes, host: str, port: int) -> BinaryIO:
+    """Asks the registry, and takes its whole answer."""
+    place, last = f"{host}:{port}", b""
+    answer: BinaryIO = io.BytesIO()
     try:
         with peers.within(ANSWERING, peers.too_slow(place)):
             with persistently(lambda: socket.create_connection((host, port), CONNECTING), PATIENCE) as registry:
                 registry.settimeout(ANSWERING)
                 registry.sendall(line + b"\r\n")
-                last = b""
                 while part := registry.recv(peers.PIECE):
-                    last = part[-1:]
-                    if answer.tell() + len(part) > MOST:
+                    size, last = answer.tell() + len(part), part[-1:]
+                    if size > MOST:
                         raise Failure(place, f"the answer has over {MOST >> 20} MiB; ask for less, or over HTTP")
+                    if size > IN_MEMORY and isinstance(answer, io.BytesIO):
+                        answer = on_disk(answer)
                     answer.write(part)
     except OSError as error:
         raise Failure(place, f"the registry does not answer; {system_words(error)}") from None
     if last != b"\n":
         raise Failure(place, "the registry does not answer; its answer was cut off")
+    return answer
+
+
+def on_disk(begun: io.BytesIO) -> BinaryIO:
+    """A temporary file that goes on from what is in memory."""
+    # What few answers need takes a quarter of the time of a start.
+    import tempfile
+    file = tempfile.TemporaryFile()
+    file.write(begun.getbuffer())
+    return file

@@ -48,7 +48,7 @@ class Busy(Failure):
 
 def add_options(parser: argparse.ArgumentParser) -> None:
     """The options of each command that asks a server: `options.server` and `options.plain`."""
-    parser.add_argument("-s", "--server", metavar="URL", help=f"the registry's address; else that of IRR_SERVER, else {DEFAULT}")
+    parser.add_argument("-s", "--server", metavar="URL", help=f"the registry's address, otherwise that of IRR_SERVER, otherwise {DEFAULT}")
     parser.add_argument("--plain", action="store_true", help="allow http to another machine, which encrypts nothing")
 
 

@@ -22,7 +22,7 @@ def arguments(parser: argparse.ArgumentParser) -> None:
     server.add_options(parser)
     parser.add_argument("-m", "--missing", action="store_true", help="make the filter also if sets are missing, and say which")
     parser.add_argument("--widest", metavar="LENGTH", default=str(WIDEST),
-                        help=f"the least length of a prefix, or of the prefix of a range: else {WIDEST}; 0 allows 0.0.0.0/0")
+                        help=f"the least length of a prefix, or of the prefix of a range, otherwise {WIDEST}; 0 allows 0.0.0.0/0")
     parser.add_argument("--settings", metavar="FILE", help="make the filters of these settings, and nothing else")
     parser.add_argument("format", metavar="FORMAT", nargs="?", help="bird or frr")
     parser.add_argument("name", metavar="NAME", nargs="?", help="the filter's name: capital letters, digits and _, a letter first")

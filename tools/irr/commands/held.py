@@ -10,7 +10,7 @@ from irr.rpsl import ITEM, Attribute, Paragraph
 
 EXAMPLES = """
 irr held 192.0.2.0/24 EXAMPLE-MNT                 what is missing
-irr held 192.0.2.0/24 EXAMPLE-MNT > mend.rpsl     the same as text to submit; what it says stands in its comments
+irr held 192.0.2.0/24 EXAMPLE-MNT > mend.rpsl     the same as text to submit; what it says is in its comments
 irr submit --as EXAMPLE-MNT mend.rpsl
 """
 

@@ -17,7 +17,7 @@ irr reset EXAMPLE-MNT --save new.password              a new password, in a file
 irr reset EXAMPLE-MNT --settings irr.toml              a new password, which the terminal shows
 
 Stop the server before: systemctl stop irrdesk. All `auth` lines of the maintainer are replaced by the new one.
-Make sure that you speak to the holder: whoever has the new password has all that the maintainer holds.
+Make sure that you speak to the holder: the new password gives all that the maintainer holds.
 """
 
 

@@ -26,7 +26,7 @@ MOST, IN_MEMORY = 32 << 20, 1 << 20
 
 def arguments(parser: argparse.ArgumentParser) -> None:
     parser.add_argument("place", metavar="HOST:PORT", nargs="?", default="127.0.0.1:4343",
-                        help="where the registry answers whois; else 127.0.0.1:4343")
+                        help="where the registry answers whois, otherwise 127.0.0.1:4343")
 
 
 def run(options: argparse.Namespace) -> int:

@@ -586,12 +586,14 @@ const namesOf = box => [...new Set(box.objects.filter(isShown).flatMap(object =>
 const colours = () => isDark.matches ? {ink: '#e6e8ea', page: '#1e2125', edge: '#868d96', route: '#f3c76b'} : {ink: '#1c1e21', page: '#ffffff', edge: '#767c85', route: '#7a4b00'};
 const placesOf = box => box.blocks.map(block => placeOf(block, space.shown));
 
+const sizeOf = () => Math.round(canvas.clientWidth * (devicePixelRatio || 1));
+
 // Small boxes are put in as pixels, over the larger ones, which are drawn: the small ones may be a hundred thousand.
 async function draw(turn = space.drawings += 1) {
     const breathe = breather({aborted: false}), scale = devicePixelRatio || 1, side = canvas.clientWidth;
     if (!side) return;
     const pen = canvas.getContext('2d'), {ink, page, edge, route} = colours(), labels = [], known = new Map();
-    const size = canvas.width = canvas.height = space.picture.width = space.picture.height = Math.round(side * scale);
+    const size = canvas.width = canvas.height = space.picture.width = space.picture.height = sizeOf();
     const dots = pen.createImageData(size, size), pixels = new Uint32Array(dots.data.buffer);
     pen.scale(scale, scale);
     pen.font = '11px ui-monospace, "DejaVu Sans Mono", monospace';
@@ -771,7 +773,7 @@ canvas.addEventListener('keydown', keyed);
 canvas.addEventListener('pointermove', event => { if (space.inside.length) point(boxesAt(hit(event)).at(-1), false); });
 isDark.addEventListener('change', () => { if (space.root) present(space.shown); });
 for (const name of ['with-inetnums', 'with-routes']) $(name).addEventListener('change', () => { if (space.root) present(space.shown); });
-addEventListener('resize', () => { if (space.root && !$('map').hidden) draw(); });
+addEventListener('resize', () => { if (space.root && !$('map').hidden && canvas.width !== sizeOf()) draw(); });
 
 // Submit.
 const send = new Wire('submit');

@@ -320,7 +320,9 @@ def joined(script):
 # Peers that wait, asked directly: what a proxy in front is for.
 
 def held(script, text, most, closes=False, drips=False):
-    """How long another peer waits after one that sent this, which has to be at most so long."""
+    """How long another peer waits after one that sent this, which has to be at most so long; a second of that is the machine's, and
+    more where it is slower."""
+    most += pace(time.monotonic) - 1
     with Registry(script, made(script, f"held{time.monotonic_ns()}")) as registry, contextlib.closing(registry.connect()) as peer:
         peer.sendall(text)
         if closes:

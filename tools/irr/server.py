@@ -15,6 +15,8 @@ DEFAULT = "http://127.0.0.1:4343"
 # Seconds until the next bytes come: others may be served first.
 WAITING = 150
 LONGEST_QUERY = 1_024
+# Seconds until a report is looked at again, if fewer bytes of it than these had come.
+GATHERING, GATHERED = 0.02, 1 << 13
 # Seconds for which a submission waits in all, each time that the server is too busy for it.
 BUSY = 600
 LOOPBACK = ("localhost", "::1")
@@ -107,7 +109,11 @@ class Server:
         is its report too, which is then not whole."""
         reply = self.ask_patiently("POST", "/submissions", text)
         with contextlib.suppress(Failure):
-            yield from self.body_of(reply)
+            for piece in self.body_of(reply):
+                yield piece
+                # The server sends a line as it decides an item: to wake up for each costs more than all else.
+                if len(piece) < GATHERED:
+                    time.sleep(GATHERING)
 
     def dump(self) -> Iterator[bytes]:
         """The public dump in pieces; a Failure after the last one if it is not whole."""

@@ -234,12 +234,15 @@ class Sender:
     def told(self, items: list[Item], pieces: Iterable[bytes]) -> Iterator[Reported]:
         """The items of a part with what the report says of them, as it comes."""
         report, rest, sent = answers.Report(self.count), iter(items), 0
-        for line in (line for piece in pieces for line in report.read(piece)):
-            self.count = line.number
-            item = self.next_item(rest)
-            if item:
-                sent += 1
-                yield Reported(item, line, self.has_password)
+        for piece in pieces:
+            for line in report.read(piece):
+                self.count = line.number
+                item = self.next_item(rest)
+                if item:
+                    sent += 1
+                    yield Reported(item, line, self.has_password)
+            if report.end:
+                break
         while self.next_item(rest):
             sent += 1
         if report.is_whole and report.count != sent:

@@ -76,7 +76,7 @@ class Answerer:
         word, comma, depth = words.partition(",")
         name = read_set(word)
         if depth.strip() not in ("", "1"):
-            raise Failure(words, "after the comma stands 1 alone", REFUSED)
+            raise Failure(words, "after the comma comes 1 alone", REFUSED)
         if not comma:
             return data(" ".join(self.direct_members(name)))
         lines = sets.expansion(self.place, "expand", name).whole(name)
@@ -115,7 +115,7 @@ class Answerer:
         word, _, option = words.partition(",")
         prefix, option = keys.read_place(word), option.strip()
         if prefix is None or option not in ("", "o", "l", "L", "M"):
-            raise Failure(words, "this is no prefix of IPv4 with ,o ,l ,L ,M or nothing after it", REFUSED)
+            raise Failure(words, "this is not a prefix of IPv4 with ,o ,l ,L ,M or nothing after it", REFUSED)
         query = {"": "exact", "o": "exact", "M": "more"}.get(option, "less")
         found = [(length_of(one), one) for one in self.objects(f"{query} {prefix.text()}") if one.name == b"route"]
         if option in ("l", "M"):

@@ -31,7 +31,7 @@ def parser_of(command: Command) -> Parser:
 
 def overview() -> str:
     """The help of `irr` itself."""
-    lines = ["usage: irr COMMAND [WORD ..]", "", "What people and other systems want of a registry that irrdesk serves."]
+    lines = ["usage: irr COMMAND [WORD ...]", "", "What people and other systems want of a registry that irrdesk serves."]
     width = max(len(command.name) for command in TABLE)
     for group in GROUPS:
         of_group = [command for command in TABLE if command.group == group]

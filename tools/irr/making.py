@@ -67,13 +67,13 @@ def read_filter(path: str, table: object) -> Filter:
     if not isinstance(table, dict) or set(table) != KEYS or not all(isinstance(value, str) and value for value in table.values()):
         raise Failure(path, "a [[filter]] has the texts `file`, `router` and `make`, and no others; correct it", SETTINGS)
     if table["router"] not in ROUTERS:
-        raise Failure(path, f"{table['router']} is no router whose parser is known; write {', '.join(ROUTERS)}", SETTINGS)
+        raise Failure(path, f"{table['router']} is not a router whose parser is known; write {', '.join(ROUTERS)}", SETTINGS)
     try:
         words = shlex.split(table["make"])
     except ValueError as error:
         raise Failure(path, f"`make` of {table['file']}: {str(error).lower()}; correct it", SETTINGS) from None
     if not os.path.isabs(table["file"]) or "\"" in table["file"]:
-        raise Failure(path, f"{table['file']} is no whole path; begin it with /", SETTINGS)
+        raise Failure(path, f"{table['file']} is not a whole path; begin it with /", SETTINGS)
     return Filter(table["file"], table["router"], words)
 
 

@@ -47,10 +47,10 @@ class Settings(NamedTuple):
         except KeyError as error:
             raise Failure(path, f"the settings lack `{error.args[0]}`; put it in", SETTINGS) from None
         except (tomllib.TOMLDecodeError, UnicodeDecodeError):
-            raise Failure(path, "these are no settings of irrdesk; correct the path", SETTINGS) from None
+            raise Failure(path, "these are not settings of irrdesk; correct the path", SETTINGS) from None
         source, root, auth, limit, store = fields
         if not all(isinstance(field, str) for field in (source, root, auth, store)) or not isinstance(limit, int):
-            raise Failure(path, "these are no settings of irrdesk; correct the path", SETTINGS)
+            raise Failure(path, "these are not settings of irrdesk; correct the path", SETTINGS)
         return cls(Path(path).resolve(), source, root, auth, limit, Path(os.path.abspath(store)))
 
     def text(self) -> str:

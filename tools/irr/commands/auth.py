@@ -58,7 +58,7 @@ def registered_source(options: argparse.Namespace) -> str:
 def save(path: str, text: bytes) -> None:
     """Writes a new file that only its owner reads."""
     if os.path.lexists(path):
-        raise Failure(path, "there is such a file; take another name, since it may have a password that is still needed", ARGUMENTS)
+        raise Failure(path, "there is such a file; take another name, because it may have a password that is still needed", ARGUMENTS)
     files.put(path, text, files.PRIVATE)
 
 

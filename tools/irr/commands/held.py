@@ -176,5 +176,5 @@ def open_members(paragraph: Paragraph, seen: Seen, names: list[str]) -> Iterator
             yield Finding(f"{name_of(key)} lists {name}, which is not registered: who registers it decides what the set has", False)
     listed = holders.names(paragraph, "mbrs-by-ref")
     if listed:
-        who = "anybody" if "ANY" in listed else f"whoever names {', '.join(listed)} in `mnt-by`"
+        who = "anybody" if "ANY" in listed else f"anybody who names {', '.join(listed)} in `mnt-by`"
         yield Finding(f"{name_of(key)} has `mbrs-by-ref`: {who} can join it by `member-of`; list members by name instead", False)

@@ -18,7 +18,7 @@ EXAMPLES = """
 irr import ripe.db.*.gz --source EXAMPLE --root ROOT-MNT --auth 'SHA256-PW salt:..' > full.rpsl
 irrdesk load irr.toml full.rpsl             the registry of it
 irr import radb.db --source EXAMPLE --root ROOT-MNT --auth @holders.auth --check -o full.rpsl
-                                            holders.auth has the root's line and lines A-MNT=SHA256-PW ..
+                                            holders.auth has the root's line and lines A-MNT=SHA256-PW ...
 """
 
 

@@ -85,7 +85,7 @@ def read_roas(text: bytes, place: str) -> set[Roa]:
         listed = read["roas"]
         found = {roa for entry in listed if (roa := read_roa(entry))}
     except (ValueError, KeyError, TypeError, AttributeError, RecursionError) as error:
-        raise Failure(place, f"this is no JSON of validated ROAs ({texts.shown_line(str(error))[:80]}); make it by `rpki-client -j` or "
+        raise Failure(place, f"this is not JSON of validated ROAs ({texts.shown_line(str(error))[:80]}); make it by `rpki-client -j` or "
                       "`routinator vrps --format json`") from None
     if not listed:
         raise Failure(place, "it has no ROAs: each route would be without one; make it anew")

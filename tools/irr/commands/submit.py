@@ -17,7 +17,7 @@ irr submit --as EXAMPLE-MNT network.rpsl         the same, asked for the passwor
 irr submit my.password network.rpsl              the same, with the password from a file of its own
 irr submit --dry-run --as EXAMPLE-MNT network.rpsl
                                                  what would be answered; nothing is changed
-irr delegate .. | irr submit --as ROOT-MNT -     from another command
+irr delegate ... | irr submit --as ROOT-MNT -     from another command
 """
 
 
@@ -89,7 +89,7 @@ class Printer:
         raise Failure("the report", END_WORDS.get(sender.end.partition(" (")[0], CUT), FAILED)
 
 
-CUT = "it was cut off, so what came of later items is not known; send the whole text again: what stands is `unchanged`"
+CUT = "it was cut off, so what came of later items is not known; send the whole text again: what is registered is `unchanged`"
 END_WORDS = {
     "read fault": "the text did not arrive whole; send what comes after the last item again, with the passwords before it",
     "stopped": "the registry's database failed; tell its operator, and send the last item and the rest again later",
@@ -105,6 +105,6 @@ def send(sender: Sender, items: Iterable[Item], printer: Printer) -> int:
     except Failure as failure:
         if sender.count:
             raise Failure(failure.thing, f"{failure.what}; {sender.count} items were decided, and later ones may be: "
-                          "send the whole text again, what stands is `unchanged`", failure.status) from None
+                          "send the whole text again, what is registered is `unchanged`", failure.status) from None
         raise
     return printer.end(sender)

@@ -48,13 +48,18 @@ class Script:
         words = argparse.ArgumentParser(description=about)
         words.add_argument("program", nargs="?", help="that of ./irrdesk where none is given")
         words.add_argument("--long", action="store_true", help="the long form, whose figures stand in docs/ATTACK.md")
+        words.add_argument("--short", action="store_true", help="the other form, which is the one without either word")
         words.add_argument("--seed", type=int, default=1)
         words.add_argument("--only", default="", help="those cases alone whose names begin so")
-        words.add_argument("--count", type=int, help="how many inputs of chance a case of scripts/fuzz takes")
+        words.add_argument("--count", type=int, help="how many inputs of chance scripts/fuzz takes, or cuts scripts/machine makes")
         words.add_argument("--lanes", type=int, help="how many runs of scripts/sweeps go on beside each other")
+        words.add_argument("--container", action="store_true", help="scripts/machine by namespaces of this system's kernel, and no qemu")
+        words.add_argument("--image", help="the folder in which scripts/machine keeps its disk")
         read = words.parse_args()
+        if read.long and read.short:
+            words.error("--long and --short: take one")
         self.long, self.seed, self.only, self.count, self.failed = read.long, read.seed, read.only, read.count, 0
-        self.lanes = read.lanes or self.pick(2, 1)
+        self.lanes, self.image, self.in_container = read.lanes or self.pick(2, 1), read.image, read.container
         self.program = os.path.abspath(read.program or found())
         self.folder = tempfile.TemporaryDirectory(prefix="irrdesk-", dir=memory_folder() if in_memory else None)
         self.work = self.folder.name

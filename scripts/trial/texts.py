@@ -2,9 +2,11 @@
 import collections
 import hashlib
 
+from model.objects import Object, key_of
 from model.registry import Registry, Secrets
 from model.text import blocks, read
 from trial.running import AUTH
+from trial.sums import value
 
 
 def item(name, key, extra=b"", by=b"ROOT-MNT"):
@@ -59,6 +61,25 @@ def fronts(texts):
     found = collections.defaultdict(list)
     for number, registry in enumerate(carried_out(texts)):
         found[digest(registry.dump())].append(number)
+    return dict(found)
+
+
+def summed_fronts(texts):
+    """The sums of the registry after each front of the items: how many items give them. Each item is taken as carried out, which is
+    quick; that it is, `fronts` shows of fewer."""
+    registry = Registry(auth=AUTH.encode())
+    total, found = sum(value(held.text) for held in registry.in_order()), collections.defaultdict(list)
+    found[total].append(0)
+    for number, text in enumerate(texts, 1):
+        attributes = read(next(blocks(text)))
+        own = [(name, lines) for name, lines in attributes if name not in (b"password", b"delete")]
+        old = registry.objects.pop(key_of(own).order, None)
+        total -= value(old.text) if old else 0
+        if all(name != b"delete" for name, _ in attributes):
+            new = Object(own, registry.source)
+            registry.put(new)
+            total += value(new.text)
+        found[total].append(number)
     return dict(found)
 
 

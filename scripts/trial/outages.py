@@ -1,0 +1,65 @@
+"""Power cuts of a whole machine, whose registry the next boot has to serve by itself."""
+import contextlib
+import os
+import time
+
+from trial.guest import Guest, lines_in
+from trial.running import Failure, expect
+from trial.service import AS_OWNER, ASKED, EDITED, SETTINGS
+from trial.texts import changing_items, summed_fronts
+
+SIZES = [0, 0, 20, 300, 6_000]
+COUNT = 20_000
+MENDED = "dmesg | grep -q 'EXT4-fs (vda).*recovery complete' || grep -qs recover /run/initramfs/fsck.log"
+
+
+class Outages:
+    """One machine, which is cut, booted, looked at, and cut again."""
+
+    def __init__(self, script, image, package):
+        self.script, self.image, self.folder = script, image, script.place("outages")
+        self.disk, self.texts = os.path.join(self.folder, "disk"), changing_items(script.chance("outages"), COUNT, SIZES)
+        self.fronts = summed_fronts(self.texts)
+        sums = os.path.join(os.path.dirname(os.path.abspath(__file__)), "sums.py")
+        self.given = {"irrdesk.deb": package, "items.rpsl": b"\n".join(self.texts), "sums": sums}
+
+    def on(self, stack):
+        return stack.enter_context(Guest(self.image, self.folder, self.disk, self.given, ports=1))
+
+    def cut(self, count):
+        """So many cuts of a submission, each to a new registry, whose report goes to a port of the machine."""
+        seen, mended, chance = [], 0, self.script.chance("moments")
+        with contextlib.ExitStack() as stack:
+            guest = self.on(stack)
+            guest.done(f"apt-get install --yes /run/given/irrdesk.deb; {EDITED}; systemctl enable irrdesk")
+            for turn in range(count):
+                told = self.submit(guest, chance.randrange(self.script.pick(1_000, COUNT)))
+                guest = self.on(stack)
+                mended += guest.ended(MENDED).status == 0
+                seen.append((told, self.stands(guest, told, f"cut {turn + 1}, after {told} lines")))
+        between = sum(stands > told for told, stands in seen)
+        return (f"{count} cuts in {COUNT} items, after {min(seen)[0]} to {max(seen)[0]}; {between} between an item and its line;"
+                f" {mended} file systems had to be mended")
+
+    def submit(self, guest, wanted):
+        """Begins a submission, and cuts the power once so many lines have come; how many came."""
+        guest.done(f"systemctl stop irrdesk; rm -f /var/lib/irrdesk/irr.db*; {AS_OWNER} irrdesk init {SETTINGS}; sync")
+        guest.done(f"{AS_OWNER} irrdesk submit {SETTINGS} /run/given/items.rpsl > /dev/virtio-ports/told0 2> /root/said < /dev/null &")
+        end = time.monotonic() + 900
+        while (told := lines_in(guest.told[0])) < wanted:
+            if time.monotonic() > end:
+                raise Failure(f"{told} lines came within 900 s, of {wanted}: {guest.ended('cat /root/said').printed}")
+            time.sleep(0.02)
+        guest.cut()
+        return min(lines_in(guest.told[0]), COUNT)
+
+    def stands(self, guest, told, what):
+        """Of how many items the registry is that the service serves by itself, after the machine has come up again."""
+        guest.until(ASKED, f"{what}: that the registry is served")
+        guest.done("systemctl stop irrdesk")
+        expect(guest.done("sqlite3 /var/lib/irrdesk/irr.db 'PRAGMA integrity_check'", seconds=600), "ok\n", f"{what}: sqlite3")
+        found = guest.done(f"{AS_OWNER} irrdesk dump {SETTINGS} --full | python3 /run/given/sums", seconds=600).strip()
+        stands = self.fronts.get(int(found), []) if found.isdigit() else []
+        if not {told, told + 1} & set(stands):
+            raise Failure(f"{what}: the rows are those of {stands} items ({found})")
+        return told if told in stands else told + 1

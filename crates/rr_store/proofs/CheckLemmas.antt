@@ -16,6 +16,10 @@ pub both_ok : {X E : Type 0} (r : Result X E) (P Q R : X → Type 0) → IfOk r 
 both_ok (Ok x) P Q R p q f = f x p q
 both_ok (Err e) P Q R p q f = tt
 
+pub both_err : {X E : Type 0} (r : Result X E) (P Q R : E → Type 0) → IfErr r P → IfErr r Q → ((e : E) → P e → Q e → R e) → IfErr r R
+both_err (Ok x) P Q R p q f = tt
+both_err (Err e) P Q R p q f = f e p q
+
 pub only_row : (x : Row) (rows held : List Row) → IsPermutation held rows → rows ≡ x ∷ [] → held ≡ x ∷ []
 only_row x rows held same is = one_permutation x held (subst (λ l. IsPermutation l held) is (IsPermutation-sym held rows same))
 
@@ -25,5 +29,5 @@ fault_of_held version rows held same BadRow h = record {
   no_other = λ n low says. h.no_other n low (Contains-permutation held rows _ same says);
   bad = λ is. h.bad (only_row _ held rows (IsPermutation-sym held rows same) is);
 }
-fault_of_held version rows held same Store h = tt
+fault_of_held version rows held same (Store error) h = tt
 fault_of_held version rows held same Memory h = tt

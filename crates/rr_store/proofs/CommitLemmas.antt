@@ -1,12 +1,15 @@
 -- What a transaction leaves once it has ended, and what a stop during it may leave.
-use Rattle.std.proofs.Common.{◌≡◌, true, Ok, Err, Result, IsOk, OnOk, sym, subst, arith}
+use Rattle.std.proofs.Common.{◌≡◌, true, false, Ok, Err, Result, IsOk, IsErr, OnOk, OnErr, IsTrue, sym, ap, subst, ◌∙◌, arith}
 use Rattle.sqlite_trees.specs.declared.store.Store.{Ghosts}
 use Rattle.sqlite.specs.Effect.{Database}
-use Rattle.sqlite.specs.State.{State, HasCleanDisk, Survives}
+use Rattle.sqlite.specs.State.{State, HasCleanDisk, KeepsCommit, Survives}
 use Rattle.sqlite.specs.Held.{Held, state}
 use Rattle.sqlite.proofs.Callers.{survives_begin}
 use Rattle.sqlite.proofs.StateLemmas.{survives_then, survives_weaker}
 use Rattle.rr_rows.specs.Entries.{TreesOf}
+use Rattle.rr_store.specs.Calls.{Writes}
+use Rattle.rr_store.proofs.BodyLemmas.{then_ok}
+use Rattle.rr_store.proofs.LookLemmas.{of_both, on_err_as}
 
 pub done_so : {X E P : Type 0} (r : Result X E) → IsOk r → OnOk r P → P
 done_so (Ok x) is p = p
@@ -32,6 +35,60 @@ module _ {S X Y E F : Type 0} (g : Ghosts S) (old begun mid new : Held S) (work 
       (survives_then (state g (record old { in_transaction = true })) (state g mid) (state g new) (λ _. ⊥) (λ trees. IsOk work × (trees ≡ (state g mid).now.trees)) (TreesOf (Change (state g old).now)) (λ clean db none. absurd none)
       (λ clean db is. ((state g mid).now, changed clean is.0, is.1)) (subst (λ h. Survives (state g h) (state g mid) (λ _. ⊥)) begins first) last)
 
+  module _ (first : Survives (state g begun) (state g mid) (λ _. ⊥)) (kept : HasCleanDisk (state g mid) → KeepsCommit (state g begun) (state g mid)) (settled : IsTrue (state g old).is_open → (state g old).now ≡ (state g old).committed)
+      (autocommit : new.in_transaction ≡ false) (done : OnOk result (IsOk work)) (ok : HasCleanDisk (state g new) → OnOk result ((state g new).now ≡ (state g mid).now)) (is_open : HasCleanDisk (state g new) → OnOk result (IsTrue (state g new).is_open))
+      (was_open : HasCleanDisk (state g new) → OnOk result (IsTrue (state g mid).is_open))
+      (err : HasCleanDisk (state g new) → IsTrue (state g new).is_open → OnErr result (((state g new).now ≡ (state g mid).committed) × IsTrue (state g mid).is_open)) where
+    earlier : HasCleanDisk (state g new) → HasCleanDisk (state g mid)
+    earlier clean = omega (arith, last.clean)
+
+    open_from : HasCleanDisk (state g new) → IsTrue (state g mid).is_open → IsTrue (state g old).is_open
+    open_from clean on = subst (λ h. IsTrue (state g h).is_open) begins ((kept (earlier clean)).was_open on)
+
+    back : HasCleanDisk (state g new) → ((state g new).now ≡ (state g mid).committed) × IsTrue (state g mid).is_open → (state g new).now ≡ (state g old).now
+    back clean both =
+        let as_before : (state g begun).committed ≡ (state g old).committed = ap (λ h. (state g h).committed) begins in
+        both.0 ∙ ((kept (earlier clean)).committed both.1 ∙ (as_before ∙ sym (settled (open_from clean both.1))))
+
+    -- a transaction writes what its work made
+    pub ended_writes : Writes g Change old new result
+    ended_writes = record {
+      autocommit = λ m. autocommit;
+      opened = λ clean on. open_from clean (of_both result _ (was_open clean) (on_err_as result (err clean on) (λ both. both.1)));
+      done = ended_ok done ok;
+      is_open = is_open;
+      kept = λ clean on. on_err_as result (err clean on) (back clean);
+      crash = ended_survives first;
+    }
+
 -- what a stop may leave is also what follows from it
 pub survives_as : (old new : State) (P Q : Database → Type 0) → ((db : Database) → P db → Q db) → Survives old new (TreesOf P) → Survives old new (TreesOf Q)
 survives_as old new P Q follows h = survives_weaker old new (TreesOf P) (TreesOf Q) (λ clean trees left. (left.0, follows left.0 left.1, left.2)) h
+
+module _ {S : Type 0} (g : Ghosts S) (old new : Held S) (P Q : Database → Database → Type 0) where
+  -- and what is written, too
+  pub writes_as : {X E : Type 0} (r : Result X E) → (HasCleanDisk (state g new) → (db : Database) → P (state g old).now db → Q (state g old).now db) → Writes g P old new r → Writes g Q old new r
+  writes_as r follows w = record {
+    autocommit = w.autocommit;
+    opened = w.opened;
+    done = λ clean. then_ok r (w.done clean) (follows clean (state g new).now);
+    is_open = w.is_open;
+    kept = w.kept;
+    crash = survives_weaker (state g old) (state g new) (TreesOf (P (state g old).now)) (TreesOf (Q (state g old).now)) (λ clean trees left. (left.0, follows clean left.0 left.1, left.2)) w.crash;
+  }
+
+  -- what failed has, whatever it is called
+  pub writes_failed : {X E Y F : Type 0} (r : Result X E) (q : Result Y F) → IsErr r → IsErr q → Writes g P old new r → Writes g P old new q
+  writes_failed (Ok x) q is_r is_q w = absurd (let e = is_r in cc)
+  writes_failed (Err e) (Ok y) is_r is_q w = absurd (let e = is_q in cc)
+  writes_failed (Err e) (Err f) is_r is_q w = record { autocommit = w.autocommit; opened = w.opened; done = λ clean. tt; is_open = λ clean. tt; kept = w.kept; crash = w.crash }
+
+  pub writes_ok : {X E Y F : Type 0} (x : X) (r : Result X E) (y : Y) (q : Result Y F) → r ≡ Ok x → q ≡ Ok y → Writes g P old new r → Writes g P old new q
+  writes_ok x r y q is_r is_q w = record {
+    autocommit = w.autocommit;
+    opened = w.opened;
+    done = λ clean. rw is_q (rw is_r at (w.done clean));
+    is_open = λ clean. rw is_q (rw is_r at (w.is_open clean));
+    kept = λ clean on. rw is_q tt;
+    crash = w.crash;
+  }

@@ -14,6 +14,7 @@ pub mod OrderLemmas
 pub mod SortedLemmas
 pub mod ShownLemmas
 pub mod StoredLemmas
+pub mod StreamLemmas
 pub mod TidyLemmas
 pub mod UpperLemmas
 pub mod MigratedLemmas

@@ -1,7 +1,7 @@
 -- A query with no RETURNING leaves the database as it is, also where it fails.
-use Rattle.std.proofs.Common.{◌≡◌, ◌⊎◌, inl, inr, false, ℕ, List, Option, Some, None, Ok, Err, Result, IfOk, IfErr, OnOk, OnErr, IsTrue, sym, subst, ◌∙◌, arith}
-use Rattle.std.proofs.lemmas.Bool.{cases_Bool, both_ways}
+use Rattle.std.proofs.Common.{◌≡◌, ◌⊎◌, inl, inr, false, ℕ, List, Option, Some, None, Ok, Err, Result, IfOk, IfErr, IsErr, OnOk, OnErr, IsTrue, refl, sym, subst, ◌∙◌, arith}
 use Rattle.sqlite_value.specs.Order.{Row}
+use Rattle.sqlite_trees.specs.declared.store.Store.{Ghosts}
 use Rattle.sqlite.specs.declared.error.Error.{Error}
 use Rattle.sqlite_schema.specs.declared.command.Returning.{Returning}
 use Rattle.sqlite.specs.Listing.{understood}
@@ -12,11 +12,13 @@ use Rattle.rr_rows.specs.Queries.{Means}
 use Rattle.rr_rows.specs.Entries.{TreesOf}
 use Rattle.sqlite.specs.Effect.{Database}
 use Rattle.rr_rows.specs.Contents.{RunsOn}
-use Rattle.rr_store.specs.Kept.{IsLeft}
+use Rattle.rr_store.specs.Calls.{Looks, Rests, Writes}
+use Rattle.rr_store.proofs.AddingLemmas.{survives_itself}
 use Rattle.rr_store.proofs.BodyLemmas.{then_ok}
+use Rattle.sqlite.specs.Held.{Held, state}
 use Rattle.sqlite.specs.State.{State, HasCleanDisk, IsUnchanged, Fails, Shown, ShowsRows, FailsToQuery, FailsToShow, IsNotRun, IsTooLate, KeepsCommit, CommitsShowing, Survives}
 use Rattle.sqlite.specs.Clock.{timed}
-use Rattle.sqlite.proofs.Callers.{IsPlain, never_commits}
+use Rattle.sqlite.proofs.Callers.{IsPlain, never_commits, unchanged_then}
 use Rattle.sqlite.proofs.InsideLemmas.{unchanged_keeps}
 use Rattle.sqlite.proofs.StateLemmas.{survives_then, survives_weaker}
 
@@ -89,11 +91,8 @@ module _ (sql : List ℕ) (params : Row) (old new : State) where
   refused_keeps e (inl failed) = failed_keeps e failed
   refused_keeps e (inr late) = unchanged_keeps old new (inl late.5)
 
-  pub looks : (HasCleanDisk old → IsTrue old.is_open → IsPlain (understood old.now.schema sql)) → Survives old new (CommitsShowing sql params old) → Survives old new (λ _. old.is_open ≡ false)
-  looks plain h = survives_weaker old new (CommitsShowing sql params old) (λ _. old.is_open ≡ false) (λ clean db made. elim (cases_Bool old.is_open) [
-    | inl on ↦ absurd (never_commits sql params old db (plain (omega (arith, h.clean)) on) made)
-    | inr off ↦ off
-  ]) h
+  pub looks : (HasCleanDisk old → IsPlain (understood old.now.schema sql)) → Survives old new (CommitsShowing sql params old) → Survives old new (λ _. ⊥)
+  looks plain h = survives_weaker old new (CommitsShowing sql params old) (λ _. ⊥) (λ clean db made. never_commits sql params old db (plain (omega (arith, h.clean))) made) h
 
 pub on_each : {X E : Type 0} (r : Result X E) (P : X → Type 0) (Q : Type 0) → IfOk r P → ((x : X) → P x → Q) → OnOk r Q
 on_each (Ok x) P Q h f = f x h
@@ -102,6 +101,10 @@ on_each (Err e) P Q h f = tt
 pub on_err : {X E : Type 0} (r : Result X E) (P : E → Type 0) (Q : Type 0) → IfErr r P → ((e : E) → P e → Q) → OnErr r Q
 on_err (Ok x) P Q h f = tt
 on_err (Err e) P Q h f = f e h
+
+pub on_err_as : {X E P Q : Type 0} (r : Result X E) → OnErr r P → (P → Q) → OnErr r Q
+on_err_as (Ok x) p f = tt
+on_err_as (Err e) p f = f p
 
 pub of_both : {X E : Type 0} (r : Result X E) (Q : Type 0) → OnOk r Q → OnErr r Q → Q
 of_both (Ok x) Q h k = h
@@ -127,21 +130,72 @@ pub each_shown : {X E : Type 0} (r : Result X E) (P : X → Type 0) (Q : Type 0)
 each_shown (Ok x) P Q R h k f = f x k h
 each_shown (Err e) P Q R h k f = tt
 
--- what an answer shows leaves the connection open, so that a stop during the next look leaves what it could before the first
-pub quiet_then : (a b c : State) → (HasCleanDisk b → IsUnchanged a b) → Survives a b (λ _. a.is_open ≡ false) → Survives b c (λ _. b.is_open ≡ false) → Survives a c (λ _. a.is_open ≡ false)
-quiet_then a b c same one two =
-    survives_then a b c (λ _. a.is_open ≡ false) (λ _. b.is_open ≡ false) (λ _. a.is_open ≡ false) (λ clean db off. off)
-    (λ clean db off. absurd (both_ways b.is_open off (same (omega (arith, two.clean))).0.is_open)) one two
+-- an answer is told of the tables under which it was asked for
+pub shown_of : {X : Type 0} (r : Result X Error) (items : X → List Row) (sql : List ℕ) (params : Row) (old new : State) (R : X → Type 0)
+    → IfOk r (λ x. Shown sql params old new (items x)) → ((x : X) → Shown sql params old new (items x) → R x) → IfOk r R
+shown_of (Ok x) items sql params old new R h f = f x h
+shown_of (Err e) items sql params old new R h f = tt
 
-pub kept_then : (a b c : State) → (HasCleanDisk b → IsUnchanged a b) → Survives b c (λ _. b.is_open ≡ false) → HasCleanDisk c → c.now ≡ b.now → c.now ≡ a.now
-kept_then a b c same two clean is = is ∙ (same (omega (arith, two.clean))).0.now_is
+module _ {S : Type 0} (g : Ghosts S) where
+  pub rests_itself : (h : Held S) → h.in_transaction ≡ false → Rests g h h
+  rests_itself h mode = record { autocommit = mode; opened = λ clean on. on; same = λ clean on. refl; crash = survives_itself (state g h) }
 
-module _ (P : Database → Type 0) where
-  pub quiet_left : (a b : State) → Survives a b (λ _. a.is_open ≡ false) → Survives a b (IsLeft a.is_open P)
-  quiet_left a b one = survives_weaker a b (λ _. a.is_open ≡ false) (IsLeft a.is_open P) (λ clean db off. inl off) one
+  module _ (a b c : Held S) (one : Rests g a b) (same : HasCleanDisk (state g b) → IsUnchanged (state g a) (state g b)) where
+    -- the tables are still there
+    pub tables_then : (HasCleanDisk (state g a) → HasTables a.schema) → HasCleanDisk (state g b) → HasTables b.schema
+    tables_then had clean = subst (λ (d : Database). HasTables d.schema) (sym (same clean).0.now_is) (had (omega (arith, clean, one.crash.clean)))
 
-  pub made_left : (a b : State) → Survives a b (TreesOf P) → Survives a b (IsLeft a.is_open P)
-  made_left a b one = survives_weaker a b (TreesOf P) (IsLeft a.is_open P) (λ clean db made. inr made) one
+    -- of what was read twice, too, nothing changes
+    pub rests_then : Rests g b c → Rests g a c
+    rests_then two = record {
+      autocommit = two.autocommit;
+      opened = λ clean on. (same (omega (arith, clean, two.crash.clean))).0.was_open;
+      same = λ clean on. two.same clean on ∙ (same (omega (arith, clean, two.crash.clean))).0.now_is;
+      crash = survives_then (state g a) (state g b) (state g c) (λ _. ⊥) (λ _. ⊥) (λ _. ⊥) (λ _ db h. h) (λ _ db h. h) one.crash two.crash;
+    }
 
-  pub quiet_made : (a b c : State) → Survives a b (λ _. a.is_open ≡ false) → Survives b c (TreesOf P) → Survives a c (IsLeft a.is_open P)
-  quiet_made a b c one two = survives_then a b c (λ _. a.is_open ≡ false) (TreesOf P) (IsLeft a.is_open P) (λ clean db off. inl off) (λ clean db made. inr made) one two
+    pub looks_then : {X E : Type 0} (r : Result X E) → Looks g b c r → Looks g a c r
+    looks_then r two = record {
+      rests = rests_then two.rests;
+      same = λ clean. then_ok r (two.same clean) (unchanged_then (state g a) (state g b) (state g c) (same (omega (arith, clean, two.rests.crash.clean))));
+    }
+
+    -- a transaction after that changes what stood before
+    pub writes_then : {X E : Type 0} (Change : Database → Database → Type 0) (r : Result X E) → Writes g Change b c r → Writes g Change a c r
+    writes_then Change r two =
+        let before : HasCleanDisk (state g c) → HasCleanDisk (state g b) = λ clean. omega (arith, clean, two.crash.clean) in
+        record {
+          autocommit = λ m. two.autocommit one.autocommit;
+          opened = λ clean on. (same (before clean)).0.was_open;
+          done = λ clean. then_ok r (two.done clean) (λ made. subst (λ d. Change d (state g c).now) (same (before clean)).0.now_is made);
+          is_open = two.is_open;
+          kept = λ clean on. on_err_as r (two.kept clean on) (λ is. is ∙ (same (before clean)).0.now_is);
+          crash = survives_then (state g a) (state g b) (state g c) (λ _. ⊥) (TreesOf (Change (state g b).now)) (TreesOf (Change (state g a).now)) (λ _ db h. absurd h)
+              (λ clean db made. subst (λ d. TreesOf (Change d) db) (same (before clean)).0.now_is made) one.crash two.crash;
+        }
+
+  -- a call that failed before its transaction has written nothing
+  pub unwritten : {X E : Type 0} (Change : Database → Database → Type 0) (a b : Held S) (r : Result X E) → IsErr r → Rests g a b → Writes g Change a b r
+  unwritten Change a b (Ok x) is one = absurd (let e = is in cc)
+  unwritten Change a b (Err e) is one = record {
+    autocommit = λ m. one.autocommit;
+    opened = one.opened;
+    done = λ clean. tt;
+    is_open = λ clean. tt;
+    kept = one.same;
+    crash = survives_weaker (state g a) (state g b) (λ _. ⊥) (TreesOf (Change (state g a).now)) (λ clean db h. absurd h) one.crash;
+  }
+
+  pub looks_failed : {X E : Type 0} (a b : Held S) (r : Result X E) → IsErr r → Rests g a b → Looks g a b r
+  looks_failed a b (Ok x) is one = absurd (let e = is in cc)
+  looks_failed a b (Err e) is one = record { rests = one; same = λ clean. tt }
+
+  -- and after a query that failed nothing has changed
+  pub rests_failed : (sql : List ℕ) (params : Row) (old new : Held S) → (HasCleanDisk (state g old) → IsPlain (understood old.schema sql)) → (IsTrue (state g old).is_open → (state g old).now ≡ (state g old).committed)
+      → new.in_transaction ≡ false → (HasCleanDisk (state g new) → (e : Error) × FailsToQuery sql params (state g old) (state g new) e) → Survives (state g old) (state g new) (CommitsShowing sql params (state g old)) → Rests g old new
+  rests_failed sql params old new plain settled mode failed survives = record {
+    autocommit = mode;
+    opened = λ clean on. let f = failed clean in failed_open sql params (state g old) (state g new) on f.0 f.1;
+    same = λ clean on. let f = failed clean in failed_same sql params (state g old) (state g new) settled on f.0 f.1;
+    crash = looks sql params (state g old) (state g new) plain survives;
+  }

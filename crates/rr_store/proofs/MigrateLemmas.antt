@@ -1,19 +1,10 @@
 -- Tables whose rows are all taken out, and the objects that migration keeps.
-use Rattle.std.proofs.Common.{◌≡◌, inl, inr, arith, ℕ, true, false, not, List, [], ◌∷◌, refl, ◌∙◌}
+use Rattle.std.proofs.Common.{◌≡◌, true, false, not, List, [], ◌∷◌, refl, ◌∙◌}
 use Rattle.sqlite_value.specs.Order.{Row}
 use Rattle.sqlite_trees.proofs.ListLemmas.{all_of, filter_none}
 use Rattle.sqlite.specs.Effect.{Database}
-use Rattle.sqlite.specs.State.{State, HasCleanDisk, Survives}
-use Rattle.sqlite.proofs.StateLemmas.{survives_then}
-use Rattle.rr_object.specs.Objects.{Obj}
 use Rattle.rr_rows.specs.Contents.{Alters, Removes, contents}
-use Rattle.rr_rows.specs.Entries.{TreesOf}
 use Rattle.rr_rows.specs.Made.{IsBare}
-use Rattle.rr_rows.specs.Maps.{AreOldStored}
-use Rattle.rr_store.specs.Kept.{IsLeft}
-use Rattle.rr_store.specs.Migrating.{IsMigrated, has_mntner}
-use Rattle.rr_store.specs.MigratingParts.{IsRewritten}
-use Rattle.rr_store.proofs.MigratedLemmas.{migrated}
 use Rattle.rr_store.proofs.BodyLemmas.{none_two, none_four, two_four}
 
 no_contents : (rows : List Row) → contents rows ≡ [] → rows ≡ []
@@ -31,10 +22,3 @@ cleared a b c d first second third = record {
   object = third.object two_four ∙ no_rows (b.trees 2) (c.trees 2) second.change;
   named = no_rows (c.trees 4) (d.trees 4) third.change;
 }
-
--- a stop while old tables are migrated leaves the old rows, or the new ones
-pub migrated_left : (root source : List ℕ) (objects : List Obj) (a b c : State) → (HasCleanDisk b → AreOldStored source objects a.now) → has_mntner root objects ≡ true
-    → Survives a b (λ _. a.is_open ≡ false) → Survives b c (TreesOf (IsRewritten root source objects)) → Survives a c (IsLeft a.is_open (IsMigrated root source a.now))
-migrated_left root source objects a b c before registered one two =
-    survives_then a b c (λ _. a.is_open ≡ false) (TreesOf (IsRewritten root source objects)) (IsLeft a.is_open (IsMigrated root source a.now)) (λ clean trees off. inl off)
-    (λ clean trees left. inr (left.0, migrated root source objects a.now left.0 (before (omega (arith, two.clean))) registered left.1, left.2)) one two

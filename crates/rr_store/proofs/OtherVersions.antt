@@ -53,9 +53,9 @@ stored_tables version source objects db stored = stored.rows.tidy.has
 pub unread_rows : (fault : OpenFault) → IsOfOldRows (unread_fault fault) → IsOfRows fault
 unread_rows (opened.WrongVersion n) h = tt
 unread_rows opened.BadRow h = tt
-unread_rows opened.Store h = h
+unread_rows (opened.Store error) h = h
 unread_rows opened.Memory h = h
 
 pub database_fault : (fault : StoreFault) → IsOfOldRows (migrate_fault fault) → ⊥
-database_fault store.Store h = h
+database_fault (store.Store error) h = h
 database_fault store.Memory h = h

@@ -1,5 +1,5 @@
 -- When the tables hold the rows of objects of one source, and when of none.
-use Rattle.std.proofs.Common.{◌≡◌, ℕ, ◌<◌, ◌^◌, true, List, [], ◌∷◌, map, Option, Some, None, Result, Ok, Err, IfErr, refl, sym, ap, subst, ◌∙◌, arith, codes, IsPermutation}
+use Rattle.std.proofs.Common.{◌≡◌, ℕ, ◌<◌, ◌^◌, true, List, [], ◌∷◌, map, Option, Some, None, refl, sym, ap, subst, ◌∙◌, arith, codes, IsPermutation}
 use Rattle.std.specs.Prelude.{Contains, decimal, is_some, slice_index_or, unwrap_or}
 use Rattle.std.specs.Fmt.{digits}
 use Rattle.std.specs.List.{AllByRecursion, flat_map}
@@ -8,6 +8,8 @@ use Rattle.std.proofs.lemmas.List.Sorted.{IsPermutation-map, IsPermutation-sym, 
 use Rattle.sqlite_value.specs.Order.{Row}
 use Rattle.sqlite_trees.proofs.ListLemmas.{all-permutation, map-map, pull_back, IsPermutation-flat_map}
 use Rattle.sqlite.specs.Effect.{Database}
+use Rattle.sqlite.specs.declared.error.Error.{Error}
+use Rattle.rr_rows.specs.Tables.{HasTables}
 use Rattle.rr_text.specs.CanonicalText.{canonical}
 use Rattle.rr_object.specs.Objects.{Obj}
 use Rattle.rr_object.specs.Classes.{class_number}
@@ -17,7 +19,7 @@ use Rattle.rr_rows.specs.Entries.{named_rows, object_row}
 use Rattle.rr_rows.specs.Maps.{AreApart, AreInOrder, AreStoredIn, HasVersion, IsObjectOf, KeyForm, entry_in}
 use Rattle.rr_rows.proofs.MapLists.{in_order_apart}
 use Rattle.rr_store.specs.CheckParts.{HoldsNone, HoldsObjects, IsVersionFault}
-use Rattle.rr_store.specs.Opening.{HoldNone, SaysNoOther, SaysOther}
+use Rattle.rr_store.specs.Opening.{HoldNone, RefusesTables, SaysNoOther, SaysOther}
 use Rattle.rr_store.specs.ReadingParts.{AreRead}
 use Rattle.rr_store.specs.Versions.{SaysVersion, version_number, version_text}
 use Rattle.rr_store.specs.declared.fault.OpenFault.{OpenFault}
@@ -35,21 +37,39 @@ some_of (Some key) h = refl
 pub unversioned : (version : Version) (source : List ℕ) (db : Database) (fault : OpenFault) → IsVersionFault version (settings (db.trees 0)) fault → fault ≡ BadRow → HoldNone version source db
 unversioned version source db (WrongVersion n) told is = absurd (cc)
 unversioned version source db BadRow told is = λ objects stored. told.bad stored.version
-unversioned version source db Store told is = absurd (cc)
+unversioned version source db (Store error) told is = absurd (cc)
 unversioned version source db Memory told is = absurd (cc)
 
 pub says_other : (version : Version) (db : Database) (fault : OpenFault) → IsVersionFault version (settings (db.trees 0)) fault → (number : ℕ) → fault ≡ WrongVersion number → SaysOther version number db
 says_other version db (WrongVersion n) told number is = let same : n ≡ number = cc in subst (λ m. SaysOther version m db) same told
 says_other version db BadRow told number is = absurd (cc)
-says_other version db Store told number is = absurd (cc)
+says_other version db (Store error) told number is = absurd (cc)
 says_other version db Memory told number is = absurd (cc)
 
 -- tables whose version is told amiss say no other
 pub no_other_told : (version : Version) (db : Database) (fault : OpenFault) → IsVersionFault version (settings (db.trees 0)) fault → fault ≡ BadRow → SaysNoOther version db
 no_other_told version db (WrongVersion n) told is = absurd (cc)
 no_other_told version db BadRow told is = record { only = told.no_other }
-no_other_told version db Store told is = absurd (cc)
+no_other_told version db (Store error) told is = absurd (cc)
 no_other_told version db Memory told is = absurd (cc)
+
+-- the database's own refusal says nothing of the tables
+pub database_refuses : (version : Version) (source : List ℕ) (db : Database) (error : Error) → RefusesTables version source db (Store error)
+database_refuses version source db error = record {
+  wrong_version = λ number is. absurd (cc);
+  bad_row = λ is. absurd (cc);
+  no_other_said = λ is. absurd (cc);
+  tables = λ none. absurd none;
+}
+
+-- tables whose version is told amiss are refused for that
+pub version_refuses : (version : Version) (source : List ℕ) (db : Database) (fault : OpenFault) → HasTables db.schema → IsVersionFault version (settings (db.trees 0)) fault → RefusesTables version source db fault
+version_refuses version source db fault has told = record {
+  wrong_version = says_other version db fault told;
+  bad_row = unversioned version source db fault told;
+  no_other_said = no_other_told version db fault told;
+  tables = λ rows. has;
+}
 
 number_text : (version : Version) → version_text version ≡ decimal (version_number version)
 unfolding digits
@@ -74,10 +94,15 @@ only_said version db is = record {
       decimal_injective number (version_number version) (omega (arith, low)) (number_low version) (sym alone ∙ number_text version);
 }
 
--- what holds anyway holds of any fault
-pub of_any_fault : {X E : Type 0} (r : Result X E) (P : E → Type 0) → ((e : E) → P e) → IfErr r P
-of_any_fault (Ok x) P all = tt
-of_any_fault (Err e) P all = all e
+-- tables of this version whose rows are those of no objects are refused for that
+pub rows_refuse : (version : Version) (source : List ℕ) (db : Database) (fault : OpenFault) → HasTables db.schema → HasVersion (version_text version) db → ((number : ℕ) → fault ≡ WrongVersion number → ⊥) → (fault ≡ BadRow → HoldNone version source db)
+    → RefusesTables version source db fault
+rows_refuse version source db fault has is no_other bad = record {
+  wrong_version = λ number other. absurd (no_other number other);
+  bad_row = bad;
+  no_other_said = λ _. only_said version db is;
+  tables = λ rows. has;
+}
 
 module _ (form : KeyForm) (source : List ℕ) where
   pub read_rows : (rows : List Row) (objects : List Obj) → AreRead form source rows objects → rows ≡ map (λ o. object_row (entry_in form o)) objects

@@ -7,6 +7,8 @@ use Rattle.rr_object.specs.KeyOrders.{key_cmp}
 use Rattle.rr_object.specs.Objects.{Obj}
 use Rattle.rr_rows.specs.Maps.{HasRows}
 
--- where the tables hold a finite map of objects with none under this key, they hold it with the object there behind the change
+-- where the tables hold a finite map of objects with none under this key, they hold it with the
+-- object under it after the change
 abbrev pub AddsTo : Key → Obj → Database → Database → Type 0
-AddsTo key object old new = (objects : FinMap key_cmp Obj) → HasRows objects old → get objects key ≡ None → HasRows (insert objects key object) new
+AddsTo key object old new = (objects : FinMap key_cmp Obj) → HasRows objects old
+    → get objects key ≡ None → HasRows (insert objects key object) new

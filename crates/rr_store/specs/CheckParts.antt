@@ -1,4 +1,5 @@
--- What private functions that check the rows of tables promise each other. No public clause cites these.
+-- What private functions that check the rows of tables promise each other. No public clause cites
+-- these.
 use Rattle.std.specs.Prelude.{◌≡◌, ◌≢◌, ℕ, ◌<◌, ◌^◌, List, [], ◌∷◌, IsPermutation, codes}
 use Rattle.sqlite_value.specs.Order.{Row}
 use Rattle.rr_object.specs.Objects.{Obj}
@@ -21,7 +22,7 @@ pub record IsBadVersion (version : Version) (rows : List Row) : Type 0 where
 abbrev pub IsVersionFault : Version → List Row → OpenFault → Type 0
 IsVersionFault version rows (WrongVersion n) = (n ≢ version_number version) × SaysVersion n rows
 IsVersionFault version rows BadRow = IsBadVersion version rows
-IsVersionFault version rows Store = Unit {0}
+IsVersionFault version rows (Store error) = Unit {0}
 IsVersionFault version rows Memory = Unit {0}
 
 -- the three tables are there, and the rows of `meta` have numbers of their own (profile)
@@ -30,7 +31,8 @@ pub record HasSettings (db : Database) : Type 0 where
   pub keyed : AreKeyed (db.trees 0)
 
 -- rows, in some order, are those of these objects (profile)
-pub record HoldsObjects (form : KeyForm) (source : List ℕ) (objects : List Obj) (held : List Row) : Type 0 where
+pub record HoldsObjects (form : KeyForm) (source : List ℕ) (objects : List Obj) (held : List Row)
+    : Type 0 where
   pub rows : List Row
   pub same : IsPermutation held rows
   pub read : AreRead form source rows objects

@@ -1,4 +1,7 @@
 -- Faults of a call on a store, as those of a call that makes or opens one.
+use Rattle.sqlite.specs.declared.error.Error.{Error}
+use Rattle.sqlite.specs.declared.error.Error.TheVariants.{SqliteFailure}
+use Rattle.sqlite.specs.declared.error.ErrorCode.TheVariants.{DatabaseCorrupt}
 use Rattle.rr_store.specs.declared.fault.StoreFault.{StoreFault}
 use Rattle.rr_store.specs.declared.fault.StoreFault.TheVariants.{Store, Memory}
 use Rattle.rr_store.specs.declared.fault.CreateFault.{CreateFault}
@@ -10,22 +13,28 @@ use Rattle.rr_store.specs.declared.fault.MigrateFault.TheVariants as migrated
 
 -- a fault of a call on a store, as one of a call that makes a store
 abbrev pub create_fault : StoreFault → CreateFault
-create_fault Store = create.Store
+create_fault (Store error) = create.Store error
 create_fault Memory = create.Memory
 
--- and as one of a call that opens a store
-abbrev pub open_fault : StoreFault → OpenFault
-open_fault Store = opened.Store
-open_fault Memory = opened.Memory
+-- what is told of rows that no store has written
+abbrev pub bad_rows : Error
+bad_rows = SqliteFailure DatabaseCorrupt
+
+-- why tables were not read, as a fault of a call on the store that had them
+abbrev pub store_fault : OpenFault → StoreFault
+store_fault (opened.WrongVersion number) = Store bad_rows
+store_fault opened.BadRow = Store bad_rows
+store_fault (opened.Store error) = Store error
+store_fault opened.Memory = Memory
 
 -- and as one of a call that migrates tables
 abbrev pub migrate_fault : StoreFault → MigrateFault
-migrate_fault Store = migrated.Store
+migrate_fault (Store error) = migrated.Store error
 migrate_fault Memory = migrated.Memory
 
 -- why tables of version 1 could not be opened, as a fault of the call that migrates them
 abbrev pub unread_fault : OpenFault → MigrateFault
 unread_fault (opened.WrongVersion number) = migrated.WrongVersion number
 unread_fault opened.BadRow = migrated.BadRow
-unread_fault opened.Store = migrated.Store
+unread_fault (opened.Store error) = migrated.Store error
 unread_fault opened.Memory = migrated.Memory

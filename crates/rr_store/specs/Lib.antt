@@ -1,5 +1,8 @@
 pub mod Adding
+pub mod Calls
 pub mod CheckParts
+pub mod Creating
+pub mod Listing
 pub mod VacancyParts
 pub mod Faults
 pub mod Kept
@@ -9,4 +12,6 @@ pub mod MigratingParts
 pub mod NamingParts
 pub mod Opening
 pub mod ReadingParts
+pub mod StepParts
+pub mod StreamParts
 pub mod Versions

@@ -1,26 +1,37 @@
 -- What migration makes of tables of version 1.
-use Rattle.std.specs.Prelude.{◌≡◌, ℕ, Bool, true, false, List, [], ◌∷◌, ◌++◌, codes}
+use Rattle.std.specs.Prelude.{◌≡◌, ℕ, Bool, true, false, List, [], ◌∷◌, ◌++◌, codes, IsTrue}
 use Rattle.std.specs.List.{list_any}
+use Rattle.sqlite_trees.specs.declared.store.Store.{Ghosts}
 use Rattle.sqlite.specs.Effect.{Database}
+use Rattle.sqlite.specs.Held.{Held, state}
+use Rattle.sqlite.specs.State.{Survives}
 use Rattle.rr_text.specs.Fields.{Field, one_line}
 pub use Rattle.rr_object.specs.Keys.{is_mntner_of}
 use Rattle.rr_object.specs.Objects.{Obj}
-use Rattle.rr_rows.specs.Maps.{AreOldStored, AreStored}
 use Rattle.rr_object.specs.Readings.{ReadsAs}
+use Rattle.rr_rows.specs.Entries.{TreesOf}
+use Rattle.rr_rows.specs.Maps.{AreOldStored, AreStored}
+use Rattle.rr_rows.specs.Tables.{HasTables}
+use Rattle.rr_store.specs.Calls.{OnCleanDisk, WhileOpen, database}
+use Rattle.rr_store.specs.Opening.{HoldNone, IsNotOld, IsOfNoneButOld}
+use Rattle.rr_store.specs.declared.version.Version.TheVariants.{Old}
 use Rattle.rr_store.specs.declared.fault.MigrateFault.{MigrateFault}
-use Rattle.rr_store.specs.declared.fault.MigrateFault.TheVariants.{WrongVersion, BadRow, NoRoot, Store, Memory}
+use Rattle.rr_store.specs.declared.fault.MigrateFault.TheVariants.{WrongVersion, BadRow, NoRoot}
+use Rattle.rr_store.specs.declared.fault.MigrateFault.TheVariants.{Store, Memory}
 
--- the block of the AS numbers of more than two octets (RFC 6793), which the root maintains (profile)
+-- the block of the AS numbers of more than two octets (RFC 6793), which the root maintains
+-- (profile)
 abbrev pub upper_block : List ℕ → List ℕ → List Field
 upper_block root source =
-    one_line (codes "as-block") (codes "AS65536 - AS4294967295") ∷ (one_line (codes "mnt-by") root ∷ (one_line (codes "source") source ∷ []))
+    one_line (codes "as-block") (codes "AS65536 - AS4294967295")
+    ∷ (one_line (codes "mnt-by") root ∷ (one_line (codes "source") source ∷ []))
 
 -- one of the objects is the mntner of a name
 abbrev pub has_mntner : List ℕ → List Obj → Bool
 has_mntner name objects = list_any (λ object. is_mntner_of name object.key) objects
 
--- tables of version 1 held objects of the source, the root's mntner among them; those of version 2 hold the same objects and
--- that block (profile)
+-- tables of version 1 held objects of the source, the root's mntner among them; those of version 2
+-- hold the same objects and that block (profile)
 pub record IsMigrated (root source : List ℕ) (old new : Database) : Type 0 where
   pub objects : List Obj
   pub block : Obj
@@ -40,5 +51,30 @@ abbrev pub IsOfOldRows : MigrateFault → Type 0
 IsOfOldRows (WrongVersion number) = Unit {0}
 IsOfOldRows BadRow = Unit {0}
 IsOfOldRows NoRoot = Unit {0}
-IsOfOldRows Store = ⊥
+IsOfOldRows (Store error) = ⊥
 IsOfOldRows Memory = ⊥
+
+-- why tables are not migrated (profile)
+pub record RefusesOldTables (root source : List ℕ) (db : Database) (fault : MigrateFault)
+    : Type 0 where
+  pub wrong_version : (number : ℕ) → fault ≡ WrongVersion number → IsNotOld number db
+  pub bad_row : fault ≡ BadRow → HoldNone Old source db
+  pub no_other_said : fault ≡ BadRow → IsOfNoneButOld db
+  pub tables : IsOfOldRows fault → HasTables db.schema
+  pub no_root : fault ≡ NoRoot → HasNoRoot root source db
+
+module _ {S : Type 0} (g : Ghosts S) (root source : List ℕ) (conn : Held S) where
+  -- the tables are migrated, and the store of their objects and the block is open
+  pub record MigratesStore (store : Held S) : Type 0 where
+    pub migrated : OnCleanDisk g store (IsMigrated root source (database g conn) (database g store))
+    pub is_open : OnCleanDisk g store (IsTrue (state g store).is_open)
+    pub crash : Survives (state g conn) (state g store)
+        (TreesOf (IsMigrated root source (database g conn)))
+
+  -- the rows are as they were, and the fault says why they are not migrated
+  pub record FailsToMigrate (left : Held S) (fault : MigrateFault) : Type 0 where
+    pub autocommit : left.in_transaction ≡ false
+    pub kept : WhileOpen g left (database g left ≡ database g conn)
+    pub why : OnCleanDisk g left (RefusesOldTables root source (database g conn) fault)
+    pub crash : Survives (state g conn) (state g left)
+        (TreesOf (IsMigrated root source (database g conn)))

@@ -7,7 +7,8 @@ use Rattle.rr_rows.specs.Entries.{entry_of}
 use Rattle.rr_rows.specs.Maps.{IsFilled, IsObjectOf}
 use Rattle.rr_store.specs.Migrating.{upper_block}
 
--- the tables are of version 2 and hold the rows of the objects and of the block of the AS numbers of more than two octets (profile)
+-- the tables are of version 2 and hold the rows of the objects and of the block of the AS numbers
+-- of more than two octets (profile)
 pub record IsRewritten (root source : List ℕ) (objects : List Obj) (db : Database) : Type 0 where
   pub block : Obj
   pub of_source : IsObjectOf source block

@@ -1,26 +1,39 @@
--- Why tables are not opened.
-use Rattle.std.specs.Prelude.{◌≡◌, ◌≢◌, ℕ, ◌<◌, ◌^◌, List}
+-- What becomes of a call that opens a store.
+use Rattle.std.specs.Prelude.{◌≡◌, ◌≢◌, ℕ, ◌<◌, ◌^◌, List, IsTrue}
+use Rattle.std.specs.List.{AllByRecursion}
+use Rattle.sqlite_trees.specs.declared.store.Store.{Ghosts}
 use Rattle.sqlite.specs.Effect.{Database}
+use Rattle.sqlite.specs.Held.{Held, state}
+use Rattle.sqlite.specs.State.{Survives}
 use Rattle.rr_object.specs.Objects.{Obj}
 use Rattle.rr_rows.specs.Contents.{settings}
-use Rattle.rr_rows.specs.Maps.{AreStored, AreStoredIn}
+use Rattle.rr_rows.specs.Maps.{AreInOrder, AreStored, AreStoredIn, IsObjectOf}
+use Rattle.rr_rows.specs.Tables.{HasTables}
+use Rattle.rr_store.specs.Calls.{OnCleanDisk, Rests, database}
 use Rattle.rr_store.specs.Versions.{SaysVersion, form_of, version_number, version_text}
 use Rattle.rr_store.specs.declared.fault.OpenFault.{OpenFault}
 use Rattle.rr_store.specs.declared.fault.OpenFault.TheVariants.{WrongVersion, BadRow, Store, Memory}
 use Rattle.rr_store.specs.declared.version.Version.{Version}
 use Rattle.rr_store.specs.declared.version.Version.TheVariants.{Old, This}
 
--- a row of `meta` says that the tables are of this version, which is another than that asked for (profile)
+-- a row of `meta` says that the tables are of this version, which is another than that asked for
+-- (profile)
 abbrev pub SaysOther : Version → ℕ → Database → Type 0
-SaysOther version number db = (number ≢ version_number version) × SaysVersion number (settings (db.trees 0))
+SaysOther version number db =
+    (number ≢ version_number version) × SaysVersion number (settings (db.trees 0))
 
 -- no row of `meta` says that the tables are of another version than that asked for (profile)
 pub record SaysNoOther (version : Version) (db : Database) : Type 0 where
-  pub only : (number : ℕ) → number < 2 ^ 32 → SaysVersion number (settings (db.trees 0)) → number ≡ version_number version
+  pub only : (number : ℕ) → number < 2 ^ 32 → SaysVersion number (settings (db.trees 0))
+      → number ≡ version_number version
+
+-- the tables of this version hold the rows of these objects, all of the source (profile)
+abbrev pub AreStoredAs : Version → List ℕ → List Obj → Database → Type 0
+AreStoredAs version = AreStoredIn (form_of version) (version_text version)
 
 -- the tables of this version hold the rows of no list of objects of the source (profile)
 abbrev pub HoldNone : Version → List ℕ → Database → Type 0
-HoldNone version source db = (objects : List Obj) → AreStoredIn (form_of version) (version_text version) source objects db → ⊥
+HoldNone version source db = (objects : List Obj) → AreStoredAs version source objects db → ⊥
 
 -- a row of `meta` says that the tables are of this version, and it is not 2 (profile)
 abbrev pub IsOtherVersion : ℕ → Database → Type 0
@@ -51,5 +64,30 @@ pub record IsReadable (source : List ℕ) (db : Database) : Type 0 where
 abbrev pub IsOfRows : OpenFault → Type 0
 IsOfRows (WrongVersion number) = Unit {0}
 IsOfRows BadRow = Unit {0}
-IsOfRows Store = ⊥
+IsOfRows (Store error) = ⊥
 IsOfRows Memory = ⊥
+
+-- why tables are not read as those of this version: another is said, and that is told before bad
+-- rows (profile)
+pub record RefusesTables (version : Version) (source : List ℕ) (db : Database) (fault : OpenFault)
+    : Type 0 where
+  pub wrong_version : (number : ℕ) → fault ≡ WrongVersion number → SaysOther version number db
+  pub bad_row : fault ≡ BadRow → HoldNone version source db
+  pub no_other_said : fault ≡ BadRow → SaysNoOther version db
+  pub tables : IsOfRows fault → HasTables db.schema
+
+module _ {S : Type 0} (g : Ghosts S) (source : List ℕ) (conn : Held S) where
+  -- the store of these objects is open, in order of class and key, with the rows as they were
+  -- (profile)
+  pub record OpensStore (store : Held S) (objects : List Obj) : Type 0 where
+    pub stored : OnCleanDisk g store (AreStored source objects (database g store))
+    pub in_order : AreInOrder objects
+    pub of_source : AllByRecursion (IsObjectOf source) objects
+    pub same : OnCleanDisk g store (database g store ≡ database g conn)
+    pub is_open : OnCleanDisk g store (IsTrue (state g store).is_open)
+    pub crash : Survives (state g conn) (state g store) (λ _. ⊥)
+
+  -- the rows are as they were, and the fault says why they are not read
+  pub record FailsToOpen (left : Held S) (fault : OpenFault) : Type 0 where
+    pub rests : Rests g conn left
+    pub why : OnCleanDisk g left (RefusesTables This source (database g conn) fault)

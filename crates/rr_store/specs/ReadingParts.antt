@@ -1,4 +1,5 @@
--- What private functions that read the objects of rows promise each other. No public clause cites these.
+-- What private functions that read the objects of rows promise each other. No public clause cites
+-- these.
 use Rattle.std.specs.Prelude.{◌≡◌, ℕ, List, [], ◌∷◌, Option, Some, ⊤, Bool, true}
 use Rattle.std.specs.List.{find}
 use Rattle.std.specs.Option.{option_and_then}
@@ -20,7 +21,8 @@ use Rattle.rr_rows.specs.Maps.{IsObjectOf, KeyForm}
 
 -- the source that the first attribute `source` names (RFC 2622, 3.1)
 abbrev pub first_source : List Field → Option (List ℕ)
-first_source fields = option_and_then (λ field. name_of (value_meaning field.lines)) (find (has_name (kind_name Source)) fields)
+first_source fields = option_and_then (λ field. name_of (value_meaning field.lines))
+    (find (has_name (kind_name Source)) fields)
 
 -- a row is that of an object, whose key has a text in this form (profile)
 pub record IsRowOf (form : KeyForm) (object : Obj) (row : Row) : Type 0 where
@@ -33,7 +35,8 @@ abbrev pub AreRead : KeyForm → List ℕ → List Row → List Obj → Type 0
 AreRead form source [] [] = ⊤
 AreRead form source (row ∷ rows) [] = ⊥
 AreRead form source [] (object ∷ objects) = ⊥
-AreRead form source (row ∷ rows) (object ∷ objects) = (IsObjectOf source object × IsRowOf form object row) × AreRead form source rows objects
+AreRead form source (row ∷ rows) (object ∷ objects) =
+    (IsObjectOf source object × IsRowOf form object row) × AreRead form source rows objects
 
 -- rows are those of no objects of a source (profile)
 abbrev pub AreNone : KeyForm → List ℕ → List Row → Type 0

@@ -1,11 +1,13 @@
 //! What a transaction does before its commit.
 
 ghost use Rattle.std.specs.Prelude.{◌≡◌, [], ◌∷◌, map, OnOk, IsTrue};
-ghost use Rattle.sqlite.specs.State.{HasCleanDisk, KeepsCommit, Survives};
-ghost use Rattle.sqlite.specs.Held.{state};
-ghost use Rattle.rr_rows.specs.Contents.{Adds, Alters, RunsOn, IsTidy, Removes, is_name_among, is_named_of, named_values};
+ghost use Rattle.rr_rows.specs.Contents.{Adds, Alters, IsTidy, Removes, is_name_among};
+ghost use Rattle.rr_rows.specs.Contents.{is_named_of, named_values};
 ghost use Rattle.rr_rows.specs.Entries.{IsAdded, IsPut, IsTakenOut};
 ghost use Rattle.rr_rows.specs.Maps.{AreOfObjects};
+ghost use Rattle.rr_store.specs.Calls.{WhileOpen, database};
+ghost use Rattle.rr_store.specs.StepParts.{CommitsNothing, GoesOn, GoesOnOpen, LeavesAll};
+ghost use Rattle.rr_store.specs.StepParts.{Made, MadeOpen};
 
 use crate::entry::Entry;
 use crate::fault::StoreFault;
@@ -21,12 +23,15 @@ fn add_names<S: Alter>(
     class: u8,
     key: &[u8],
 ) -> Result<(), Error>
-    requires { HasCleanDisk (state S.Store tx.old.conn.now) → IsTrue (state S.Store tx.old.conn.now).is_open → IsTidy (state S.Store tx.old.conn.now).now }
+    requires { WhileOpen S.Store tx.old.conn.now (IsTidy (database S.Store tx.old.conn.now)) }
     ensures same_reference { tx.new.conn.ghost_name ≡ tx.old.conn.ghost_name }
-    ensures ok { HasCleanDisk (state S.Store tx.new.conn.now) → IsTrue (state S.Store tx.old.conn.now).is_open → OnOk result (Alters (state S.Store tx.old.conn.now).now (state S.Store tx.new.conn.now).now 4 (Adds (map (λ name. named_values name class key.now) names.now))) }
-    ensures step { HasCleanDisk (state S.Store tx.new.conn.now) → IsTrue (state S.Store tx.old.conn.now).is_open → OnOk result (RunsOn (state S.Store tx.old.conn.now) (state S.Store tx.new.conn.now)) }
-    ensures kept { HasCleanDisk (state S.Store tx.new.conn.now) → KeepsCommit (state S.Store tx.old.conn.now) (state S.Store tx.new.conn.now) }
-    ensures survives { Survives (state S.Store tx.old.conn.now) (state S.Store tx.new.conn.now) (λ _. ⊥) }
+    ensures ok { MadeOpen S.Store
+        (λ old new. Alters old new 4
+        (Adds (map (λ name. named_values name class key.now) names.now)))
+        tx.old.conn.now tx.new.conn.now result }
+    ensures step { GoesOnOpen S.Store tx.old.conn.now tx.new.conn.now result }
+    ensures kept { CommitsNothing S.Store tx.old.conn.now tx.new.conn.now }
+    ensures survives { LeavesAll S.Store tx.old.conn.now tx.new.conn.now }
 {
     for name in names {
         let _count = add_name(tx, name.as_bytes(), class, key)?;
@@ -39,12 +44,12 @@ pub(crate) fn add_rows<S: Alter>(
     tx: &mut Transaction<'_, S>,
     entry: &Entry,
 ) -> Result<(), StoreFault>
-    requires { HasCleanDisk (state S.Store tx.old.conn.now) → IsTrue (state S.Store tx.old.conn.now).is_open → IsTidy (state S.Store tx.old.conn.now).now }
+    requires { WhileOpen S.Store tx.old.conn.now (IsTidy (database S.Store tx.old.conn.now)) }
     ensures same_reference { tx.new.conn.ghost_name ≡ tx.old.conn.ghost_name }
-    ensures ok { HasCleanDisk (state S.Store tx.new.conn.now) → OnOk result (IsAdded (entry.now ∷ []) (state S.Store tx.old.conn.now).now (state S.Store tx.new.conn.now).now) }
-    ensures step { HasCleanDisk (state S.Store tx.new.conn.now) → OnOk result (RunsOn (state S.Store tx.old.conn.now) (state S.Store tx.new.conn.now)) }
-    ensures kept { HasCleanDisk (state S.Store tx.new.conn.now) → KeepsCommit (state S.Store tx.old.conn.now) (state S.Store tx.new.conn.now) }
-    ensures survives { Survives (state S.Store tx.old.conn.now) (state S.Store tx.new.conn.now) (λ _. ⊥) }
+    ensures ok { Made S.Store (IsAdded (entry.now ∷ [])) tx.old.conn.now tx.new.conn.now result }
+    ensures step { GoesOn S.Store tx.old.conn.now tx.new.conn.now result }
+    ensures kept { CommitsNothing S.Store tx.old.conn.now tx.new.conn.now }
+    ensures survives { LeavesAll S.Store tx.old.conn.now tx.new.conn.now }
 {
     let class = entry.class();
     let key = entry.key();
@@ -60,12 +65,14 @@ fn remove_names<S: Alter>(
     class: u8,
     key: &[u8],
 ) -> Result<(), Error>
-    requires { HasCleanDisk (state S.Store tx.old.conn.now) → IsTrue (state S.Store tx.old.conn.now).is_open → IsTidy (state S.Store tx.old.conn.now).now }
+    requires { WhileOpen S.Store tx.old.conn.now (IsTidy (database S.Store tx.old.conn.now)) }
     ensures same_reference { tx.new.conn.ghost_name ≡ tx.old.conn.ghost_name }
-    ensures ok { HasCleanDisk (state S.Store tx.new.conn.now) → IsTrue (state S.Store tx.old.conn.now).is_open → OnOk result (Alters (state S.Store tx.old.conn.now).now (state S.Store tx.new.conn.now).now 4 (Removes (is_name_among class key.now names.now))) }
-    ensures step { HasCleanDisk (state S.Store tx.new.conn.now) → IsTrue (state S.Store tx.old.conn.now).is_open → OnOk result (RunsOn (state S.Store tx.old.conn.now) (state S.Store tx.new.conn.now)) }
-    ensures kept { HasCleanDisk (state S.Store tx.new.conn.now) → KeepsCommit (state S.Store tx.old.conn.now) (state S.Store tx.new.conn.now) }
-    ensures survives { Survives (state S.Store tx.old.conn.now) (state S.Store tx.new.conn.now) (λ _. ⊥) }
+    ensures ok { MadeOpen S.Store
+        (λ old new. Alters old new 4 (Removes (is_name_among class key.now names.now)))
+        tx.old.conn.now tx.new.conn.now result }
+    ensures step { GoesOnOpen S.Store tx.old.conn.now tx.new.conn.now result }
+    ensures kept { CommitsNothing S.Store tx.old.conn.now tx.new.conn.now }
+    ensures survives { LeavesAll S.Store tx.old.conn.now tx.new.conn.now }
 {
     for name in names {
         let _count = remove_name(tx, name.as_bytes(), class, key)?;
@@ -73,20 +80,21 @@ fn remove_names<S: Alter>(
     Ok(())
 }
 
-/// Takes out the rows of `named` of the object with this class and key, if there is one: each by its whole primary key,
-/// since no index of that table begins with the class.
+/// Takes out the rows of `named` of the object with this class and key, if there is one: each by
+/// its whole primary key, since no index of that table begins with the class.
 fn forget_names<S: Alter>(
     tx: &mut Transaction<'_, S>,
     alloc: Global,
     class: u8,
     key: &[u8],
 ) -> Result<(), StoreFault>
-    requires { HasCleanDisk (state S.Store tx.old.conn.now) → IsTrue (state S.Store tx.old.conn.now).is_open → AreOfObjects (state S.Store tx.old.conn.now).now }
+    requires { WhileOpen S.Store tx.old.conn.now (AreOfObjects (database S.Store tx.old.conn.now)) }
     ensures same_reference { tx.new.conn.ghost_name ≡ tx.old.conn.ghost_name }
-    ensures ok { HasCleanDisk (state S.Store tx.new.conn.now) → OnOk result (Alters (state S.Store tx.old.conn.now).now (state S.Store tx.new.conn.now).now 4 (Removes (is_named_of class key.now))) }
-    ensures step { HasCleanDisk (state S.Store tx.new.conn.now) → OnOk result (RunsOn (state S.Store tx.old.conn.now) (state S.Store tx.new.conn.now)) }
-    ensures kept { HasCleanDisk (state S.Store tx.new.conn.now) → KeepsCommit (state S.Store tx.old.conn.now) (state S.Store tx.new.conn.now) }
-    ensures survives { Survives (state S.Store tx.old.conn.now) (state S.Store tx.new.conn.now) (λ _. ⊥) }
+    ensures ok { Made S.Store (λ old new. Alters old new 4 (Removes (is_named_of class key.now)))
+        tx.old.conn.now tx.new.conn.now result }
+    ensures step { GoesOn S.Store tx.old.conn.now tx.new.conn.now result }
+    ensures kept { CommitsNothing S.Store tx.old.conn.now tx.new.conn.now }
+    ensures survives { LeavesAll S.Store tx.old.conn.now tx.new.conn.now }
 {
     let rows = rows_of_key(tx, class, key)?;
     let names = names_of_rows(alloc, &rows)?;
@@ -101,12 +109,12 @@ pub(crate) fn remove_rows<S: Alter>(
     class: u8,
     key: &[u8],
 ) -> Result<(), StoreFault>
-    requires { HasCleanDisk (state S.Store tx.old.conn.now) → IsTrue (state S.Store tx.old.conn.now).is_open → AreOfObjects (state S.Store tx.old.conn.now).now }
+    requires { WhileOpen S.Store tx.old.conn.now (AreOfObjects (database S.Store tx.old.conn.now)) }
     ensures same_reference { tx.new.conn.ghost_name ≡ tx.old.conn.ghost_name }
-    ensures ok { HasCleanDisk (state S.Store tx.new.conn.now) → OnOk result (IsTakenOut class key.now (state S.Store tx.old.conn.now).now (state S.Store tx.new.conn.now).now) }
-    ensures step { HasCleanDisk (state S.Store tx.new.conn.now) → OnOk result (RunsOn (state S.Store tx.old.conn.now) (state S.Store tx.new.conn.now)) }
-    ensures kept { HasCleanDisk (state S.Store tx.new.conn.now) → KeepsCommit (state S.Store tx.old.conn.now) (state S.Store tx.new.conn.now) }
-    ensures survives { Survives (state S.Store tx.old.conn.now) (state S.Store tx.new.conn.now) (λ _. ⊥) }
+    ensures ok { Made S.Store (IsTakenOut class key.now) tx.old.conn.now tx.new.conn.now result }
+    ensures step { GoesOn S.Store tx.old.conn.now tx.new.conn.now result }
+    ensures kept { CommitsNothing S.Store tx.old.conn.now tx.new.conn.now }
+    ensures survives { LeavesAll S.Store tx.old.conn.now tx.new.conn.now }
 {
     forget_names(tx, alloc, class, key)?;
     let _removed = remove_object(tx, class, key)?;
@@ -119,12 +127,12 @@ pub(crate) fn put_rows<S: Alter>(
     alloc: Global,
     entry: &Entry,
 ) -> Result<(), StoreFault>
-    requires { HasCleanDisk (state S.Store tx.old.conn.now) → IsTrue (state S.Store tx.old.conn.now).is_open → AreOfObjects (state S.Store tx.old.conn.now).now }
+    requires { WhileOpen S.Store tx.old.conn.now (AreOfObjects (database S.Store tx.old.conn.now)) }
     ensures same_reference { tx.new.conn.ghost_name ≡ tx.old.conn.ghost_name }
-    ensures ok { HasCleanDisk (state S.Store tx.new.conn.now) → OnOk result (IsPut entry.now (state S.Store tx.old.conn.now).now (state S.Store tx.new.conn.now).now) }
-    ensures step { HasCleanDisk (state S.Store tx.new.conn.now) → OnOk result (RunsOn (state S.Store tx.old.conn.now) (state S.Store tx.new.conn.now)) }
-    ensures kept { HasCleanDisk (state S.Store tx.new.conn.now) → KeepsCommit (state S.Store tx.old.conn.now) (state S.Store tx.new.conn.now) }
-    ensures survives { Survives (state S.Store tx.old.conn.now) (state S.Store tx.new.conn.now) (λ _. ⊥) }
+    ensures ok { Made S.Store (IsPut entry.now) tx.old.conn.now tx.new.conn.now result }
+    ensures step { GoesOn S.Store tx.old.conn.now tx.new.conn.now result }
+    ensures kept { CommitsNothing S.Store tx.old.conn.now tx.new.conn.now }
+    ensures survives { LeavesAll S.Store tx.old.conn.now tx.new.conn.now }
 {
     remove_rows(tx, alloc, entry.class(), entry.key())?;
     add_rows(tx, entry)

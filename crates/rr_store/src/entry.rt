@@ -24,11 +24,16 @@ impl Model for Entry {
 
     ghost Value = { Kept };
 
-    ghost view = { λ e. record { class = e.class; key = e.key.items; body = e.body; names = e.names.items } };
+    ghost view = { λ e. record {
+      class = e.class;
+      key = e.key.items;
+      body = e.body;
+      names = e.names.items;
+    } };
 }
 
 impl Entry {
-    /// The entry of an object; the error is want of memory.
+    /// The entry of an object.
     pub(crate) fn of(alloc: Global, object: &Object) -> Result<Entry, AllocError>
         ensures { IfOk result (λ entry. entry ≡ entry_of object.now) }
     {

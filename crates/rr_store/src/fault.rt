@@ -1,14 +1,21 @@
 //! Why a call on a store failed.
 
-use sqlite::Error;
+use sqlite::{Error, ErrorCode};
+use sqlite_resolve::CompileError;
 use std::alloc::AllocError;
+
+/// What is told of a database that has other tables in place of the three.
+pub(crate) const NO_TABLES: Error = Error::SqlInputError(CompileError::NoSuchTable);
+
+/// What is told of rows that no store has written.
+pub(crate) const BAD_ROWS: Error = Error::SqliteFailure(ErrorCode::DatabaseCorrupt);
 
 /// Why a call on a store failed. It changed no row.
 #[derive(Clone, Copy, Debug, PartialEq, Eq)]
 pub enum StoreFault {
-    /// The database refused, for want of memory too.
-    Store,
-    /// Memory was wanting.
+    /// The database refused, out of memory too.
+    Store(Error),
+    /// Out of memory.
     Memory,
 }
 
@@ -27,10 +34,10 @@ impl From<Error> for StoreFault {
     ghost use Rattle.std.specs.Prelude.{◌≡◌};
     ghost use Rattle.rr_store.specs.declared.fault.StoreFault.TheVariants.{Store};
 
-    ghost from_gives = { λ _ fault. fault ≡ Store };
+    ghost from_gives = { λ error fault. fault ≡ Store error };
 
-    fn from(_refused: Error) -> StoreFault {
-        StoreFault::Store
+    fn from(error: Error) -> StoreFault {
+        StoreFault::Store(error)
     }
 }
 
@@ -39,9 +46,9 @@ impl From<Error> for StoreFault {
 pub enum CreateFault {
     /// One of the three tables has a row.
     NotEmpty,
-    /// The database refused, for want of memory too, or has other tables in place of the three.
-    Store,
-    /// Memory was wanting.
+    /// The database refused, out of memory too, or has other tables in place of the three.
+    Store(Error),
+    /// Out of memory.
     Memory,
 }
 
@@ -53,7 +60,7 @@ impl From<StoreFault> for CreateFault {
 
     fn from(refused: StoreFault) -> CreateFault {
         match refused {
-            StoreFault::Store => CreateFault::Store,
+            StoreFault::Store(error) => CreateFault::Store(error),
             StoreFault::Memory => CreateFault::Memory,
         }
     }
@@ -66,22 +73,46 @@ pub enum OpenFault {
     WrongVersion(u32),
     /// The rows are not those of objects of the source.
     BadRow,
-    /// The database refused, for want of memory too, or has other tables in place of the three.
-    Store,
-    /// Memory was wanting.
+    /// The database refused, out of memory too, or has other tables in place of the three.
+    Store(Error),
+    /// Out of memory.
     Memory,
 }
 
-impl From<StoreFault> for OpenFault {
+impl From<AllocError> for OpenFault {
     ghost use Rattle.std.specs.Prelude.{◌≡◌};
-    ghost use Rattle.rr_store.specs.Faults.{open_fault};
+    ghost use Rattle.rr_store.specs.declared.fault.OpenFault.TheVariants.{Memory};
 
-    ghost from_gives = { λ refused fault. fault ≡ open_fault refused };
+    ghost from_gives = { λ _ fault. fault ≡ Memory };
 
-    fn from(refused: StoreFault) -> OpenFault {
+    fn from(_refused: AllocError) -> OpenFault {
+        OpenFault::Memory
+    }
+}
+
+impl From<Error> for OpenFault {
+    ghost use Rattle.std.specs.Prelude.{◌≡◌};
+    ghost use Rattle.rr_store.specs.declared.fault.OpenFault.TheVariants.{Store};
+
+    ghost from_gives = { λ error fault. fault ≡ Store error };
+
+    fn from(error: Error) -> OpenFault {
+        OpenFault::Store(error)
+    }
+}
+
+/// A store has tables that can be read: others were not its own.
+impl From<OpenFault> for StoreFault {
+    ghost use Rattle.std.specs.Prelude.{◌≡◌};
+    ghost use Rattle.rr_store.specs.Faults.{store_fault};
+
+    ghost from_gives = { λ refused fault. fault ≡ store_fault refused };
+
+    fn from(refused: OpenFault) -> StoreFault {
         match refused {
-            StoreFault::Store => OpenFault::Store,
-            StoreFault::Memory => OpenFault::Memory,
+            OpenFault::WrongVersion(_) | OpenFault::BadRow => StoreFault::Store(BAD_ROWS),
+            OpenFault::Store(error) => StoreFault::Store(error),
+            OpenFault::Memory => StoreFault::Memory,
         }
     }
 }
@@ -95,9 +126,9 @@ pub enum MigrateFault {
     BadRow,
     /// The root's mntner is not among the objects.
     NoRoot,
-    /// The database refused, for want of memory too, or has other tables in place of the three.
-    Store,
-    /// Memory was wanting.
+    /// The database refused, out of memory too, or has other tables in place of the three.
+    Store(Error),
+    /// Out of memory.
     Memory,
 }
 
@@ -120,7 +151,7 @@ impl From<StoreFault> for MigrateFault {
 
     fn from(refused: StoreFault) -> MigrateFault {
         match refused {
-            StoreFault::Store => MigrateFault::Store,
+            StoreFault::Store(error) => MigrateFault::Store(error),
             StoreFault::Memory => MigrateFault::Memory,
         }
     }
@@ -136,7 +167,7 @@ impl From<OpenFault> for MigrateFault {
         match refused {
             OpenFault::WrongVersion(number) => MigrateFault::WrongVersion(number),
             OpenFault::BadRow => MigrateFault::BadRow,
-            OpenFault::Store => MigrateFault::Store,
+            OpenFault::Store(error) => MigrateFault::Store(error),
             OpenFault::Memory => MigrateFault::Memory,
         }
     }

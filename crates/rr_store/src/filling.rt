@@ -1,13 +1,14 @@
 //! The rows of a list of objects, as a transaction adds them to tables without a row.
 
 ghost use Rattle.std.specs.Prelude.{◌≡◌, map, IsTrue, OnOk};
-ghost use Rattle.sqlite.specs.Held.{state};
-ghost use Rattle.sqlite.specs.State.{HasCleanDisk, KeepsCommit, Survives};
-ghost use Rattle.rr_rows.specs.Contents.{RunsOn, IsTidy};
+ghost use Rattle.rr_rows.specs.Contents.{IsTidy};
 ghost use Rattle.rr_rows.specs.Entries.{IsAdded, entry_of};
 ghost use Rattle.rr_rows.specs.Made.{IsBare, no_schema};
 ghost use Rattle.rr_rows.specs.Maps.{IsFilled};
 ghost use Rattle.rr_store.specs.Lent.{lent};
+ghost use Rattle.rr_store.specs.Calls.{WhileOpen, database};
+ghost use Rattle.rr_store.specs.StepParts.{CommitsNothing, GoesOn, GoesOnOpen, LeavesAll};
+ghost use Rattle.rr_store.specs.StepParts.{Made, MadeOpen};
 
 use crate::bodies::add_rows;
 use crate::entry::Entry;
@@ -23,12 +24,13 @@ pub(crate) fn add_objects<S: Alter>(
     alloc: Global,
     objects: &[&Object],
 ) -> Result<(), StoreFault>
-    requires { HasCleanDisk (state S.Store tx.old.conn.now) → IsTrue (state S.Store tx.old.conn.now).is_open → IsTidy (state S.Store tx.old.conn.now).now }
+    requires { WhileOpen S.Store tx.old.conn.now (IsTidy (database S.Store tx.old.conn.now)) }
     ensures same_reference { tx.new.conn.ghost_name ≡ tx.old.conn.ghost_name }
-    ensures ok { HasCleanDisk (state S.Store tx.new.conn.now) → IsTrue (state S.Store tx.old.conn.now).is_open → OnOk result (IsAdded (map entry_of (lent objects.now)) (state S.Store tx.old.conn.now).now (state S.Store tx.new.conn.now).now) }
-    ensures step { HasCleanDisk (state S.Store tx.new.conn.now) → IsTrue (state S.Store tx.old.conn.now).is_open → OnOk result (RunsOn (state S.Store tx.old.conn.now) (state S.Store tx.new.conn.now)) }
-    ensures kept { HasCleanDisk (state S.Store tx.new.conn.now) → KeepsCommit (state S.Store tx.old.conn.now) (state S.Store tx.new.conn.now) }
-    ensures survives { Survives (state S.Store tx.old.conn.now) (state S.Store tx.new.conn.now) (λ _. ⊥) }
+    ensures ok { MadeOpen S.Store (IsAdded (map entry_of (lent objects.now)))
+        tx.old.conn.now tx.new.conn.now result }
+    ensures step { GoesOnOpen S.Store tx.old.conn.now tx.new.conn.now result }
+    ensures kept { CommitsNothing S.Store tx.old.conn.now tx.new.conn.now }
+    ensures survives { LeavesAll S.Store tx.old.conn.now tx.new.conn.now }
 {
     for object in objects {
         let entry = Entry::of(alloc, object)?;
@@ -43,12 +45,13 @@ pub(crate) fn fill<S: Alter>(
     alloc: Global,
     objects: &[&Object],
 ) -> Result<(), StoreFault>
-    requires { HasCleanDisk (state S.Store tx.old.conn.now) → IsTrue (state S.Store tx.old.conn.now).is_open → IsBare (state S.Store tx.old.conn.now).now }
+    requires { WhileOpen S.Store tx.old.conn.now (IsBare (database S.Store tx.old.conn.now)) }
     ensures same_reference { tx.new.conn.ghost_name ≡ tx.old.conn.ghost_name }
-    ensures ok { HasCleanDisk (state S.Store tx.new.conn.now) → OnOk result (IsFilled (map entry_of (lent objects.now)) (state S.Store tx.new.conn.now).now) }
-    ensures step { HasCleanDisk (state S.Store tx.new.conn.now) → OnOk result (RunsOn (state S.Store tx.old.conn.now) (state S.Store tx.new.conn.now)) }
-    ensures kept { HasCleanDisk (state S.Store tx.new.conn.now) → KeepsCommit (state S.Store tx.old.conn.now) (state S.Store tx.new.conn.now) }
-    ensures survives { Survives (state S.Store tx.old.conn.now) (state S.Store tx.new.conn.now) (λ _. ⊥) }
+    ensures ok { Made S.Store (λ _. IsFilled (map entry_of (lent objects.now)))
+        tx.old.conn.now tx.new.conn.now result }
+    ensures step { GoesOn S.Store tx.old.conn.now tx.new.conn.now result }
+    ensures kept { CommitsNothing S.Store tx.old.conn.now tx.new.conn.now }
+    ensures survives { LeavesAll S.Store tx.old.conn.now tx.new.conn.now }
 {
     let _version = add_setting(tx, b"version", b"2")?;
     add_objects(tx, alloc, objects)
@@ -60,12 +63,14 @@ pub(crate) fn make_filled<S: Alter>(
     alloc: Global,
     objects: &[&Object],
 ) -> Result<(), StoreFault>
-    requires { HasCleanDisk (state S.Store tx.old.conn.now) → IsTrue (state S.Store tx.old.conn.now).is_open → (state S.Store tx.old.conn.now).now.schema ≡ no_schema }
+    requires { WhileOpen S.Store tx.old.conn.now
+        ((database S.Store tx.old.conn.now).schema ≡ no_schema) }
     ensures same_reference { tx.new.conn.ghost_name ≡ tx.old.conn.ghost_name }
-    ensures ok { HasCleanDisk (state S.Store tx.new.conn.now) → OnOk result (IsFilled (map entry_of (lent objects.now)) (state S.Store tx.new.conn.now).now) }
-    ensures step { HasCleanDisk (state S.Store tx.new.conn.now) → OnOk result (RunsOn (state S.Store tx.old.conn.now) (state S.Store tx.new.conn.now)) }
-    ensures kept { HasCleanDisk (state S.Store tx.new.conn.now) → KeepsCommit (state S.Store tx.old.conn.now) (state S.Store tx.new.conn.now) }
-    ensures survives { Survives (state S.Store tx.old.conn.now) (state S.Store tx.new.conn.now) (λ _. ⊥) }
+    ensures ok { Made S.Store (λ _. IsFilled (map entry_of (lent objects.now)))
+        tx.old.conn.now tx.new.conn.now result }
+    ensures step { GoesOn S.Store tx.old.conn.now tx.new.conn.now result }
+    ensures kept { CommitsNothing S.Store tx.old.conn.now tx.new.conn.now }
+    ensures survives { LeavesAll S.Store tx.old.conn.now tx.new.conn.now }
 {
     make_tables(tx)?;
     fill(tx, alloc, objects)

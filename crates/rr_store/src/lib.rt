@@ -1,4 +1,5 @@
-//! A registry kept in SQLite: its objects and who they name, in tables that always hold exactly its content.
+//! A registry kept in SQLite: its objects and who they name, in tables that always hold exactly its
+//! content.
 #![tactic(auto)]
 
 mod bodies;
@@ -20,6 +21,7 @@ mod reading;
 mod settings;
 mod statements;
 mod store;
+mod streams;
 mod tidy;
 mod upper;
 mod vacancy;

@@ -1,20 +1,15 @@
 //! Tables of version 1, written anew in one transaction as those of version 2.
 
-ghost use Rattle.std.specs.Prelude.{◌≡◌, ℕ, List, [], ◌∷◌, ◌++◌, false, map, IfErr, IfOk, IsTrue, OnErr, OnOk};
-ghost use Rattle.sqlite.specs.Held.{state};
-ghost use Rattle.sqlite.specs.State.{HasCleanDisk, KeepsCommit, Survives};
-ghost use Rattle.rr_rows.specs.Contents.{RunsOn, IsTidy};
-ghost use Rattle.rr_rows.specs.Entries.{TreesOf, entry_of};
+ghost use Rattle.std.specs.Prelude.{◌≡◌, [], ◌∷◌, ◌++◌, false, map, IfErr, IfOk, IsTrue, OnOk};
+ghost use Rattle.rr_rows.specs.Contents.{IsTidy};
+ghost use Rattle.rr_rows.specs.Entries.{entry_of};
 ghost use Rattle.rr_rows.specs.Made.{IsBare};
-ghost use Rattle.rr_object.specs.Objects.{Obj};
-ghost use Rattle.rr_rows.specs.Maps.{AreOldStored, IsFilled};
-ghost use Rattle.rr_rows.specs.Tables.{HasTables};
-ghost use Rattle.rr_store.specs.Kept.{IsLeft};
+ghost use Rattle.rr_rows.specs.Maps.{IsFilled};
+ghost use Rattle.rr_store.specs.Calls.{OnCleanDisk, WhileOpen, Writes, database};
 ghost use Rattle.rr_store.specs.Lent.{lent};
-ghost use Rattle.rr_store.specs.Migrating.{HasNoRoot, IsMigrated, IsOfOldRows, has_mntner};
+ghost use Rattle.rr_store.specs.Migrating.{IsMigrated, RefusesOldTables, has_mntner};
 ghost use Rattle.rr_store.specs.MigratingParts.{IsRewritten};
-ghost use Rattle.rr_store.specs.Opening.{IsNotOld, IsOfNoneButOld};
-ghost use Rattle.rr_store.specs.declared.fault.MigrateFault.TheVariants.{BadRow, NoRoot, WrongVersion};
+ghost use Rattle.rr_store.specs.StepParts.{CommitsNothing, GoesOn, LeavesAll, Made};
 
 use crate::ending::end;
 use crate::fault::{MigrateFault, StoreFault};
@@ -31,12 +26,12 @@ use std::alloc::{AllocError, Global};
 
 /// Takes out all rows of the three tables.
 fn clear_rows<S: Alter>(tx: &mut Transaction<'_, S>) -> Result<(), Error>
-    requires { HasCleanDisk (state S.Store tx.old.conn.now) → IsTrue (state S.Store tx.old.conn.now).is_open → IsTidy (state S.Store tx.old.conn.now).now }
+    requires { WhileOpen S.Store tx.old.conn.now (IsTidy (database S.Store tx.old.conn.now)) }
     ensures same_reference { tx.new.conn.ghost_name ≡ tx.old.conn.ghost_name }
-    ensures ok { HasCleanDisk (state S.Store tx.new.conn.now) → OnOk result (IsBare (state S.Store tx.new.conn.now).now) }
-    ensures step { HasCleanDisk (state S.Store tx.new.conn.now) → OnOk result (RunsOn (state S.Store tx.old.conn.now) (state S.Store tx.new.conn.now)) }
-    ensures kept { HasCleanDisk (state S.Store tx.new.conn.now) → KeepsCommit (state S.Store tx.old.conn.now) (state S.Store tx.new.conn.now) }
-    ensures survives { Survives (state S.Store tx.old.conn.now) (state S.Store tx.new.conn.now) (λ _. ⊥) }
+    ensures ok { Made S.Store (λ _. IsBare) tx.old.conn.now tx.new.conn.now result }
+    ensures step { GoesOn S.Store tx.old.conn.now tx.new.conn.now result }
+    ensures kept { CommitsNothing S.Store tx.old.conn.now tx.new.conn.now }
+    ensures survives { LeavesAll S.Store tx.old.conn.now tx.new.conn.now }
 {
     let _settings = clear_settings(tx)?;
     let _objects = clear_objects(tx)?;
@@ -50,12 +45,13 @@ fn refill<S: Alter>(
     alloc: Global,
     objects: &[&Object],
 ) -> Result<(), StoreFault>
-    requires { HasCleanDisk (state S.Store tx.old.conn.now) → IsTrue (state S.Store tx.old.conn.now).is_open → IsTidy (state S.Store tx.old.conn.now).now }
+    requires { WhileOpen S.Store tx.old.conn.now (IsTidy (database S.Store tx.old.conn.now)) }
     ensures same_reference { tx.new.conn.ghost_name ≡ tx.old.conn.ghost_name }
-    ensures ok { HasCleanDisk (state S.Store tx.new.conn.now) → OnOk result (IsFilled (map entry_of (lent objects.now)) (state S.Store tx.new.conn.now).now) }
-    ensures step { HasCleanDisk (state S.Store tx.new.conn.now) → OnOk result (RunsOn (state S.Store tx.old.conn.now) (state S.Store tx.new.conn.now)) }
-    ensures kept { HasCleanDisk (state S.Store tx.new.conn.now) → KeepsCommit (state S.Store tx.old.conn.now) (state S.Store tx.new.conn.now) }
-    ensures survives { Survives (state S.Store tx.old.conn.now) (state S.Store tx.new.conn.now) (λ _. ⊥) }
+    ensures ok { Made S.Store (λ _. IsFilled (map entry_of (lent objects.now)))
+        tx.old.conn.now tx.new.conn.now result }
+    ensures step { GoesOn S.Store tx.old.conn.now tx.new.conn.now result }
+    ensures kept { CommitsNothing S.Store tx.old.conn.now tx.new.conn.now }
+    ensures survives { LeavesAll S.Store tx.old.conn.now tx.new.conn.now }
 {
     clear_rows(tx)?;
     fill(tx, alloc, objects)
@@ -68,13 +64,11 @@ fn replace<S: Alter>(
     objects: &[&Object],
 ) -> Result<(), StoreFault>
     requires autocommit { conn.old.in_transaction ≡ false }
-    requires tidy { HasCleanDisk (state S.Store conn.old) → IsTrue (state S.Store conn.old).is_open → IsTidy (state S.Store conn.old).now }
-    ensures autocommit { conn.new.in_transaction ≡ false }
-    ensures ok { HasCleanDisk (state S.Store conn.new) → OnOk result (IsFilled (map entry_of (lent objects.now)) (state S.Store conn.new).now) }
-    ensures is_open { HasCleanDisk (state S.Store conn.new) → OnOk result (IsTrue (state S.Store conn.new).is_open) }
-    ensures err { HasCleanDisk (state S.Store conn.new) → IsTrue (state S.Store conn.new).is_open → OnErr result ((state S.Store conn.new).now ≡ (state S.Store conn.old).now) }
-    ensures crash { Survives (state S.Store conn.old) (state S.Store conn.new) (TreesOf (IsFilled (map entry_of (lent objects.now)))) }
+    requires tidy { WhileOpen S.Store conn.old (IsTidy (database S.Store conn.old)) }
+    ensures { Writes S.Store (λ _. IsFilled (map entry_of (lent objects.now)))
+        conn.old conn.new result }
 {
+    // outside a transaction the database is as it was last committed
     let _settled = conn.is_autocommit();
     let mut tx = conn.transaction();
     let work = refill(&mut tx, alloc, objects);
@@ -88,7 +82,8 @@ fn with_block(mut objects: Vec<Object>, block: Object) -> Result<Vec<Object>, Al
     Ok(objects)
 }
 
-/// Puts the rows of the objects and of the block of the other AS numbers in place of all rows, in one transaction.
+/// Puts the rows of the objects and of the block of the other AS numbers in place of all rows, in
+/// one transaction.
 fn rewrite<S: Alter>(
     conn: &mut Connection<S>,
     alloc: Global,
@@ -97,12 +92,9 @@ fn rewrite<S: Alter>(
     source: &Name,
 ) -> Result<(), StoreFault>
     requires autocommit { conn.old.in_transaction ≡ false }
-    requires tidy { HasCleanDisk (state S.Store conn.old) → IsTrue (state S.Store conn.old).is_open → IsTidy (state S.Store conn.old).now }
-    ensures autocommit { conn.new.in_transaction ≡ false }
-    ensures ok { HasCleanDisk (state S.Store conn.new) → OnOk result (IsRewritten root.now source.now objects.items (state S.Store conn.new).now) }
-    ensures is_open { HasCleanDisk (state S.Store conn.new) → OnOk result (IsTrue (state S.Store conn.new).is_open) }
-    ensures err { HasCleanDisk (state S.Store conn.new) → IsTrue (state S.Store conn.new).is_open → OnErr result ((state S.Store conn.new).now ≡ (state S.Store conn.old).now) }
-    ensures crash { Survives (state S.Store conn.old) (state S.Store conn.new) (TreesOf (IsRewritten root.now source.now objects.items)) }
+    requires tidy { WhileOpen S.Store conn.old (IsTidy (database S.Store conn.old)) }
+    ensures { Writes S.Store (λ _. IsRewritten root.now source.now objects.items)
+        conn.old conn.new result }
 {
     let block = upper_object(alloc, root, source)?;
     let all = with_block(objects, block)?;
@@ -117,9 +109,8 @@ fn has_mntner(objects: &[Object], name: &Name) -> bool
     objects.iter().any(|object| object.key().is_mntner_of(name))
 }
 
-/// Writes tables of version 1 that hold objects of the source anew as those of version 2, with the block of the other AS
-/// numbers, which the root maintains.
-#[tactic(auto, using(crate::proofs::LookLemmas::quiet_left))]
+/// Writes tables of version 1 that hold objects of the source anew as those of version 2, with the
+/// block of the other AS numbers, which the root maintains.
 pub(crate) fn migrate_rows<S: Alter>(
     conn: &mut Connection<S>,
     alloc: Global,
@@ -127,16 +118,10 @@ pub(crate) fn migrate_rows<S: Alter>(
     source: &Name,
 ) -> Result<(), MigrateFault>
     requires autocommit { conn.old.in_transaction ≡ false }
-    ensures autocommit { conn.new.in_transaction ≡ false }
-    ensures ok { HasCleanDisk (state S.Store conn.new) → OnOk result (IsMigrated root.now source.now (state S.Store conn.old).now (state S.Store conn.new).now) }
-    ensures is_open { HasCleanDisk (state S.Store conn.new) → OnOk result (IsTrue (state S.Store conn.new).is_open) }
-    ensures err { HasCleanDisk (state S.Store conn.new) → IsTrue (state S.Store conn.new).is_open → OnErr result ((state S.Store conn.new).now ≡ (state S.Store conn.old).now) }
-    ensures wrong_version { HasCleanDisk (state S.Store conn.new) → IfErr result (λ fault. (number : ℕ) → fault ≡ WrongVersion number → IsNotOld number (state S.Store conn.old).now) }
-    ensures bad_row { HasCleanDisk (state S.Store conn.new) → IfErr result (λ fault. fault ≡ BadRow → (objects : List Obj) → AreOldStored source.now objects (state S.Store conn.old).now → ⊥) }
-    ensures no_other_said { HasCleanDisk (state S.Store conn.new) → IfErr result (λ fault. fault ≡ BadRow → IsOfNoneButOld (state S.Store conn.old).now) }
-    ensures tables { HasCleanDisk (state S.Store conn.new) → IfErr result (λ fault. IsOfOldRows fault → HasTables (state S.Store conn.old).now.schema) }
-    ensures no_root { HasCleanDisk (state S.Store conn.new) → IfErr result (λ fault. fault ≡ NoRoot → HasNoRoot root.now source.now (state S.Store conn.old).now) }
-    ensures crash { Survives (state S.Store conn.old) (state S.Store conn.new) (IsLeft (state S.Store conn.old).is_open (IsMigrated root.now source.now (state S.Store conn.old).now)) }
+    ensures migrates { Writes S.Store (IsMigrated root.now source.now)
+        conn.old conn.new result }
+    ensures why { OnCleanDisk S.Store conn.new (IfErr result
+        (RefusesOldTables root.now source.now (database S.Store conn.old))) }
 {
     let objects = stored_objects(conn, alloc, source, Version::Old)?;
     if has_mntner(&objects, root) {

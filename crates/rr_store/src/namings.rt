@@ -1,6 +1,7 @@
 //! Which objects name which maintainers, as the rows of `named` have it.
 
-ghost use Rattle.std.specs.Prelude.{◌≡◌, ◌++◌, [], IfOk, IfSome, IsPermutation, IsSorted, IsTrue, OnOk, map, unwrap_or};
+ghost use Rattle.std.specs.Prelude.{◌≡◌, ◌++◌, [], IfOk, IfSome, IsPermutation, IsSorted, IsTrue};
+ghost use Rattle.std.specs.Prelude.{OnOk, map, unwrap_or};
 ghost use Rattle.std.specs.List.{flat_map};
 ghost use Rattle.rr_rows.specs.Contents.{by_three, contents, named_values};
 ghost use Rattle.rr_rows.specs.Entries.{named_rows};
@@ -24,64 +25,14 @@ pub(crate) struct Naming {
     key: Vec<u8>,
 }
 
-/// The text of a key in tables of a version, which is empty where it has none; the error is want of memory.
-fn key_text(alloc: Global, key: &Key, version: Version) -> Result<Vec<u8>, AllocError>
+/// The text of a key in tables of a version, which is empty where it has none.
+pub(crate) fn key_text(alloc: Global, key: &Key, version: Version) -> Result<Vec<u8>, AllocError>
     ensures { IfOk result (λ bytes. bytes.items ≡ unwrap_or (form_of version key.now) []) }
 {
     match version.key_bytes(alloc, key)? {
         Some(bytes) => Ok(bytes),
         None => Ok(Vec::new(alloc)),
     }
-}
-
-/// The rows behind those of the names of an object, where these come first.
-fn behind_names<'a>(rows: &'a [Row], names: &[Name], class: u8, key: &[u8]) -> Option<&'a [Row]>
-    ensures { IfSome result (λ later. contents rows.now ≡ map (λ name. named_values name class key.now) names.now ++ contents later.now) }
-{
-    let mut rest = rows;
-    for name in names {
-        let [row, later @ ..] = rest else {
-            return None;
-        };
-        if !is_named_row(row, name.as_bytes(), class, key) {
-            return None;
-        }
-        rest = later;
-    }
-    Some(rest)
-}
-
-fn behind_object<'a>(
-    alloc: Global,
-    rows: &'a [Row],
-    object: &Object,
-    version: Version,
-) -> Result<Option<&'a [Row]>, AllocError>
-    ensures { IfOk result (λ found. IfSome found (λ later. contents rows.now ≡ named_rows (entry_in (form_of version) object.now) ++ contents later.now)) }
-{
-    let names = maintainers_of(alloc, object)?;
-    let key = key_text(alloc, object.key(), version)?;
-    Ok(behind_names(rows, &names, object.key().class().number(), &key))
-}
-
-/// Whether rows with their numbers are those of the maintainers that the objects name, in the order of the objects. So they
-/// stand where each object's were written with the object's own. The error is want of memory.
-pub(crate) fn are_in_turn(
-    alloc: Global,
-    rows: &[Row],
-    objects: &[Object],
-    version: Version,
-) -> Result<bool, AllocError>
-    ensures { IfOk result (λ are. IsTrue are → contents rows.now ≡ flat_map named_rows (map (entry_in (form_of version)) objects.now)) }
-{
-    let mut rest = rows;
-    for object in objects {
-        match behind_object(alloc, rest, object, version)? {
-            Some(later) => rest = later,
-            None => return Ok(false),
-        }
-    }
-    Ok(rest.is_empty())
 }
 
 fn push_namings(
@@ -91,7 +42,8 @@ fn push_namings(
     class: u8,
     key: &[u8],
 ) -> Result<(), AllocError>
-    ensures { OnOk result (map naming_row all.new.items ≡ map naming_row all.old.items ++ map (λ name. named_values name class key.now) names.now) }
+    ensures { OnOk result (map naming_row all.new.items ≡
+        map naming_row all.old.items ++ map (λ name. named_values name class key.now) names.now) }
 {
     for name in names {
         all.push(Naming {
@@ -109,7 +61,8 @@ fn push_object(
     object: &Object,
     version: Version,
 ) -> Result<(), AllocError>
-    ensures { OnOk result (map naming_row all.new.items ≡ map naming_row all.old.items ++ named_rows (entry_in (form_of version) object.now)) }
+    ensures { OnOk result (map naming_row all.new.items ≡
+        map naming_row all.old.items ++ named_rows (entry_in (form_of version) object.now)) }
 {
     let names = maintainers_of(alloc, object)?;
     let key = key_text(alloc, object.key(), version)?;
@@ -118,7 +71,8 @@ fn push_object(
 
 /// Who names whom, as often as `named` has a row of it.
 fn namings(alloc: Global, objects: &[Object], version: Version) -> Result<Vec<Naming>, AllocError>
-    ensures { IfOk result (λ all. map naming_row all.items ≡ flat_map named_rows (map (entry_in (form_of version)) objects.now)) }
+    ensures { IfOk result (λ all. map naming_row all.items ≡
+        flat_map named_rows (map (entry_in (form_of version)) objects.now)) }
 {
     let mut all = Vec::new(alloc);
     for object in objects {
@@ -133,7 +87,9 @@ fn sorted_namings(
     objects: &[Object],
     version: Version,
 ) -> Result<Vec<Naming>, AllocError>
-    ensures same { IfOk result (λ all. IsPermutation (flat_map named_rows (map (entry_in (form_of version)) objects.now)) (map naming_row all.items)) }
+    ensures same { IfOk result (λ all. IsPermutation
+        (flat_map named_rows (map (entry_in (form_of version)) objects.now))
+        (map naming_row all.items)) }
     ensures sorted { IfOk result (λ all. IsSorted by_three (map naming_row all.items)) }
 {
     let mut all = namings(alloc, objects, version)?;
@@ -158,15 +114,19 @@ fn are_rows_of(rows: &[Row], namings: &[Naming]) -> bool
     rest.is_empty() && left.is_empty()
 }
 
-/// Whether rows without numbers, in their order, are those of the maintainers that the objects name; the error is want of memory.
+/// Whether rows without numbers, in their order, are those of the maintainers that the objects
+/// name.
 pub(crate) fn are_named(
     alloc: Global,
     rows: &[Row],
     objects: &[Object],
     version: Version,
 ) -> Result<bool, AllocError>
-    ensures is { IfOk result (λ is. IsTrue is → IsPermutation (flat_map named_rows (map (entry_in (form_of version)) objects.now)) rows.now) }
-    ensures only { IsSorted by_three rows.now → IfOk result (λ is. IsPermutation (flat_map named_rows (map (entry_in (form_of version)) objects.now)) rows.now → IsTrue is) }
+    ensures is { IfOk result (λ is. IsTrue is → IsPermutation
+        (flat_map named_rows (map (entry_in (form_of version)) objects.now)) rows.now) }
+    ensures only { IsSorted by_three rows.now → IfOk result (λ is. IsPermutation
+        (flat_map named_rows (map (entry_in (form_of version)) objects.now)) rows.now →
+        IsTrue is) }
 {
     let namings = sorted_namings(alloc, objects, version)?;
     Ok(are_rows_of(rows, &namings))

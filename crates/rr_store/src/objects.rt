@@ -1,17 +1,20 @@
 //! The objects of rows.
 
-ghost use Rattle.std.specs.Prelude.{◌≡◌, IfErr, IfOk, IfSome, IsPermutation, IsSome, IsSorted, IsTrue, Some, ℕ};
+ghost use Rattle.std.specs.Prelude.{◌≡◌, ◌++◌, [], ◌∷◌, IfErr, IfOk, IfSome, IsPermutation, IsSome};
+ghost use Rattle.std.specs.Prelude.{IsSorted, IsTrue, OnOk, Some, ℕ};
 ghost use Rattle.std.specs.List.{AllByRecursion};
+ghost use Rattle.sqlite.specs.declared.error.Error.{Error};
 ghost use Rattle.rr_text.specs.CanonicalText.{canonical};
 ghost use Rattle.rr_object.specs.Classes.{class_number};
 ghost use Rattle.rr_object.specs.Keys.{class_of};
+ghost use Rattle.rr_object.specs.Objects.{Obj};
 ghost use Rattle.rr_object.specs.Readings.{ReadsAs};
-ghost use Rattle.rr_rows.specs.Contents.{columns, contents, object_values};
+ghost use Rattle.rr_rows.specs.Contents.{columns, object_values};
 ghost use Rattle.rr_rows.specs.Maps.{AreApart, AreInOrder, IsObject, IsObjectOf};
 ghost use Rattle.rr_store.specs.Lent.{lent};
-ghost use Rattle.rr_store.specs.ReadingParts.{AreNone, AreRead, IsRowOf, by_key, is_below};
+ghost use Rattle.rr_store.specs.ReadingParts.{IsRowOf, by_key, is_below};
 ghost use Rattle.rr_store.specs.Versions.{form_of};
-ghost use Rattle.rr_store.specs.declared.fault.OpenFault.TheVariants.{BadRow, WrongVersion};
+ghost use Rattle.rr_store.specs.declared.fault.OpenFault.TheVariants.{BadRow, Store, WrongVersion};
 
 use crate::columns::{bytes_at, is_object_row};
 use crate::fault::OpenFault;
@@ -30,8 +33,10 @@ pub(crate) fn read_paragraph(
     paragraph: Paragraph,
     source: &Name,
 ) -> Result<Option<Object>, AllocError>
-    ensures found { IfOk result (λ read. IfSome read (λ object. ReadsAs source.now paragraph object)) }
-    ensures only { IfOk result (λ read. (object : _) → ReadsAs source.now paragraph object → IsSome read) }
+    ensures found { IfOk result (λ read. IfSome read (λ object.
+        ReadsAs source.now paragraph object)) }
+    ensures only { IfOk result (λ read. (object : _) →
+        ReadsAs source.now paragraph object → IsSome read) }
 {
     match Object::read(alloc, paragraph, source) {
         Ok(object) => Ok(Some(object)),
@@ -42,8 +47,10 @@ pub(crate) fn read_paragraph(
 
 /// The object of the source whose canonical text this is, if it is that of one.
 fn read_text(alloc: Global, text: &[u8], source: &Name) -> Result<Option<Object>, AllocError>
-    ensures found { IfOk result (λ read. IfSome read (λ object. IsObjectOf source.now object × (canonical object.paragraph ≡ text.now))) }
-    ensures only { IfOk result (λ read. (object : _) → IsObjectOf source.now object → canonical object.paragraph ≡ text.now → IsSome read) }
+    ensures found { IfOk result (λ read. IfSome read (λ object.
+        IsObjectOf source.now object × (canonical object.paragraph ≡ text.now))) }
+    ensures only { IfOk result (λ read. (object : _) → IsObjectOf source.now object →
+        canonical object.paragraph ≡ text.now → IsSome read) }
 {
     match read_canonical(alloc, text)? {
         Some(paragraph) => Ok(read_paragraph(alloc, paragraph, source)?),
@@ -59,8 +66,12 @@ fn is_row_of(
     text: &[u8],
     version: Version,
 ) -> Result<bool, AllocError>
-    ensures is { IfOk result (λ is. IsTrue is → (key : _) × (form_of version object.now.key ≡ Some key) × (columns row.now ≡ object_values (class_number (class_of object.now.key)) key text.now)) }
-    ensures only { IfOk result (λ is. (key : _) → form_of version object.now.key ≡ Some key → columns row.now ≡ object_values (class_number (class_of object.now.key)) key text.now → IsTrue is) }
+    ensures is { IfOk result (λ is. IsTrue is → (key : _) ×
+        (form_of version object.now.key ≡ Some key) ×
+        (columns row.now ≡ object_values (class_number (class_of object.now.key)) key text.now)) }
+    ensures only { IfOk result (λ is. (key : _) → form_of version object.now.key ≡ Some key →
+        columns row.now ≡ object_values (class_number (class_of object.now.key)) key text.now →
+        IsTrue is) }
 {
     let class = object.key().class().number();
     match version.key_bytes(alloc, object.key())? {
@@ -76,8 +87,10 @@ fn read_object(
     source: &Name,
     version: Version,
 ) -> Result<Option<Object>, AllocError>
-    ensures found { IfOk result (λ read. IfSome read (λ object. IsObjectOf source.now object × IsRowOf (form_of version) object (columns row.now))) }
-    ensures only { IfOk result (λ read. (object : _) → IsObjectOf source.now object → IsRowOf (form_of version) object (columns row.now) → IsSome read) }
+    ensures found { IfOk result (λ read. IfSome read (λ object.
+        IsObjectOf source.now object × IsRowOf (form_of version) object (columns row.now))) }
+    ensures only { IfOk result (λ read. (object : _) → IsObjectOf source.now object →
+        IsRowOf (form_of version) object (columns row.now) → IsSome read) }
 {
     let Some(text) = bytes_at(row, 3) else {
         return Ok(None);
@@ -92,41 +105,27 @@ fn read_object(
     }
 }
 
-/// The objects of the source whose rows, with their numbers, these are, if they are those of some. Each row is freed once its
-/// object is read, so that rows and objects do not both take their whole memory.
-fn read_objects(
+/// Takes in the object of the source whose row, with its number, this is.
+pub(crate) fn take_object(
+    objects: &mut Vec<Object>,
     alloc: Global,
-    rows: Vec<Row>,
+    row: &Row,
     source: &Name,
     version: Version,
-) -> Result<Option<Vec<Object>>, AllocError>
-    ensures found { IfOk result (λ read. IfSome read (λ objects. AreRead (form_of version) source.now (contents rows.items) objects.items)) }
-    ensures only { IfOk result (λ read. (objects : _) → AreRead (form_of version) source.now (contents rows.items) objects → IsSome read) }
-{
-    let mut objects = Vec::with_capacity(alloc, rows.len())?;
-    for row in rows {
-        match read_object(alloc, &row, source, version)? {
-            Some(object) => objects.push(object)?,
-            None => return Ok(None),
-        }
-    }
-    Ok(Some(objects))
-}
-
-/// The objects of rows with their numbers, in turn.
-pub(crate) fn objects_of_rows(
-    alloc: Global,
-    rows: Vec<Row>,
-    source: &Name,
-    version: Version,
-) -> Result<Vec<Object>, OpenFault>
-    ensures ok { IfOk result (λ objects. AreRead (form_of version) source.now (contents rows.items) objects.items) }
-    ensures of_source { IfOk result (λ objects. AllByRecursion (IsObjectOf source.now) objects.items) }
-    ensures fault { IfErr result (λ fault. fault ≡ BadRow → AreNone (form_of version) source.now (contents rows.items)) }
+) -> Result<(), OpenFault>
+    ensures read { OnOk result ((object : Obj) × IsObjectOf source.now object ×
+        IsRowOf (form_of version) object (columns row.now) ×
+        (objects.new.items ≡ objects.old.items ++ object ∷ [])) }
+    ensures bad_row { IfErr result (λ fault. fault ≡ BadRow → (object : Obj) →
+        IsObjectOf source.now object → IsRowOf (form_of version) object (columns row.now) → ⊥) }
+    ensures no_store { IfErr result (λ fault. (error : Error) → fault ≡ Store error → ⊥) }
     ensures no_other { IfErr result (λ fault. (number : ℕ) → fault ≡ WrongVersion number → ⊥) }
 {
-    match read_objects(alloc, rows, source, version) {
-        Ok(Some(objects)) => Ok(objects),
+    match read_object(alloc, row, source, version) {
+        Ok(Some(object)) => match objects.push(object) {
+            Ok(()) => Ok(()),
+            Err(_) => Err(OpenFault::Memory),
+        },
         Ok(None) => Err(OpenFault::BadRow),
         Err(_) => Err(OpenFault::Memory),
     }
@@ -149,7 +148,7 @@ pub fn are_read(objects: &[&Object])
     }
 }
 
-/// The objects, lent; the error is want of memory.
+/// The objects, lent.
 pub fn lent(alloc: Global, objects: &[Object]) -> Result<Vec<&Object>, AllocError>
     ensures { IfOk result (λ found. lent found.items ≡ objects.now) }
 {
@@ -184,7 +183,7 @@ fn are_in_order(objects: &[Object]) -> bool
     true
 }
 
-/// The objects sorted by their keys; the error is want of memory.
+/// The objects sorted by their keys.
 fn sorted(mut objects: Vec<Object>) -> Result<Vec<Object>, AllocError>
     ensures same { IfOk result (λ sorted. IsPermutation objects.items sorted.items) }
     ensures order { IfOk result (λ sorted. IsSorted by_key sorted.items) }
@@ -194,7 +193,8 @@ fn sorted(mut objects: Vec<Object>) -> Result<Vec<Object>, AllocError>
     Ok(objects)
 }
 
-/// The objects in the order of their keys, of which no two are the same. Those that stand so already are not sorted.
+/// The objects in the order of their keys, of which no two are the same. Those that stand so
+/// already are not sorted.
 pub(crate) fn in_order(objects: Vec<Object>) -> Result<Vec<Object>, OpenFault>
     ensures same { IfOk result (λ ordered. IsPermutation objects.items ordered.items) }
     ensures order { IfOk result (λ ordered. AreInOrder ordered.items) }

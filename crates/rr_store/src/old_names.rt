@@ -10,7 +10,7 @@ ghost use Rattle.rr_rows.specs.Maps.{AreNamesOf, IsObject};
 ghost use Rattle.rr_store.specs.ReadingParts.{first_source};
 
 use crate::columns::bytes_at;
-use crate::fault::StoreFault;
+use crate::fault::{BAD_ROWS, StoreFault};
 use crate::names::maintainers_of;
 use crate::objects::read_paragraph;
 use rr_number::Name;
@@ -38,7 +38,8 @@ fn first_source(alloc: Global, paragraph: &Paragraph) -> Result<Option<Name>, Al
 
 /// The object whose canonical text this is, if it is that of one of any source.
 fn read_any(alloc: Global, text: &[u8]) -> Result<Option<Object>, AllocError>
-    ensures found { IfOk result (λ read. IfSome read (λ object. IsObject object × (canonical object.paragraph ≡ text.now))) }
+    ensures found { IfOk result (λ read. IfSome read (λ object.
+        IsObject object × (canonical object.paragraph ≡ text.now))) }
 {
     let Some(paragraph) = read_canonical(alloc, text)? else {
         return Ok(None);
@@ -49,16 +50,17 @@ fn read_any(alloc: Global, text: &[u8]) -> Result<Option<Object>, AllocError>
     }
 }
 
-/// The maintainers that the object of a row names, each once. A row that is none of an object is a fault of the store.
+/// The maintainers that the object of a row names, each once. A row that is none of an object is a
+/// fault of the store.
 fn names_of_row(alloc: Global, row: &Row) -> Result<Vec<Name>, StoreFault>
     ensures { IfOk result (λ names. AreNamesOf names.items row.now) }
 {
     let Some(text) = bytes_at(row, 2) else {
-        return Err(StoreFault::Store);
+        return Err(StoreFault::Store(BAD_ROWS));
     };
     match read_any(alloc, text)? {
         Some(object) => Ok(maintainers_of(alloc, &object)?),
-        None => Err(StoreFault::Store),
+        None => Err(StoreFault::Store(BAD_ROWS)),
     }
 }
 
@@ -69,6 +71,6 @@ pub(crate) fn names_of_rows(alloc: Global, rows: &[Row]) -> Result<Vec<Name>, St
     match rows {
         [] => Ok(Vec::new(alloc)),
         [row] => names_of_row(alloc, row),
-        _ => Err(StoreFault::Store),
+        _ => Err(StoreFault::Store(BAD_ROWS)),
     }
 }

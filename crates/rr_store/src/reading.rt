@@ -1,16 +1,31 @@
 //! Queries on the three tables.
 
-ghost use Rattle.std.specs.Prelude.{◌≡◌, [], ◌∷◌, false, map, IfOk, IsPermutation, IsTrue, OnErr, OnOk};
+ghost use Rattle.std.specs.Prelude.{◌≡◌, [], ◌∷◌, false, map, IfErr, IfOk, IsPermutation, IsTrue};
+ghost use Rattle.std.specs.Prelude.{OnOk, ℕ};
+ghost use Rattle.std.specs.List.{AllByRecursion, flat_map};
 ghost use Rattle.sqlite.specs.Given.{IsPlain};
 ghost use Rattle.sqlite.specs.Held.{state};
 ghost use Rattle.sqlite.specs.Listing.{understood};
-ghost use Rattle.sqlite.specs.State.{HasCleanDisk, IsUnchanged, Shown, Survives};
+ghost use Rattle.sqlite.specs.State.{IsUnchanged, Shown};
 ghost use Rattle.sqlite.specs.Values.{bound};
-ghost use Rattle.rr_rows.specs.Contents.{IsInRank, by_one, by_three, by_two, contents, number, numbered, pointed, settings};
+ghost use Rattle.rr_rows.specs.Contents.{AreKeyed, IsInRank, by_three, by_two, contents, number};
+ghost use Rattle.rr_rows.specs.Contents.{by_one, pointed, settings};
+ghost use Rattle.rr_rows.specs.Entries.{named_rows};
+ghost use Rattle.rr_rows.specs.Maps.{IsObjectOf, entry_in, this_form};
 ghost use Rattle.rr_rows.specs.Tables.{HasTables};
+ghost use Rattle.rr_store.specs.Calls.{Looks, OnCleanDisk, database};
+ghost use Rattle.rr_store.specs.CheckParts.{HoldsNone, HoldsObjects};
+ghost use Rattle.rr_store.specs.Versions.{form_of};
+ghost use Rattle.rr_store.specs.declared.fault.OpenFault.TheVariants.{BadRow, Memory, WrongVersion};
 
+use crate::fault::OpenFault;
+use crate::streams::{count_numbered, take_all_names, take_objects};
+use crate::version::Version;
+use rr_number::Name;
+use rr_object::Object;
 use sqlite::{Alter, Connection, Error, Row};
 use sqlite_value::value::ValueRef;
+use std::alloc::Global;
 
 /// The answer of a query, which changes nothing and commits nothing.
 fn look<S: Alter>(
@@ -19,15 +34,12 @@ fn look<S: Alter>(
     params: &[ValueRef<'_>],
 ) -> Result<Vec<Row>, Error>
     requires autocommit { conn.old.in_transaction ≡ false }
-    requires plain { HasCleanDisk (state S.Store conn.old) → IsTrue (state S.Store conn.old).is_open → IsPlain (understood (state S.Store conn.old).now.schema sql.now) }
-    ensures autocommit { conn.new.in_transaction ≡ false }
-    ensures was_open { HasCleanDisk (state S.Store conn.new) → OnOk result (IsTrue (state S.Store conn.old).is_open) }
-    ensures shown { HasCleanDisk (state S.Store conn.new) → IfOk result (λ rows. Shown sql.now (bound params.now) (state S.Store conn.old) (state S.Store conn.new) rows.items) }
-    ensures same { HasCleanDisk (state S.Store conn.new) → OnOk result (IsUnchanged (state S.Store conn.old) (state S.Store conn.new)) }
-    ensures err { HasCleanDisk (state S.Store conn.new) → IsTrue (state S.Store conn.new).is_open → OnErr result ((state S.Store conn.new).now ≡ (state S.Store conn.old).now) }
-    ensures opened { HasCleanDisk (state S.Store conn.new) → IsTrue (state S.Store conn.new).is_open → IsTrue (state S.Store conn.old).is_open }
-    ensures crash { Survives (state S.Store conn.old) (state S.Store conn.new) (λ _. (state S.Store conn.old).is_open ≡ false) }
+    requires plain { OnCleanDisk S.Store conn.old (IsPlain (understood conn.old.schema sql.now)) }
+    ensures looks { Looks S.Store conn.old conn.new result }
+    ensures shown { OnCleanDisk S.Store conn.new (IfOk result (λ rows. Shown sql.now
+        (bound params.now) (state S.Store conn.old) (state S.Store conn.new) rows.items)) }
 {
+    // outside a transaction the database is as it was last committed
     let _settled = conn.is_autocommit();
     conn.query_all(sql, params)
 }
@@ -35,13 +47,10 @@ fn look<S: Alter>(
 /// The settings, in order of their names.
 pub(crate) fn meta_rows<S: Alter>(conn: &mut Connection<S>) -> Result<Vec<Row>, Error>
     requires autocommit { conn.old.in_transaction ≡ false }
-    requires tables { HasCleanDisk (state S.Store conn.old) → IsTrue (state S.Store conn.old).is_open → HasTables (state S.Store conn.old).now.schema }
-    ensures autocommit { conn.new.in_transaction ≡ false }
-    ensures was_open { HasCleanDisk (state S.Store conn.new) → OnOk result (IsTrue (state S.Store conn.old).is_open) }
-    ensures rows { HasCleanDisk (state S.Store conn.new) → IfOk result (λ rows. IsInRank by_two (settings ((state S.Store conn.old).now.trees 0)) rows.items) }
-    ensures same { HasCleanDisk (state S.Store conn.new) → OnOk result (IsUnchanged (state S.Store conn.old) (state S.Store conn.new)) }
-    ensures err { HasCleanDisk (state S.Store conn.new) → IsTrue (state S.Store conn.new).is_open → OnErr result ((state S.Store conn.new).now ≡ (state S.Store conn.old).now) }
-    ensures crash { Survives (state S.Store conn.old) (state S.Store conn.new) (λ _. (state S.Store conn.old).is_open ≡ false) }
+    requires tables { OnCleanDisk S.Store conn.old (HasTables conn.old.schema) }
+    ensures looks { Looks S.Store conn.old conn.new result }
+    ensures rows { OnCleanDisk S.Store conn.new (IfOk result (λ rows. IsInRank by_two
+        (settings ((database S.Store conn.old).trees 0)) rows.items)) }
 {
     look(
         conn,
@@ -50,53 +59,13 @@ pub(crate) fn meta_rows<S: Alter>(conn: &mut Connection<S>) -> Result<Vec<Row>, 
     )
 }
 
-/// The rows of `object` with their numbers, in the order of these: one walk over the table.
-pub(crate) fn object_rows<S: Alter>(conn: &mut Connection<S>) -> Result<Vec<Row>, Error>
-    requires autocommit { conn.old.in_transaction ≡ false }
-    requires tables { HasCleanDisk (state S.Store conn.old) → IsTrue (state S.Store conn.old).is_open → HasTables (state S.Store conn.old).now.schema }
-    ensures autocommit { conn.new.in_transaction ≡ false }
-    ensures was_open { HasCleanDisk (state S.Store conn.new) → OnOk result (IsTrue (state S.Store conn.old).is_open) }
-    ensures rows { HasCleanDisk (state S.Store conn.new) → IfOk result (λ rows. IsInRank by_one (map numbered ((state S.Store conn.old).now.trees 2)) rows.items) }
-    ensures same { HasCleanDisk (state S.Store conn.new) → OnOk result (IsUnchanged (state S.Store conn.old) (state S.Store conn.new)) }
-    ensures err { HasCleanDisk (state S.Store conn.new) → IsTrue (state S.Store conn.new).is_open → OnErr result ((state S.Store conn.new).now ≡ (state S.Store conn.old).now) }
-    ensures opened { HasCleanDisk (state S.Store conn.new) → IsTrue (state S.Store conn.new).is_open → IsTrue (state S.Store conn.old).is_open }
-    ensures crash { Survives (state S.Store conn.old) (state S.Store conn.new) (λ _. (state S.Store conn.old).is_open ≡ false) }
-{
-    look(
-        conn,
-        "SELECT rowid, class, okey, body FROM object ORDER BY rowid",
-        &[],
-    )
-}
-
-/// The rows of `named` with their numbers, in the order of these: one walk over the table.
-pub(crate) fn named_rows<S: Alter>(conn: &mut Connection<S>) -> Result<Vec<Row>, Error>
-    requires autocommit { conn.old.in_transaction ≡ false }
-    requires tables { HasCleanDisk (state S.Store conn.old) → IsTrue (state S.Store conn.old).is_open → HasTables (state S.Store conn.old).now.schema }
-    ensures autocommit { conn.new.in_transaction ≡ false }
-    ensures was_open { HasCleanDisk (state S.Store conn.new) → OnOk result (IsTrue (state S.Store conn.old).is_open) }
-    ensures rows { HasCleanDisk (state S.Store conn.new) → IfOk result (λ rows. IsInRank by_one (map numbered ((state S.Store conn.old).now.trees 4)) rows.items) }
-    ensures same { HasCleanDisk (state S.Store conn.new) → OnOk result (IsUnchanged (state S.Store conn.old) (state S.Store conn.new)) }
-    ensures err { HasCleanDisk (state S.Store conn.new) → IsTrue (state S.Store conn.new).is_open → OnErr result ((state S.Store conn.new).now ≡ (state S.Store conn.old).now) }
-    ensures crash { Survives (state S.Store conn.old) (state S.Store conn.new) (λ _. (state S.Store conn.old).is_open ≡ false) }
-{
-    look(
-        conn,
-        "SELECT rowid, maintainer, class, okey FROM named ORDER BY rowid",
-        &[],
-    )
-}
-
 /// The rows of `named` without their numbers, by maintainer, class and key.
 pub(crate) fn sorted_named_rows<S: Alter>(conn: &mut Connection<S>) -> Result<Vec<Row>, Error>
     requires autocommit { conn.old.in_transaction ≡ false }
-    requires tables { HasCleanDisk (state S.Store conn.old) → IsTrue (state S.Store conn.old).is_open → HasTables (state S.Store conn.old).now.schema }
-    ensures autocommit { conn.new.in_transaction ≡ false }
-    ensures was_open { HasCleanDisk (state S.Store conn.new) → OnOk result (IsTrue (state S.Store conn.old).is_open) }
-    ensures rows { HasCleanDisk (state S.Store conn.new) → IfOk result (λ rows. IsInRank by_three (contents ((state S.Store conn.old).now.trees 4)) rows.items) }
-    ensures same { HasCleanDisk (state S.Store conn.new) → OnOk result (IsUnchanged (state S.Store conn.old) (state S.Store conn.new)) }
-    ensures err { HasCleanDisk (state S.Store conn.new) → IsTrue (state S.Store conn.new).is_open → OnErr result ((state S.Store conn.new).now ≡ (state S.Store conn.old).now) }
-    ensures crash { Survives (state S.Store conn.old) (state S.Store conn.new) (λ _. (state S.Store conn.old).is_open ≡ false) }
+    requires tables { OnCleanDisk S.Store conn.old (HasTables conn.old.schema) }
+    ensures looks { Looks S.Store conn.old conn.new result }
+    ensures rows { OnCleanDisk S.Store conn.new (IfOk result (λ rows. IsInRank by_three
+        (contents ((database S.Store conn.old).trees 4)) rows.items)) }
 {
     look(
         conn,
@@ -105,38 +74,13 @@ pub(crate) fn sorted_named_rows<S: Alter>(conn: &mut Connection<S>) -> Result<Ve
     )
 }
 
-/// The rows of the objects that name a maintainer with their numbers, by class and key.
-pub(crate) fn naming_rows<S: Alter>(
-    conn: &mut Connection<S>,
-    name: &[u8],
-) -> Result<Vec<Row>, Error>
-    requires autocommit { conn.old.in_transaction ≡ false }
-    requires tables { HasCleanDisk (state S.Store conn.old) → IsTrue (state S.Store conn.old).is_open → HasTables (state S.Store conn.old).now.schema }
-    ensures autocommit { conn.new.in_transaction ≡ false }
-    ensures was_open { HasCleanDisk (state S.Store conn.new) → OnOk result (IsTrue (state S.Store conn.old).is_open) }
-    ensures rows { HasCleanDisk (state S.Store conn.new) → IfOk result (λ rows. IsPermutation (pointed name.now (contents ((state S.Store conn.old).now.trees 4)) (contents ((state S.Store conn.old).now.trees 2))) (contents rows.items)) }
-    ensures same { HasCleanDisk (state S.Store conn.new) → OnOk result (IsUnchanged (state S.Store conn.old) (state S.Store conn.new)) }
-    ensures err { HasCleanDisk (state S.Store conn.new) → IsTrue (state S.Store conn.new).is_open → OnErr result ((state S.Store conn.new).now ≡ (state S.Store conn.old).now) }
-    ensures opened { HasCleanDisk (state S.Store conn.new) → IsTrue (state S.Store conn.new).is_open → IsTrue (state S.Store conn.old).is_open }
-    ensures crash { Survives (state S.Store conn.old) (state S.Store conn.new) (λ _. (state S.Store conn.old).is_open ≡ false) }
-{
-    look(
-        conn,
-        "SELECT o.rowid, o.class, o.okey, o.body FROM named n JOIN object o ON o.class = n.class AND o.okey = n.okey WHERE n.maintainer = ?1 ORDER BY o.class, o.okey",
-        &[ValueRef::Text(name)],
-    )
-}
-
 /// The numbers of the rows of `meta`, in order.
 pub(crate) fn meta_numbers<S: Alter>(conn: &mut Connection<S>) -> Result<Vec<Row>, Error>
     requires autocommit { conn.old.in_transaction ≡ false }
-    requires tables { HasCleanDisk (state S.Store conn.old) → IsTrue (state S.Store conn.old).is_open → HasTables (state S.Store conn.old).now.schema }
-    ensures autocommit { conn.new.in_transaction ≡ false }
-    ensures was_open { HasCleanDisk (state S.Store conn.new) → OnOk result (IsTrue (state S.Store conn.old).is_open) }
-    ensures rows { HasCleanDisk (state S.Store conn.new) → IfOk result (λ rows. IsInRank by_one (map number ((state S.Store conn.old).now.trees 0)) rows.items) }
-    ensures same { HasCleanDisk (state S.Store conn.new) → OnOk result (IsUnchanged (state S.Store conn.old) (state S.Store conn.new)) }
-    ensures err { HasCleanDisk (state S.Store conn.new) → IsTrue (state S.Store conn.new).is_open → OnErr result ((state S.Store conn.new).now ≡ (state S.Store conn.old).now) }
-    ensures crash { Survives (state S.Store conn.old) (state S.Store conn.new) (λ _. (state S.Store conn.old).is_open ≡ false) }
+    requires tables { OnCleanDisk S.Store conn.old (HasTables conn.old.schema) }
+    ensures looks { Looks S.Store conn.old conn.new result }
+    ensures rows { OnCleanDisk S.Store conn.new (IfOk result (λ rows. IsInRank by_one
+        (map number ((database S.Store conn.old).trees 0)) rows.items)) }
 {
     look(conn, "SELECT rowid FROM meta ORDER BY rowid", &[])
 }
@@ -144,13 +88,10 @@ pub(crate) fn meta_numbers<S: Alter>(conn: &mut Connection<S>) -> Result<Vec<Row
 /// The numbers of the rows of `object`, in order.
 pub(crate) fn object_numbers<S: Alter>(conn: &mut Connection<S>) -> Result<Vec<Row>, Error>
     requires autocommit { conn.old.in_transaction ≡ false }
-    requires tables { HasCleanDisk (state S.Store conn.old) → IsTrue (state S.Store conn.old).is_open → HasTables (state S.Store conn.old).now.schema }
-    ensures autocommit { conn.new.in_transaction ≡ false }
-    ensures was_open { HasCleanDisk (state S.Store conn.new) → OnOk result (IsTrue (state S.Store conn.old).is_open) }
-    ensures rows { HasCleanDisk (state S.Store conn.new) → IfOk result (λ rows. IsInRank by_one (map number ((state S.Store conn.old).now.trees 2)) rows.items) }
-    ensures same { HasCleanDisk (state S.Store conn.new) → OnOk result (IsUnchanged (state S.Store conn.old) (state S.Store conn.new)) }
-    ensures err { HasCleanDisk (state S.Store conn.new) → IsTrue (state S.Store conn.new).is_open → OnErr result ((state S.Store conn.new).now ≡ (state S.Store conn.old).now) }
-    ensures crash { Survives (state S.Store conn.old) (state S.Store conn.new) (λ _. (state S.Store conn.old).is_open ≡ false) }
+    requires tables { OnCleanDisk S.Store conn.old (HasTables conn.old.schema) }
+    ensures looks { Looks S.Store conn.old conn.new result }
+    ensures rows { OnCleanDisk S.Store conn.new (IfOk result (λ rows. IsInRank by_one
+        (map number ((database S.Store conn.old).trees 2)) rows.items)) }
 {
     look(conn, "SELECT rowid FROM object ORDER BY rowid", &[])
 }
@@ -158,13 +99,123 @@ pub(crate) fn object_numbers<S: Alter>(conn: &mut Connection<S>) -> Result<Vec<R
 /// The numbers of the rows of `named`, in order.
 pub(crate) fn named_numbers<S: Alter>(conn: &mut Connection<S>) -> Result<Vec<Row>, Error>
     requires autocommit { conn.old.in_transaction ≡ false }
-    requires tables { HasCleanDisk (state S.Store conn.old) → IsTrue (state S.Store conn.old).is_open → HasTables (state S.Store conn.old).now.schema }
-    ensures autocommit { conn.new.in_transaction ≡ false }
-    ensures was_open { HasCleanDisk (state S.Store conn.new) → OnOk result (IsTrue (state S.Store conn.old).is_open) }
-    ensures rows { HasCleanDisk (state S.Store conn.new) → IfOk result (λ rows. IsInRank by_one (map number ((state S.Store conn.old).now.trees 4)) rows.items) }
-    ensures same { HasCleanDisk (state S.Store conn.new) → OnOk result (IsUnchanged (state S.Store conn.old) (state S.Store conn.new)) }
-    ensures err { HasCleanDisk (state S.Store conn.new) → IsTrue (state S.Store conn.new).is_open → OnErr result ((state S.Store conn.new).now ≡ (state S.Store conn.old).now) }
-    ensures crash { Survives (state S.Store conn.old) (state S.Store conn.new) (λ _. (state S.Store conn.old).is_open ≡ false) }
+    requires tables { OnCleanDisk S.Store conn.old (HasTables conn.old.schema) }
+    ensures looks { Looks S.Store conn.old conn.new result }
+    ensures rows { OnCleanDisk S.Store conn.new (IfOk result (λ rows. IsInRank by_one
+        (map number ((database S.Store conn.old).trees 4)) rows.items)) }
 {
     look(conn, "SELECT rowid FROM named ORDER BY rowid", &[])
+}
+
+/// Counts the rows of `object`, which have to have numbers of their own.
+pub(crate) fn count_object<S: Alter>(conn: &mut Connection<S>) -> Result<usize, Error>
+    requires autocommit { conn.old.in_transaction ≡ false }
+    requires tables { OnCleanDisk S.Store conn.old (HasTables conn.old.schema) }
+    ensures looks { Looks S.Store conn.old conn.new result }
+    ensures keyed { OnCleanDisk S.Store conn.new (OnOk result
+        (AreKeyed ((database S.Store conn.old).trees 2))) }
+{
+    // outside a transaction the database is as it was last committed
+    let _settled = conn.is_autocommit();
+    let mut rows = conn.query("SELECT rowid FROM object ORDER BY rowid", &[])?;
+    count_numbered(&mut rows)
+}
+
+/// Counts the rows of `named`, which have to have numbers of their own.
+pub(crate) fn count_named<S: Alter>(conn: &mut Connection<S>) -> Result<usize, Error>
+    requires autocommit { conn.old.in_transaction ≡ false }
+    requires tables { OnCleanDisk S.Store conn.old (HasTables conn.old.schema) }
+    ensures looks { Looks S.Store conn.old conn.new result }
+    ensures keyed { OnCleanDisk S.Store conn.new (OnOk result
+        (AreKeyed ((database S.Store conn.old).trees 4))) }
+{
+    // outside a transaction the database is as it was last committed
+    let _settled = conn.is_autocommit();
+    let mut rows = conn.query("SELECT rowid FROM named ORDER BY rowid", &[])?;
+    count_numbered(&mut rows)
+}
+
+/// The objects that `object` holds, in the order of its rows: one walk over the table.
+pub(crate) fn read_objects<S: Alter>(
+    conn: &mut Connection<S>,
+    alloc: Global,
+    count: usize,
+    source: &Name,
+    version: Version,
+) -> Result<Vec<Object>, OpenFault>
+    requires autocommit { conn.old.in_transaction ≡ false }
+    requires tables { OnCleanDisk S.Store conn.old (HasTables conn.old.schema) }
+    ensures looks { Looks S.Store conn.old conn.new result }
+    ensures read { OnCleanDisk S.Store conn.new (IfOk result (λ objects.
+        HoldsObjects (form_of version) source.now objects.items
+        (contents ((database S.Store conn.old).trees 2)))) }
+    ensures of_source { IfOk result (λ objects.
+        AllByRecursion (IsObjectOf source.now) objects.items) }
+    ensures bad_row { OnCleanDisk S.Store conn.new (IfErr result (λ fault. fault ≡ BadRow →
+        HoldsNone (form_of version) source.now
+        (contents ((database S.Store conn.old).trees 2)))) }
+    ensures no_other { IfErr result (λ fault. (number : ℕ) → fault ≡ WrongVersion number → ⊥) }
+{
+    // outside a transaction the database is as it was last committed
+    let _settled = conn.is_autocommit();
+    let mut rows = conn.query(
+        "SELECT rowid, class, okey, body FROM object ORDER BY rowid",
+        &[],
+    )?;
+    take_objects(&mut rows, alloc, count, source, version)
+}
+
+/// Whether the rows of `named`, in their order, are those of the maintainers that the objects name.
+pub(crate) fn names_in_turn<S: Alter>(
+    conn: &mut Connection<S>,
+    alloc: Global,
+    objects: &[Object],
+    version: Version,
+) -> Result<bool, OpenFault>
+    requires autocommit { conn.old.in_transaction ≡ false }
+    requires tables { OnCleanDisk S.Store conn.old (HasTables conn.old.schema) }
+    ensures looks { Looks S.Store conn.old conn.new result }
+    ensures are { OnCleanDisk S.Store conn.new (IfOk result (λ are. IsTrue are →
+        IsPermutation (flat_map named_rows (map (entry_in (form_of version)) objects.now))
+        (contents ((database S.Store conn.old).trees 4)))) }
+    ensures no_bad_row { IfErr result (λ fault. fault ≡ BadRow → ⊥) }
+    ensures no_other { IfErr result (λ fault. (number : ℕ) → fault ≡ WrongVersion number → ⊥) }
+{
+    // outside a transaction the database is as it was last committed
+    let _settled = conn.is_autocommit();
+    let mut rows = conn.query(
+        "SELECT rowid, maintainer, class, okey FROM named ORDER BY rowid",
+        &[],
+    )?;
+    take_all_names(&mut rows, alloc, objects, version)
+}
+
+/// The objects that name a maintainer.
+pub(crate) fn read_naming<S: Alter>(
+    conn: &mut Connection<S>,
+    alloc: Global,
+    source: &Name,
+    name: &[u8],
+) -> Result<Vec<Object>, OpenFault>
+    requires autocommit { conn.old.in_transaction ≡ false }
+    requires tables { OnCleanDisk S.Store conn.old (HasTables conn.old.schema) }
+    ensures looks { Looks S.Store conn.old conn.new result }
+    ensures read { OnCleanDisk S.Store conn.new (IfOk result (λ objects.
+        HoldsObjects this_form source.now objects.items
+        (pointed name.now (contents ((database S.Store conn.old).trees 4))
+        (contents ((database S.Store conn.old).trees 2))))) }
+    ensures of_source { IfOk result (λ objects.
+        AllByRecursion (IsObjectOf source.now) objects.items) }
+    ensures memory { OnCleanDisk S.Store conn.new (IfErr result (λ fault. fault ≡ Memory →
+        IsUnchanged (state S.Store conn.old) (state S.Store conn.new))) }
+{
+    // outside a transaction the database is as it was last committed
+    let _settled = conn.is_autocommit();
+    let mut rows = conn.query(
+        "SELECT o.rowid, o.class, o.okey, o.body FROM named n JOIN object o \
+         ON o.class = n.class AND o.okey = n.okey WHERE n.maintainer = ?1 \
+         ORDER BY o.class, o.okey",
+        &[ValueRef::Text(name)],
+    )?;
+    take_objects(&mut rows, alloc, 0, source, Version::This)
 }

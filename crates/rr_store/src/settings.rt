@@ -1,6 +1,7 @@
 //! The version that the table of settings says.
 
-ghost use Rattle.std.specs.Prelude.{◌≡◌, ◌≢◌, ◌<◌, ◌^◌, [], ◌∷◌, Contains, None, codes, decimal, IfSome, IsTrue};
+ghost use Rattle.std.specs.Prelude.{◌≡◌, ◌≢◌, ◌<◌, ◌^◌, [], ◌∷◌, Contains, None, codes, decimal};
+ghost use Rattle.std.specs.Prelude.{IfSome, IsTrue};
 ghost use Rattle.rr_rows.specs.Contents.{setting};
 ghost use Rattle.rr_store.specs.Versions.{version_number, version_text};
 
@@ -10,8 +11,10 @@ use sqlite::Row;
 
 /// The number in a row, if that says another version than this one.
 fn other_number(row: &Row, version: Version) -> Option<u32>
-    ensures found { IfSome result (λ n. (n ≢ version_number version) × (row.now ≡ setting (codes "version") (decimal n))) }
-    ensures only { (n : _) → n < 2 ^ 32 → n ≢ version_number version → row.now ≡ setting (codes "version") (decimal n) → result ≡ None → ⊥ }
+    ensures found { IfSome result (λ n. (n ≢ version_number version) ×
+        (row.now ≡ setting (codes "version") (decimal n))) }
+    ensures only { (n : _) → n < 2 ^ 32 → n ≢ version_number version →
+        row.now ≡ setting (codes "version") (decimal n) → result ≡ None → ⊥ }
 {
     let value = second_text(row)?;
     let number = number_of(value)?;
@@ -24,8 +27,11 @@ fn other_number(row: &Row, version: Version) -> Option<u32>
 
 /// The number of another version than this one that a row says, if one does.
 pub(crate) fn other_version(rows: &[Row], version: Version) -> Option<u32>
-    ensures found { IfSome result (λ n. (n ≢ version_number version) × Contains rows.now (setting (codes "version") (decimal n))) }
-    ensures only { (n : _) → n < 2 ^ 32 → Contains rows.now (setting (codes "version") (decimal n)) → result ≡ None → n ≡ version_number version }
+    ensures found { IfSome result (λ n. (n ≢ version_number version) ×
+        Contains rows.now (setting (codes "version") (decimal n))) }
+    ensures only { (n : _) → n < 2 ^ 32 →
+        Contains rows.now (setting (codes "version") (decimal n)) → result ≡ None →
+        n ≡ version_number version }
 {
     for row in rows {
         if let Some(number) = other_number(row, version) {
@@ -38,7 +44,8 @@ pub(crate) fn other_version(rows: &[Row], version: Version) -> Option<u32>
 /// Whether the rows are the one that says this version.
 pub(crate) fn says_version(rows: &[Row], version: Version) -> bool
     ensures is { IsTrue result → rows.now ≡ setting (codes "version") (version_text version) ∷ [] }
-    ensures only { rows.now ≡ setting (codes "version") (version_text version) ∷ [] → IsTrue result }
+    ensures only { rows.now ≡ setting (codes "version") (version_text version) ∷ [] →
+        IsTrue result }
 {
     match rows {
         [row] => is_setting(row, b"version", version.text()),

@@ -1,9 +1,12 @@
 //! One statement of a transaction each.
 
-ghost use Rattle.std.specs.Prelude.{◌≡◌, [], ◌∷◌, codes, filter, true, IfOk, IsPermutation, IsTrue, OnOk};
-ghost use Rattle.sqlite.specs.State.{HasCleanDisk, KeepsCommit, Survives};
-ghost use Rattle.sqlite.specs.Held.{state};
-ghost use Rattle.rr_rows.specs.Contents.{Adds, Alters, RunsOn, IsTidy, Removes, contents, is_name_of, is_object_of, meta_values, named_values, object_values};
+ghost use Rattle.std.specs.Prelude.{◌≡◌, [], ◌∷◌, codes, filter, true, IfOk, IsPermutation, IsTrue};
+ghost use Rattle.std.specs.Prelude.{OnOk};
+ghost use Rattle.rr_rows.specs.Contents.{Adds, Alters, IsTidy, Removes, contents};
+ghost use Rattle.rr_rows.specs.Contents.{is_name_of, is_object_of, meta_values, named_values};
+ghost use Rattle.rr_rows.specs.Contents.{object_values};
+ghost use Rattle.rr_store.specs.Calls.{OnCleanDisk, WhileOpen, database};
+ghost use Rattle.rr_store.specs.StepParts.{CommitsNothing, GoesOn, LeavesAll, Made};
 
 use sqlite::{Alter, Error, Row, Transaction};
 use sqlite_value::value::ValueRef;
@@ -13,12 +16,14 @@ pub(crate) fn add_setting<'x, S: Alter>(
     name: &'x [u8],
     value: &'x [u8],
 ) -> Result<usize, Error>
-    requires { HasCleanDisk (state S.Store tx.old.conn.now) → IsTrue (state S.Store tx.old.conn.now).is_open → IsTidy (state S.Store tx.old.conn.now).now }
+    requires { WhileOpen S.Store tx.old.conn.now (IsTidy (database S.Store tx.old.conn.now)) }
     ensures same_reference { tx.new.conn.ghost_name ≡ tx.old.conn.ghost_name }
-    ensures ok { HasCleanDisk (state S.Store tx.new.conn.now) → OnOk result (Alters (state S.Store tx.old.conn.now).now (state S.Store tx.new.conn.now).now 0 (Adds (meta_values name.now value.now ∷ []))) }
-    ensures step { HasCleanDisk (state S.Store tx.new.conn.now) → OnOk result (RunsOn (state S.Store tx.old.conn.now) (state S.Store tx.new.conn.now)) }
-    ensures kept { HasCleanDisk (state S.Store tx.new.conn.now) → KeepsCommit (state S.Store tx.old.conn.now) (state S.Store tx.new.conn.now) }
-    ensures survives { Survives (state S.Store tx.old.conn.now) (state S.Store tx.new.conn.now) (λ _. ⊥) }
+    ensures ok { Made S.Store
+        (λ old new. Alters old new 0 (Adds (meta_values name.now value.now ∷ [])))
+        tx.old.conn.now tx.new.conn.now result }
+    ensures step { GoesOn S.Store tx.old.conn.now tx.new.conn.now result }
+    ensures kept { CommitsNothing S.Store tx.old.conn.now tx.new.conn.now }
+    ensures survives { LeavesAll S.Store tx.old.conn.now tx.new.conn.now }
 {
     tx.execute(
         "INSERT INTO meta (name, value) VALUES (?1, ?2)",
@@ -32,12 +37,14 @@ pub(crate) fn add_object<'x, S: Alter>(
     key: &'x [u8],
     body: &'x [u8],
 ) -> Result<usize, Error>
-    requires { HasCleanDisk (state S.Store tx.old.conn.now) → IsTrue (state S.Store tx.old.conn.now).is_open → IsTidy (state S.Store tx.old.conn.now).now }
+    requires { WhileOpen S.Store tx.old.conn.now (IsTidy (database S.Store tx.old.conn.now)) }
     ensures same_reference { tx.new.conn.ghost_name ≡ tx.old.conn.ghost_name }
-    ensures ok { HasCleanDisk (state S.Store tx.new.conn.now) → OnOk result (Alters (state S.Store tx.old.conn.now).now (state S.Store tx.new.conn.now).now 2 (Adds (object_values class key.now body.now ∷ []))) }
-    ensures step { HasCleanDisk (state S.Store tx.new.conn.now) → OnOk result (RunsOn (state S.Store tx.old.conn.now) (state S.Store tx.new.conn.now)) }
-    ensures kept { HasCleanDisk (state S.Store tx.new.conn.now) → KeepsCommit (state S.Store tx.old.conn.now) (state S.Store tx.new.conn.now) }
-    ensures survives { Survives (state S.Store tx.old.conn.now) (state S.Store tx.new.conn.now) (λ _. ⊥) }
+    ensures ok { Made S.Store
+        (λ old new. Alters old new 2 (Adds (object_values class key.now body.now ∷ [])))
+        tx.old.conn.now tx.new.conn.now result }
+    ensures step { GoesOn S.Store tx.old.conn.now tx.new.conn.now result }
+    ensures kept { CommitsNothing S.Store tx.old.conn.now tx.new.conn.now }
+    ensures survives { LeavesAll S.Store tx.old.conn.now tx.new.conn.now }
 {
     tx.execute(
         "INSERT INTO object (class, okey, body) VALUES (?1, ?2, ?3)",
@@ -55,12 +62,14 @@ pub(crate) fn add_name<'x, S: Alter>(
     class: u8,
     key: &'x [u8],
 ) -> Result<usize, Error>
-    requires { HasCleanDisk (state S.Store tx.old.conn.now) → IsTrue (state S.Store tx.old.conn.now).is_open → IsTidy (state S.Store tx.old.conn.now).now }
+    requires { WhileOpen S.Store tx.old.conn.now (IsTidy (database S.Store tx.old.conn.now)) }
     ensures same_reference { tx.new.conn.ghost_name ≡ tx.old.conn.ghost_name }
-    ensures ok { HasCleanDisk (state S.Store tx.new.conn.now) → OnOk result (Alters (state S.Store tx.old.conn.now).now (state S.Store tx.new.conn.now).now 4 (Adds (named_values name.now class key.now ∷ []))) }
-    ensures step { HasCleanDisk (state S.Store tx.new.conn.now) → OnOk result (RunsOn (state S.Store tx.old.conn.now) (state S.Store tx.new.conn.now)) }
-    ensures kept { HasCleanDisk (state S.Store tx.new.conn.now) → KeepsCommit (state S.Store tx.old.conn.now) (state S.Store tx.new.conn.now) }
-    ensures survives { Survives (state S.Store tx.old.conn.now) (state S.Store tx.new.conn.now) (λ _. ⊥) }
+    ensures ok { Made S.Store
+        (λ old new. Alters old new 4 (Adds (named_values name.now class key.now ∷ [])))
+        tx.old.conn.now tx.new.conn.now result }
+    ensures step { GoesOn S.Store tx.old.conn.now tx.new.conn.now result }
+    ensures kept { CommitsNothing S.Store tx.old.conn.now tx.new.conn.now }
+    ensures survives { LeavesAll S.Store tx.old.conn.now tx.new.conn.now }
 {
     tx.execute(
         "INSERT INTO named (maintainer, class, okey) VALUES (?1, ?2, ?3)",
@@ -77,12 +86,13 @@ pub(crate) fn remove_object<S: Alter>(
     class: u8,
     key: &[u8],
 ) -> Result<usize, Error>
-    requires { HasCleanDisk (state S.Store tx.old.conn.now) → IsTrue (state S.Store tx.old.conn.now).is_open → IsTidy (state S.Store tx.old.conn.now).now }
+    requires { WhileOpen S.Store tx.old.conn.now (IsTidy (database S.Store tx.old.conn.now)) }
     ensures same_reference { tx.new.conn.ghost_name ≡ tx.old.conn.ghost_name }
-    ensures ok { HasCleanDisk (state S.Store tx.new.conn.now) → OnOk result (Alters (state S.Store tx.old.conn.now).now (state S.Store tx.new.conn.now).now 2 (Removes (is_object_of class key.now))) }
-    ensures step { HasCleanDisk (state S.Store tx.new.conn.now) → OnOk result (RunsOn (state S.Store tx.old.conn.now) (state S.Store tx.new.conn.now)) }
-    ensures kept { HasCleanDisk (state S.Store tx.new.conn.now) → KeepsCommit (state S.Store tx.old.conn.now) (state S.Store tx.new.conn.now) }
-    ensures survives { Survives (state S.Store tx.old.conn.now) (state S.Store tx.new.conn.now) (λ _. ⊥) }
+    ensures ok { Made S.Store (λ old new. Alters old new 2 (Removes (is_object_of class key.now)))
+        tx.old.conn.now tx.new.conn.now result }
+    ensures step { GoesOn S.Store tx.old.conn.now tx.new.conn.now result }
+    ensures kept { CommitsNothing S.Store tx.old.conn.now tx.new.conn.now }
+    ensures survives { LeavesAll S.Store tx.old.conn.now tx.new.conn.now }
 {
     tx.execute(
         "DELETE FROM object WHERE class = ?1 AND okey = ?2",
@@ -96,12 +106,14 @@ pub(crate) fn remove_name<'x, S: Alter>(
     class: u8,
     key: &'x [u8],
 ) -> Result<usize, Error>
-    requires { HasCleanDisk (state S.Store tx.old.conn.now) → IsTrue (state S.Store tx.old.conn.now).is_open → IsTidy (state S.Store tx.old.conn.now).now }
+    requires { WhileOpen S.Store tx.old.conn.now (IsTidy (database S.Store tx.old.conn.now)) }
     ensures same_reference { tx.new.conn.ghost_name ≡ tx.old.conn.ghost_name }
-    ensures ok { HasCleanDisk (state S.Store tx.new.conn.now) → OnOk result (Alters (state S.Store tx.old.conn.now).now (state S.Store tx.new.conn.now).now 4 (Removes (is_name_of class key.now name.now))) }
-    ensures step { HasCleanDisk (state S.Store tx.new.conn.now) → OnOk result (RunsOn (state S.Store tx.old.conn.now) (state S.Store tx.new.conn.now)) }
-    ensures kept { HasCleanDisk (state S.Store tx.new.conn.now) → KeepsCommit (state S.Store tx.old.conn.now) (state S.Store tx.new.conn.now) }
-    ensures survives { Survives (state S.Store tx.old.conn.now) (state S.Store tx.new.conn.now) (λ _. ⊥) }
+    ensures ok { Made S.Store
+        (λ old new. Alters old new 4 (Removes (is_name_of class key.now name.now)))
+        tx.old.conn.now tx.new.conn.now result }
+    ensures step { GoesOn S.Store tx.old.conn.now tx.new.conn.now result }
+    ensures kept { CommitsNothing S.Store tx.old.conn.now tx.new.conn.now }
+    ensures survives { LeavesAll S.Store tx.old.conn.now tx.new.conn.now }
 {
     tx.execute(
         "DELETE FROM named WHERE maintainer = ?1 AND class = ?2 AND okey = ?3",
@@ -119,13 +131,15 @@ pub(crate) fn rows_of_key<S: Alter>(
     class: u8,
     key: &[u8],
 ) -> Result<Vec<Row>, Error>
-    requires { HasCleanDisk (state S.Store tx.old.conn.now) → IsTrue (state S.Store tx.old.conn.now).is_open → IsTidy (state S.Store tx.old.conn.now).now }
+    requires { WhileOpen S.Store tx.old.conn.now (IsTidy (database S.Store tx.old.conn.now)) }
     ensures same_reference { tx.new.conn.ghost_name ≡ tx.old.conn.ghost_name }
-    ensures rows { HasCleanDisk (state S.Store tx.new.conn.now) → IfOk result (λ rows. IsPermutation (filter (is_object_of class key.now) (contents ((state S.Store tx.old.conn.now).now.trees 2))) rows.items) }
-    ensures same { HasCleanDisk (state S.Store tx.new.conn.now) → OnOk result ((state S.Store tx.new.conn.now).now ≡ (state S.Store tx.old.conn.now).now) }
-    ensures step { HasCleanDisk (state S.Store tx.new.conn.now) → OnOk result (RunsOn (state S.Store tx.old.conn.now) (state S.Store tx.new.conn.now)) }
-    ensures kept { HasCleanDisk (state S.Store tx.new.conn.now) → KeepsCommit (state S.Store tx.old.conn.now) (state S.Store tx.new.conn.now) }
-    ensures survives { Survives (state S.Store tx.old.conn.now) (state S.Store tx.new.conn.now) (λ _. ⊥) }
+    ensures rows { OnCleanDisk S.Store tx.new.conn.now (IfOk result (λ rows. IsPermutation
+        (filter (is_object_of class key.now)
+        (contents ((database S.Store tx.old.conn.now).trees 2))) rows.items)) }
+    ensures same { Made S.Store (λ old new. new ≡ old) tx.old.conn.now tx.new.conn.now result }
+    ensures step { GoesOn S.Store tx.old.conn.now tx.new.conn.now result }
+    ensures kept { CommitsNothing S.Store tx.old.conn.now tx.new.conn.now }
+    ensures survives { LeavesAll S.Store tx.old.conn.now tx.new.conn.now }
 {
     tx.query_all(
         "SELECT class, okey, body FROM object WHERE class = ?1 AND okey = ?2",
@@ -134,34 +148,37 @@ pub(crate) fn rows_of_key<S: Alter>(
 }
 
 pub(crate) fn clear_settings<S: Alter>(tx: &mut Transaction<'_, S>) -> Result<usize, Error>
-    requires { HasCleanDisk (state S.Store tx.old.conn.now) → IsTrue (state S.Store tx.old.conn.now).is_open → IsTidy (state S.Store tx.old.conn.now).now }
+    requires { WhileOpen S.Store tx.old.conn.now (IsTidy (database S.Store tx.old.conn.now)) }
     ensures same_reference { tx.new.conn.ghost_name ≡ tx.old.conn.ghost_name }
-    ensures ok { HasCleanDisk (state S.Store tx.new.conn.now) → OnOk result (Alters (state S.Store tx.old.conn.now).now (state S.Store tx.new.conn.now).now 0 (Removes (λ _. true))) }
-    ensures step { HasCleanDisk (state S.Store tx.new.conn.now) → OnOk result (RunsOn (state S.Store tx.old.conn.now) (state S.Store tx.new.conn.now)) }
-    ensures kept { HasCleanDisk (state S.Store tx.new.conn.now) → KeepsCommit (state S.Store tx.old.conn.now) (state S.Store tx.new.conn.now) }
-    ensures survives { Survives (state S.Store tx.old.conn.now) (state S.Store tx.new.conn.now) (λ _. ⊥) }
+    ensures ok { Made S.Store (λ old new. Alters old new 0 (Removes (λ _. true)))
+        tx.old.conn.now tx.new.conn.now result }
+    ensures step { GoesOn S.Store tx.old.conn.now tx.new.conn.now result }
+    ensures kept { CommitsNothing S.Store tx.old.conn.now tx.new.conn.now }
+    ensures survives { LeavesAll S.Store tx.old.conn.now tx.new.conn.now }
 {
     tx.execute("DELETE FROM meta", &[])
 }
 
 pub(crate) fn clear_objects<S: Alter>(tx: &mut Transaction<'_, S>) -> Result<usize, Error>
-    requires { HasCleanDisk (state S.Store tx.old.conn.now) → IsTrue (state S.Store tx.old.conn.now).is_open → IsTidy (state S.Store tx.old.conn.now).now }
+    requires { WhileOpen S.Store tx.old.conn.now (IsTidy (database S.Store tx.old.conn.now)) }
     ensures same_reference { tx.new.conn.ghost_name ≡ tx.old.conn.ghost_name }
-    ensures ok { HasCleanDisk (state S.Store tx.new.conn.now) → OnOk result (Alters (state S.Store tx.old.conn.now).now (state S.Store tx.new.conn.now).now 2 (Removes (λ _. true))) }
-    ensures step { HasCleanDisk (state S.Store tx.new.conn.now) → OnOk result (RunsOn (state S.Store tx.old.conn.now) (state S.Store tx.new.conn.now)) }
-    ensures kept { HasCleanDisk (state S.Store tx.new.conn.now) → KeepsCommit (state S.Store tx.old.conn.now) (state S.Store tx.new.conn.now) }
-    ensures survives { Survives (state S.Store tx.old.conn.now) (state S.Store tx.new.conn.now) (λ _. ⊥) }
+    ensures ok { Made S.Store (λ old new. Alters old new 2 (Removes (λ _. true)))
+        tx.old.conn.now tx.new.conn.now result }
+    ensures step { GoesOn S.Store tx.old.conn.now tx.new.conn.now result }
+    ensures kept { CommitsNothing S.Store tx.old.conn.now tx.new.conn.now }
+    ensures survives { LeavesAll S.Store tx.old.conn.now tx.new.conn.now }
 {
     tx.execute("DELETE FROM object", &[])
 }
 
 pub(crate) fn clear_names<S: Alter>(tx: &mut Transaction<'_, S>) -> Result<usize, Error>
-    requires { HasCleanDisk (state S.Store tx.old.conn.now) → IsTrue (state S.Store tx.old.conn.now).is_open → IsTidy (state S.Store tx.old.conn.now).now }
+    requires { WhileOpen S.Store tx.old.conn.now (IsTidy (database S.Store tx.old.conn.now)) }
     ensures same_reference { tx.new.conn.ghost_name ≡ tx.old.conn.ghost_name }
-    ensures ok { HasCleanDisk (state S.Store tx.new.conn.now) → OnOk result (Alters (state S.Store tx.old.conn.now).now (state S.Store tx.new.conn.now).now 4 (Removes (λ _. true))) }
-    ensures step { HasCleanDisk (state S.Store tx.new.conn.now) → OnOk result (RunsOn (state S.Store tx.old.conn.now) (state S.Store tx.new.conn.now)) }
-    ensures kept { HasCleanDisk (state S.Store tx.new.conn.now) → KeepsCommit (state S.Store tx.old.conn.now) (state S.Store tx.new.conn.now) }
-    ensures survives { Survives (state S.Store tx.old.conn.now) (state S.Store tx.new.conn.now) (λ _. ⊥) }
+    ensures ok { Made S.Store (λ old new. Alters old new 4 (Removes (λ _. true)))
+        tx.old.conn.now tx.new.conn.now result }
+    ensures step { GoesOn S.Store tx.old.conn.now tx.new.conn.now result }
+    ensures kept { CommitsNothing S.Store tx.old.conn.now tx.new.conn.now }
+    ensures survives { LeavesAll S.Store tx.old.conn.now tx.new.conn.now }
 {
     tx.execute("DELETE FROM named", &[])
 }

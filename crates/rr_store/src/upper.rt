@@ -1,13 +1,13 @@
 //! The block of AS numbers that tables of version 1 did not know.
 
-ghost use Rattle.std.specs.Prelude.{◌≡◌, IfErr, IfOk};
+ghost use Rattle.std.specs.Prelude.{◌≡◌, ◌≢◌, IfErr, IfOk};
 ghost use Rattle.rr_rows.specs.Maps.{IsObjectOf};
 ghost use Rattle.rr_object.specs.Objects.{Obj};
 ghost use Rattle.rr_object.specs.Readings.{ReadsAs};
 ghost use Rattle.rr_store.specs.Migrating.{upper_block};
-ghost use Rattle.rr_store.specs.declared.fault.StoreFault.TheVariants.{Store};
+ghost use Rattle.rr_store.specs.declared.fault.StoreFault.TheVariants.{Memory};
 
-use crate::fault::StoreFault;
+use crate::fault::{BAD_ROWS, StoreFault};
 use rr_number::Name;
 use rr_object::{Object, ObjectFault};
 use rr_text::{LineAttribute, Paragraph};
@@ -40,12 +40,13 @@ fn upper_paragraph(alloc: Global, root: &Name, source: &Name) -> Result<Paragrap
     Paragraph::new(alloc, &attributes)
 }
 
-/// The block of the AS numbers of more than two octets, which the root maintains. The fault is want of memory, or that of a
-/// root that can be no maintainer.
+/// The block of the AS numbers of more than two octets, which the root maintains. The fault is that
+/// memory ran out, or that of a root that can be no maintainer.
 pub fn upper_object(alloc: Global, root: &Name, source: &Name) -> Result<Object, StoreFault>
     ensures of_source { IfOk result (IsObjectOf source.now) }
     ensures read { IfOk result (ReadsAs source.now (upper_block root.now source.now)) }
-    ensures refused { IfErr result (λ fault. fault ≡ Store → (object : Obj) → ReadsAs source.now (upper_block root.now source.now) object → ⊥) }
+    ensures refused { IfErr result (λ fault. fault ≢ Memory → (object : Obj) →
+        ReadsAs source.now (upper_block root.now source.now) object → ⊥) }
 {
     let paragraph = upper_paragraph(alloc, root, source)?;
     match Object::read(alloc, paragraph, source) {
@@ -54,6 +55,6 @@ pub fn upper_object(alloc: Global, root: &Name, source: &Name) -> Result<Object,
             Ok(object)
         }
         Err(ObjectFault::Memory) => Err(StoreFault::Memory),
-        Err(_) => Err(StoreFault::Store),
+        Err(_) => Err(StoreFault::Store(BAD_ROWS)),
     }
 }

@@ -37,7 +37,7 @@ impl Version {
         }
     }
 
-    /// The text of a key, if it has one in tables of this version; the error is want of memory.
+    /// The text of a key, if it has one in tables of this version.
     pub(crate) fn key_bytes(self, alloc: Global, key: &Key) -> Result<Option<Vec<u8>>, AllocError>
         ensures { IfOk result (λ bytes. option_map (λ b. b.items) bytes ≡ form_of self key.now) }
     {

@@ -6,10 +6,10 @@ use Rattle.rr_rows.specs.Maps.{IsObjectOf, this_form}
 use Rattle.rr_store.proofs.StoredLemmas.{reordered}
 use Rattle.rr_store.proofs.checks.all_objects.Goals as goal
 
-pub returns-clause-ok : goal.returns-clause-ok
-returns-clause-ok g c clean =
+pub returns-clause-read : goal.returns-clause-read
+returns-clause-read g c clean =
     IfOk-weaker c.in_order.result _ _
-    (λ ordered same. reordered this_form c.args.source.now c.in_ok-objects.objects.items ordered.items (contents ((state g.S.Store c.args.conn.now).now.trees 2)) (c.in_ok-objects.ensures.ok clean) same)
+    (λ ordered same. reordered this_form c.args.source.now c.in_ok-objects.objects.items ordered.items (contents ((state g.S.Store c.args.conn.now).now.trees 2)) (c.in_ok-objects.ensures.read clean) same)
     c.in_order.ensures.same
 
 pub returns-clause-of_source : goal.returns-clause-of_source

@@ -1,22 +1,33 @@
-use Rattle.std.proofs.lemmas.Result.{IfOk-weaker}
+use Rattle.std.proofs.Common.{◌≡◌, IfErr, IfOk, subst, arith}
+use Rattle.sqlite.specs.Effect.{Database}
 use Rattle.rr_rows.specs.Contents.{contents}
-use Rattle.rr_store.proofs.BodyLemmas.{then_ok}
-use Rattle.rr_store.proofs.CheckLemmas.{each_err}
-use Rattle.rr_store.proofs.TidyLemmas.{contents_of}
-use Rattle.rr_rows.proofs.NumberLemmas.{keyed_with}
+use Rattle.rr_store.specs.CheckParts.{HoldsNone, HoldsObjects}
+use Rattle.rr_store.specs.Versions.{form_of}
+use Rattle.rr_store.specs.declared.fault.OpenFault.TheVariants.{BadRow}
+use Rattle.rr_store.proofs.StreamLemmas.{on_any}
+use Rattle.sqlite.specs.Held.{state}
+use Rattle.sqlite.specs.State.{HasCleanDisk}
+use Rattle.rr_store.proofs.LookLemmas.{looks_failed, looks_then, tables_then}
 use Rattle.rr_store.proofs.checks.check_objects.Goals as goal
 
-pub returns-in-Ok-clause-keyed : goal.returns-in-Ok-clause-keyed
-returns-in-Ok-clause-keyed g c clean =
-    let listing = c.in-Ok.ensures.rows clean in
-    then_ok c.judge_objects.result c.judge_objects.ensures.keyed (λ keyed. keyed_with _ _ listing.same keyed)
+pub read_objects-requires-clause-tables : goal.read_objects-requires-clause-tables
+read_objects-requires-clause-tables g c clean = tables_then g.S.Store c.args.conn.now c.count_object.new.conn c.count_object.new.conn c.in_ok-count.ensures.looks.rests c.in_ok-count.ensures.looks.same c.requires.tables clean
 
-pub returns-in-Ok-clause-ok : goal.returns-in-Ok-clause-ok
-returns-in-Ok-clause-ok g c clean =
-    let listing = c.in-Ok.ensures.rows clean in
-    IfOk-weaker c.judge_objects.result _ _ (λ objects read. record { rows = contents c.in-Ok.rows.items; same = contents_of _ _ listing.same; read = read }) c.judge_objects.ensures.ok
+pub returns-clause-looks : goal.returns-clause-looks
+returns-clause-looks g c = looks_then g.S.Store c.args.conn.now c.count_object.new.conn c.read_objects.new.conn c.in_ok-count.ensures.looks.rests c.in_ok-count.ensures.looks.same c.read_objects.result c.read_objects.ensures.looks
 
-pub returns-in-Ok-clause-fault : goal.returns-in-Ok-clause-fault
-returns-in-Ok-clause-fault g c clean =
-    let listing = c.in-Ok.ensures.rows clean in
-    each_err c.judge_objects.result _ _ c.judge_objects.ensures.fault (λ fault h bad. record { rows = contents c.in-Ok.rows.items; same = contents_of _ _ listing.same; none = h bad })
+pub returns-in_err-count-clause-looks : goal.returns-in_err-count-clause-looks
+returns-in_err-count-clause-looks g c = looks_failed g.S.Store c.args.conn.now c.count_object.new.conn c.from_residual.result c.from_residual.ensures.0 c.in_err-count.ensures.looks.rests
+
+pub returns-clause-keyed : goal.returns-clause-keyed
+returns-clause-keyed g c clean = on_any c.read_objects.result (c.in_ok-count.ensures.keyed (omega (arith, clean, c.read_objects.ensures.looks.rests.crash.clean)))
+
+pub returns-clause-read : goal.returns-clause-read
+returns-clause-read g c clean =
+    let before : HasCleanDisk (state g.S.Store c.count_object.new.conn) = omega (arith, clean, c.read_objects.ensures.looks.rests.crash.clean) in
+    subst (λ (d : Database). IfOk c.read_objects.result (λ objects. HoldsObjects (form_of c.args.version) c.args.source.now objects.items (contents (d.trees 2)))) (c.in_ok-count.ensures.looks.same before).0.now_is (c.read_objects.ensures.read clean)
+
+pub returns-clause-bad_row : goal.returns-clause-bad_row
+returns-clause-bad_row g c clean =
+    let before : HasCleanDisk (state g.S.Store c.count_object.new.conn) = omega (arith, clean, c.read_objects.ensures.looks.rests.crash.clean) in
+    subst (λ (d : Database). IfErr c.read_objects.result (λ fault. fault ≡ BadRow → HoldsNone (form_of c.args.version) c.args.source.now (contents (d.trees 2)))) (c.in_ok-count.ensures.looks.same before).0.now_is (c.read_objects.ensures.bad_row clean)

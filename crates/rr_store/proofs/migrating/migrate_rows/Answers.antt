@@ -1,33 +1,45 @@
-use Rattle.std.proofs.Common.{◌≡◌, true, arith}
+use Rattle.std.proofs.Common.{◌≡◌, true, refl, arith}
 use Rattle.sqlite.specs.Held.{state}
-use Rattle.rr_store.specs.Migrating.{has_mntner}
+use Rattle.rr_store.specs.Calls.{Writes}
+use Rattle.rr_store.specs.Migrating.{IsMigrated, has_mntner}
+use Rattle.rr_store.specs.MigratingParts.{IsRewritten}
+use Rattle.rr_store.proofs.CommitLemmas.{writes_as, writes_failed, writes_ok}
+use Rattle.rr_store.proofs.LookLemmas.{writes_then}
 use Rattle.rr_store.proofs.MigratedLemmas.{migrated}
-use Rattle.rr_store.proofs.MigrateLemmas.{migrated_left}
 use Rattle.rr_store.proofs.migrating.migrate_rows.Goals as goal
 
-pub returns-in_err-rewrite-clause-crash : goal.returns-in_err-rewrite-clause-crash
-returns-in_err-rewrite-clause-crash g c =
+pub returns-in_ok-rewrite-clause-migrates : goal.returns-in_ok-rewrite-clause-migrates
+returns-in_ok-rewrite-clause-migrates g c =
     let is = c.has_mntner.ensures in
     let same = c.deref.ensures.value in
     let held = c.if-has_mntner.true in
-    let registered : has_mntner c.args.root.now c.in_ok-objects.objects.items ≡ true = cc in
-    migrated_left c.args.root.now c.args.source.now c.in_ok-objects.objects.items (state g.S.Store c.args.conn.now) (state g.S.Store c.stored_objects.new.conn) (state g.S.Store c.rewrite.new.conn)
-    (λ clean. c.in_ok-objects.ensures.ok clean) registered c.in_ok-objects.ensures.crash c.rewrite.ensures.crash
+    let root = c.args.root.now in
+    let source = c.args.source.now in
+    let objects = c.in_ok-objects.objects.items in
+    let old = c.args.conn.now in
+    let new = c.rewrite.new.conn in
+    let registered : has_mntner root objects ≡ true = cc in
+    let written : Writes g.S.Store (λ _. IsRewritten root source objects) old new c.rewrite.result =
+    writes_then g.S.Store old c.stored_objects.new.conn new c.in_ok-objects.ensures.looks.rests c.in_ok-objects.ensures.looks.same (λ _. IsRewritten root source objects) c.rewrite.result c.rewrite.ensures in
+    let done : Writes g.S.Store (IsMigrated root source) old new c.rewrite.result =
+    writes_as g.S.Store old new (λ _. IsRewritten root source objects) (IsMigrated root source) c.rewrite.result
+    (λ clean db rewritten. migrated root source objects (state g.S.Store old).now db (c.in_ok-objects.ensures.stored (omega (arith, clean, c.rewrite.ensures.crash.clean))) registered rewritten) written in
+    writes_ok g.S.Store old new (IsMigrated root source) (IsMigrated root source) c.in_ok-rewrite.field-0 c.rewrite.result tt _ c.in_ok-rewrite.was refl done
 
-pub returns-in_ok-rewrite-clause-crash : goal.returns-in_ok-rewrite-clause-crash
-returns-in_ok-rewrite-clause-crash g c =
+pub returns-in_err-rewrite-clause-migrates : goal.returns-in_err-rewrite-clause-migrates
+returns-in_err-rewrite-clause-migrates g c =
     let is = c.has_mntner.ensures in
     let same = c.deref.ensures.value in
     let held = c.if-has_mntner.true in
-    let registered : has_mntner c.args.root.now c.in_ok-objects.objects.items ≡ true = cc in
-    migrated_left c.args.root.now c.args.source.now c.in_ok-objects.objects.items (state g.S.Store c.args.conn.now) (state g.S.Store c.stored_objects.new.conn) (state g.S.Store c.rewrite.new.conn)
-    (λ clean. c.in_ok-objects.ensures.ok clean) registered c.in_ok-objects.ensures.crash c.rewrite.ensures.crash
-
-pub returns-in_ok-rewrite-clause-ok : goal.returns-in_ok-rewrite-clause-ok
-returns-in_ok-rewrite-clause-ok g c clean =
-    let is = c.has_mntner.ensures in
-    let same = c.deref.ensures.value in
-    let held = c.if-has_mntner.true in
-    let registered : has_mntner c.args.root.now c.in_ok-objects.objects.items ≡ true = cc in
-    migrated c.args.root.now c.args.source.now c.in_ok-objects.objects.items (state g.S.Store c.args.conn.now).now (state g.S.Store c.rewrite.new.conn).now
-    (c.in_ok-objects.ensures.ok (omega (arith, c.rewrite.ensures.crash.clean))) registered (c.in_ok-rewrite.ensures.ok clean)
+    let root = c.args.root.now in
+    let source = c.args.source.now in
+    let objects = c.in_ok-objects.objects.items in
+    let old = c.args.conn.now in
+    let new = c.rewrite.new.conn in
+    let registered : has_mntner root objects ≡ true = cc in
+    let written : Writes g.S.Store (λ _. IsRewritten root source objects) old new c.rewrite.result =
+    writes_then g.S.Store old c.stored_objects.new.conn new c.in_ok-objects.ensures.looks.rests c.in_ok-objects.ensures.looks.same (λ _. IsRewritten root source objects) c.rewrite.result c.rewrite.ensures in
+    let done : Writes g.S.Store (IsMigrated root source) old new c.rewrite.result =
+    writes_as g.S.Store old new (λ _. IsRewritten root source objects) (IsMigrated root source) c.rewrite.result
+    (λ clean db rewritten. migrated root source objects (state g.S.Store old).now db (c.in_ok-objects.ensures.stored (omega (arith, clean, c.rewrite.ensures.crash.clean))) registered rewritten) written in
+    writes_failed g.S.Store old new (IsMigrated root source) (IsMigrated root source) c.rewrite.result c.from_residual-in_err-rewrite.result (rw c.in_err-rewrite.was refl) c.from_residual-in_err-rewrite.ensures.0 done

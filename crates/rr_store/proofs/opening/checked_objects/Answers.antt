@@ -10,16 +10,24 @@ use Rattle.rr_rows.specs.Maps.{IsObjectOf, entry_in}
 use Rattle.rr_store.specs.Versions.{form_of, version_text}
 use Rattle.rr_store.proofs.CheckLemmas.{both_ok, each_err}
 use Rattle.rr_store.proofs.StoredLemmas.{none_apart, none_named, none_read, stored}
+use Rattle.rr_store.proofs.LookLemmas.{tables_then}
 use Rattle.rr_store.proofs.opening.checked_objects.Goals as goal
 
-pub returns-clause-ok : goal.returns-clause-ok
-returns-clause-ok g c clean =
-    let before : HasCleanDisk (state g.S.Store c.check_objects.new.conn) = omega (arith, c.check_names.ensures.crash.clean) in
-    let same = c.in_ok-objects.ensures.same before in
-    let settings = c.requires.settings (omega (arith, c.check_objects.ensures.crash.clean)) same.0.was_open in
+pub check_objects-requires-clause-tables : goal.check_objects-requires-clause-tables
+check_objects-requires-clause-tables g c clean = (c.requires.settings clean).tables
+
+pub check_names-requires-clause-tables : goal.check_names-requires-clause-tables
+check_names-requires-clause-tables g c clean =
+    tables_then g.S.Store c.args.conn.now c.check_objects.new.conn c.check_objects.new.conn c.in_ok-objects.ensures.looks.rests c.in_ok-objects.ensures.looks.same (λ first. (c.requires.settings first).tables) clean
+
+pub returns-clause-stored : goal.returns-clause-stored
+returns-clause-stored g c clean =
+    let before : HasCleanDisk (state g.S.Store c.check_objects.new.conn) = omega (arith, clean, c.check_names.ensures.looks.rests.crash.clean) in
+    let same = c.in_ok-objects.ensures.looks.same before in
+    let settings = c.requires.settings (omega (arith, before, c.check_objects.ensures.looks.rests.crash.clean)) in
     let tidy : IsTidy (state g.S.Store c.args.conn.now).now = record { has = settings.tables; meta = settings.keyed; object = c.in_ok-objects.ensures.keyed before; named = subst (λ db. AreKeyed (db.trees 4)) same.0.now_is (c.in_ok-check_names.ensures.keyed clean) } in
     both_ok c.in_order.result _ _ _ c.in_order.ensures.same c.in_order.ensures.order
-    (λ ordered reordered order version. stored (form_of c.args.version) c.args.source.now (version_text c.args.version) c.in_ok-objects.objects.items ordered.items (state g.S.Store c.args.conn.now).now tidy version (c.in_ok-objects.ensures.ok before)
+    (λ ordered reordered order version. stored (form_of c.args.version) c.args.source.now (version_text c.args.version) c.in_ok-objects.objects.items ordered.items (state g.S.Store c.args.conn.now).now tidy version (c.in_ok-objects.ensures.read before)
     (subst₂ (λ os db. IsPermutation (flat_map named_rows (map (entry_in (form_of c.args.version)) os)) (contents (db.trees 4))) c.deref.ensures.value same.0.now_is (c.in_ok-check_names.ensures.ok clean)) reordered order)
 
 pub returns-clause-of_source : goal.returns-clause-of_source
@@ -28,20 +36,20 @@ returns-clause-of_source g c =
 
 pub returns-clause-bad_row : goal.returns-clause-bad_row
 returns-clause-bad_row g c clean =
-    let before : HasCleanDisk (state g.S.Store c.check_objects.new.conn) = omega (arith, c.check_names.ensures.crash.clean) in
+    let before : HasCleanDisk (state g.S.Store c.check_objects.new.conn) = omega (arith, clean, c.check_names.ensures.looks.rests.crash.clean) in
     each_err c.in_order.result _ _ c.in_order.ensures.fault
-    (λ fault tied bad. none_apart (form_of c.args.version) c.args.source.now (version_text c.args.version) c.in_ok-objects.objects.items (state g.S.Store c.args.conn.now).now (c.in_ok-objects.ensures.ok before) (tied bad))
+    (λ fault tied bad. none_apart (form_of c.args.version) c.args.source.now (version_text c.args.version) c.in_ok-objects.objects.items (state g.S.Store c.args.conn.now).now (c.in_ok-objects.ensures.read before) (tied bad))
 
 pub returns-in_err-check_names-clause-bad_row : goal.returns-in_err-check_names-clause-bad_row
 returns-in_err-check_names-clause-bad_row g c clean =
     let exit = err_from_is_err_and c.from_residual-in_err-check_names.result c.from_residual-in_err-check_names.ensures.1 in
-    let before : HasCleanDisk (state g.S.Store c.check_objects.new.conn) = omega (arith, c.check_names.ensures.crash.clean) in
-    let same = c.in_ok-objects.ensures.same before in
-    rw (exit.1, exit.2) (λ bad. none_named (form_of c.args.version) c.args.source.now (version_text c.args.version) c.in_ok-objects.objects.items (state g.S.Store c.args.conn.now).now (c.in_ok-objects.ensures.ok before)
-    (λ named. c.in_err-check_names.ensures.fault clean bad
+    let before : HasCleanDisk (state g.S.Store c.check_objects.new.conn) = omega (arith, clean, c.check_names.ensures.looks.rests.crash.clean) in
+    let same = c.in_ok-objects.ensures.looks.same before in
+    rw (exit.1, exit.2) (λ bad. none_named (form_of c.args.version) c.args.source.now (version_text c.args.version) c.in_ok-objects.objects.items (state g.S.Store c.args.conn.now).now (c.in_ok-objects.ensures.read before)
+    (λ named. c.in_err-check_names.ensures.bad_row clean bad
     (subst₂ (λ os db. IsPermutation (flat_map named_rows (map (entry_in (form_of c.args.version)) os)) (contents (db.trees 4))) (sym c.deref.ensures.value) (sym same.0.now_is) named)))
 
 pub returns-in_err-objects-clause-bad_row : goal.returns-in_err-objects-clause-bad_row
 returns-in_err-objects-clause-bad_row g c clean =
     let exit = err_from_is_err_and c.from_residual.result c.from_residual.ensures.1 in
-    rw (exit.1, exit.2) (λ bad. none_read (form_of c.args.version) c.args.source.now (version_text c.args.version) (state g.S.Store c.args.conn.now).now (c.in_err-objects.ensures.fault clean bad))
+    rw (exit.1, exit.2) (λ bad. none_read (form_of c.args.version) c.args.source.now (version_text c.args.version) (state g.S.Store c.args.conn.now).now (c.in_err-objects.ensures.bad_row clean bad))

@@ -1,26 +1,50 @@
-use Rattle.std.proofs.Common.{arith}
-use Rattle.std.proofs.lemmas.Result.{err_from_is_err_and}
+use Rattle.std.proofs.Common.{◌≡◌, IfErr, IfOk, subst, sym, arith}
+use Rattle.std.proofs.lemmas.Result.{IfOk-weaker, err_from_is_err_and}
+use Rattle.sqlite.specs.Effect.{Database}
 use Rattle.sqlite.specs.Held.{state}
 use Rattle.sqlite.specs.State.{HasCleanDisk}
-use Rattle.rr_store.proofs.StoredLemmas.{no_other_told, of_any_fault, only_said, says_other, unversioned}
+use Rattle.rr_rows.specs.Maps.{HasVersion}
+use Rattle.rr_store.specs.CheckParts.{HasSettings}
+use Rattle.rr_store.specs.Opening.{AreStoredAs, HoldNone}
+use Rattle.rr_store.specs.Versions.{version_text}
+use Rattle.rr_store.specs.declared.fault.OpenFault.TheVariants.{BadRow}
+use Rattle.rr_store.proofs.CheckLemmas.{both_err}
+use Rattle.rr_store.proofs.LookLemmas.{looks_failed, looks_then}
+use Rattle.rr_store.proofs.StoredLemmas.{rows_refuse, version_refuses}
 use Rattle.rr_store.proofs.opening.read_tables.Goals as goal
 
-pub returns-in_err-check_version-clause-bad_row : goal.returns-in_err-check_version-clause-bad_row
-returns-in_err-check_version-clause-bad_row g c clean =
-    let exit = err_from_is_err_and c.from_residual.result c.from_residual.ensures.1 in
-    rw (exit.1, exit.2) (unversioned c.args.version c.args.source.now (state g.S.Store c.args.conn.now).now c.in_err-check_version.field-0.0 (c.in_err-check_version.ensures.fault clean))
+pub check_version-requires-clause-tables : goal.check_version-requires-clause-tables
+check_version-requires-clause-tables g c clean = (c.requires.settings clean).tables
 
-pub returns-in_err-check_version-clause-wrong_version : goal.returns-in_err-check_version-clause-wrong_version
-returns-in_err-check_version-clause-wrong_version g c clean =
-    let exit = err_from_is_err_and c.from_residual.result c.from_residual.ensures.1 in
-    rw (exit.1, exit.2) (says_other c.args.version (state g.S.Store c.args.conn.now).now c.in_err-check_version.field-0.0 (c.in_err-check_version.ensures.fault clean))
+pub checked_objects-requires-clause-settings : goal.checked_objects-requires-clause-settings
+checked_objects-requires-clause-settings g c clean =
+    subst HasSettings (sym (c.in_ok-check_version.ensures.looks.same clean).0.now_is) (c.requires.settings (omega (arith, clean, c.in_ok-check_version.ensures.looks.rests.crash.clean)))
 
-pub returns-in_err-check_version-clause-no_other_said : goal.returns-in_err-check_version-clause-no_other_said
-returns-in_err-check_version-clause-no_other_said g c clean =
-    let exit = err_from_is_err_and c.from_residual.result c.from_residual.ensures.1 in
-    rw (exit.1, exit.2) (no_other_told c.args.version (state g.S.Store c.args.conn.now).now c.in_err-check_version.field-0.0 (c.in_err-check_version.ensures.fault clean))
+pub returns-clause-looks : goal.returns-clause-looks
+returns-clause-looks g c =
+    looks_then g.S.Store c.args.conn.now c.check_version.new.conn c.checked_objects.new.conn c.in_ok-check_version.ensures.looks.rests c.in_ok-check_version.ensures.looks.same c.checked_objects.result c.checked_objects.ensures.looks
 
-pub returns-clause-no_other_said : goal.returns-clause-no_other_said
-returns-clause-no_other_said g c clean =
-    let before : HasCleanDisk (state g.S.Store c.check_version.new.conn) = omega (arith, c.checked_objects.ensures.crash.clean) in
-    of_any_fault c.checked_objects.result _ (λ fault bad. only_said c.args.version (state g.S.Store c.args.conn.now).now (c.in_ok-check_version.ensures.ok before))
+pub returns-in_err-check_version-clause-looks : goal.returns-in_err-check_version-clause-looks
+returns-in_err-check_version-clause-looks g c = looks_failed g.S.Store c.args.conn.now c.check_version.new.conn c.from_residual.result c.from_residual.ensures.0 c.in_err-check_version.ensures.looks.rests
+
+pub returns-clause-stored : goal.returns-clause-stored
+returns-clause-stored g c clean =
+    let before : HasCleanDisk (state g.S.Store c.check_version.new.conn) = omega (arith, clean, c.checked_objects.ensures.looks.rests.crash.clean) in
+    let told = subst (λ (d : Database). IfOk c.checked_objects.result (λ objects. HasVersion (version_text c.args.version) d → AreStoredAs c.args.version c.args.source.now objects.items d))
+    (c.in_ok-check_version.ensures.looks.same before).0.now_is (c.checked_objects.ensures.stored clean) in
+    IfOk-weaker c.checked_objects.result _ _ (λ objects stored. stored (c.in_ok-check_version.ensures.ok before)) told
+
+pub returns-clause-why : goal.returns-clause-why
+returns-clause-why g c clean =
+    let before : HasCleanDisk (state g.S.Store c.check_version.new.conn) = omega (arith, clean, c.checked_objects.ensures.looks.rests.crash.clean) in
+    let first : HasCleanDisk (state g.S.Store c.args.conn.now) = omega (arith, before, c.in_ok-check_version.ensures.looks.rests.crash.clean) in
+    let none = subst (λ (d : Database). IfErr c.checked_objects.result (λ fault. fault ≡ BadRow → HoldNone c.args.version c.args.source.now d))
+    (c.in_ok-check_version.ensures.looks.same before).0.now_is (c.checked_objects.ensures.bad_row clean) in
+    both_err c.checked_objects.result _ _ _ c.checked_objects.ensures.no_other none
+    (λ fault no_other bad. rows_refuse c.args.version c.args.source.now (state g.S.Store c.args.conn.now).now fault (c.requires.settings first).tables (c.in_ok-check_version.ensures.ok before) no_other bad)
+
+pub returns-in_err-check_version-clause-why : goal.returns-in_err-check_version-clause-why
+returns-in_err-check_version-clause-why g c clean =
+    let exit = err_from_is_err_and c.from_residual.result c.from_residual.ensures.1 in
+    let first : HasCleanDisk (state g.S.Store c.args.conn.now) = omega (arith, clean, c.in_err-check_version.ensures.looks.rests.crash.clean) in
+    rw (exit.1, exit.2) (version_refuses c.args.version c.args.source.now (state g.S.Store c.args.conn.now).now c.in_err-check_version.field-0.0 (c.requires.settings first).tables (c.in_err-check_version.ensures.fault clean))

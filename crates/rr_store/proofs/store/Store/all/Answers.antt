@@ -1,11 +1,6 @@
 use Rattle.rr_store.proofs.ShownLemmas.{all_told}
 use Rattle.rr_store.proofs.store.Store.all.Goals as goal
-use Rattle.rr_store.proofs.store.Store.all.Goals.{in-Ok, in-Err-Memory, in-Err}
 
-pub returns-clause-ok : goal.returns-clause-ok
-returns-clause-ok g c clean =
-    elim c.match-all_objects.branch [
-      | in-Ok w ↦ rw w.result-is (λ objects has. all_told c.args.source.now _ objects _ has (rw c.self.view_is at (w.in-Ok.ensures.ok clean)) w.in-Ok.ensures.order)
-      | in-Err-Memory w ↦ rw w.result-is tt
-      | in-Err w ↦ rw w.result-is tt
-    ]
+pub returns-clause-all : goal.returns-clause-all
+returns-clause-all g c clean objects has =
+    all_told c.args.source.now c.in_ok-all_objects.field-0.items objects _ has (rw c.self.view_is at (c.in_ok-all_objects.ensures.read clean)) c.in_ok-all_objects.ensures.in_order

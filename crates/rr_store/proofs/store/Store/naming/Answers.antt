@@ -1,11 +1,6 @@
 use Rattle.rr_store.proofs.ShownLemmas.{those_told}
 use Rattle.rr_store.proofs.store.Store.naming.Goals as goal
-use Rattle.rr_store.proofs.store.Store.naming.Goals.{in-Ok, in-Err-Memory, in-Err}
 
-pub returns-clause-ok : goal.returns-clause-ok
-returns-clause-ok g c clean =
-    elim c.match-naming_objects.branch [
-      | in-Ok w ↦ rw w.result-is (λ objects has. those_told c.args.source.now _ c.args.name.now objects _ has (rw c.self.view_is at (w.in-Ok.ensures.ok clean)) w.in-Ok.ensures.order)
-      | in-Err-Memory w ↦ rw w.result-is tt
-      | in-Err w ↦ rw w.result-is tt
-    ]
+pub returns-clause-naming : goal.returns-clause-naming
+returns-clause-naming g c clean objects has =
+    those_told c.args.source.now c.in_ok-naming_objects.field-0.items c.args.name.now objects _ has (rw c.self.view_is at (c.in_ok-naming_objects.ensures.read clean)) c.in_ok-naming_objects.ensures.in_order

@@ -1,0 +1,7 @@
+use Rattle.std.proofs.Common.{◌≡◌}
+use Rattle.rr_rows.proofs.NumberLemmas.{IsRun}
+use Rattle.rr_store.proofs.StreamLemmas.{HasRead}
+use Rattle.rr_store.proofs.streams.count_numbered.Given as goal
+
+abbrev pub invariant-rows : goal.invariant-rows
+invariant-rows g l = (l.rows.conn.ghost_name ≡ l.initial.rows.conn.ghost_name) × HasRead g.S.Store l.initial.rows.conn.now l.rows.conn.now (IsRun l.last)

@@ -1,0 +1,29 @@
+-- What becomes of a call that makes a store.
+use Rattle.std.specs.Prelude.{◌≡◌, false, List, map, IsTrue}
+use Rattle.sqlite_trees.specs.declared.store.Store.{Ghosts}
+use Rattle.sqlite.specs.Held.{Held, state}
+use Rattle.sqlite.specs.State.{Survives}
+use Rattle.rr_object.specs.Objects.{Obj}
+use Rattle.rr_rows.specs.Entries.{TreesOf, entry_of}
+use Rattle.rr_rows.specs.Made.{HasRow, IsVacant}
+use Rattle.rr_rows.specs.Maps.{IsFilled}
+use Rattle.rr_rows.specs.Tables.{HasTables}
+use Rattle.rr_store.specs.Calls.{OnCleanDisk, WhileOpen, database}
+use Rattle.rr_store.specs.declared.fault.CreateFault.{CreateFault}
+use Rattle.rr_store.specs.declared.fault.CreateFault.TheVariants.{NotEmpty}
+
+module _ {S : Type 0} (g : Ghosts S) (objects : List Obj) (conn : Held S) where
+  -- a database that had room for it is the store of the objects (profile)
+  pub record MakesStore (store : Held S) : Type 0 where
+    pub filled : OnCleanDisk g store (IsFilled (map entry_of objects) (database g store))
+    pub is_open : OnCleanDisk g store (IsTrue (state g store).is_open)
+    pub vacant : OnCleanDisk g store (IsVacant (database g conn))
+    pub crash : Survives (state g conn) (state g store) (TreesOf (IsFilled (map entry_of objects)))
+
+  -- the rows are as they were, and where one stood in the tables, that is the fault
+  pub record FailsToMake (left : Held S) (fault : CreateFault) : Type 0 where
+    pub autocommit : left.in_transaction ≡ false
+    pub kept : WhileOpen g left (database g left ≡ database g conn)
+    pub not_empty : fault ≡ NotEmpty
+        → OnCleanDisk g left (HasTables (database g conn).schema × HasRow (database g conn))
+    pub crash : Survives (state g conn) (state g left) (TreesOf (IsFilled (map entry_of objects)))

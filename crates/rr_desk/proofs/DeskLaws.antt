@@ -60,7 +60,7 @@ module _ (source : List ℕ) (registry : Reg) (start now : Told) (again : IsRead
   not_of_text (Duplicate n) fails = no_list (list.Duplicate n) fails
   not_of_text (Overlap n) fails = no_list (list.Overlap n) fails
   not_of_text (Unnamed n) fails = no_list (list.Unnamed n) fails
-  not_of_text Store fails = tt
+  not_of_text (Store error) fails = tt
   not_of_text Memory fails = tt
 
 pub full_dumps_load : FullDumpsAreLoaded

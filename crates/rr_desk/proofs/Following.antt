@@ -1,11 +1,14 @@
 -- What an item does to the registry, and how the rows follow it.
 use Rattle.std.proofs.Common.{◌≡◌, ℕ, Bool, true, false, cond, List, Ok, Err, Result, OnOk, IsTrue, inl, inr, refl, sym, ap, subst, ◌∙◌, arith}
-use Rattle.std.specs.Prelude.{Option, None, Some, is_some, if◌then◌else◌}
+use Rattle.std.specs.Prelude.{None, Some, is_some, if◌then◌else◌}
 use Rattle.std.proofs.lemmas.Bool.{true≢false}
-use Rattle.std.specs.FinMap.{get, insert, remove, get-insert}
+use Rattle.std.specs.FinMap.{get, insert, get-insert}
+use Rattle.sqlite_trees.specs.declared.store.Store.{Ghosts}
 use Rattle.sqlite_trees.specs.Tree.{Trees}
 use Rattle.sqlite.specs.Effect.{Database}
-use Rattle.sqlite.specs.State.{State, HasCleanDisk, Survives}
+use Rattle.sqlite.specs.Held.{Held, state}
+use Rattle.sqlite.specs.State.{HasCleanDisk}
+use Rattle.sqlite.proofs.StateLemmas.{survives_weaker}
 use Rattle.rr_text.specs.Fields.{fields_eq}
 use Rattle.rr_object.specs.declared.code.Code.{Code}
 use Rattle.rr_object.specs.declared.code.Code.TheVariants.{E10, E11}
@@ -27,9 +30,10 @@ use Rattle.rr_registry.specs.Runs.{IsStep, outcome_of}
 use Rattle.rr_rows.specs.Entries.{TreesOf}
 use Rattle.rr_rows.specs.Maps.{HasRows, Puts, TakesOut}
 use Rattle.rr_store.specs.Adding.{AddsTo}
+use Rattle.rr_store.specs.Calls.{Writes, database}
 use Rattle.rr_desk.specs.Halts.{IsHalted, changes}
 use Rattle.rr_desk.specs.Rows.{Holds}
-use Rattle.rr_desk.specs.Private.{Follows, FollowsGain, FollowsNew, Gains, GainsNew, LeadsTo, puts_one}
+use Rattle.rr_desk.specs.Private.{Follows, FollowsGain, FollowsIn, FollowsNew, Gains, LeadsTo, puts_one}
 
 -- a change is never an addition
 behind : (b : Bool) (c : Code) (v : Verdict) → (if b then Refuse c else v) ≡ Add → v ≡ Add
@@ -119,19 +123,41 @@ pub then_ok : {X E P Q : Type 0} (r : Result X E) → OnOk r P → (P → Q) →
 then_ok (Ok x) h f = f h
 then_ok (Err e) h f = tt
 
+module _ {S X E : Type 0} (g : Ghosts S) (P Q : Database → Database → Type 0) (old new : Held S) (result : Result X E) (f : (db : Database) → P (database g old) db → Q (database g old) db) where
+  -- one change of the rows is another
+  pub writes_as : Writes g P old new result → Writes g Q old new result
+  writes_as writes = record {
+    autocommit = writes.autocommit;
+    opened = writes.opened;
+    done = λ clean. then_ok result (writes.done clean) (f (database g new));
+    is_open = writes.is_open;
+    kept = writes.kept;
+    crash = survives_weaker _ _ _ _ (λ clean trees made. trees_of f trees made) writes.crash;
+  }
+
+  -- and so the rows follow
+  pub writes_follow : Writes g P old new result → FollowsIn g Q old new result
+  writes_follow writes =
+      let made = writes_as writes in
+      record { done = made.done; is_open = λ clean on. made.is_open clean; kept = made.kept; crash = made.crash }
+
 -- where the rows followed the registry, the store holds the rows of the one after the item
-pub still_held : (old new : State) (before after : Reg) (key : Key) (outcome : Outcome) (P : Trees → Type 0) → (HasCleanDisk old → Holds before old) → LeadsTo before key outcome after → Survives old new P
-    → (HasCleanDisk new → Follows key outcome after old.now new.now) → (HasCleanDisk new → IsTrue old.is_open → IsTrue new.is_open)
-    → (IsTrue new.is_open → (trees : Trees) → new.may_leave trees → trees ≡ new.now.trees) → HasCleanDisk new → Holds after new
-still_held old new before after key outcome P held leading survives follows on settled clean =
-    let was = held (omega (arith, survives.clean)) in
-    record { is_open = on clean was.is_open; rows = follows clean before leading was.rows; leaves = settled (on clean was.is_open) }
+pub still_held : {S X E : Type 0} (g : Ghosts S) (old new : Held S) (before after : Reg) (key : Key) (outcome : Outcome) (x : X) → (HasCleanDisk (state g old) → Holds before (state g old)) → LeadsTo before key outcome after
+    → FollowsIn {E = E} g (Follows key outcome after) old new (Ok x)
+    → (IsTrue (state g new).is_open → (trees : Trees) → (state g new).may_leave trees → trees ≡ (database g new).trees) → HasCleanDisk (state g new) → Holds after (state g new)
+still_held g old new before after key outcome x held leading follows settled clean =
+    let was = held (let kept = follows.crash.clean in omega (arith, kept)) in
+    let on = follows.is_open clean was.is_open in
+    record { is_open = on; rows = follows.done clean before leading was.rows; leaves = settled on }
 
 -- where they could not follow, those of the registry before the item stand
-pub halts_there : (old new : State) (before after : Reg) (secrets : List (List ℕ)) (item : Item) (key : Key) (outcome : Outcome) → key ≡ key_about item → IsStep before secrets item outcome after → changes outcome ≡ true
-    → (HasCleanDisk old → Holds before old) → (HasCleanDisk new → IsTrue new.is_open → new.now ≡ old.now) → Survives old new (TreesOf (Follows key outcome after old.now))
-    → IsHalted before secrets item after true new
-halts_there old new before after secrets item key outcome is_key step changing held same survives =
+pub halts_there : {S X E : Type 0} (g : Ghosts S) (held_before held_after : Held S) (before after : Reg) (secrets : List (List ℕ)) (item : Item) (key : Key) (outcome : Outcome) (e : E) → key ≡ key_about item → IsStep before secrets item outcome after → changes outcome ≡ true
+    → (HasCleanDisk (state g held_before) → Holds before (state g held_before)) → FollowsIn {X = X} g (Follows key outcome after) held_before held_after (Err e)
+    → IsHalted before secrets item after true (state g held_before) (state g held_after)
+halts_there g held_before held_after before after secrets item key outcome e is_key step changing held follows =
+    let old = state g held_before in
+    let new = state g held_after in
+    let survives = follows.crash in
     let earlier : HasCleanDisk new → HasCleanDisk old = λ clean. omega (arith, survives.clean) in
     let leading : LeadsTo before key outcome after = subst (λ k. LeadsTo before k outcome after) (sym is_key) (leads before secrets item outcome after step) in
     record {
@@ -139,11 +165,13 @@ halts_there old new before after secrets item key outcome is_key step changing h
       step = step;
       changing = changing;
       is_stopped = refl;
-      rows = λ clean on. subst (HasRows before) (sym (same clean on)) (held (earlier clean)).rows;
+      rows = λ clean on. subst (HasRows before) (sym (follows.kept clean on)) (held (earlier clean)).rows;
       leaves = λ clean trees may.
           let was = held (earlier clean) in
           elim (survives.crash clean trees may) [
             | inl first ↦ inl (old.now, was.rows, was.leaves trees first)
             | inr made ↦ inr (trees_of (λ db follows. follows before leading was.rows) trees made)
           ];
+      was_open = λ clean. (held clean).is_open;
+      survives = survives_weaker old new _ _ (λ clean trees made. trees_of (λ db follows. follows before leading (held (earlier clean)).rows) trees made) survives;
     }

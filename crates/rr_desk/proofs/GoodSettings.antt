@@ -1,5 +1,5 @@
 -- Settings that were read are good.
-use Rattle.std.proofs.Common.{◌≡◌, ℕ, ◌≤◌, Bool, true, false, ◌&&◌, cond, length, List, [], ◌∷◌, Option, Some, None, Result, Ok, Err, refl, sym, ap, subst, ◌∙◌, arith, nat_le, codes}
+use Rattle.std.proofs.Common.{◌≡◌, ℕ, ◌≤◌, Bool, true, false, ◌&&◌, cond, List, [], ◌∷◌, Option, Some, None, Result, Ok, Err, refl, sym, ap, ◌∙◌, arith, nat_le, codes}
 use Rattle.std.proofs.lemmas.Bool.Decides.{nat_tests}
 use Rattle.std.proofs.lemmas.Option.{cond_some}
 use Rattle.std.specs.Option.{option_and_then, option_map}
@@ -10,17 +10,17 @@ use Rattle.hex.specs.Hex.{decode_sized, decode_pairs}
 use Rattle.hex.proofs.HexLemmas.{decode_sized-ok, decode_sized-twice, decode_of-ok}
 use Rattle.rr_bytes.specs.LetterCase.{is_keyword, upper}
 use Rattle.rr_bytes.specs.NameBytes.{is_name}
-use Rattle.rr_number.specs.Names.{IsUpperName, is_maintainer_name, is_reserved, maintainer_name_of, name_of}
+use Rattle.rr_number.specs.Names.{is_maintainer_name, is_reserved, maintainer_name_of, name_of}
 use Rattle.rr_number.proofs.NameLemmas.{name_of-kept}
 use Rattle.rr_text.specs.Bytes.{is_colon}
-use Rattle.rr_object.specs.Auths.{auth_item, auth_of_words, is_salt, is_sha256_pw, salted_digest_of}
+use Rattle.rr_object.specs.Auths.{auth_of_words, is_salt, is_sha256_pw, salted_digest_of}
 use Rattle.rr_bytes.specs.Parts.{words}
 use Rattle.rr_object.specs.Items.{meant_by, only}
 use Rattle.rr_object.specs.Parts.{AuthParts}
 use Rattle.rr_desk.specs.declared.settings.Setting.{Setting}
 use Rattle.rr_desk.specs.declared.settings.Setting.TheVariants.{Source, Root, Auth, Limit}
-use Rattle.rr_desk.specs.declared.settings.SettingsFault.{SettingsFault}
-use Rattle.rr_desk.specs.Settings.{IsDigest, IsSettings, SettingsParts, greatest_limit, and_then, built_in, digest_of, limit_of, needed, or_bad, settings_of}
+use Rattle.rr_desk.specs.declared.settings.TheConstants.{GREATEST_LIMIT}
+use Rattle.rr_desk.specs.Settings.{IsDigest, IsSettings, SettingsParts, built_in, digest_of, limit_of, needed, or_bad, settings_of}
 
 -- what a setting was read from
 pub record IsRead {X Y : Type 0} (read : X → Option Y) (value : Y) : Type 0 where
@@ -97,9 +97,9 @@ pub digest_read : (value : List ℕ) (auth : AuthParts) → digest_of value ≡ 
 digest_read value auth e = of_words (words value) auth e
 
 -- a limit that was read is within its bounds
-pub limit_read : (given limit : ℕ) → limit_of given ≡ Some limit → (1 ≤ limit) × (limit ≤ greatest_limit)
+pub limit_read : (given limit : ℕ) → limit_of given ≡ Some limit → (1 ≤ limit) × (limit ≤ GREATEST_LIMIT)
 limit_read given limit e =
-    let parts = cond_some (nat_le 1 given && nat_le given greatest_limit) given limit e in
+    let parts = cond_some (nat_le 1 given && nat_le given GREATEST_LIMIT) given limit e in
     let test = parts.0 in
     let same : given ≡ limit = parts.1 in
     (grind (arith, nat_tests), grind (arith, nat_tests))

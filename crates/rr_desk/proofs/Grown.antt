@@ -27,7 +27,7 @@ use Rattle.rr_desk.specs.Settings.{IsSettings, SettingsParts}
 use Rattle.rr_desk.proofs.ListRows.{gathered_is}
 use Rattle.rr_desk.proofs.TakenApart.{taken_apart}
 use Rattle.rr_load.proofs.SoundLists.{sound_list, stands}
-use Rattle.rr_desk.proofs.OpeningReads.{block_named, four_octets, four_octets_read}
+use Rattle.rr_desk.proofs.Opens.{block_named, four_octets, four_octets_read}
 use Rattle.rr_desk.proofs.OpeningRegistry.{four_octets_object}
 use Rattle.rr_desk.proofs.Sources.{taken_each}
 

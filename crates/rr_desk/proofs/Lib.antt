@@ -1,7 +1,7 @@
 pub mod GoodSettings
 pub mod PlainTexts
 pub mod OpeningLines
-pub mod OpeningReads
+pub mod Opens
 pub mod OpeningRegistry
 pub mod Following
 pub mod ListRows
@@ -17,3 +17,4 @@ pub mod Migrated
 pub mod Sources
 pub mod DeskLaws
 pub mod DeskSecrets
+pub mod TurnOrder

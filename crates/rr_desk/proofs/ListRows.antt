@@ -1,5 +1,5 @@
 -- The rows of a list of objects are those of the registry that the list is.
-use Rattle.std.proofs.Common.{◌≡◌, inl, inr, ℕ, List, [], ◌∷◌, map, Bor, refl, sym, subst, ◌∙◌, arith}
+use Rattle.std.proofs.Common.{◌≡◌, false, inl, ℕ, List, [], ◌∷◌, map, Bor, refl, sym, subst, ◌∙◌, arith}
 use Rattle.std.specs.Prelude.{Some}
 use Rattle.std.specs.List.{AllByRecursion}
 use Rattle.std.specs.Ordering.{eq_by_cmp}
@@ -13,12 +13,14 @@ use Rattle.rr_object.specs.KeyOrders.{key_cmp}
 use Rattle.rr_object.specs.Objects.{Obj}
 use Rattle.rr_auth.specs.Registries.{Reg, Sound}
 use Rattle.rr_registry.specs.Loading.{IsTaken, gathered}
-use Rattle.rr_rows.specs.Entries.{entry_of}
+use Rattle.rr_rows.specs.Entries.{TreesOf, entry_of}
 use Rattle.rr_rows.specs.Maps.{AreStored, HasRows, IsFilled, IsObject}
 use Rattle.rr_rows.proofs.MapLists.{put_all, stored_rows}
-use Rattle.rr_store.specs.Kept.{IsLeft}
 use Rattle.rr_store.specs.Lent.{lent}
 use Rattle.rr_load.proofs.Sources.{one_found}
+use Rattle.sqlite_trees.specs.declared.store.Store.{Ghosts}
+use Rattle.sqlite.specs.Held.{Held}
+use Rattle.rr_desk.specs.Opened.{GivesBack, MakesNone, MakesTables}
 use Rattle.rr_desk.proofs.Following.{trees_of}
 
 -- a list that is gathered is put in one by one
@@ -49,10 +51,21 @@ lent_rows r objects sound same all db filled =
     registry_rows r db sound (subst (AllByRecursion IsObject) same all) (subst (λ os. IsFilled (map entry_of os) db) same filled)
 
 -- a stop that may leave such a database may leave one of which more is said
-pub left_as : {P Q : Database → Type 0} (old new : State) → ((db : Database) → P db → Q db) → Survives old new (IsLeft old.is_open P) → Survives old new (IsLeft old.is_open Q)
-left_as {P} {Q} old new f one =
-    survives_weaker old new (IsLeft old.is_open P) (IsLeft old.is_open Q) (λ clean trees h. elim h [ inl off ↦ inl off | inr made ↦ inr (trees_of f trees made) ]) one
+pub left_as : {P Q : Database → Type 0} (old new : State) → ((db : Database) → P db → Q db) → Survives old new (TreesOf P) → Survives old new (TreesOf Q)
+left_as {P} {Q} old new f one = survives_weaker old new (TreesOf P) (TreesOf Q) (λ clean trees made. trees_of f trees made) one
 
 -- a connection that was not touched leaves what it left before
 pub untouched : (s : State) (P : Trees → Type 0) → Survives s s P
 untouched s P = record { clean = omega arith; shield = λ h. h; counts = omega arith; limit = refl; closes = λ clean h. inl h; crash = λ clean db h. inl h }
+
+module _ {S : Type 0} (g : Ghosts S) where
+  -- and is given back as it was
+  pub untouched_back : (commits : Trees → Type 0) (conn : Held S) → conn.in_transaction ≡ false → GivesBack g commits conn conn
+  untouched_back commits conn autocommit = record { autocommit = autocommit; kept = λ clean on. refl; crash = untouched _ _ }
+
+  -- tables with such rows have those of which more is said
+  pub makes_as : {P Q : Database → Type 0} (conn made : Held S) → ((db : Database) → P db → Q db) → MakesTables g P conn made → MakesTables g Q conn made
+  makes_as conn made f makes = record { vacant = makes.vacant; crash = left_as _ _ f makes.crash }
+
+  pub none_as : {P Q : Database → Type 0} (conn left : Held S) → ((db : Database) → P db → Q db) → MakesNone g P conn left → MakesNone g Q conn left
+  none_as conn left f none = record { autocommit = none.autocommit; kept = none.kept; crash = left_as _ _ f none.crash }

@@ -1,11 +1,11 @@
 -- Why a dump is not loaded, from what the layers below answer.
-use Rattle.std.proofs.Common.{◌≡◌, ◌≢◌, ℕ, List, Some, inl, inr, subst}
+use Rattle.std.proofs.Common.{◌≡◌, ◌≢◌, ℕ, List, inl, inr}
 use Rattle.rr_io.specs.Told.{Told}
 use Rattle.rr_object.specs.Objects.{Obj}
 use Rattle.rr_auth.specs.Registries.{Reg}
 use Rattle.rr_registry.specs.declared.load.LoadFault.{LoadFault}
 use Rattle.rr_registry.specs.declared.load.LoadFault.TheVariants as list
-use Rattle.rr_registry.specs.Loading.{IsFaultOf, IsTaken, load_fault}
+use Rattle.rr_registry.specs.Loading.{IsFaultOf, IsTaken}
 use Rattle.rr_store.specs.declared.fault.CreateFault.{CreateFault}
 use Rattle.rr_store.specs.declared.fault.CreateFault.TheVariants as store
 use Rattle.rr_load.specs.Readings.{FailsToRead, HasRead}
@@ -55,10 +55,10 @@ taken_loads source start now objects registry read taken = record {
 
 pub unmade_fails : (source : List ℕ) (start now : Told) (registry : Reg) (fault : CreateFault) → IsLoaded source start now registry → FailsToLoad source start now (unmade fault)
 unmade_fails source start now registry store.NotEmpty loaded = record { registry = registry; is_loaded = loaded }
-unmade_fails source start now registry store.Store loaded = record { registry = registry; is_loaded = loaded }
+unmade_fails source start now registry (store.Store error) loaded = record { registry = registry; is_loaded = loaded }
 unmade_fails source start now registry store.Memory loaded = inr (record { text = loaded.text; reads = loaded.reads })
 
 pub unmade_of_rows : (fault : CreateFault) → unmade fault ≡ NotEmpty → fault ≡ store.NotEmpty
 unmade_of_rows store.NotEmpty is = cc
-unmade_of_rows store.Store is = absurd (cc)
+unmade_of_rows (store.Store error) is = absurd (cc)
 unmade_of_rows store.Memory is = absurd (cc)

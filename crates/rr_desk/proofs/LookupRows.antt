@@ -1,14 +1,15 @@
 -- What a look at the rows leaves of them.
-use Rattle.std.proofs.Common.{◌≡◌, Bool, true, false, List, Ok, Err, Result, OnOk, OnErr, IfErr, IsTrue, inl, inr, refl, sym, ap, subst, ◌∙◌, arith}
+use Rattle.std.specs.Prelude.{is_some}
+use Rattle.std.proofs.Common.{◌≡◌, false, Ok, Err, Result, OnOk, OnErr, IfErr, IsTrue, inl, inr, refl, sym, subst, arith}
 use Rattle.std.proofs.lemmas.Bool.{true≢false}
 use Rattle.sqlite_trees.specs.Tree.{Trees}
-use Rattle.sqlite.specs.State.{State, HasCleanDisk, IsUnchanged, Survives}
+use Rattle.sqlite.specs.State.{State, HasCleanDisk, IsUnchanged}
 use Rattle.rr_auth.specs.Registries.{Reg}
 use Rattle.rr_store.specs.declared.fault.StoreFault.{StoreFault}
 use Rattle.rr_store.specs.declared.fault.StoreFault.TheVariants as unread
 use Rattle.rr_rows.specs.Maps.{HasRows}
-use Rattle.rr_desk.specs.LookupParts.{is_refused}
-use Rattle.rr_desk.specs.Rows.{Holds, KeepsRows}
+use Rattle.rr_desk.specs.LookupParts.{refusal}
+use Rattle.rr_desk.specs.Rows.{OnlyLooks, Holds, KeepsRows}
 
 -- a store that holds the rows of a registry keeps them
 pub holds_keeps : (now : State) (r : Reg) → (HasCleanDisk now → Holds r now) → KeepsRows r now
@@ -18,7 +19,7 @@ holds_keeps now r held = record {
 }
 
 -- a look that commits nothing keeps them too
-pub look_keeps : (old new : State) (r : Reg) → (HasCleanDisk old → Holds r old) → (HasCleanDisk new → IsTrue new.is_open → new.now ≡ old.now) → Survives old new (λ trees. old.is_open ≡ false) → KeepsRows r new
+pub look_keeps : (old new : State) (r : Reg) → (HasCleanDisk old → Holds r old) → (HasCleanDisk new → IsTrue new.is_open → new.now ≡ old.now) → OnlyLooks old new → KeepsRows r new
 look_keeps old new r held same survives =
     let earlier : HasCleanDisk new → HasCleanDisk old = λ clean. omega (arith, survives.clean) in
     record {
@@ -27,7 +28,7 @@ look_keeps old new r held same survives =
           let was = held (earlier clean) in
           elim (survives.crash clean trees may) [
             | inl first ↦ (old.now, was.rows, was.leaves trees first)
-            | inr shut ↦ absurd (true≢false (sym was.is_open ∙ shut))
+            | inr none ↦ absurd none
           ];
     }
 
@@ -40,11 +41,11 @@ unchanged_holds old new r was same settled = record {
 }
 
 -- and so it does behind a look that the database did not refuse
-pub look_holds : {X : Type 0} (old new : State) (r : Reg) (found : Result X StoreFault) → (HasCleanDisk old → Holds r old) → Survives old new (λ trees. old.is_open ≡ false) → (HasCleanDisk new → OnOk found (IsUnchanged old new))
-    → (HasCleanDisk new → IfErr found (λ fault. fault ≡ unread.Memory → IsUnchanged old new)) → (IsTrue new.is_open → (trees : Trees) → new.may_leave trees → trees ≡ new.now.trees) → is_refused found ≡ false → HasCleanDisk new → Holds r new
+pub look_holds : {X : Type 0} (old new : State) (r : Reg) (found : Result X StoreFault) → (HasCleanDisk old → Holds r old) → OnlyLooks old new → (HasCleanDisk new → OnOk found (IsUnchanged old new))
+    → (HasCleanDisk new → IfErr found (λ fault. fault ≡ unread.Memory → IsUnchanged old new)) → (IsTrue new.is_open → (trees : Trees) → new.may_leave trees → trees ≡ new.now.trees) → is_some (refusal found) ≡ false → HasCleanDisk new → Holds r new
 look_holds old new r (Ok x) held survives same memory settled kept clean = unchanged_holds old new r (held (omega (arith, survives.clean))) (same clean) settled
 look_holds old new r (Err unread.Memory) held survives same memory settled kept clean = unchanged_holds old new r (held (omega (arith, survives.clean))) (memory clean refl) settled
-look_holds old new r (Err unread.Store) held survives same memory settled kept clean = absurd (true≢false kept)
+look_holds old new r (Err (unread.Store error)) held survives same memory settled kept clean = absurd (true≢false kept)
 
 -- whether it was refused or not, what stands while the store is open is what stood
 pub look_same : {X : Type 0} (old new : State) (found : Result X StoreFault) → (HasCleanDisk new → OnOk found (IsUnchanged old new)) → (HasCleanDisk new → IsTrue new.is_open → OnErr found (new.now ≡ old.now))

@@ -1,12 +1,12 @@
 -- What migration makes of tables of version 1, and why there is none.
-use Rattle.std.proofs.Common.{◌≡◌, ◌⊎◌, inl, inr, ℕ, Bool, false, List, [], ◌∷◌, ◌++◌, Result, Ok, Err, IfOk, IfErr, OnOk, OnErr, refl, sym, ap, subst, ◌∙◌, arith, IsPermutation}
-use Rattle.std.proofs.lemmas.Bool.{both_ways, or_from, or_parts}
+use Rattle.std.proofs.Common.{◌≡◌, ◌⊎◌, inl, inr, ℕ, Bool, false, List, [], ◌∷◌, ◌++◌, Result, Ok, Err, IfOk, IfErr, OnOk, refl, sym, ap, subst, ◌∙◌, arith, IsPermutation}
+use Rattle.std.proofs.lemmas.Bool.{or_from, or_parts}
 use Rattle.std.proofs.lemmas.List.Sorted.{IsPermutation-append_left, IsPermutation-map}
 use Rattle.std.specs.List.{AllByRecursion, list_any}
 use Rattle.std.specs.FinMap.{empty, values}
 use Rattle.sqlite_trees.proofs.ListLemmas.{all-append, all-permutation, all_weaker}
 use Rattle.sqlite.specs.Effect.{Database}
-use Rattle.sqlite.specs.State.{State, HasCleanDisk, IsUnchanged, Survives}
+use Rattle.sqlite.specs.State.{HasCleanDisk, IsUnchanged, Survives}
 use Rattle.sqlite.proofs.StateLemmas.{survives_then}
 use Rattle.rr_text.specs.Fields.{Field}
 use Rattle.rr_object.specs.declared.fault.ObjectFault.{ObjectFault}
@@ -19,16 +19,26 @@ use Rattle.rr_auth.proofs.Members.{IsIn, found_in}
 use Rattle.rr_registry.specs.declared.load.LoadFault.{LoadFault}
 use Rattle.rr_registry.specs.declared.load.LoadFault.TheVariants.{Duplicate, Overlap, Unnamed, Memory}
 use Rattle.rr_registry.specs.Loading.{IsFaultOf}
-use Rattle.rr_rows.specs.Entries.{entry_of}
+use Rattle.rr_rows.specs.Entries.{TreesOf, entry_of}
 use Rattle.rr_rows.specs.Maps.{AreOldStored, HasRows, IsKeyed, IsObject, IsObjectOf, old_version}
 use Rattle.rr_rows.proofs.ListForms.{stored_alike}
 use Rattle.rr_rows.proofs.MapLists.{listed_rows, of_any, permuted_map}
 use Rattle.rr_rows.proofs.MapRows.{rows_permuted}
 use Rattle.rr_store.specs.declared.fault.MigrateFault.{MigrateFault}
 use Rattle.rr_store.specs.declared.fault.MigrateFault.TheVariants as migrate
-use Rattle.rr_store.specs.Kept.{IsLeft}
+use Rattle.sqlite_trees.specs.declared.store.Store.{Ghosts}
+use Rattle.sqlite.specs.Held.{Held, state}
+use Rattle.rr_store.specs.Calls.{OnCleanDisk, database}
+use Rattle.rr_store.specs.Faults.{unread_fault}
+use Rattle.rr_store.specs.Opening.{IsNotOld, IsOfNoneButOld, IsOfRows}
+use Rattle.rr_rows.specs.Tables.{HasTables}
+use Rattle.rr_store.specs.declared.fault.OpenFault.{OpenFault}
+use Rattle.rr_store.specs.declared.fault.OpenFault.TheVariants as opened
+use Rattle.rr_desk.specs.Opened.{MakesNone}
+use Rattle.rr_desk.specs.Rows.{OnlyLooks}
+use Rattle.rr_desk.specs.Stocks.{Stock}
 use Rattle.rr_store.specs.Migrating.{HasNoRoot, IsMigrated, has_mntner, is_mntner_of}
-use Rattle.rr_desk.specs.Migrating.{AreRegistry, HasBlock, HasNoOldRegistry, IsGrown, IsRootless}
+use Rattle.rr_desk.specs.Migrating.{AreRegistry, HasBlock, HasNoOldRegistry, IsGrown, IsMigratedBy, IsRootless, MigratesTables, RefusesOldRegistry}
 use Rattle.rr_desk.specs.MigratingParts.{HasBlockFault, HasLoadFault, IsGrowthFault, told_as}
 use Rattle.rr_desk.specs.Opening.{four_octets_fields}
 use Rattle.rr_desk.specs.Settings.{IsSettings, SettingsParts}
@@ -69,13 +79,13 @@ pub each_err : {X E : Type 0} (r : Result X E) (P Q R : E → Type 0) → IfErr 
 each_err (Ok x) P Q R p q f = tt
 each_err (Err e) P Q R p q f = f e p q
 
+pub each_shown : {X E : Type 0} (r : Result X E) (P : X → Type 0) (Q : Type 0) (R : X → Type 0) → IfOk r P → OnOk r Q → ((x : X) → Q → P x → R x) → IfOk r R
+each_shown (Ok x) P Q R h k f = f x k h
+each_shown (Err e) P Q R h k f = tt
+
 pub always_ok : {X E : Type 0} (r : Result X E) (Q : Type 0) → Q → OnOk r Q
 always_ok (Ok x) Q q = q
 always_ok (Err e) Q q = tt
-
-pub always_err : {X E : Type 0} (r : Result X E) (Q : Type 0) → Q → OnErr r Q
-always_err (Ok x) Q q = tt
-always_err (Err e) Q q = q
 
 -- objects of a source that are no registry are not those of one
 in_all : {A : Type 0} (P : A → Type 0) (x : A) (xs : List A) → AllByRecursion P xs → IsIn x xs → P x
@@ -152,14 +162,62 @@ migrated_rows s r old new grown made =
     subst (λ m. HasRows m new) (sym (taken.whole ∙ gathered_is empty (os ++ block ∷ [])))
     (listed_rows (os ++ block ∷ []) new all (taken_apart (os ++ block ∷ []) r taken) (rows_permuted _ _ new (IsPermutation-map entry_of _ _ alike) made.after.rows) made.after.version)
 
+-- why tables of version 1 are not read is why they are not migrated
+module _ (s : SettingsParts) (db : Database) where
+  pub refused_old : (fault : OpenFault) → ((number : ℕ) → fault ≡ opened.WrongVersion number → IsNotOld number db) → (fault ≡ opened.BadRow → (os : List Obj) → AreOldStored s.source os db → ⊥)
+      → (fault ≡ opened.BadRow → IsOfNoneButOld db) → (IsOfRows fault → HasTables db.schema) → RefusesOldRegistry s db (unread_fault fault)
+  refused_old (opened.WrongVersion n) other bad says tables = record {
+    wrong_version = λ number is. other number (let same : n ≡ number = cc in ap opened.WrongVersion same);
+    bad_row = λ is. absurd (cc);
+    no_other_said = λ is. absurd (cc);
+    tables = λ of. tables tt;
+    no_root = λ is. absurd (cc);
+  }
+  refused_old opened.BadRow other bad says tables = record {
+    wrong_version = λ number is. absurd (cc);
+    bad_row = λ is r of rows. bad refl (values r) rows;
+    no_other_said = λ is. says refl;
+    tables = λ of. tables tt;
+    no_root = λ is. absurd (cc);
+  }
+  refused_old (opened.Store error) other bad says tables = record {
+    wrong_version = λ number is. absurd (cc);
+    bad_row = λ is. absurd (cc);
+    no_other_said = λ is. absurd (cc);
+    tables = λ of. absurd of;
+    no_root = λ is. absurd (cc);
+  }
+  refused_old opened.Memory other bad says tables = record {
+    wrong_version = λ number is. absurd (cc);
+    bad_row = λ is. absurd (cc);
+    no_other_said = λ is. absurd (cc);
+    tables = λ of. absurd of;
+    no_root = λ is. absurd (cc);
+  }
+
 -- a look at the tables before they are migrated changes nothing of what a stop leaves
-pub migrated_then : (root source : List ℕ) (a b c : State) → (HasCleanDisk b → IsUnchanged a b) → Survives a b (λ _. a.is_open ≡ false)
-    → Survives b c (IsLeft b.is_open (IsMigrated root source b.now)) → Survives a c (IsLeft a.is_open (IsMigrated root source a.now))
-migrated_then root source a b c same one two =
-    survives_then a b c (λ _. a.is_open ≡ false) (IsLeft b.is_open (IsMigrated root source b.now)) (IsLeft a.is_open (IsMigrated root source a.now)) (λ clean trees off. inl off)
-    (λ clean trees left.
-    let as_was = same (omega (arith, two.clean)) in
-    elim left [
-      | inl off ↦ absurd (both_ways b.is_open off as_was.0.is_open)
-      | inr made ↦ inr (made.0, subst (λ db. IsMigrated root source db made.0) as_was.0.now_is made.1, made.2)
-    ]) one two
+module _ {S : Type 0} (g : Ghosts S) (s : SettingsParts) (first between : Held S) (same : HasCleanDisk (state g between) → IsUnchanged (state g first) (state g between)) (one : OnlyLooks (state g first) (state g between)) where
+  as_was : HasCleanDisk (state g between) → database g between ≡ database g first
+  as_was clean = (same clean).0.now_is
+
+  migrated_crash : (last : Held S) → Survives (state g between) (state g last) (TreesOf (IsMigratedBy s (database g between))) → Survives (state g first) (state g last) (TreesOf (IsMigratedBy s (database g first)))
+  migrated_crash last two =
+      survives_then (state g first) (state g between) (state g last) _ _ _ (λ clean trees none. absurd none)
+      (λ clean trees made. (made.0, subst (λ db. IsMigratedBy s db made.0) (as_was (omega (arith, two.clean))) made.1, made.2)) one two
+
+  pub migrates_then : (stored : Stock S) → MigratesTables g s between stored → MigratesTables g s first stored
+  migrates_then stored migrates = record {
+    grown = λ clean. subst (λ db. IsGrown s db stored.registry) (as_was (let kept = migrates.crash.clean in omega (arith, kept))) (migrates.grown clean);
+    migrated = λ clean. subst (λ db. IsMigratedBy s db (database g stored.store)) (as_was (let kept = migrates.crash.clean in omega (arith, kept))) (migrates.migrated clean);
+    crash = migrated_crash stored.store migrates.crash;
+  }
+
+  pub none_then : (left : Held S) → MakesNone g (IsMigratedBy s (database g between)) between left → MakesNone g (IsMigratedBy s (database g first)) first left
+  none_then left none = record {
+    autocommit = none.autocommit;
+    kept = λ clean on. none.kept clean on ∙ as_was (let kept = none.crash.clean in omega (arith, kept));
+    crash = migrated_crash left none.crash;
+  }
+
+  pub why_then : (left : Held S) (fault : MigrateFault) → MakesNone g (IsMigratedBy s (database g between)) between left → OnCleanDisk g left (RefusesOldRegistry s (database g between) fault) → OnCleanDisk g left (RefusesOldRegistry s (database g first) fault)
+  why_then left fault none why clean = subst (λ db. RefusesOldRegistry s db fault) (as_was (let kept = none.crash.clean in omega (arith, kept))) (why clean)

@@ -1,10 +1,9 @@
 -- The opening objects are a sound registry.
-use Rattle.std.proofs.Common.{◌≡◌, ℕ, List, [], ◌∷◌, Bool, true, false, not, Result, Ok, Err, refl, sym, ap, ◌∙◌, codes, map}
-use Rattle.std.specs.Prelude.{None, Some, position}
+use Rattle.std.proofs.Common.{◌≡◌, ℕ, List, [], ◌∷◌, false, not, Result, Ok, refl, sym, ap, ◌∙◌, codes, map}
+use Rattle.std.specs.Prelude.{None, position}
 use Rattle.std.specs.List.{list_any}
-use Rattle.std.specs.Str.{bytes_eq}
 use Rattle.rr_object.specs.declared.fault.ObjectFault.{ObjectFault}
-use Rattle.rr_object.specs.declared.key.Key.TheVariants.{Mntner, AsBlock, Inetnum}
+use Rattle.rr_object.specs.declared.key.Key.TheVariants.{Mntner}
 use Rattle.rr_object.specs.Objects.{Obj, names_of}
 use Rattle.rr_object.specs.Readings.{obj_at, object_of}
 use Rattle.rr_object.specs.Keys.{is_mntner_of}
@@ -13,7 +12,7 @@ use Rattle.rr_registry.proofs.Gathering.{found_fault}
 use Rattle.rr_desk.specs.Opening.{AreOpening, opening_paragraphs}
 use Rattle.rr_desk.specs.Settings.{IsSettings, SettingsParts}
 use Rattle.rr_desk.proofs.OpeningLines.{equal_texts}
-use Rattle.rr_desk.proofs.OpeningReads.{addresses_named, addresses_object, addresses_read, block_named, block_object, four_octets, four_octets_read, numbers, numbers_read, root_named, root_object, root_read}
+use Rattle.rr_desk.proofs.Opens.{addresses_named, addresses_object, addresses_read, block_named, block_object, four_octets, four_octets_read, numbers, numbers_read, root_named, root_object, root_read}
 
 abbrev pub numbers_object : SettingsParts → Obj
 numbers_object s = block_object numbers (codes "AS0 - AS65535") s

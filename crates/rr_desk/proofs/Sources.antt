@@ -33,7 +33,7 @@ use Rattle.rr_submission.proofs.Keeping.{items_keep_the_source}
 use Rattle.rr_desk.specs.Opening.{IsOpened}
 use Rattle.rr_desk.specs.Settings.{IsSettings, SettingsParts}
 use Rattle.rr_desk.specs.Stocks.{Stock, stock_ledger}
-use Rattle.rr_desk.proofs.OpeningReads.{addresses_read, four_octets_read, numbers_read, root_read}
+use Rattle.rr_desk.proofs.Opens.{addresses_read, four_octets_read, numbers_read, root_read}
 use Rattle.rr_desk.proofs.OpeningRegistry.{are_these, four_octets_object, opening_objects}
 
 gathered_each : (P : Obj → Type 0) (r : Reg) (os : List Obj) → ((k : Key) (o : Obj) → get r k ≡ Some o → P o) → AllByRecursion P os → (k : Key) (o : Obj) → get (gathered r os) k ≡ Some o → P o

@@ -1,5 +1,5 @@
 -- Lemmas on the turns of a listener.
-use Rattle.std.proofs.Common.{◌≡◌, ℕ, ◌+◌, ◌-◌, ◌≤◌, Bool, true, false, not, List, [], ◌∷◌, ◌++◌, length, map, count_by, Option, None, Some, arith, refl, ap, sym, ◌∙◌, subst, length-append, append_assoc, zero-add, if◌then◌else◌}
+use Rattle.std.proofs.Common.{◌≡◌, ℕ, ◌+◌, ◌-◌, ◌≤◌, Bool, true, false, not, List, [], ◌∷◌, ◌++◌, map, count_by, Option, None, Some, arith, refl, ap, sym, ◌∙◌, subst, length-append, append_assoc, zero-add, if◌then◌else◌}
 use Rattle.std.specs.Option.{option_map}
 use Rattle.std.proofs.lemmas.List.{append-nil}
 use Rattle.std.proofs.lemmas.List.Sums.{sum_by-append}
@@ -8,7 +8,7 @@ use Rattle.rr_desk.specs.declared.desk.Desk.{Desk}
 use Rattle.std.specs.Prelude.{is_ok}
 use Rattle.rr_io.specs.Told.{Told}
 use Rattle.rr_desk.specs.TurnParts.{TakesTurn}
-use Rattle.rr_desk.specs.Turns.{Answer, CountsTurn, Does, DoesAll, IsAccepted, Serving, TakesTurns, Turn, Visit, closed, is_served, turn_of, unaccepted, with_turn}
+use Rattle.rr_desk.specs.Turns.{Answer, Does, DoesAll, InOrder, IsAccepted, IsClosed, IsNext, IsUnaccepted, Serving, TakesTurns, Tally, Turn, Visit, asked_in, closed, is_served, turn_of, with_turn}
 
 mapped_more : (visits : List (Option Visit)) (visit : Option Visit) → map turn_of (visits ++ visit ∷ []) ≡ map turn_of visits ++ turn_of visit ∷ []
 mapped_more [] visit = refl
@@ -28,47 +28,56 @@ all_more : {S : Type 0} (g : Ghosts S) (serves : Serving) (visits : List (Option
 all_more {S} g serves [] visit first before after none does = (after, subst (λ desk. Does S g serves visit desk after) none does, refl)
 all_more {S} g serves (v ∷ visits) visit first before after all does = (all.0, all.1, all_more g serves visits visit all.0 before after all.2 does)
 
--- one more turn was taken
-pub turn_more : {S : Type 0} (g : Ghosts S) (serves : Serving) (count : ℕ) (first before after : Desk S) (counted_first counted_before counted_after : ℕ) (told_first told_before told_after : Option (List Turn)) (served failed : ℕ) (well : Bool) →
-    TakesTurns g serves count first before counted_first counted_before told_first told_before served failed →
-    TakesTurn g serves before after counted_before counted_after told_before told_after well →
-    TakesTurns g serves (count + 1) first after counted_first counted_after told_first told_after (served + (if well then 1 else 0)) (failed + (if not well then 1 else 0))
-turn_more g serves count first before after counted_first counted_before counted_after told_first told_before told_after served failed well turns turn = record {
-  visits = turns.visits ++ turn.visit ∷ [];
-  many = length-append turns.visits (turn.visit ∷ []) ∙ ap (λ n. n + 1) turns.many;
-  all = all_more g serves turns.visits turn.visit first before after turns.all turn.does;
-  counted = (let a = turns.counted in let b = turn.taken.counted in omega arith);
-  told = turn.taken.told ∙ (ap (λ told. with_turn told (turn_of turn.visit)) turns.told ∙ told_more told_first turns.visits turn.visit);
-  are_served = ap (λ n. n + (if well then 1 else 0)) turns.are_served
-      ∙ (ap (λ b. count_by is_served turns.visits + (if b then 1 else 0)) turn.answer ∙ sym (counted_more is_served turns.visits turn.visit));
-  are_failed = ap (λ n. n + (if not well then 1 else 0)) turns.are_failed
-      ∙ (ap (λ b. count_by (λ visit. not (is_served visit)) turns.visits + (if not b then 1 else 0)) turn.answer
-      ∙ sym (counted_more (λ visit. not (is_served visit)) turns.visits turn.visit));
-}
+-- the connections to come are accepted in their order by one turn more
+order_more : (visits : List (Option Visit)) (visit : Option Visit) (first before after : Option (List (List ℕ))) →
+    InOrder visits first before → IsNext (asked_in visit) before after → InOrder (visits ++ visit ∷ []) first after
+order_more [] visit first before after none next = (after, subst (λ waiting. IsNext (asked_in visit) waiting after) none next, refl)
+order_more (v ∷ visits) visit first before after all next = (all.0, all.1, order_more visits visit all.0 before after all.2 next)
 
-left_over : (turn served : ℕ) (well : Bool) → served ≤ turn → (turn - served) + (if not well then 1 else 0) ≡ turn + 1 - (served + (if well then 1 else 0))
-left_over turn served true within = omega arith
-left_over turn served false within = omega arith
+module _ {S : Type 0} (g : Ghosts S) (serves : Serving) (first before after : Desk S) (tally_first tally_before tally_after : Tally) where
+  -- one more turn was taken
+  turn_more : (count served failed : ℕ) (well : Bool) →
+      TakesTurns g serves count first before tally_first tally_before served failed →
+      TakesTurn g serves before after tally_before tally_after well →
+      TakesTurns g serves (count + 1) first after tally_first tally_after (served + (if well then 1 else 0)) (failed + (if not well then 1 else 0))
+  turn_more count served failed well turns turn = record {
+    visits = turns.visits ++ turn.visit ∷ [];
+    many = length-append turns.visits (turn.visit ∷ []) ∙ ap (λ n. n + 1) turns.many;
+    all = all_more g serves turns.visits turn.visit first before after turns.all turn.does;
+    in_order = order_more turns.visits turn.visit tally_first.waiting tally_before.waiting tally_after.waiting turns.in_order turn.is_next;
+    counted = (let a = turns.counted in let b = turn.taken.counted in omega arith);
+    told = turn.taken.told ∙ (ap (λ told. with_turn told (turn_of turn.visit)) turns.told ∙ told_more tally_first.told turns.visits turn.visit);
+    are_served = ap (λ n. n + (if well then 1 else 0)) turns.are_served
+        ∙ (ap (λ b. count_by is_served turns.visits + (if b then 1 else 0)) turn.answer ∙ sym (counted_more is_served turns.visits turn.visit));
+    are_failed = ap (λ n. n + (if not well then 1 else 0)) turns.are_failed
+        ∙ (ap (λ b. count_by (λ visit. not (is_served visit)) turns.visits + (if not b then 1 else 0)) turn.answer
+        ∙ sym (counted_more (λ visit. not (is_served visit)) turns.visits turn.visit));
+  }
 
--- and counted as one that was served, or not
-pub turn_counted : {S : Type 0} (g : Ghosts S) (serves : Serving) (turn : ℕ) (first before after : Desk S) (counted_first counted_before counted_after : ℕ) (told_first told_before told_after : Option (List Turn)) (served more : ℕ) (well : Bool) →
-    TakesTurns g serves turn first before counted_first counted_before told_first told_before served (turn - served) →
-    TakesTurn g serves before after counted_before counted_after told_before told_after well →
-    served ≤ turn → more ≡ served + (if well then 1 else 0) →
-    TakesTurns g serves (turn + 1) first after counted_first counted_after told_first told_after more (turn + 1 - more)
-turn_counted g serves turn first before after counted_first counted_before counted_after told_first told_before told_after served more well turns took within is =
-    subst (λ n. TakesTurns g serves (turn + 1) first after counted_first counted_after told_first told_after n (turn + 1 - n)) (sym is)
-    (subst (λ n. TakesTurns g serves (turn + 1) first after counted_first counted_after told_first told_after (served + (if well then 1 else 0)) n) (left_over turn served well within)
-    (turn_more g serves turn first before after counted_first counted_before counted_after told_first told_before told_after served (turn - served) well turns took))
+  left_over : (turn served : ℕ) (well : Bool) → served ≤ turn → (turn - served) + (if not well then 1 else 0) ≡ turn + 1 - (served + (if well then 1 else 0))
+  left_over turn served true within = omega arith
+  left_over turn served false within = omega arith
+
+  -- and counted as one that was served, or not
+  pub turn_counted : (turn served more : ℕ) (well : Bool) →
+      TakesTurns g serves turn first before tally_first tally_before served (turn - served) →
+      TakesTurn g serves before after tally_before tally_after well →
+      served ≤ turn → more ≡ served + (if well then 1 else 0) →
+      TakesTurns g serves (turn + 1) first after tally_first tally_after more (turn + 1 - more)
+  turn_counted turn served more well turns took within is =
+      subst (λ n. TakesTurns g serves (turn + 1) first after tally_first tally_after n (turn + 1 - n)) (sym is)
+      (subst (λ n. TakesTurns g serves (turn + 1) first after tally_first tally_after (served + (if well then 1 else 0)) n) (left_over turn served well within)
+      (turn_more turn served (turn - served) well turns took))
 
 -- no turn was taken
-pub no_turn : {S : Type 0} (g : Ghosts S) (serves : Serving) (desk : Desk S) (counted : ℕ) (told : Option (List Turn)) → TakesTurns g serves 0 desk desk counted counted told told 0 0
-no_turn g serves desk counted told = record {
+pub no_turn : {S : Type 0} (g : Ghosts S) (serves : Serving) (desk : Desk S) (tally : Tally) → TakesTurns g serves 0 desk desk tally tally 0 0
+no_turn g serves desk tally = record {
   visits = [];
   many = refl;
   all = refl;
+  in_order = refl;
   counted = omega arith;
-  told = none_more told;
+  told = none_more tally.told;
   are_served = refl;
   are_failed = refl;
 }
@@ -78,23 +87,23 @@ no_turn g serves desk counted told = record {
     none_more (Some turns) = ap Some (sym (append-nil turns))
 
 -- a connection was accepted, served and closed, which is a turn
-pub served_turn : {S : Type 0} (g : Ghosts S) (serves : Serving) (before after : Desk S) (counted_before counted_between counted_after : ℕ) (told_before told_between told_after : Option (List Turn)) (asked : Option (List ℕ)) (reader_before reader_after writer_before writer_after : Told) (answer : Answer) (well : Bool) → well ≡ is_ok answer →
-    IsAccepted counted_before counted_between told_before told_between asked reader_before writer_before →
+pub served_turn : {S : Type 0} (g : Ghosts S) (serves : Serving) (before after : Desk S) (first between last : Tally) (asked : Option (List ℕ)) (reader_before reader_after writer_before writer_after : Told) (answer : Answer) (well : Bool) → well ≡ is_ok answer →
+    IsAccepted first between asked reader_before writer_before →
     serves S g before after reader_before reader_after writer_before writer_after answer →
-    CountsTurn (closed asked writer_after.bytes) counted_between counted_after told_between told_after →
-    TakesTurn g serves before after counted_before counted_after told_before told_after well
-served_turn g serves before after counted_before counted_between counted_after told_before told_between told_after asked reader_before reader_after writer_before writer_after answer well is accepted served closes = record {
+    IsClosed asked writer_after.bytes between last →
+    TakesTurn g serves before after first last well
+served_turn g serves before after first between last asked reader_before reader_after writer_before writer_after answer well is accepted served closes = record {
   visit = Some (record { reader_before = reader_before; reader_after = reader_after; writer_before = writer_before; writer_after = writer_after; answer = answer });
   does = (accepted.fresh, served);
+  is_next = subst (IsNext (Some reader_before.bytes) first.waiting) (sym closes.waiting) accepted.is_next;
   taken = record {
-    counted = closes.counted ∙ ap (λ n. n + 1) accepted.counted;
-    told = closes.told ∙ (ap (λ told. with_turn told (closed asked writer_after.bytes)) accepted.told ∙ ap (λ bytes. with_turn told_before (closed bytes writer_after.bytes)) accepted.is_asked);
+    counted = closes.counts.counted ∙ ap (λ n. n + 1) accepted.counted;
+    told = closes.counts.told ∙ (ap (λ told. with_turn told (closed asked writer_after.bytes)) accepted.told ∙ ap (λ bytes. with_turn first.told (closed bytes writer_after.bytes)) accepted.is_asked);
   };
   answer = is;
 }
 
 -- no connection could be accepted, which is a turn
-pub failed_turn : {S : Type 0} (g : Ghosts S) (serves : Serving) (desk : Desk S) (counted_before counted_after : ℕ) (told_before told_after : Option (List Turn)) →
-    CountsTurn unaccepted counted_before counted_after told_before told_after → TakesTurn g serves desk desk counted_before counted_after told_before told_after false
-failed_turn g serves desk counted_before counted_after told_before told_after counts =
-    record { visit = None; does = refl; taken = counts; answer = refl }
+pub failed_turn : {S : Type 0} (g : Ghosts S) (serves : Serving) (desk : Desk S) (before after : Tally) → IsUnaccepted before after → TakesTurn g serves desk desk before after false
+failed_turn g serves desk before after turn =
+    record { visit = None; does = refl; is_next = turn.is_next; taken = turn.counts; answer = refl }

@@ -7,7 +7,8 @@ use Rattle.rr_object.specs.Objects.{Obj}
 use Rattle.rr_auth.specs.Registries.{Reg}
 use Rattle.rr_rows.specs.Maps.{IsObjectOf}
 use Rattle.rr_answer.specs.declared.fault.QueryFault.{QueryFault}
-use Rattle.rr_answer.specs.declared.fault.QueryFault.TheVariants.{Bad, TooLong, TooMany, Memory, Store, Stopped}
+use Rattle.rr_answer.specs.declared.fault.QueryFault.TheVariants.{Bad, TooLong, TooMany, Memory}
+use Rattle.rr_answer.specs.declared.fault.QueryFault.TheVariants.{Store, Stopped}
 use Rattle.rr_answer.specs.declared.query.Query.TheVariants.{Naming}
 use Rattle.rr_answer.specs.Answers.{IsAnswerTo, answer_bytes}
 use Rattle.rr_answer.specs.Faults.{error_number}
@@ -36,16 +37,16 @@ abbrev pub told_number : Result (List ℕ) QueryFault → ℕ
 told_number (Ok text) = 0
 told_number (Err fault) = error_number fault
 
--- a text is that of some objects of one source as they are answered, which has their public forms and nothing else of them
--- (profile)
+-- a text is that of some objects of one source as they are answered, which has their public forms
+-- and nothing else of them (profile)
 pub record IsPublic (text : List ℕ) : Type 0 where
   pub objects : List Obj
   pub source : List ℕ
   pub of_source : AllByRecursion (IsObjectOf source) objects
   pub is_text : text ≡ objects_text objects
 
--- what the tables have of the objects that name a maintainer is public in any case, and where the disk gives back what was written
--- it is those of the registry (profile)
+-- what the tables have of the objects that name a maintainer is public in any case, and where the
+-- disk gives back what was written it is those of the registry (profile)
 pub record HasFound (clean : Type 0) (registry : Reg) (name text : List ℕ) : Type 0 where
   pub is_public : IsPublic text
   pub registered : clean → text ≡ objects_text (asked (Naming name) registry)
@@ -56,30 +57,38 @@ IsNamingFound clean registry name (Ok text) = HasFound clean registry name text
 IsNamingFound clean registry name (Err fault) = fault ≡ Store
 
 -- the query asks what names a maintainer, which is looked for in the tables (profile)
-pub record IsLookup (clean : Type 0) (registry : Reg) (text : List ℕ) (answer : Result (List ℕ) QueryFault) : Type 0 where
+pub record IsLookup (clean : Type 0) (registry : Reg) (text : List ℕ)
+    (answer : Result (List ℕ) QueryFault) : Type 0 where
   pub name : List ℕ
   pub asks : query_of text ≡ Ok (Naming name)
   pub found : IsNamingFound clean registry name answer
 
--- a desk that runs gives the answer of its registry, or what the tables have, or tells that there is no memory for it (profile)
+-- a desk that runs gives the answer of its registry, or what the tables have, or tells that there
+-- is no memory for it (profile)
 abbrev pub IsRunningAnswer : Type 0 → Reg → ℕ → List ℕ → Result (List ℕ) QueryFault → Type 0
 IsRunningAnswer clean registry limit text answer =
-    IsAnswerTo registry limit text answer ⊎ (IsLookup clean registry text answer ⊎ (answer ≡ Err Memory))
+    IsAnswerTo registry limit text answer
+    ⊎ (IsLookup clean registry text answer ⊎ (answer ≡ Err Memory))
 
--- that a query is too long comes before that the desk is stopped, and this before all else (profile)
-abbrev pub IsAnswerWhere : Bool → Bool → Type 0 → Reg → ℕ → List ℕ → Result (List ℕ) QueryFault → Type 0
+-- that a query is too long comes before that the desk is stopped, and this before all else
+-- (profile)
+abbrev pub IsAnswerWhere : Bool → Bool → Type 0 → Reg → ℕ → List ℕ → Result (List ℕ) QueryFault
+    → Type 0
 IsAnswerWhere true stopped clean registry limit text answer = answer ≡ Err TooLong
 IsAnswerWhere false true clean registry limit text answer = answer ≡ Err Stopped
-IsAnswerWhere false false clean registry limit text answer = IsRunningAnswer clean registry limit text answer
+IsAnswerWhere false false clean registry limit text answer =
+    IsRunningAnswer clean registry limit text answer
 
--- the answer of a desk to the text of a query, by its registry and limit, and whether it is stopped before and after; `clean` says
--- that the disk gives back what was written (profile)
-pub record IsAnswered (clean : Type 0) (registry : Reg) (limit : ℕ) (text : List ℕ) (before after : Bool) (answer : Result (List ℕ) QueryFault) : Type 0 where
+-- the answer of a desk to the text of a query, by its registry and limit, and whether it is stopped
+-- before and after; `clean` says that the disk gives back what was written (profile)
+pub record IsAnswered (clean : Type 0) (registry : Reg) (limit : ℕ) (text : List ℕ)
+    (before after : Bool) (answer : Result (List ℕ) QueryFault) : Type 0 where
   pub is_answer : IsAnswerWhere (is_too_long text) before clean registry limit text answer
   pub stopped : after ≡ (before || stops answer)
 
 -- one such answer was made whole, and then written (profile)
-pub record Answers (clean : Type 0) (registry : Reg) (limit : ℕ) (text : List ℕ) (before after : Bool) (old new : Told) (result : Result Answered WriteFault) : Type 0 where
+pub record Answers (clean : Type 0) (registry : Reg) (limit : ℕ) (text : List ℕ)
+    (before after : Bool) (old new : Told) (result : Result Answered WriteFault) : Type 0 where
   pub answer : Result (List ℕ) QueryFault
   pub answered : IsAnswered clean registry limit text before after answer
   pub writes : Writes old new (answer_bytes answer) result

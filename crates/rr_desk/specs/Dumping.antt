@@ -5,21 +5,22 @@ use Rattle.rr_io.specs.Told.{Told}
 use Rattle.rr_answer.specs.declared.dumping.DumpFault.{DumpFault as Cut}
 use Rattle.rr_answer.specs.declared.dumping.DumpFault.TheVariants as cut
 use Rattle.rr_answer.specs.Dumps.{TakesPart}
-use Rattle.rr_desk.specs.declared.dumping.DumpFault.{DumpFault}
-use Rattle.rr_desk.specs.declared.dumping.DumpFault.TheVariants.{Write, Memory, Stopped}
+use Rattle.rr_desk.specs.declared.dumping.DeskDumpFault.{DeskDumpFault}
+use Rattle.rr_desk.specs.declared.dumping.DeskDumpFault.TheVariants.{Write, Memory, Stopped}
 
 -- why a dump of a registry was cut short is why that of a desk was (profile)
-abbrev pub fault_of_cut : Cut → DumpFault
+abbrev pub fault_of_cut : Cut → DeskDumpFault
 fault_of_cut cut.Write = Write
 fault_of_cut cut.Memory = Memory
 
--- a dump of a desk that runs was cut short: a write failed, or memory was wanting (profile)
-abbrev pub IsCutShort : List ℕ → Told → Told → DumpFault → Type 0
+-- a dump of a desk that runs was cut short: a write failed, or memory ran out; what was
+-- written is not all (profile)
+abbrev pub IsCutShort : List ℕ → Told → Told → DeskDumpFault → Type 0
 IsCutShort bytes before after Write = TakesFront before after bytes
 IsCutShort bytes before after Memory = TakesPart before after bytes
 IsCutShort bytes before after Stopped = ⊥
 
 -- a desk that runs writes the bytes of a dump, or it is cut short (profile)
-abbrev pub Dumps : List ℕ → Told → Told → Result ℕ DumpFault → Type 0
+abbrev pub Dumps : List ℕ → Told → Told → Result ℕ DeskDumpFault → Type 0
 Dumps bytes before after (Ok count) = Takes before after bytes
 Dumps bytes before after (Err fault) = IsCutShort bytes before after fault

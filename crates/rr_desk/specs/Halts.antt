@@ -1,11 +1,13 @@
 -- What a fault of the store leaves: of the registry, and of the rows (profile).
 use Rattle.std.specs.Prelude.{◌≡◌, ◌⊎◌, ℕ, Bool, true, false, List, IsTrue}
 use Rattle.sqlite_trees.specs.Tree.{Trees}
-use Rattle.sqlite.specs.State.{State, HasCleanDisk}
+use Rattle.sqlite.specs.State.{State, HasCleanDisk, Survives}
 use Rattle.rr_auth.specs.declared.item.Item.{Item}
 use Rattle.rr_auth.specs.Registries.{Reg}
 use Rattle.rr_registry.specs.declared.outcome.Outcome.{Outcome}
-use Rattle.rr_registry.specs.declared.outcome.Outcome.TheVariants.{Added, Changed, Same as Unchanged, Deleted, Refused}
+use Rattle.rr_registry.specs.declared.outcome.Outcome.TheVariants.{Added, Changed}
+use Rattle.rr_registry.specs.declared.outcome.Outcome.TheVariants.{Same as Unchanged, Deleted}
+use Rattle.rr_registry.specs.declared.outcome.Outcome.TheVariants.{Refused}
 use Rattle.rr_registry.specs.Runs.{IsStep}
 use Rattle.rr_rows.specs.Entries.{TreesOf}
 use Rattle.rr_rows.specs.Maps.{HasRows}
@@ -18,12 +20,18 @@ changes Unchanged = false
 changes Deleted = true
 changes (Refused code) = false
 
--- the store failed at an item that changes the registry, which stops the desk: the rows are those of the registry before the
--- item, and a stop leaves these or those with the item whole (profile)
-pub record IsHalted (before : Reg) (secrets : List (List ℕ)) (item : Item) (after : Reg) (stopped : Bool) (now : State) : Type 0 where
+-- the store failed at an item that changes the registry, which stops the desk: the rows are those
+-- of the registry before the item, and a stop leaves these or those with the item whole; no fault
+-- of the disk is forgotten, and nothing but such a fault shuts the connection, which was open
+-- (profile)
+pub record IsHalted (before : Reg) (secrets : List (List ℕ)) (item : Item) (after : Reg)
+    (stopped : Bool) (old now : State) : Type 0 where
   pub outcome : Outcome
   pub step : IsStep before secrets item outcome after
   pub changing : changes outcome ≡ true
   pub is_stopped : stopped ≡ true
   pub rows : HasCleanDisk now → IsTrue now.is_open → HasRows before now.now
-  pub leaves : HasCleanDisk now → (trees : Trees) → now.may_leave trees → TreesOf (HasRows before) trees ⊎ TreesOf (HasRows after) trees
+  pub leaves : HasCleanDisk now → (trees : Trees) → now.may_leave trees
+      → TreesOf (HasRows before) trees ⊎ TreesOf (HasRows after) trees
+  pub was_open : HasCleanDisk old → IsTrue old.is_open
+  pub survives : Survives old now (TreesOf (HasRows after))

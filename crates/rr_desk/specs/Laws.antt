@@ -1,5 +1,6 @@
 -- What is true of dumps that desks load, and of what they answer.
-use Rattle.std.specs.Prelude.{◌≡◌, ◌≢◌, ℕ, ◌≤◌, Bool, true, List, Some, Result, Err, length}
+use Rattle.std.specs.Prelude.{◌≡◌, ◌≢◌, ℕ, ◌<◌, ◌≤◌, Bool, true, List, Option, Some, Result, Err}
+use Rattle.std.specs.Prelude.{length, slice_get}
 use Rattle.std.specs.FinMap.{get}
 use Rattle.sqlite.specs.Effect.{Database}
 use Rattle.sqlite_trees.specs.View.{doubt}
@@ -17,9 +18,12 @@ use Rattle.rr_answer.specs.declared.fault.QueryFault.{QueryFault}
 use Rattle.rr_answer.specs.declared.fault.QueryFault.TheVariants as wanting
 use Rattle.rr_load.specs.Laws.{IsDumpable}
 use Rattle.rr_desk.specs.declared.loading.DeskLoadFault.{DeskLoadFault}
-use Rattle.rr_desk.specs.declared.loading.DeskLoadFault.TheVariants.{NotEmpty, Read, Endless, Text, Object, Duplicate, Overlap, Unnamed, Store, Memory}
+use Rattle.rr_desk.specs.declared.loading.DeskLoadFault.TheVariants.{NotEmpty, Read, Endless, Text}
+use Rattle.rr_desk.specs.declared.loading.DeskLoadFault.TheVariants.{Object, Duplicate, Overlap}
+use Rattle.rr_desk.specs.declared.loading.DeskLoadFault.TheVariants.{Unnamed, Store, Memory}
 use Rattle.rr_desk.specs.Answering.{IsAnswered}
 use Rattle.rr_desk.specs.Loaded.{FailsToLoad, IsLoaded}
+use Rattle.rr_desk.specs.Turns.{InOrder, IsAskedAt, Visit}
 
 -- a fault is of the reader, of the tables or of memory, and not of the text (profile)
 abbrev pub IsNotOfText : DeskLoadFault → Type 0
@@ -31,11 +35,11 @@ IsNotOfText (Object n code) = ⊥
 IsNotOfText (Duplicate n) = ⊥
 IsNotOfText (Overlap n) = ⊥
 IsNotOfText (Unnamed n) = ⊥
-IsNotOfText Store = Unit {0}
+IsNotOfText (Store error) = Unit {0}
 IsNotOfText Memory = Unit {0}
 
--- a reader has the full dump of a registry: what is loaded from it is that registry, and where nothing is, it is for no fault of the
--- dump (profile)
+-- a reader has the full dump of a registry: what is loaded from it is that registry, and where
+-- nothing is, it is for no fault of the dump (profile)
 pub record LoadsItself (source : List ℕ) (registry : Reg) (start now : Told) : Type 0 where
   pub loaded : (other : Reg) → IsLoaded source start now other → other ≡ registry
   pub fails : (fault : DeskLoadFault) → FailsToLoad source start now fault → IsNotOfText fault
@@ -44,16 +48,19 @@ pub record LoadsItself (source : List ℕ) (registry : Reg) (start now : Told) :
 abbrev pub FullDumpsAreLoaded : Type 0
 FullDumpsAreLoaded =
     (source : List ℕ) (registry : Reg) (start now : Told)
-    → IsDumpable source registry → start.bytes ≡ Some (dump true registry) → LoadsItself source registry start now
+    → IsDumpable source registry → start.bytes ≡ Some (dump true registry)
+    → LoadsItself source registry start now
 
--- the registry of a source whose rows tables hold can be read again, if none of its canonical texts has more than 65,536 bytes
--- (profile)
+-- the registry of a source whose rows tables hold can be read again, if none of its canonical texts
+-- is over the limit of a paragraph (profile)
 abbrev pub RowsAreDumpable : Type 0
 RowsAreDumpable =
-    (source : List ℕ) (registry : Reg) (db : Database) → IsRegistryOf source registry → HasRows registry db
-    → ((k : Key) (o : Obj) → get registry k ≡ Some o → length (canonical o.paragraph) ≤ size_limit) → IsDumpable source registry
+    (source : List ℕ) (registry : Reg) (db : Database)
+    → IsRegistryOf source registry → HasRows registry db
+    → ((k : Key) (o : Obj) → get registry k ≡ Some o → length (canonical o.paragraph) ≤ size_limit)
+    → IsDumpable source registry
 
--- neither want of memory nor a fault of the store kept the answer back (profile)
+-- neither that memory ran out nor a fault of the store kept the answer back (profile)
 pub record IsUnhindered (answer : Result (List ℕ) QueryFault) : Type 0 where
   pub no_want : answer ≢ Err wanting.Memory
   pub no_fault : answer ≢ Err wanting.Store
@@ -62,11 +69,23 @@ pub record IsUnhindered (answer : Result (List ℕ) QueryFault) : Type 0 where
 abbrev pub IsCleanDisk : Bool → Type 0
 IsCleanDisk clean = doubt clean ≡ 0
 
--- desks that are both stopped or both not, over such disks, whose registries look alike, answer each query alike under the same
--- limit, if nothing keeps back either answer (profile)
+-- desks that are both stopped or both not, over such disks, whose registries look alike, answer
+-- each query alike under the same limit, if nothing keeps back either answer (profile)
 abbrev pub DesksKeepSecrets : Type 0
 DesksKeepSecrets =
-    (r s : Reg) → IsRead r → IsRead s → LookAlike r s → (clean other_clean : Bool) → IsCleanDisk clean → IsCleanDisk other_clean
-    → (limit : ℕ) (text : List ℕ) (stopped after other_after : Bool) (answer other : Result (List ℕ) QueryFault)
-    → IsAnswered (IsCleanDisk clean) r limit text stopped after answer → IsAnswered (IsCleanDisk other_clean) s limit text stopped other_after other
+    (r s : Reg) → IsRead r → IsRead s → LookAlike r s
+    → (clean other_clean : Bool) → IsCleanDisk clean → IsCleanDisk other_clean
+    → (limit : ℕ) (text : List ℕ) (stopped after other_after : Bool)
+    → (answer other : Result (List ℕ) QueryFault)
+    → IsAnswered (IsCleanDisk clean) r limit text stopped after answer
+    → IsAnswered (IsCleanDisk other_clean) s limit text stopped other_after other
     → IsUnhindered answer → IsUnhindered other → answer ≡ other
+
+-- where the bytes of connections to come are told, the first turn is of the first of them, the
+-- second of the second, and so on (profile)
+abbrev pub TurnsAreInOrder : Type 0
+TurnsAreInOrder =
+    (visits : List (Option Visit)) (waiting : List (List ℕ)) (after : Option (List (List ℕ)))
+    → InOrder visits (Some waiting) after
+    → (place : ℕ) (bytes : List ℕ) → place < length visits → slice_get waiting place ≡ Some bytes
+    → IsAskedAt visits place bytes

@@ -10,6 +10,7 @@ pub mod TurnParts
 pub mod MemoryTurns
 pub mod MemoryTold
 pub mod Answering
+pub mod Desks
 pub mod Dumping
 pub mod LookupParts
 pub mod LoadFaults

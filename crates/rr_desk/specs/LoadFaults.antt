@@ -6,7 +6,9 @@ use Rattle.rr_store.specs.declared.fault.CreateFault.TheVariants as store
 use Rattle.rr_load.specs.declared.fault.DumpReadFault.{DumpReadFault}
 use Rattle.rr_load.specs.declared.fault.DumpReadFault.TheVariants as dump
 use Rattle.rr_desk.specs.declared.loading.DeskLoadFault.{DeskLoadFault}
-use Rattle.rr_desk.specs.declared.loading.DeskLoadFault.TheVariants.{NotEmpty, Read, Endless, Text, Object, Duplicate, Overlap, Unnamed, Store, Memory}
+use Rattle.rr_desk.specs.declared.loading.DeskLoadFault.TheVariants.{NotEmpty, Read, Endless, Text}
+use Rattle.rr_desk.specs.declared.loading.DeskLoadFault.TheVariants.{Object, Duplicate, Overlap}
+use Rattle.rr_desk.specs.declared.loading.DeskLoadFault.TheVariants.{Unnamed, Store, Memory}
 
 -- a dump that is not read (profile)
 abbrev pub unread : DumpReadFault → DeskLoadFault
@@ -26,5 +28,5 @@ untaken list.Memory = Memory
 -- a store that is not made (profile)
 abbrev pub unmade : CreateFault → DeskLoadFault
 unmade store.NotEmpty = NotEmpty
-unmade store.Store = Store
+unmade (store.Store error) = Store error
 unmade store.Memory = Memory

@@ -14,7 +14,9 @@ use Rattle.rr_load.specs.Dumps.{IsDumpOf, dump_objects}
 use Rattle.rr_load.specs.Readings.{FailsToRead}
 use Rattle.rr_load.specs.declared.fault.DumpReadFault.TheVariants as dump
 use Rattle.rr_desk.specs.declared.loading.DeskLoadFault.{DeskLoadFault}
-use Rattle.rr_desk.specs.declared.loading.DeskLoadFault.TheVariants.{NotEmpty, Read, Endless, Text, Object, Duplicate, Overlap, Unnamed, Store, Memory}
+use Rattle.rr_desk.specs.declared.loading.DeskLoadFault.TheVariants.{NotEmpty, Read, Endless, Text}
+use Rattle.rr_desk.specs.declared.loading.DeskLoadFault.TheVariants.{Object, Duplicate, Overlap}
+use Rattle.rr_desk.specs.declared.loading.DeskLoadFault.TheVariants.{Unnamed, Store, Memory}
 
 -- a text was read to its end, and is a dump of this registry of the source (profile)
 pub record IsLoaded (source : List ℕ) (start now : Told) (registry : Reg) : Type 0 where
@@ -33,7 +35,8 @@ pub record HasLoadedRows (source : List ℕ) (start now : Told) (db : Database) 
   pub is_loaded : IsLoaded source start now registry
   pub rows : HasRows registry db
 
--- a dump was read to its end, and its objects, all of the source, are no registry for this reason (profile)
+-- a dump was read to its end, and its objects, all of the source, are no registry for this reason
+-- (profile)
 pub record IsUntaken (source : List ℕ) (start now : Told) (fault : LoadFault) : Type 0 where
   pub text : List ℕ
   pub objects : List Obj
@@ -41,9 +44,9 @@ pub record IsUntaken (source : List ℕ) (start now : Told) (fault : LoadFault) 
   pub are : dump_objects source text ≡ Ok objects
   pub is_fault : load_fault objects ≡ Some fault
 
--- why a dump was not loaded, by the fault: those of the reading come first, then the first entry that is no object of the source,
--- then what is the matter with the list of objects; only of a dump of a registry is it told that the tables have a row, or that the
--- store failed (profile)
+-- why a dump was not loaded, by the fault: those of the reading come first, then the first entry
+-- that is no object of the source, then what is the matter with the list of objects; only of a dump
+-- of a registry is it told that the tables have a row, or that the store failed (profile)
 abbrev pub FailsToLoad : List ℕ → Told → Told → DeskLoadFault → Type 0
 FailsToLoad source start now NotEmpty = HasReadDump source start now
 FailsToLoad source start now Read = FailsToRead source start now dump.Read
@@ -53,5 +56,5 @@ FailsToLoad source start now (Object n code) = FailsToRead source start now (dum
 FailsToLoad source start now (Duplicate n) = IsUntaken source start now (list.Duplicate n)
 FailsToLoad source start now (Overlap n) = IsUntaken source start now (list.Overlap n)
 FailsToLoad source start now (Unnamed n) = IsUntaken source start now (list.Unnamed n)
-FailsToLoad source start now Store = HasReadDump source start now
+FailsToLoad source start now (Store error) = HasReadDump source start now
 FailsToLoad source start now Memory = FailsToRead source start now dump.Memory

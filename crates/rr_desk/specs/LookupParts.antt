@@ -1,17 +1,27 @@
--- What private functions that look for names in the tables promise each other. No public clause cites these.
-use Rattle.std.specs.Prelude.{◌≡◌, ℕ, Bool, true, false, List, Result, Ok, Err}
+-- What private functions that look for names in the tables promise each other. No public clause
+-- cites these.
+use Rattle.std.specs.Prelude.{◌≡◌, ℕ, Bool, true, false, List, None, Option, Some, Result, Ok, Err}
+use Rattle.sqlite.specs.declared.error.Error.{Error}
+use Rattle.sqlite.specs.declared.error.Error.TheVariants.{SqliteFailure}
+use Rattle.sqlite.specs.declared.error.ErrorCode.TheVariants as code
 use Rattle.rr_auth.specs.Registries.{Reg}
 use Rattle.rr_store.specs.declared.fault.StoreFault.{StoreFault}
 use Rattle.rr_store.specs.declared.fault.StoreFault.TheVariants as unread
 use Rattle.rr_answer.specs.declared.fault.QueryFault.{QueryFault}
-use Rattle.rr_answer.specs.declared.fault.QueryFault.TheVariants.{Bad, TooLong, TooMany, Memory, Store, Stopped}
+use Rattle.rr_answer.specs.declared.fault.QueryFault.TheVariants.{Bad, TooLong, TooMany, Memory}
+use Rattle.rr_answer.specs.declared.fault.QueryFault.TheVariants.{Store, Stopped}
 use Rattle.rr_desk.specs.Answering.{IsNamingFound}
 
--- the database refused
-abbrev pub is_refused : {X : Type 0} → Result X StoreFault → Bool
-is_refused (Ok x) = false
-is_refused (Err unread.Store) = true
-is_refused (Err unread.Memory) = false
+-- the error with which the database refused, if it did
+abbrev pub refusal : {X : Type 0} → Result X StoreFault → Option Error
+refusal (Ok x) = None
+refusal (Err (unread.Store error)) = Some error
+refusal (Err unread.Memory) = None
+
+-- the error of the database that a fault of its store is; out of memory is one of its own
+abbrev pub cause_of : StoreFault → Error
+cause_of (unread.Store error) = error
+cause_of unread.Memory = SqliteFailure code.OutOfMemory
 
 -- nothing was found, which stops the desk where the store failed
 abbrev pub IsUnfound : QueryFault → Bool → Type 0
@@ -24,5 +34,6 @@ IsUnfound Stopped stopped = ⊥
 
 -- what names a maintainer was found, or not, and whether the desk is stopped
 abbrev pub LooksUp : Type 0 → Reg → List ℕ → Bool → Result (List ℕ) QueryFault → Type 0
-LooksUp clean registry name stopped (Ok text) = (stopped ≡ false) × IsNamingFound clean registry name (Ok text)
+LooksUp clean registry name stopped (Ok text) =
+    (stopped ≡ false) × IsNamingFound clean registry name (Ok text)
 LooksUp clean registry name stopped (Err fault) = IsUnfound fault stopped

@@ -1,6 +1,6 @@
 -- What connections over memory tell is all of their turns.
 use Rattle.std.specs.Prelude.{◌≡◌, ℕ, ◌+◌, List, ◌++◌, length, map, replicate, Some}
-use Rattle.std.proofs.Common.{ap, sym, ◌∙◌, length-append}
+use Rattle.std.proofs.Common.{ap, ◌∙◌, length-append}
 use Rattle.std.proofs.lemmas.List.{length-map, length-replicate}
 use Rattle.rr_desk.specs.declared.memory_peers.MemoryTurn.{MemoryTurn}
 use Rattle.rr_desk.specs.MemoryTurns.{memory_turn}
@@ -8,8 +8,10 @@ use Rattle.rr_desk.specs.Turns.{Turn, unaccepted}
 
 -- the connections that are closed, and the accepts that found none, are the turns (profile)
 pub told_in_all : (kept : List MemoryTurn) (past : ℕ) (turns : List Turn) →
-    Some (map memory_turn kept ++ replicate past unaccepted) ≡ Some turns → length turns ≡ length kept + past
+    Some (map memory_turn kept ++ replicate past unaccepted) ≡ Some turns
+    → length turns ≡ length kept + past
 told_in_all kept past turns is =
     let same : turns ≡ map memory_turn kept ++ replicate past unaccepted = cc in
     ap length same ∙ (length-append (map memory_turn kept) (replicate past unaccepted)
-    ∙ (ap (λ n. n + length (replicate past unaccepted)) (length-map kept memory_turn) ∙ ap (λ n. length kept + n) (length-replicate past unaccepted)))
+    ∙ (ap (λ n. n + length (replicate past unaccepted)) (length-map kept memory_turn)
+    ∙ ap (λ n. length kept + n) (length-replicate past unaccepted)))

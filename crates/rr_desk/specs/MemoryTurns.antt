@@ -1,5 +1,6 @@
 -- What connections over memory tell (profile).
-use Rattle.std.specs.Prelude.{◌≡◌, ℕ, ◌+◌, Bool, List, ◌∷◌, ◌++◌, drop, length, map, max, replicate, is_some, Option, Some}
+use Rattle.std.specs.Prelude.{◌≡◌, ℕ, ◌+◌, Bool, List, ◌∷◌, ◌++◌, Option, Some, is_some}
+use Rattle.std.specs.Prelude.{drop, length, map, max, replicate}
 use Rattle.std.specs.Option.{option_map}
 use Rattle.rr_io.specs.declared.cutting.Cut.{Cut}
 use Rattle.rr_io.specs.declared.joining.Joined.{Joined}
@@ -9,25 +10,29 @@ use Rattle.rr_io.specs.Told.{Told}
 use Rattle.rr_desk.specs.declared.memory_peers.MemoryInput.{MemoryInput}
 use Rattle.rr_desk.specs.declared.memory_peers.MemoryTurn.{MemoryTurn}
 use Rattle.rr_desk.specs.declared.memory_peers.MemoryPeers.{MemoryPeers}
-use Rattle.rr_desk.specs.Turns.{Turn, closed, unaccepted}
+use Rattle.rr_desk.specs.Turns.{Tally, Turn, closed, unaccepted}
 
 -- the connections that are still to come
 abbrev pub inputs_left : MemoryPeers → List MemoryInput
 inputs_left peers = drop peers.next peers.inputs.now
 
--- a reader or a writer passes at most `many` bytes in a call, one where that is none, and fails in each call once `end` bytes passed
+-- a reader or a writer passes at most `many` bytes in a call, one where that is none, and fails in
+-- each call once `end` bytes passed
 pub record IsCutAt (many end : ℕ) {T : Type 0} (cut : Cut T) : Type 0 where
   pub step : cut_step cut ≡ max many 1
   pub left : cut_left cut ≡ end
 
--- a connection is what an input says: its reader has the bytes of the input, and both of its sides are cut as the input has it
-pub record IsOfInput (input : MemoryInput) {R W : Type 0} (conn : Joined (Cut R) (Cut W)) (reader : Told) : Type 0 where
+-- a connection is what an input says: its reader has the bytes of the input, and both of its sides
+-- are cut as the input has it
+pub record IsOfInput (input : MemoryInput) {R W : Type 0} (conn : Joined (Cut R) (Cut W))
+    (reader : Told) : Type 0 where
   pub bytes : reader.bytes ≡ Some input.bytes.now
   pub reads : IsCutAt input.step input.reads (joined_reader conn)
   pub writes : IsCutAt input.step input.writes (joined_writer conn)
 
 -- the first of the inputs that were left was accepted, and the others are left
-pub record AcceptsNext (before after : List MemoryInput) {R W : Type 0} (conn : Joined (Cut R) (Cut W)) (reader : Told) : Type 0 where
+pub record AcceptsNext (before after : List MemoryInput) {R W : Type 0}
+    (conn : Joined (Cut R) (Cut W)) (reader : Told) : Type 0 where
   pub input : MemoryInput
   pub is_next : before ≡ input ∷ after
   pub is_of_it : IsOfInput input conn reader
@@ -52,10 +57,19 @@ open_bytes peers = option_map (λ asked. asked.now) peers.asked
 abbrev pub memory_turn : MemoryTurn → Turn
 memory_turn turn = closed (Some turn.asked.now) (Some turn.answered.items)
 
--- its turns: the connections that are closed, and behind them the accepts that found none
+-- its turns: the connections that are closed, and after them the accepts that found none
 abbrev pub memory_told : MemoryPeers → Option (List Turn)
-memory_told peers = Some (map memory_turn peers.turns.items ++ replicate peers.past unaccepted)
+memory_told peers =
+    Some (map memory_turn peers.turns.items ++ replicate peers.past unaccepted)
 
 -- how many turns there were
 abbrev pub turns_counted : MemoryPeers → ℕ
 turns_counted peers = length peers.turns.items + peers.past
+
+-- what they count and tell
+abbrev pub memory_tally : MemoryPeers → Tally
+memory_tally peers = record {
+  turns = turns_counted peers;
+  told = memory_told peers;
+  waiting = Some (map (λ input. input.bytes.now) (inputs_left peers));
+}

@@ -1,16 +1,26 @@
 -- Tables of version 1 that a desk migrates (profile).
 use Rattle.std.specs.Prelude.{◌≡◌, ℕ, false, List, [], ◌∷◌, ◌++◌}
 use Rattle.std.specs.FinMap.{values}
+use Rattle.sqlite_trees.specs.declared.store.Store.{Ghosts}
 use Rattle.sqlite.specs.Effect.{Database}
+use Rattle.sqlite.specs.Held.{Held, state}
+use Rattle.sqlite.specs.State.{Survives}
 use Rattle.rr_object.specs.Objects.{Obj}
 use Rattle.rr_object.specs.Readings.{ReadsAs}
 use Rattle.rr_auth.specs.Registries.{Reg, Sound}
 use Rattle.rr_auth.specs.Sources.{IsRegistryOf}
 use Rattle.rr_registry.specs.Loading.{IsTaken}
+use Rattle.rr_rows.specs.Entries.{TreesOf}
 use Rattle.rr_rows.specs.Maps.{AreOldStored}
-use Rattle.rr_store.specs.Migrating.{has_mntner}
+use Rattle.rr_rows.specs.Tables.{HasTables}
+use Rattle.rr_store.specs.Calls.{OnCleanDisk, database}
+use Rattle.rr_store.specs.Migrating.{IsMigrated, IsOfOldRows, has_mntner}
+use Rattle.rr_store.specs.Opening.{IsNotOld, IsOfNoneButOld}
+use Rattle.rr_store.specs.declared.fault.MigrateFault.{MigrateFault}
+use Rattle.rr_store.specs.declared.fault.MigrateFault.TheVariants.{BadRow, NoRoot, WrongVersion}
 use Rattle.rr_desk.specs.Opening.{four_octets_fields}
 use Rattle.rr_desk.specs.Settings.{SettingsParts}
+use Rattle.rr_desk.specs.Stocks.{Stock}
 
 -- objects are those of a sound registry (profile)
 pub record AreRegistry (objects : List Obj) : Type 0 where
@@ -18,13 +28,15 @@ pub record AreRegistry (objects : List Obj) : Type 0 where
   pub taken : IsTaken objects registry
   pub sound : Sound registry
 
--- a registry has these objects and the block of the other AS numbers, which the root maintains, and no others (RFC 6793; profile)
+-- a registry has these objects and the block of the other AS numbers, which the root maintains, and
+-- no others (RFC 6793; profile)
 pub record HasBlock (settings : SettingsParts) (objects : List Obj) (registry : Reg) : Type 0 where
   pub block : Obj
   pub read : ReadsAs settings.source (four_octets_fields settings) block
   pub taken : IsTaken (objects ++ block ∷ []) registry
 
--- the objects of tables of version 1 are a sound registry, and this one has them and the block of the other AS numbers (profile)
+-- the objects of tables of version 1 are a sound registry, and this one has them and the block of
+-- the other AS numbers (profile)
 pub record IsGrown (settings : SettingsParts) (old : Database) (registry : Reg) : Type 0 where
   pub objects : List Obj
   pub before : AreOldStored settings.source objects old
@@ -33,11 +45,39 @@ pub record IsGrown (settings : SettingsParts) (old : Database) (registry : Reg) 
 
 -- tables of version 1 hold the rows of no registry of the source (profile)
 abbrev pub HasNoOldRegistry : List ℕ → Database → Type 0
-HasNoOldRegistry source db = (registry : Reg) → IsRegistryOf source registry → AreOldStored source (values registry) db → ⊥
+HasNoOldRegistry source db =
+    (registry : Reg) → IsRegistryOf source registry → AreOldStored source (values registry) db → ⊥
 
--- the objects of tables of version 1 are a sound registry, in which the root is no maintainer (profile)
+-- the objects of tables of version 1 are a sound registry, in which the root is no maintainer
+-- (profile)
 pub record IsRootless (settings : SettingsParts) (old : Database) : Type 0 where
   pub objects : List Obj
   pub before : AreOldStored settings.source objects old
   pub sound : AreRegistry objects
   pub missing : has_mntner settings.root objects ≡ false
+
+-- why tables are not migrated: they are of another version, which comes first; no registry of the
+-- source has their rows; or the root is no maintainer in theirs; each is told of the three tables
+-- alone (profile)
+pub record RefusesOldRegistry (settings : SettingsParts) (db : Database) (fault : MigrateFault)
+    : Type 0 where
+  pub wrong_version : (number : ℕ) → fault ≡ WrongVersion number → IsNotOld number db
+  pub bad_row : fault ≡ BadRow → HasNoOldRegistry settings.source db
+  pub no_other_said : fault ≡ BadRow → IsOfNoneButOld db
+  pub tables : IsOfOldRows fault → HasTables db.schema
+  pub no_root : fault ≡ NoRoot → IsRootless settings db
+
+-- tables are migrated by settings (profile)
+abbrev pub IsMigratedBy : SettingsParts → Database → Database → Type 0
+IsMigratedBy settings = IsMigrated settings.root settings.source
+
+-- tables of version 1 were migrated to those of this registry, and a stop leaves the old ones or
+-- the new ones (profile)
+pub record MigratesTables {S : Type 0} (g : Ghosts S) (settings : SettingsParts) (conn : Held S)
+    (stored : Stock S) : Type 0 where
+  pub grown : OnCleanDisk g stored.store
+      (IsGrown settings (database g conn) stored.registry)
+  pub migrated : OnCleanDisk g stored.store
+      (IsMigratedBy settings (database g conn) (database g stored.store))
+  pub crash : Survives (state g conn) (state g stored.store)
+      (TreesOf (IsMigratedBy settings (database g conn)))

@@ -3,7 +3,8 @@ use Rattle.std.specs.Prelude.{◌≡◌, List, [], ◌∷◌, ◌++◌, Some}
 use Rattle.rr_object.specs.Objects.{Obj}
 use Rattle.rr_object.specs.Readings.{ReadsAs}
 use Rattle.rr_registry.specs.declared.load.LoadFault.{LoadFault}
-use Rattle.rr_registry.specs.declared.load.LoadFault.TheVariants.{Duplicate, Overlap, Unnamed, Memory}
+use Rattle.rr_registry.specs.declared.load.LoadFault.TheVariants.{Duplicate, Overlap, Unnamed}
+use Rattle.rr_registry.specs.declared.load.LoadFault.TheVariants.{Memory}
 use Rattle.rr_registry.specs.Loading.{load_fault}
 use Rattle.rr_store.specs.declared.fault.MigrateFault.{MigrateFault}
 use Rattle.rr_store.specs.declared.fault.MigrateFault.TheVariants as migrate
@@ -22,7 +23,8 @@ pub record HasBlockFault (settings : SettingsParts) (objects : List Obj) : Type 
   pub read : ReadsAs settings.source (four_octets_fields settings) block
   pub fault : HasLoadFault (objects ++ block ∷ [])
 
--- want of memory is told as such, and what else is the matter with objects as this fault (profile)
+-- that memory ran out is told as such, and what else is the matter with objects as this fault
+-- (profile)
 abbrev pub told_as : LoadFault → MigrateFault → MigrateFault
 told_as (Duplicate n) told = told
 told_as (Overlap n) told = told
@@ -34,5 +36,5 @@ abbrev pub IsGrowthFault : SettingsParts → List Obj → MigrateFault → Type 
 IsGrowthFault settings objects (migrate.WrongVersion number) = ⊥
 IsGrowthFault settings objects migrate.BadRow = HasLoadFault objects
 IsGrowthFault settings objects migrate.NoRoot = AreRegistry objects × HasBlockFault settings objects
-IsGrowthFault settings objects migrate.Store = ⊥
+IsGrowthFault settings objects (migrate.Store error) = ⊥
 IsGrowthFault settings objects migrate.Memory = Unit {0}

@@ -10,40 +10,48 @@ use Rattle.rr_registry.specs.Loading.{IsTaken}
 use Rattle.rr_store.specs.Migrating.{upper_block}
 use Rattle.rr_desk.specs.Settings.{SettingsParts}
 
--- the value of `auth` for a digest: the scheme, a blank, the salt, a colon, and the digest in lower case (profile)
+-- the value of `auth` for a digest: the scheme, a blank, the salt, a colon, and the digest in lower
+-- case (profile)
 abbrev pub auth_line : AuthParts → List ℕ
 auth_line auth = codes "SHA256-PW " ++ (auth.salt ++ (58 ∷ encode_lower auth.digest))
 
 -- each opening object is the root maintainer's, and of the settings' source (profile)
 abbrev pub owned : SettingsParts → List Field
-owned settings = one_line (codes "mnt-by") settings.root ∷ (one_line (codes "source") settings.source ∷ [])
+owned settings =
+    one_line (codes "mnt-by") settings.root ∷ (one_line (codes "source") settings.source ∷ [])
 
 -- the root maintainer (profile)
 abbrev pub root_fields : SettingsParts → List Field
 root_fields settings =
-    one_line (codes "mntner") settings.root ∷ (one_line (codes "auth") (auth_line settings.auth) ∷ owned settings)
+    one_line (codes "mntner") settings.root
+    ∷ (one_line (codes "auth") (auth_line settings.auth) ∷ owned settings)
 
 -- the block of all AS numbers of two octets (profile)
 abbrev pub numbers_fields : SettingsParts → List Field
 numbers_fields settings = one_line (codes "as-block") (codes "AS0 - AS65535") ∷ owned settings
 
--- the block of the other AS numbers of four octets, which is also the one that migration adds (RFC 6793; profile)
+-- the block of the other AS numbers of four octets, which is also the one that migration adds (RFC
+-- 6793; profile)
 abbrev pub four_octets_fields : SettingsParts → List Field
 four_octets_fields settings = upper_block settings.root settings.source
 
 -- the span of all addresses (profile)
 abbrev pub addresses_fields : SettingsParts → List Field
-addresses_fields settings = one_line (codes "inetnum") (codes "0.0.0.0 - 255.255.255.255") ∷ owned settings
+addresses_fields settings =
+    one_line (codes "inetnum") (codes "0.0.0.0 - 255.255.255.255") ∷ owned settings
 
--- the paragraphs of the opening objects: the root maintainer, the two blocks of AS numbers, and the span of all addresses
--- (profile)
+-- the paragraphs of the opening objects: the root maintainer, the two blocks of AS numbers, and the
+-- span of all addresses (profile)
 abbrev pub opening_paragraphs : SettingsParts → List (List Field)
 opening_paragraphs settings =
-    root_fields settings ∷ (numbers_fields settings ∷ (four_octets_fields settings ∷ (addresses_fields settings ∷ [])))
+    root_fields settings
+    ∷ (numbers_fields settings ∷ (four_octets_fields settings ∷ (addresses_fields settings ∷ [])))
 
--- the objects that these paragraphs are in the registry of the settings' source, in this order (profile)
+-- the objects that these paragraphs are in the registry of the settings' source, in this order
+-- (profile)
 pub record AreOpening (settings : SettingsParts) (objects : List Obj) : Type 0 where
-  pub read : map (λ fields. object_of fields settings.source) (opening_paragraphs settings) ≡ map Ok objects
+  pub read : map (λ fields. object_of fields settings.source) (opening_paragraphs settings)
+      ≡ map Ok objects
 
 -- a registry has the opening objects, and no others (profile)
 pub record IsOpened (settings : SettingsParts) (registry : Reg) : Type 0 where

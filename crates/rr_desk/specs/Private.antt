@@ -1,16 +1,25 @@
 -- What private functions of the desk promise each other. No public clause cites these.
-use Rattle.std.specs.Prelude.{◌≡◌, None, Some, ℕ, Bool, true, false, List, Ok}
+use Rattle.std.specs.Prelude.{◌≡◌, None, Some, ℕ, Bool, true, false, IsTrue, List}
+use Rattle.std.specs.Prelude.{Ok, OnErr, OnOk, Result}
 use Rattle.std.specs.FinMap.{get, insert, remove}
 use Rattle.sqlite.specs.Effect.{Database}
+use Rattle.sqlite.specs.Held.{Held, state}
+use Rattle.sqlite.specs.State.{Survives}
+use Rattle.sqlite_trees.specs.declared.store.Store.{Ghosts}
 use Rattle.rr_object.specs.declared.key.Key.{Key}
 use Rattle.rr_object.specs.Objects.{Obj}
 use Rattle.rr_auth.specs.Registries.{Reg}
 use Rattle.rr_registry.specs.declared.outcome.Outcome.{Outcome}
-use Rattle.rr_registry.specs.declared.outcome.Outcome.TheVariants.{Added, Changed, Same as Unchanged, Deleted, Refused}
+use Rattle.rr_registry.specs.declared.outcome.Outcome.TheVariants.{Added, Changed}
+use Rattle.rr_registry.specs.declared.outcome.Outcome.TheVariants.{Same as Unchanged, Deleted}
+use Rattle.rr_registry.specs.declared.outcome.Outcome.TheVariants.{Refused}
+use Rattle.rr_rows.specs.Entries.{TreesOf}
 use Rattle.rr_rows.specs.Maps.{AreStored, HasRows}
+use Rattle.rr_store.specs.Calls.{OnCleanDisk, WhileOpen, database}
 use Rattle.rr_registry.specs.Loading.{load_fault}
 use Rattle.rr_registry.specs.declared.load.LoadFault.{LoadFault}
-use Rattle.rr_registry.specs.declared.load.LoadFault.TheVariants.{Duplicate, Overlap, Unnamed, Memory}
+use Rattle.rr_registry.specs.declared.load.LoadFault.TheVariants.{Duplicate, Overlap, Unnamed}
+use Rattle.rr_registry.specs.declared.load.LoadFault.TheVariants.{Memory}
 use Rattle.rr_store.specs.declared.fault.OpenFault.{OpenFault}
 use Rattle.rr_store.specs.declared.fault.OpenFault.TheVariants as opened
 use Rattle.rr_text.specs.Fields.{Field}
@@ -43,19 +52,33 @@ puts_one Unchanged = false
 puts_one Deleted = false
 puts_one (Refused code) = false
 
--- where the rows were those of a registry, they are those of the one that it is with an object under this key
+-- where the rows were those of a registry, they are those of the one that it is with an object
+-- under this key
 abbrev pub FollowsGain : Key → Reg → Database → Database → Type 0
-FollowsGain key after old new = (before : Reg) → Gains before key after → HasRows before old → HasRows after new
+FollowsGain key after old new =
+    (before : Reg) → Gains before key after → HasRows before old → HasRows after new
 
 -- and here where it had none there
 abbrev pub FollowsNew : Key → Reg → Database → Database → Type 0
-FollowsNew key after old new = (before : Reg) → GainsNew before key after → HasRows before old → HasRows after new
+FollowsNew key after old new =
+    (before : Reg) → GainsNew before key after → HasRows before old → HasRows after new
 
 -- where the rows were those of the registry before the item, they are those of the one after it
 abbrev pub Follows : Key → Outcome → Reg → Database → Database → Type 0
-Follows key outcome after old new = (before : Reg) → LeadsTo before key outcome after → HasRows before old → HasRows after new
+Follows key outcome after old new =
+    (before : Reg) → LeadsTo before key outcome after → HasRows before old → HasRows after new
 
--- rows of objects that are no registry are bad rows; want of memory is told as such (profile)
+-- the rows follow an item by this change, if it is one that changes them, or stay as they are after
+-- a fault; a stop leaves one of the two
+pub record FollowsIn {S X E : Type 0} (g : Ghosts S) (Change : Database → Database → Type 0)
+    (old new : Held S) (result : Result X E) : Type 0 where
+  pub done : OnCleanDisk g new (OnOk result (Change (database g old) (database g new)))
+  pub is_open : OnCleanDisk g new
+      (IsTrue (state g old).is_open → OnOk result (IsTrue (state g new).is_open))
+  pub kept : WhileOpen g new (OnErr result (database g new ≡ database g old))
+  pub crash : Survives (state g old) (state g new) (TreesOf (Change (database g old)))
+
+-- rows of objects that are no registry are bad rows; that memory ran out is told as such (profile)
 abbrev pub opening_fault : LoadFault → OpenFault
 opening_fault (Duplicate n) = opened.BadRow
 opening_fault (Overlap n) = opened.BadRow
@@ -71,8 +94,8 @@ pub record HasObject (source : List ℕ) (fields : List Field) : Type 0 where
   pub object : Obj
   pub read : object_of fields source ≡ Ok object
 
--- the tables hold the rows of objects of the source which are no sound registry: one crosses another, or names a maintainer who
--- is not among them (profile)
+-- the tables hold the rows of objects of the source which are no sound registry: one crosses
+-- another, or names a maintainer who is not among them (profile)
 pub record IsUnsound (source : List ℕ) (db : Database) : Type 0 where
   pub objects : List Obj
   pub stored : AreStored source objects db

@@ -1,7 +1,8 @@
--- What the store of a desk keeps of its registry, and what a change of the registry asks of the store (profile).
+-- What the store of a desk keeps of its registry, and what a change of the registry asks of the
+-- store (profile).
 use Rattle.std.specs.Prelude.{◌≡◌, IsTrue}
 use Rattle.sqlite_trees.specs.Tree.{Trees}
-use Rattle.sqlite.specs.State.{State, HasCleanDisk}
+use Rattle.sqlite.specs.State.{State, HasCleanDisk, Survives}
 use Rattle.rr_auth.specs.Registries.{Reg}
 use Rattle.rr_rows.specs.Entries.{TreesOf}
 use Rattle.rr_rows.specs.Maps.{HasRows}
@@ -15,4 +16,10 @@ pub record Holds (registry : Reg) (now : State) : Type 0 where
 -- while the store is open its rows are those of the registry, and a stop leaves these and no others
 pub record KeepsRows (registry : Reg) (now : State) : Type 0 where
   pub rows : HasCleanDisk now → IsTrue now.is_open → HasRows registry now.now
-  pub leaves : HasCleanDisk now → (trees : Trees) → now.may_leave trees → TreesOf (HasRows registry) trees
+  pub leaves : HasCleanDisk now → (trees : Trees) → now.may_leave trees
+      → TreesOf (HasRows registry) trees
+
+-- nothing was committed: a stop leaves what it left before, no fault of the disk is forgotten, and
+-- nothing but such a fault shuts the connection
+abbrev pub OnlyLooks : State → State → Type 0
+OnlyLooks old now = Survives old now (λ _. ⊥)

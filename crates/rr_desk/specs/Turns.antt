@@ -1,16 +1,25 @@
 -- The turns of a listener, and what serving the connections of them does (profile).
-use Rattle.std.specs.Prelude.{◌≡◌, ℕ, ◌+◌, Bool, false, not, is_ok, List, [], ◌∷◌, ◌++◌, length, map, count_by, Option, None, Some, Result}
+use Rattle.std.specs.Prelude.{◌≡◌, ℕ, ◌+◌, Bool, false, not, is_ok, Result, length, map, count_by}
+use Rattle.std.specs.Prelude.{List, [], ◌∷◌, ◌++◌, Option, None, Some, slice_get}
 use Rattle.std.specs.Option.{option_map}
 use Rattle.sqlite_trees.specs.declared.store.Store.{Ghosts}
 use Rattle.rr_io.specs.Told.{Told}
 use Rattle.rr_desk.specs.declared.desk.Desk.{Desk}
 use Rattle.rr_desk.specs.declared.peers.ConnFault.{ConnFault}
 
--- a turn, as a listener tells it: no connection could be accepted, or one was and is closed, whose reader told these bytes when it
--- was accepted, and whose writer these when it was closed; `None` stands for bytes that are not told, as over a socket (profile)
+-- a turn, as a listener tells it: no connection could be accepted, or one was and is closed, whose
+-- reader told these bytes when it was accepted, and whose writer these when it was closed; `None`
+-- stands for bytes that are not told, as over a socket (profile)
 pub data Turn : Type 0 where
   unaccepted : Turn
   closed : Option (List ℕ) → Option (List ℕ) → Turn
+
+-- what a listener counts and tells: how many turns there were; these turns in their order, and the
+-- bytes of each connection that is to come, in order, where it tells them (profile)
+pub record Tally : Type 0 where
+  pub turns : ℕ
+  pub told : Option (List Turn)
+  pub waiting : Option (List (List ℕ))
 
 -- a connection that was accepted: no call of it has failed, and nothing was written to it
 pub record IsFresh (reader writer : Told) : Type 0 where
@@ -22,28 +31,52 @@ pub record IsFresh (reader writer : Told) : Type 0 where
 abbrev pub with_turn : Option (List Turn) → Turn → Option (List Turn)
 with_turn told turn = option_map (λ turns. turns ++ turn ∷ []) told
 
--- a connection was accepted: it is fresh, and it is a turn once it is closed
-pub record IsAccepted (counted_before counted_after : ℕ) (told_before told_after : Option (List Turn)) (asked : Option (List ℕ)) (reader writer : Told) : Type 0 where
+-- where the bytes of connections that are to come are told, the first of them is accepted, if there
+-- is one, and the others are still to come; else none can be accepted
+abbrev pub IsNext : Option (Option (List ℕ)) → Option (List (List ℕ)) → Option (List (List ℕ))
+    → Type 0
+IsNext accepted None after = after ≡ None
+IsNext None (Some []) after = after ≡ Some []
+IsNext None (Some (bytes ∷ rest)) after = ⊥
+IsNext (Some told) (Some []) after = ⊥
+IsNext (Some told) (Some (bytes ∷ rest)) after = (told ≡ Some bytes) × (after ≡ Some rest)
+
+-- a connection was accepted: it is fresh, the next one, and a turn once it is closed
+pub record IsAccepted (before after : Tally) (asked : Option (List ℕ)) (reader writer : Told)
+    : Type 0 where
   pub fresh : IsFresh reader writer
   pub is_asked : asked ≡ reader.bytes
-  pub counted : counted_after ≡ counted_before
-  pub told : told_after ≡ told_before
+  pub counted : after.turns ≡ before.turns
+  pub told : after.told ≡ before.told
+  pub is_next : IsNext (Some reader.bytes) before.waiting after.waiting
 
 -- a turn was taken, and is told where turns are told
-pub record CountsTurn (turn : Turn) (counted_before counted_after : ℕ) (told_before told_after : Option (List Turn)) : Type 0 where
-  pub counted : counted_after ≡ counted_before + 1
-  pub told : told_after ≡ with_turn told_before turn
+pub record CountsTurn (turn : Turn) (before after : Tally) : Type 0 where
+  pub counted : after.turns ≡ before.turns + 1
+  pub told : after.told ≡ with_turn before.told turn
+
+-- no connection could be accepted, which is a turn
+pub record IsUnaccepted (before after : Tally) : Type 0 where
+  pub counts : CountsTurn unaccepted before after
+  pub is_next : IsNext None before.waiting after.waiting
+
+-- a connection was closed, which is a turn
+pub record IsClosed (asked answered : Option (List ℕ)) (before after : Tally) : Type 0 where
+  pub counts : CountsTurn (closed asked answered) before after
+  pub waiting : after.waiting ≡ before.waiting
 
 -- how serving a connection ended: well, or by a read or a write of it that failed
 abbrev pub Answer : Type 0
 Answer = Result (Unit {0}) ConnFault
 
--- what serving a connection does, as a relation of the desk before and after, of what the reader of the connection told before and
--- after and what its writer did, and of the answer; for desks over tables of any kind
+-- what serving a connection does, as a relation of the desk before and after, of what the reader of
+-- the connection told before and after and what its writer did, and of the answer; for desks over
+-- tables of any kind
 abbrev pub Serving : Type 1
 Serving = (S : Type 0) → Ghosts S → Desk S → Desk S → Told → Told → Told → Told → Answer → Type 0
 
--- a connection while it was served: what its reader and its writer told when it was accepted and when it was closed, and the answer
+-- a connection while it was served: what its reader and its writer told when it was accepted and
+-- when it was closed, and the answer
 pub record Visit : Type 0 where
   pub reader_before : Told
   pub reader_after : Told
@@ -61,27 +94,51 @@ abbrev pub is_served : Option Visit → Bool
 is_served None = false
 is_served (Some visit) = is_ok visit.answer
 
--- what a turn did: nothing where no connection could be accepted, else what serving it does, from when it was accepted
+-- what a turn did: nothing where no connection could be accepted, else what serving it does, from
+-- when it was accepted
 abbrev pub Does : (S : Type 0) → Ghosts S → Serving → Option Visit → Desk S → Desk S → Type 0
 Does S g serves None before after = after ≡ before
 Does S g serves (Some visit) before after =
     IsFresh visit.reader_before visit.writer_before
-    × serves S g before after visit.reader_before visit.reader_after visit.writer_before visit.writer_after visit.answer
+    × serves S g before after visit.reader_before visit.reader_after
+    visit.writer_before visit.writer_after visit.answer
 
 -- the turns were taken one after the other, in this order
-abbrev pub DoesAll : (S : Type 0) → Ghosts S → Serving → List (Option Visit) → Desk S → Desk S → Type 0
+abbrev pub DoesAll : (S : Type 0) → Ghosts S → Serving → List (Option Visit) → Desk S → Desk S
+    → Type 0
 DoesAll S g serves [] before after = after ≡ before
 DoesAll S g serves (visit ∷ visits) before after =
-    (between : Desk S) × Does S g serves visit before between × DoesAll S g serves visits between after
+    (between : Desk S) × Does S g serves visit before between
+    × DoesAll S g serves visits between after
 
--- so many turns were taken, in order: what each did, that each is counted and, where turns are told, told, and how many were served
--- and how many not
-pub record TakesTurns {S : Type 0} (g : Ghosts S) (serves : Serving) (count : ℕ) (before after : Desk S) (counted_before counted_after : ℕ) (told_before told_after : Option (List Turn)) (served failed : ℕ) : Type 0 where
+-- what a turn was asked, where a connection was accepted
+abbrev pub asked_in : Option Visit → Option (Option (List ℕ))
+asked_in = option_map (λ visit. visit.reader_before.bytes)
+
+-- the connections to come were accepted in their order
+abbrev pub InOrder : List (Option Visit) → Option (List (List ℕ)) → Option (List (List ℕ)) → Type 0
+InOrder [] before after = after ≡ before
+InOrder (visit ∷ visits) before after =
+    (between : Option (List (List ℕ))) × IsNext (asked_in visit) before between
+    × InOrder visits between after
+
+-- the turn at this place was that of a connection whose reader told these bytes when it was
+-- accepted
+pub record IsAskedAt (visits : List (Option Visit)) (place : ℕ) (bytes : List ℕ) : Type 0 where
+  pub visit : Visit
+  pub is : slice_get visits place ≡ Some (Some visit)
+  pub asked : visit.reader_before.bytes ≡ Some bytes
+
+-- so many turns were taken, in order: what each did, and that it was of the next connection; that
+-- each is counted and, where turns are told, told; and how many were served and how many not
+pub record TakesTurns {S : Type 0} (g : Ghosts S) (serves : Serving) (count : ℕ)
+    (before after : Desk S) (tally_before tally_after : Tally) (served failed : ℕ) : Type 0 where
   pub visits : List (Option Visit)
   pub many : length visits ≡ count
   pub all : DoesAll S g serves visits before after
-  pub counted : counted_after ≡ counted_before + count
-  pub told : told_after ≡ option_map (λ turns. turns ++ map turn_of visits) told_before
+  pub in_order : InOrder visits tally_before.waiting tally_after.waiting
+  pub counted : tally_after.turns ≡ tally_before.turns + count
+  pub told : tally_after.told ≡ option_map (λ turns. turns ++ map turn_of visits) tally_before.told
   pub are_served : served ≡ count_by is_served visits
   pub are_failed : failed ≡ count_by (λ visit. not (is_served visit)) visits
 

@@ -1,6 +1,6 @@
 //! What a desk answers to queries.
 
-ghost use Rattle.std.specs.Prelude.{◌≡◌, ◌≢◌, false, true, IfErr, IfOk, MatchResult};
+ghost use Rattle.std.specs.Prelude.{◌≡◌, ◌≢◌, Err, Ok, false, true, IfErr, IfOk, MatchResult};
 ghost use Rattle.sqlite.specs.Held.{state};
 ghost use Rattle.sqlite.specs.State.{HasCleanDisk};
 ghost use Rattle.rr_io.specs.Sending.{Writes};
@@ -8,9 +8,10 @@ ghost use Rattle.rr_answer.specs.declared.fault.QueryFault.TheVariants.{Memory};
 ghost use Rattle.rr_answer.specs.Answers.{IsAnswer};
 ghost use Rattle.rr_answer.specs.Queries as queries;
 ghost use Rattle.rr_answer.specs.Texts as texts;
-ghost use Rattle.rr_desk.specs.Answering.{Answers, IsAnswered};
+ghost use Rattle.rr_desk.specs.Desks.{GivesAnswer, WritesAnswer};
 ghost use Rattle.rr_desk.specs.LookupParts.{LooksUp};
-ghost use Rattle.rr_desk.specs.Rows.{Holds, KeepsRows};
+ghost use Rattle.rr_desk.specs.Rows.{KeepsRows, OnlyLooks};
+ghost use Rattle.rr_desk.specs.Stocks.{IsStocked};
 
 use crate::desk::Desk;
 use rr_answer::{Query, QueryFault, answer, is_too_long, objects_text, read_query};
@@ -35,29 +36,34 @@ pub struct Answered {
 pub struct WriteFault;
 
 impl<S: Alter> Desk<S> {
-    /// Answers a query, the text without the LF that ended it. The answer is made whole and then written: that of the registry,
-    /// under the limit of the settings, or one line `% error n`. Its number is 1 where the text is no query, 2 where it has
-    /// more than 1,024 bytes, 3 for an expansion over the limit, 4 for want of memory, 5 where the store failed, and 6
-    /// where the desk is stopped; of several the order is 2, 6, 1 and then the others (profile). What names a maintainer is
-    /// looked for in the tables: a fault of the store is met there alone, and stops the desk. After a write fault the writer
-    /// has taken a front of the answer.
+    /// Answers a query, the text without the LF that ended it. The answer is made whole and then
+    /// written: that of the registry, under the limit of the settings, or one line `% error n`. Its
+    /// number is 1 if the text is no query, 2 if it has more than 1,024 bytes, 3 for an expansion
+    /// over the limit, 4 if memory ran out, 5 if the store failed, and 6 if the desk is stopped; of
+    /// several the order is 2, 6, 1 and then the others (profile). What names a maintainer is
+    /// looked for in the tables: a fault of the store is met there alone, and stops the desk. After
+    /// a write fault the writer has taken the beginning of the answer.
     pub fn answer<W: Sink>(
         &mut self,
         alloc: Global,
         query: &[u8],
         writer: &mut W,
     ) -> Result<Answered, WriteFault>
-        ensures answers { Answers (HasCleanDisk (state S.Store self.new.stored.store)) self.old.stored.registry self.old.settings.limit query.now
-            self.old.stored.stopped self.new.stored.stopped (W.told writer.old) (W.told writer.new) result }
+        ensures answers { WritesAnswer S.Store self.old self.new query.now
+            (W.told writer.old) (W.told writer.new) result }
         ensures registry { self.new.stored.registry ≡ self.old.stored.registry }
         ensures settings { self.new.settings ≡ self.old.settings }
         ensures stopped { self.old.stored.stopped ≡ true → self.new ≡ self.old }
-        ensures rows { self.new.stored.stopped ≡ false → HasCleanDisk (state S.Store self.new.stored.store) → Holds self.new.stored.registry (state S.Store self.new.stored.store) }
-        ensures keeps { self.old.stored.stopped ≡ false → KeepsRows self.old.stored.registry (state S.Store self.new.stored.store) }
+        ensures rows { IsStocked S.Store self.new.stored }
+        ensures keeps { self.old.stored.stopped ≡ false
+            → KeepsRows self.old.stored.registry (state S.Store self.new.stored.store) }
+        ensures only_looks { OnlyLooks
+            (state S.Store self.old.stored.store) (state S.Store self.new.stored.store) }
         ensures aside { W.aside writer.new ≡ W.aside writer.old }
     {
         let made = self.answer_to(alloc, query);
-        self.stored.holds();
+        // Says that the rows are those of the registry.
+        let _ = self.stored.is_stopped();
         match made {
             Ok(text) => write_answer(writer, &text, 0),
             Err(fault) => write_answer(writer, fault.line(), fault.number()),
@@ -67,18 +73,21 @@ impl<S: Alter> Desk<S> {
     /// The answer to the text of a query.
     fn answer_to(&mut self, alloc: Global, text: &[u8]) -> Result<Vec<u8>, QueryFault>
         ensures answered { MatchResult result
-            (λ made. IsAnswered (HasCleanDisk (state S.Store self.new.stored.store)) self.old.stored.registry self.old.settings.limit text.now self.old.stored.stopped self.new.stored.stopped (Ok made.items))
-            (λ fault. IsAnswered (HasCleanDisk (state S.Store self.new.stored.store)) self.old.stored.registry self.old.settings.limit text.now self.old.stored.stopped self.new.stored.stopped (Err fault)) }
+            (λ made. GivesAnswer S.Store self.old self.new text.now (Ok made.items))
+            (λ fault. GivesAnswer S.Store self.old self.new text.now (Err fault)) }
         ensures registry { self.new.stored.registry ≡ self.old.stored.registry }
         ensures settings { self.new.settings ≡ self.old.settings }
         ensures stopped { self.old.stored.stopped ≡ true → self.new ≡ self.old }
-        ensures keeps { self.old.stored.stopped ≡ false → KeepsRows self.old.stored.registry (state S.Store self.new.stored.store) }
+        ensures keeps { self.old.stored.stopped ≡ false
+            → KeepsRows self.old.stored.registry (state S.Store self.new.stored.store) }
+        ensures only_looks { OnlyLooks
+            (state S.Store self.old.stored.store) (state S.Store self.new.stored.store) }
     {
+        let stopped = self.stored.is_stopped();
         if is_too_long(text) {
-            self.stored.keeps();
             return Err(QueryFault::TooLong);
         }
-        if self.stored.is_stopped() {
+        if stopped {
             return Err(QueryFault::Stopped);
         }
         self.running_answer(alloc, text)
@@ -88,14 +97,16 @@ impl<S: Alter> Desk<S> {
     fn running_answer(&mut self, alloc: Global, text: &[u8]) -> Result<Vec<u8>, QueryFault>
         requires short { queries.is_too_long text.now ≡ false }
         requires running { self.old.stored.stopped ≡ false }
+        requires keeps { KeepsRows self.old.stored.registry (state S.Store self.old.stored.store) }
         ensures answered { MatchResult result
-            (λ made. IsAnswered (HasCleanDisk (state S.Store self.new.stored.store)) self.old.stored.registry self.old.settings.limit text.now self.old.stored.stopped self.new.stored.stopped (Ok made.items))
-            (λ fault. IsAnswered (HasCleanDisk (state S.Store self.new.stored.store)) self.old.stored.registry self.old.settings.limit text.now self.old.stored.stopped self.new.stored.stopped (Err fault)) }
+            (λ made. GivesAnswer S.Store self.old self.new text.now (Ok made.items))
+            (λ fault. GivesAnswer S.Store self.old self.new text.now (Err fault)) }
         ensures registry { self.new.stored.registry ≡ self.old.stored.registry }
         ensures settings { self.new.settings ≡ self.old.settings }
         ensures keeps { KeepsRows self.old.stored.registry (state S.Store self.new.stored.store) }
+        ensures only_looks { OnlyLooks
+            (state S.Store self.old.stored.store) (state S.Store self.new.stored.store) }
     {
-        self.stored.keeps();
         match read_query(alloc, text) {
             Ok(Query::Naming(name)) => self.looked_up(alloc, &name),
             Ok(query) => self.registry_answer(alloc, &query),
@@ -105,8 +116,10 @@ impl<S: Alter> Desk<S> {
 
     /// The answer of the registry to a query.
     fn registry_answer(&self, alloc: Global, query: &Query) -> Result<Vec<u8>, QueryFault>
-        ensures ok { IfOk result (λ text. IsAnswer self.now.stored.registry self.now.settings.limit query.now (Ok text.items)) }
-        ensures fault { IfErr result (λ fault. fault ≢ Memory → IsAnswer self.now.stored.registry self.now.settings.limit query.now (Err fault)) }
+        ensures ok { IfOk result (λ text. IsAnswer
+            self.now.stored.registry self.now.settings.limit query.now (Ok text.items)) }
+        ensures fault { IfErr result (λ fault. fault ≢ Memory → IsAnswer
+            self.now.stored.registry self.now.settings.limit query.now (Err fault)) }
     {
         let limit = self.settings.limit() as usize;
         answer(alloc, self.stored.registry(), limit, query)
@@ -116,21 +129,25 @@ impl<S: Alter> Desk<S> {
     fn looked_up(&mut self, alloc: Global, name: &Name) -> Result<Vec<u8>, QueryFault>
         requires running { self.old.stored.stopped ≡ false }
         ensures looked { MatchResult result
-            (λ text. LooksUp (HasCleanDisk (state S.Store self.new.stored.store)) self.old.stored.registry name.now self.new.stored.stopped (Ok text.items))
-            (λ fault. LooksUp (HasCleanDisk (state S.Store self.new.stored.store)) self.old.stored.registry name.now self.new.stored.stopped (Err fault)) }
+            (λ text. LooksUp (HasCleanDisk (state S.Store self.new.stored.store))
+            self.old.stored.registry name.now self.new.stored.stopped (Ok text.items))
+            (λ fault. LooksUp (HasCleanDisk (state S.Store self.new.stored.store))
+            self.old.stored.registry name.now self.new.stored.stopped (Err fault)) }
         ensures registry { self.new.stored.registry ≡ self.old.stored.registry }
         ensures settings { self.new.settings ≡ self.old.settings }
         ensures keeps { KeepsRows self.old.stored.registry (state S.Store self.new.stored.store) }
+        ensures only_looks { OnlyLooks
+            (state S.Store self.old.stored.store) (state S.Store self.new.stored.store) }
     {
         match self.stored.naming(alloc, self.settings.source(), name) {
             Ok(objects) => Ok(text_of(alloc, &objects)?),
-            Err(StoreFault::Store) => Err(QueryFault::Store),
+            Err(StoreFault::Store(_)) => Err(QueryFault::Store),
             Err(StoreFault::Memory) => Err(QueryFault::Memory),
         }
     }
 }
 
-/// The objects as they are answered; the error is want of memory.
+/// The objects as they are answered; the error is that memory ran out.
 fn text_of(alloc: Global, objects: &[Object]) -> Result<Vec<u8>, AllocError>
     ensures { IfOk result (λ text. text.items ≡ texts.objects_text objects.now) }
 {

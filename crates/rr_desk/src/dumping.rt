@@ -4,7 +4,7 @@ ghost use Rattle.std.specs.Prelude.{◌≡◌, false, true, length, Err, IfOk};
 ghost use Rattle.std.specs.FinMap.{values};
 ghost use Rattle.rr_answer.specs.Dumps as dumps;
 ghost use Rattle.rr_desk.specs.Dumping.{Dumps};
-ghost use Rattle.rr_desk.specs.declared.dumping.DumpFault.TheVariants.{Stopped};
+ghost use Rattle.rr_desk.specs.declared.dumping.DeskDumpFault.TheVariants.{Stopped};
 
 use crate::desk::Desk;
 use rr_io::Sink;
@@ -14,7 +14,7 @@ use thiserror::Error;
 
 /// Why there is no dump, or not all of one.
 #[derive(Clone, Copy, Debug, PartialEq, Eq, Error)]
-pub enum DumpFault {
+pub enum DeskDumpFault {
     /// A write failed.
     #[error("write failed")]
     Write,
@@ -26,37 +26,41 @@ pub enum DumpFault {
     Stopped,
 }
 
-impl From<rr_answer::DumpFault> for DumpFault {
+impl From<rr_answer::DumpFault> for DeskDumpFault {
     ghost use Rattle.std.specs.Prelude.{◌≡◌};
     ghost use Rattle.rr_desk.specs.Dumping.{fault_of_cut};
 
     ghost from_gives = { λ cut fault. fault ≡ fault_of_cut cut };
 
-    fn from(cut: rr_answer::DumpFault) -> DumpFault {
+    fn from(cut: rr_answer::DumpFault) -> DeskDumpFault {
         match cut {
-            rr_answer::DumpFault::Write => DumpFault::Write,
-            rr_answer::DumpFault::Memory => DumpFault::Memory,
+            rr_answer::DumpFault::Write => DeskDumpFault::Write,
+            rr_answer::DumpFault::Memory => DeskDumpFault::Memory,
         }
     }
 }
 
 impl<S: Alter> Desk<S> {
-    /// Writes a dump of the registry, and answers the number of its objects: each by class and key with an empty line, and a
-    /// last line that counts them; `full` says whether with all their text, or as they are answered (profile). After `Write` or
-    /// `Memory` the writer has taken a front of it. A stopped desk answers `Stopped` and writes nothing.
+    /// Writes a dump of the registry, and answers the number of its objects: each by class and key
+    /// with an empty line, and a last line that counts them; `full` says whether with all their
+    /// text, or as they are answered (profile). After `Write` or `Memory` the writer has taken its
+    /// beginning, and not all of it. A stopped desk answers `Stopped` and writes nothing.
     pub fn dump<W: Sink>(
         &self,
         alloc: Global,
         writer: &mut W,
         full: bool,
-    ) -> Result<usize, DumpFault>
-        ensures stopped { self.now.stored.stopped ≡ true → (result ≡ Err Stopped) × (writer.new ≡ writer.old) }
-        ensures dumps { self.now.stored.stopped ≡ false → Dumps (dumps.dump full self.now.stored.registry) (W.told writer.old) (W.told writer.new) result }
+    ) -> Result<usize, DeskDumpFault>
+        ensures stopped { self.now.stored.stopped ≡ true
+            → (result ≡ Err Stopped) × (writer.new ≡ writer.old) }
+        ensures dumps { self.now.stored.stopped ≡ false
+            → Dumps (dumps.dump full self.now.stored.registry)
+            (W.told writer.old) (W.told writer.new) result }
         ensures count { IfOk result (λ count. count ≡ length (values self.now.stored.registry)) }
         ensures aside { W.aside writer.new ≡ W.aside writer.old }
     {
         if self.stored.is_stopped() {
-            return Err(DumpFault::Stopped);
+            return Err(DeskDumpFault::Stopped);
         }
         Ok(rr_answer::dump(alloc, self.stored.registry(), writer, full)?)
     }

@@ -1,4 +1,5 @@
-//! The desk: a registry kept in tables, to which submissions and queries are made, and which is dumped.
+//! The desk: a registry kept in tables, to which submissions and queries are made, and which is
+//! dumped.
 #![tactic(auto)]
 
 mod answering;
@@ -18,7 +19,7 @@ mod stored;
 
 pub use answering::{Answered, WriteFault};
 pub use desk::Desk;
-pub use dumping::DumpFault;
+pub use dumping::DeskDumpFault;
 pub use loading::DeskLoadFault;
 pub use memory_peers::{MemoryConnection, MemoryInput, MemoryPeers, MemoryTurn};
 pub use opening::{opening_objects, opening_registry};
@@ -27,5 +28,5 @@ pub use rr_store::{CreateFault, MigrateFault, OpenFault};
 pub use rr_submission::{DeskFault, Done};
 pub use service::Service;
 pub use serving::{Served, serve_all};
-pub use settings::{Setting, Settings, SettingsFault};
+pub use settings::{Setting, Settings, ValueFault};
 pub use stored::Stored;

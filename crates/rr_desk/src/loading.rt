@@ -1,14 +1,10 @@
 //! Desks made from dumps.
 
-ghost use Rattle.std.specs.Prelude.{◌≡◌, ◌≢◌, false, IfErr, IfOk, IsTrue};
-ghost use Rattle.sqlite.specs.Held.{state};
-ghost use Rattle.sqlite.specs.State.{HasCleanDisk, Survives};
+ghost use Rattle.std.specs.Prelude.{◌≡◌, ◌≢◌, false, IfErr, IfOk};
 ghost use Rattle.rr_auth.specs.Sources.{IsRegistryOf};
-ghost use Rattle.rr_rows.specs.Made.{HasRow, IsVacant};
-ghost use Rattle.rr_rows.specs.Tables.{HasTables};
-ghost use Rattle.rr_store.specs.Kept.{IsLeft};
+ghost use Rattle.rr_store.specs.Calls.{OnCleanDisk, database};
 ghost use Rattle.rr_desk.specs.Loaded.{FailsToLoad, HasLoadedRows, IsLoaded};
-ghost use Rattle.rr_desk.specs.Rows.{Holds};
+ghost use Rattle.rr_desk.specs.Opened.{IsOccupied, MakesNone, MakesTables, Runs};
 ghost use Rattle.rr_desk.specs.declared.loading.DeskLoadFault.TheVariants.{NotEmpty};
 
 use crate::desk::Desk;
@@ -21,13 +17,14 @@ use rr_number::Name;
 use rr_object::Code;
 use rr_registry::{LoadFault, Registry};
 use rr_store::CreateFault;
-use sqlite::{Alter, Connection};
+use sqlite::{Alter, Connection, Error as DatabaseError};
 use std::alloc::Global;
 use thiserror::Error;
 
-/// Why no desk was made from a dump. Entries and objects are counted from 1. A failed read and too many of them come first,
-/// then the first entry that is no object of the source, then the first key that stands twice or span that crosses, then the
-/// first name of a maintainer who is not there; the store is asked last. No row was changed.
+/// Why no desk was made from a dump. Entries and objects are counted from 1. A failed read and too
+/// many of them come first, then the first entry that is no object of the source, then the first
+/// key that stands twice or span that crosses, then the first name of a maintainer who is not
+/// there; the store is asked last. No row was changed.
 #[derive(Clone, Copy, Debug, PartialEq, Eq, Error)]
 pub enum DeskLoadFault {
     /// One of the three tables has a row.
@@ -42,7 +39,8 @@ pub enum DeskLoadFault {
     /// The text of this entry has a fault, and those before it are objects of the source.
     #[error("entry {0} is no paragraph")]
     Text(u64),
-    /// This entry is no object of the source, with the code of a submission of it, and those before it are.
+    /// This entry is no object of the source, with the code of a submission of it, and those before
+    /// it are.
     #[error("entry {0} is no object: {1}")]
     Object(u64, Code),
     /// The key of this object is that of one before it.
@@ -54,9 +52,9 @@ pub enum DeskLoadFault {
     /// This object names a maintainer who is not in the dump.
     #[error("object {0} names a maintainer who is not in the dump")]
     Unnamed(u64),
-    /// The database refused, for want of memory too, or has other tables in place of the three.
+    /// The database refused with this error, or has other tables in place of the three.
     #[error("the store failed")]
-    Store,
+    Store(DatabaseError),
     /// Memory ran out.
     #[error("out of memory")]
     Memory,
@@ -104,17 +102,18 @@ impl From<CreateFault> for DeskLoadFault {
     fn from(refused: CreateFault) -> DeskLoadFault {
         match refused {
             CreateFault::NotEmpty => DeskLoadFault::NotEmpty,
-            CreateFault::Store => DeskLoadFault::Store,
+            CreateFault::Store(error) => DeskLoadFault::Store(error),
             CreateFault::Memory => DeskLoadFault::Memory,
         }
     }
 }
 
 impl<S: Alter> Desk<S> {
-    /// The desk of the registry whose dump this reader gives, in a database with nothing in it or with the three tables and
-    /// no row: all of the rows are written in one transaction, once the dump was read to its end, or none. The dump is any
-    /// RPSL text whose entries are the objects of a sound registry of the settings' source. The connection is in no
-    /// transaction. After a fault it is given back, with the rows as they were.
+    /// The desk of the registry whose dump this reader gives, in a database with nothing in it or
+    /// with the three tables and no row: all of the rows are written in one transaction, once the
+    /// dump was read to its end, or none. The dump is any RPSL text whose entries are the objects
+    /// of a sound registry of the settings' source. The connection is in no transaction. After a
+    /// fault it is given back, with the rows as they were.
     pub fn load<R: Source>(
         alloc: Global,
         conn: Connection<S>,
@@ -122,26 +121,22 @@ impl<S: Alter> Desk<S> {
         reader: &mut R,
     ) -> Result<Desk<S>, (DeskLoadFault, Connection<S>)>
         requires autocommit { conn.in_transaction ≡ false }
-        ensures running { IfOk result (λ d. d.stored.stopped ≡ false) }
-        ensures settings { IfOk result (λ d. d.settings ≡ settings) }
-        ensures loaded { IfOk result (λ d. IsLoaded settings.source (R.told reader.old) (R.told reader.new) d.stored.registry) }
-        ensures of_source { IfOk result (λ d. IsRegistryOf settings.source d.stored.registry) }
-        ensures holds { IfOk result (λ d. HasCleanDisk (state S.Store d.stored.store) → Holds d.stored.registry (state S.Store d.stored.store)) }
-        ensures vacant { IfOk result (λ d. HasCleanDisk (state S.Store d.stored.store) → IsVacant (state S.Store conn).now) }
-        ensures crash { IfOk result (λ d. Survives (state S.Store conn) (state S.Store d.stored.store) (IsLeft (state S.Store conn).is_open (HasLoadedRows settings.source (R.told reader.old) (R.told reader.new)))) }
-        ensures fails { IfErr result (λ e. FailsToLoad settings.source (R.told reader.old) (R.told reader.new) e.0) }
-        ensures err { IfErr result (λ e. HasCleanDisk (state S.Store e.1) → IsTrue (state S.Store e.1).is_open → (state S.Store e.1).now ≡ (state S.Store conn).now) }
-        ensures not_empty { IfErr result (λ e. HasCleanDisk (state S.Store e.1) → e.0 ≡ NotEmpty → HasTables (state S.Store conn).now.schema × HasRow (state S.Store conn).now) }
-        ensures err_crash { IfErr result (λ e. Survives (state S.Store conn) (state S.Store e.1) (IsLeft (state S.Store conn).is_open (HasLoadedRows settings.source (R.told reader.old) (R.told reader.new)))) }
-        ensures err_autocommit { IfErr result (λ e. e.1.in_transaction ≡ false) }
+        ensures runs { IfOk result (Runs S.Store settings) }
+        ensures loaded { IfOk result (λ desk. IsLoaded settings.source
+            (R.told reader.old) (R.told reader.new) desk.stored.registry) }
+        ensures makes { IfOk result (λ desk. MakesTables S.Store (HasLoadedRows settings.source
+            (R.told reader.old) (R.told reader.new)) conn desk.stored.store) }
+        ensures why { IfErr result (λ e. FailsToLoad settings.source
+            (R.told reader.old) (R.told reader.new) e.0) }
+        ensures fails { IfErr result (λ e. MakesNone S.Store (HasLoadedRows settings.source
+            (R.told reader.old) (R.told reader.new)) conn e.1) }
+        ensures not_empty { IfErr result (λ e. e.0 ≡ NotEmpty
+            → OnCleanDisk S.Store e.1 (IsOccupied (database S.Store conn))) }
         ensures aside { R.aside reader.new ≡ R.aside reader.old }
     {
         match read_registry(alloc, settings.source(), reader) {
             Ok(registry) => match create_stored(alloc, conn, registry) {
-                Ok(stored) => {
-                    stored.holds();
-                    Ok(Desk { settings, stored })
-                }
+                Ok(stored) => Ok(Desk { settings, stored }),
                 Err((fault, conn)) => Err((DeskLoadFault::from(fault), conn)),
             },
             Err(fault) => Err((fault, conn)),
@@ -157,7 +152,7 @@ fn read_registry<R: Source>(
 ) -> Result<Registry<IndexedBook>, DeskLoadFault>
     ensures loaded { IfOk result (IsLoaded source.now (R.told reader.old) (R.told reader.new)) }
     ensures of_source { IfOk result (IsRegistryOf source.now) }
-    ensures fails { IfErr result (FailsToLoad source.now (R.told reader.old) (R.told reader.new)) }
+    ensures why { IfErr result (FailsToLoad source.now (R.told reader.old) (R.told reader.new)) }
     ensures unasked { IfErr result (λ fault. fault ≢ NotEmpty) }
     ensures aside { R.aside reader.new ≡ R.aside reader.old }
 {

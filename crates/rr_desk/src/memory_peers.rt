@@ -1,7 +1,8 @@
 //! Connections over memory.
 
-ghost use Rattle.std.specs.Prelude.{◌≡◌, ◌+◌, ◌-◌, ◌<◌, ◌≤◌, ◌^◌, false, is_some, if◌then◌else◌, length, vec_len, vec_capacity};
-ghost use Rattle.rr_desk.specs.Turns.{CountsTurn, IsAccepted, IsFresh, unaccepted};
+ghost use Rattle.std.specs.Prelude.{◌≡◌, ◌+◌, ◌-◌, ◌<◌, ◌≤◌, ◌^◌, false, is_some, if◌then◌else◌};
+ghost use Rattle.std.specs.Prelude.{length, vec_len, vec_capacity};
+ghost use Rattle.rr_desk.specs.Turns.{IsAccepted, IsFresh, IsUnaccepted};
 
 use crate::peers::{AcceptFault, Peers};
 use rr_io::{Counted, Cut, Joined, Sink, Source};
@@ -23,7 +24,8 @@ pub struct MemoryInput<'a> {
 impl<'a> MemoryInput<'a> {
     ghost use Rattle.rr_desk.specs.MemoryTurns.{IsOfInput};
 
-    /// A connection that gives these bytes, and of which no call fails for want of bytes that may pass.
+    /// A connection that gives these bytes, and of which no call fails because no more bytes may
+    /// pass.
     pub fn whole(bytes: &'a [u8]) -> MemoryInput<'a>
         ensures bytes { result.bytes.now ≡ bytes.now }
         ensures step { result.step ≡ usize.MAX }
@@ -40,8 +42,10 @@ impl<'a> MemoryInput<'a> {
 
     /// The connection that it is.
     fn connection(self, alloc: Global) -> MemoryConnection<'a>
-        ensures fresh { IsFresh (⟦<MemoryConnection<'static> as Source>⟧.told result) (⟦<MemoryConnection<'static> as Sink>⟧.told result) }
-        ensures is_of_it { IsOfInput self.entry result (⟦<MemoryConnection<'static> as Source>⟧.told result) }
+        ensures fresh { IsFresh (⟦<MemoryConnection<'static> as Source>⟧.told result)
+            (⟦<MemoryConnection<'static> as Sink>⟧.told result) }
+        ensures is_of_it { IsOfInput self.entry result
+            (⟦<MemoryConnection<'static> as Source>⟧.told result) }
     {
         let step = self.step.max(1);
         let reader = Cut::new(Counted::new(self.bytes), step, self.reads);
@@ -53,7 +57,8 @@ impl<'a> MemoryInput<'a> {
 /// A connection over memory.
 pub type MemoryConnection<'a> = Joined<Cut<Counted<&'a [u8]>>, Cut<Counted<Vec<u8>>>>;
 
-/// A connection over memory that is closed: the bytes that it was asked, and those that it was answered.
+/// A connection over memory that is closed: the bytes that it was asked, and those that it was
+/// answered.
 #[derive(Drop)]
 pub struct MemoryTurn<'a> {
     /// The bytes that it gave, if they were read.
@@ -62,7 +67,8 @@ pub struct MemoryTurn<'a> {
     pub answered: Vec<u8>,
 }
 
-/// Connections over memory, in order. Once they are all accepted each accept fails; such turns are counted alone.
+/// Connections over memory, in order. Once they are all accepted each accept fails; such turns are
+/// counted alone.
 #[derive(Drop)]
 pub struct MemoryPeers<'a> {
     inputs: &'a [MemoryInput<'a>],
@@ -71,17 +77,19 @@ pub struct MemoryPeers<'a> {
     turns: Vec<MemoryTurn<'a>>,
     past: u64,
     ghost within: { next ≤ length inputs.now },
-    ghost room: { vec_len turns + ((length inputs.now - next) + (if is_some asked then 1 else 0)) ≤ vec_capacity turns },
+    ghost room: { vec_len turns + ((length inputs.now - next)
+        + (if is_some asked then 1 else 0)) ≤ vec_capacity turns },
     ghost counts: { vec_len turns + past < 2 ^ 64 },
     ghost past_all: { 0 < past → (next ≡ length inputs.now) × (is_some asked ≡ false) },
 }
 
 impl<'a> MemoryPeers<'a> {
     ghost use Rattle.std.specs.Prelude.{◌≡◌, [], IfOk};
-    ghost use Rattle.rr_desk.specs.MemoryTurns.{failed_accepts, inputs_left, open_bytes, turns_closed};
+    ghost use Rattle.rr_desk.specs.MemoryTurns.{failed_accepts, inputs_left, open_bytes};
+    ghost use Rattle.rr_desk.specs.MemoryTurns.{turns_closed};
 
-    /// Connections that give these bytes, in this order, with room for the turns of all of them. The error is want of
-    /// memory.
+    /// Connections that give these bytes, in this order, with room for the turns of all of them.
+    /// The error is that memory ran out.
     pub fn new(alloc: Global, inputs: &'a [MemoryInput<'a>]) -> Result<MemoryPeers<'a>, AllocError>
         ensures left { IfOk result (λ peers. inputs_left peers ≡ inputs.now) }
         ensures none_closed { IfOk result (λ peers. turns_closed peers ≡ []) }
@@ -107,14 +115,13 @@ impl<'a> MemoryPeers<'a> {
 
 impl<'a> Peers for MemoryPeers<'a> {
     ghost use Rattle.std.specs.Prelude.{◌≡◌, [], true, IfOk, OnErr};
-    ghost use Rattle.rr_desk.specs.MemoryTurns.{AcceptsNext, inputs_left, is_open, memory_told, open_bytes, turns_counted};
+    ghost use Rattle.rr_desk.specs.MemoryTurns.{AcceptsNext, inputs_left, is_open, memory_tally};
+    ghost use Rattle.rr_desk.specs.MemoryTurns.{open_bytes};
     ghost use Rattle.rr_desk.specs.MemoryTold.{told_in_all};
 
     type Conn = MemoryConnection<'a>;
 
-    ghost counted = { turns_counted };
-
-    ghost told = { memory_told };
+    ghost tally = { memory_tally };
 
     ghost IsOpen = { λ peers. is_open peers ≡ true };
 
@@ -123,12 +130,17 @@ impl<'a> Peers for MemoryPeers<'a> {
     /// The connection that the next input is; an error once there is none.
     #[tactic(auto, using(crate::proofs::MemoryLemmas::failed_told))]
     fn accept(&mut self, alloc: Global) -> Result<MemoryConnection<'a>, AcceptFault>
-        requires { turns_counted self.old + 1 < 2 ^ 64 }
-        ensures accepted { IfOk result (λ conn. IsAccepted (turns_counted self.old) (turns_counted self.new) (memory_told self.old) (memory_told self.new) (open_bytes self.new)
-            (⟦<MemoryConnection<'static> as Source>⟧.told conn) (⟦<MemoryConnection<'static> as Sink>⟧.told conn)) }
+        requires { (memory_tally self.old).turns + 1 < 2 ^ 64 }
+        ensures accepted { IfOk result (λ conn. IsAccepted
+            (memory_tally self.old) (memory_tally self.new) (open_bytes self.new)
+            (⟦<MemoryConnection<'static> as Source>⟧.told conn)
+            (⟦<MemoryConnection<'static> as Sink>⟧.told conn)) }
         ensures open { IfOk result (λ conn. is_open self.new ≡ true) }
-        ensures refused { OnErr result (CountsTurn unaccepted (turns_counted self.old) (turns_counted self.new) (memory_told self.old) (memory_told self.new)) }
-        ensures next { IfOk result (λ conn. AcceptsNext (inputs_left self.old) (inputs_left self.new) conn (⟦<MemoryConnection<'static> as Source>⟧.told conn)) }
+        ensures refused { OnErr result
+            (IsUnaccepted (memory_tally self.old) (memory_tally self.new)) }
+        ensures next { IfOk result (λ conn. AcceptsNext
+            (inputs_left self.old) (inputs_left self.new) conn
+            (⟦<MemoryConnection<'static> as Source>⟧.told conn)) }
         ensures past { OnErr result ((inputs_left self.old ≡ []) × (inputs_left self.new ≡ [])) }
     {
         if self.next < self.inputs.len() {

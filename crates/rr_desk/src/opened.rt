@@ -1,18 +1,16 @@
-//! How a registry and the store of its rows come about: from tables that are there, or with new ones.
+//! How a registry and the store of its rows come about: from tables that are there, or with new
+//! ones.
 
-ghost use Rattle.std.specs.Prelude.{◌≡◌, ℕ, false, IfErr, IfOk, IsTrue};
+ghost use Rattle.std.specs.Prelude.{◌≡◌, false, IfErr, IfOk, IsTrue};
 ghost use Rattle.sqlite.specs.Held.{state};
-ghost use Rattle.sqlite.specs.State.{HasCleanDisk, Survives};
 ghost use Rattle.rr_auth.specs.Sources.{IsRegistryOf};
-ghost use Rattle.rr_rows.specs.Made.{HasRow, IsVacant};
 ghost use Rattle.rr_rows.specs.Maps.{HasRows};
-ghost use Rattle.rr_store.specs.Opening.{IsOfNoOther, IsOfRows, IsOtherVersion};
-ghost use Rattle.rr_rows.specs.Tables.{HasTables};
-ghost use Rattle.rr_store.specs.Kept.{IsLeft};
+ghost use Rattle.rr_store.specs.Calls.{OnCleanDisk, database};
 ghost use Rattle.rr_store.specs.declared.fault.CreateFault.TheVariants.{NotEmpty};
-ghost use Rattle.rr_store.specs.declared.fault.OpenFault.TheVariants.{BadRow, WrongVersion};
-ghost use Rattle.rr_desk.specs.Opened.{HasNoRegistry};
+ghost use Rattle.rr_desk.specs.Opened.{IsOccupied, MakesNone, MakesTables, OpensTables};
+ghost use Rattle.rr_desk.specs.Opened.{OpensNone, RefusesRegistry};
 ghost use Rattle.rr_desk.specs.Private.{opening_fault};
+ghost use Rattle.rr_desk.specs.Stocks.{IsHeld};
 
 use crate::stored::Stored;
 use rr_index::IndexedBook;
@@ -29,18 +27,13 @@ pub(crate) fn open_stored<S: Alter>(
     source: &Name,
 ) -> Result<Stored<S>, (OpenFault, Connection<S>)>
     requires autocommit { conn.in_transaction ≡ false }
-    ensures running { IfOk result (λ s. s.stopped ≡ false) }
-    ensures of_source { IfOk result (λ s. IsRegistryOf source.now s.registry) }
-    ensures rows { IfOk result (λ s. HasCleanDisk (state S.Store s.store) → HasRows s.registry (state S.Store conn).now) }
-    ensures same { IfOk result (λ s. HasCleanDisk (state S.Store s.store) → (state S.Store s.store).now ≡ (state S.Store conn).now) }
-    ensures crash { IfOk result (λ s. Survives (state S.Store conn) (state S.Store s.store) (λ _. (state S.Store conn).is_open ≡ false)) }
-    ensures wrong_version { IfErr result (λ e. (number : ℕ) → e.0 ≡ WrongVersion number → HasCleanDisk (state S.Store e.1) → IsOtherVersion number (state S.Store conn).now) }
-    ensures bad_row { IfErr result (λ e. e.0 ≡ BadRow → HasCleanDisk (state S.Store e.1) → HasNoRegistry source.now (state S.Store conn).now) }
-    ensures no_other_said { IfErr result (λ e. e.0 ≡ BadRow → HasCleanDisk (state S.Store e.1) → IsOfNoOther (state S.Store conn).now) }
-    ensures tables { IfErr result (λ e. IsOfRows e.0 → HasCleanDisk (state S.Store e.1) → HasTables (state S.Store conn).now.schema) }
-    ensures err { IfErr result (λ e. HasCleanDisk (state S.Store e.1) → IsTrue (state S.Store e.1).is_open → (state S.Store e.1).now ≡ (state S.Store conn).now) }
-    ensures err_crash { IfErr result (λ e. Survives (state S.Store conn) (state S.Store e.1) (λ _. (state S.Store conn).is_open ≡ false)) }
-    ensures err_autocommit { IfErr result (λ e. e.1.in_transaction ≡ false) }
+    ensures running { IfOk result (λ stored. stored.stopped ≡ false) }
+    ensures of_source { IfOk result (λ stored. IsRegistryOf source.now stored.registry) }
+    ensures holds { IfOk result (IsHeld S.Store) }
+    ensures opens { IfOk result (OpensTables S.Store conn) }
+    ensures fails { IfErr result (λ e. OpensNone S.Store conn e.1) }
+    ensures why { IfErr result (λ e. OnCleanDisk S.Store e.1
+        (RefusesRegistry source.now (database S.Store conn) e.0)) }
 {
     match Store::open_all(alloc, conn, source) {
         Ok((store, objects)) => match Registry::from_objects(alloc, objects) {
@@ -73,14 +66,14 @@ pub(crate) fn create_stored<S: Alter>(
     registry: Registry<IndexedBook>,
 ) -> Result<Stored<S>, (CreateFault, Connection<S>)>
     requires autocommit { conn.in_transaction ≡ false }
-    ensures running { IfOk result (λ s. s.stopped ≡ false) }
-    ensures registry { IfOk result (λ s. s.registry ≡ registry) }
-    ensures vacant { IfOk result (λ s. HasCleanDisk (state S.Store s.store) → IsVacant (state S.Store conn).now) }
-    ensures crash { IfOk result (λ s. Survives (state S.Store conn) (state S.Store s.store) (IsLeft (state S.Store conn).is_open (HasRows registry))) }
-    ensures err { IfErr result (λ e. HasCleanDisk (state S.Store e.1) → IsTrue (state S.Store e.1).is_open → (state S.Store e.1).now ≡ (state S.Store conn).now) }
-    ensures not_empty { IfErr result (λ e. HasCleanDisk (state S.Store e.1) → e.0 ≡ NotEmpty → HasTables (state S.Store conn).now.schema × HasRow (state S.Store conn).now) }
-    ensures err_crash { IfErr result (λ e. Survives (state S.Store conn) (state S.Store e.1) (IsLeft (state S.Store conn).is_open (HasRows registry))) }
-    ensures err_autocommit { IfErr result (λ e. e.1.in_transaction ≡ false) }
+    ensures running { IfOk result (λ stored. stored.stopped ≡ false) }
+    ensures registry { IfOk result (λ stored. stored.registry ≡ registry) }
+    ensures holds { IfOk result (IsHeld S.Store) }
+    ensures makes { IfOk result (λ stored.
+        MakesTables S.Store (HasRows registry) conn stored.store) }
+    ensures fails { IfErr result (λ e. MakesNone S.Store (HasRows registry) conn e.1) }
+    ensures not_empty { IfErr result (λ e. e.0 ≡ NotEmpty
+        → OnCleanDisk S.Store e.1 (IsOccupied (database S.Store conn))) }
 {
     match create_store(alloc, conn, &registry) {
         Ok(store) => Ok(Stored::of(registry, store)),
@@ -95,14 +88,14 @@ fn create_store<S: Alter>(
     registry: &Registry<IndexedBook>,
 ) -> Result<Store<S>, (CreateFault, Connection<S>)>
     requires autocommit { conn.in_transaction ≡ false }
-    ensures rows { IfOk result (λ store. HasCleanDisk (state S.Store store) → HasRows registry.now (state S.Store store).now) }
-    ensures is_open { IfOk result (λ store. HasCleanDisk (state S.Store store) → IsTrue (state S.Store store).is_open) }
-    ensures vacant { IfOk result (λ store. HasCleanDisk (state S.Store store) → IsVacant (state S.Store conn).now) }
-    ensures crash { IfOk result (λ store. Survives (state S.Store conn) (state S.Store store) (IsLeft (state S.Store conn).is_open (HasRows registry.now))) }
-    ensures err { IfErr result (λ e. HasCleanDisk (state S.Store e.1) → IsTrue (state S.Store e.1).is_open → (state S.Store e.1).now ≡ (state S.Store conn).now) }
-    ensures not_empty { IfErr result (λ e. HasCleanDisk (state S.Store e.1) → e.0 ≡ NotEmpty → HasTables (state S.Store conn).now.schema × HasRow (state S.Store conn).now) }
-    ensures err_crash { IfErr result (λ e. Survives (state S.Store conn) (state S.Store e.1) (IsLeft (state S.Store conn).is_open (HasRows registry.now))) }
-    ensures err_autocommit { IfErr result (λ e. e.1.in_transaction ≡ false) }
+    ensures rows { IfOk result (λ store.
+        OnCleanDisk S.Store store (HasRows registry.now (database S.Store store))) }
+    ensures is_open { IfOk result (λ store.
+        OnCleanDisk S.Store store (IsTrue (state S.Store store).is_open)) }
+    ensures makes { IfOk result (MakesTables S.Store (HasRows registry.now) conn) }
+    ensures fails { IfErr result (λ e. MakesNone S.Store (HasRows registry.now) conn e.1) }
+    ensures not_empty { IfErr result (λ e. e.0 ≡ NotEmpty
+        → OnCleanDisk S.Store e.1 (IsOccupied (database S.Store conn))) }
 {
     registry.sound();
     match registry.objects(alloc) {

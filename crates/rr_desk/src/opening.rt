@@ -2,7 +2,9 @@
 
 ghost use Rattle.std.specs.Prelude.{◌≡◌, [], ◌∷◌, ◌++◌, IfOk};
 ghost use Rattle.rr_text.specs.Fields.{AreFields, IsField, one_line};
-ghost use Rattle.rr_desk.specs.Opening.{AreOpening, IsOpened, addresses_fields, auth_line, four_octets_fields, numbers_fields, owned, root_fields};
+ghost use Rattle.rr_auth.specs.Sources.{IsRegistryOf};
+ghost use Rattle.rr_desk.specs.Opening.{AreOpening, IsOpened, addresses_fields, auth_line};
+ghost use Rattle.rr_desk.specs.Opening.{four_octets_fields, numbers_fields, owned, root_fields};
 ghost use Rattle.rr_desk.specs.Private.{IsParagraphOf, HasObject};
 
 use crate::settings::Settings;
@@ -14,64 +16,71 @@ use rr_store::{StoreFault, upper_object};
 use rr_text::{LineAttribute, Paragraph};
 use std::alloc::{AllocError, Global};
 
-/// The objects that a registry of these settings opens with: the root maintainer, the blocks of AS numbers of two and of
-/// four octets, and the span of all addresses, each maintained by the root (profile). The error is want of memory.
+/// The objects that a registry of these settings opens with: the root maintainer, the blocks of AS
+/// numbers of two and of four octets, and the span of all addresses, each maintained by the root
+/// (profile). The error is that memory ran out.
 pub fn opening_objects(alloc: Global, settings: &Settings) -> Result<Vec<Object>, AllocError>
     ensures { IfOk result (λ objects. AreOpening settings.now objects.items) }
 {
     let objects = Vec::with_capacity(alloc, 4)?;
     let root = root_object(alloc, settings)?;
-    let objects = with(objects, root)?;
+    let objects = with_object(objects, root)?;
     let numbers = numbers_object(alloc, settings)?;
-    let objects = with(objects, numbers)?;
+    let objects = with_object(objects, numbers)?;
     let four_octets = four_octets_object(alloc, settings)?;
-    let objects = with(objects, four_octets)?;
+    let objects = with_object(objects, four_octets)?;
     let addresses = addresses_object(alloc, settings)?;
-    let objects = with(objects, addresses)?;
+    let objects = with_object(objects, addresses)?;
     Ok(objects)
 }
 
-/// The objects with one more behind them.
-pub(crate) fn with(mut objects: Vec<Object>, object: Object) -> Result<Vec<Object>, AllocError>
+/// The objects and one more.
+pub(crate) fn with_object(
+    mut objects: Vec<Object>,
+    object: Object,
+) -> Result<Vec<Object>, AllocError>
     ensures { IfOk result (λ made. made.items ≡ objects.items ++ object ∷ []) }
 {
     objects.push(object)?;
     Ok(objects)
 }
 
-/// The registry of these objects alone; the error is want of memory.
+/// The registry of these objects alone; the error is that memory ran out.
 #[tactic(auto, using(crate::proofs::OpeningRegistry::opening_faultless))]
 pub fn opening_registry(
     alloc: Global,
     settings: &Settings,
 ) -> Result<Registry<IndexedBook>, AllocError>
-    ensures { IfOk result (IsOpened settings.now) }
+    ensures opened { IfOk result (IsOpened settings.now) }
+    ensures of_source { IfOk result (IsRegistryOf settings.now.source) }
 {
-    settings.are_good();
+    // Settings are good, so that the objects have no fault.
+    let _ = settings.source();
     let objects = opening_objects(alloc, settings)?;
     match Registry::from_objects(alloc, objects) {
-        Ok(registry) => Ok(registry),
+        Ok(registry) => {
+            registry.sound();
+            Ok(registry)
+        }
         Err(LoadFault::Memory) => Err(AllocError),
         Err(_) => unreachable!(),
     }
 }
 
 /// The root maintainer.
-#[tactic(auto, using(crate::proofs::OpeningReads::root_readable, crate::proofs::OpeningReads::read_back))]
+#[tactic(auto, using(crate::proofs::Opens::root_readable, crate::proofs::Opens::read_back))]
 fn root_object(alloc: Global, settings: &Settings) -> Result<Object, AllocError>
     ensures { IfOk result (IsParagraphOf settings.now.source (root_fields settings.now)) }
 {
-    settings.are_good();
     let paragraph = root_paragraph(alloc, settings)?;
     read_object(alloc, paragraph, settings.source())
 }
 
 /// The block of all AS numbers of two octets.
-#[tactic(auto, using(crate::proofs::OpeningReads::numbers_readable, crate::proofs::OpeningReads::read_back))]
+#[tactic(auto, using(crate::proofs::Opens::numbers_readable, crate::proofs::Opens::read_back))]
 fn numbers_object(alloc: Global, settings: &Settings) -> Result<Object, AllocError>
     ensures { IfOk result (IsParagraphOf settings.now.source (numbers_fields settings.now)) }
 {
-    settings.are_good();
     let paragraph = numbers_paragraph(alloc, settings)?;
     read_object(alloc, paragraph, settings.source())
 }
@@ -80,20 +89,18 @@ fn numbers_object(alloc: Global, settings: &Settings) -> Result<Object, AllocErr
 pub(crate) fn four_octets_object(alloc: Global, settings: &Settings) -> Result<Object, AllocError>
     ensures { IfOk result (IsParagraphOf settings.now.source (four_octets_fields settings.now)) }
 {
-    settings.are_good();
     match upper_object(alloc, settings.root(), settings.source()) {
         Ok(object) => Ok(object),
         Err(StoreFault::Memory) => Err(AllocError),
-        Err(StoreFault::Store) => unreachable!(),
+        Err(StoreFault::Store(_)) => unreachable!(),
     }
 }
 
 /// The span of all addresses.
-#[tactic(auto, using(crate::proofs::OpeningReads::addresses_readable, crate::proofs::OpeningReads::read_back))]
+#[tactic(auto, using(crate::proofs::Opens::addresses_readable, crate::proofs::Opens::read_back))]
 fn addresses_object(alloc: Global, settings: &Settings) -> Result<Object, AllocError>
     ensures { IfOk result (IsParagraphOf settings.now.source (addresses_fields settings.now)) }
 {
-    settings.are_good();
     let paragraph = addresses_paragraph(alloc, settings)?;
     read_object(alloc, paragraph, settings.source())
 }
@@ -101,7 +108,6 @@ fn addresses_object(alloc: Global, settings: &Settings) -> Result<Object, AllocE
 fn root_paragraph(alloc: Global, settings: &Settings) -> Result<Paragraph, AllocError>
     ensures { IfOk result (λ paragraph. paragraph ≡ root_fields settings.now) }
 {
-    settings.are_good();
     let line = auth_text(alloc, settings.auth())?;
     let attributes = Vec::with_capacity(alloc, 4)?;
     let attributes = with_line(alloc, attributes, b"mntner", settings.root().as_bytes())?;
@@ -129,14 +135,15 @@ fn span_paragraph(
     span: &[u8],
 ) -> Result<Paragraph, AllocError>
     requires { IsField (one_line class.now span.now) }
-    ensures { IfOk result (λ paragraph. paragraph ≡ one_line class.now span.now ∷ owned settings.now) }
+    ensures { IfOk result (λ paragraph.
+        paragraph ≡ one_line class.now span.now ∷ owned settings.now) }
 {
     let attributes = Vec::with_capacity(alloc, 3)?;
     let attributes = with_line(alloc, attributes, class, span)?;
     owned(alloc, attributes, settings)
 }
 
-/// The object that a paragraph is; the error is want of memory.
+/// The object that a paragraph is; the error is that memory ran out.
 fn read_object(alloc: Global, paragraph: Paragraph, source: &Name) -> Result<Object, AllocError>
     requires { HasObject source.now paragraph }
     ensures { IfOk result (IsParagraphOf source.now paragraph) }
@@ -159,20 +166,20 @@ fn owned(
     requires { AreFields attributes.items }
     ensures { IfOk result (λ paragraph. paragraph ≡ attributes.items ++ owned settings.now) }
 {
-    settings.are_good();
     let attributes = with_line(alloc, attributes, b"mnt-by", settings.root().as_bytes())?;
     let attributes = with_line(alloc, attributes, b"source", settings.source().as_bytes())?;
     Paragraph::new(alloc, &attributes)
 }
 
-/// The attributes with one of a single line behind them.
+/// The attributes and one of a single line.
 fn with_line(
     alloc: Global,
     mut attributes: Vec<LineAttribute>,
     name: &[u8],
     line: &[u8],
 ) -> Result<Vec<LineAttribute>, AllocError>
-    ensures { IfOk result (λ made. made.items ≡ attributes.items ++ one_line name.now line.now ∷ []) }
+    ensures { IfOk result (λ made.
+        made.items ≡ attributes.items ++ one_line name.now line.now ∷ []) }
 {
     attributes.push(LineAttribute::new(alloc, name, line)?)?;
     Ok(attributes)

@@ -1,7 +1,7 @@
 //! Where connections come from, one after the other.
 
 ghost use Rattle.std.specs.Prelude.{◌≡◌, ◌+◌, ◌<◌, ◌^◌, ℕ, List, Option, Some, length, IfOk, OnErr};
-ghost use Rattle.rr_desk.specs.Turns.{IsAccepted, CountsTurn, Turn, closed, unaccepted};
+ghost use Rattle.rr_desk.specs.Turns.{IsAccepted, IsClosed, IsUnaccepted, Tally, Turn};
 
 use rr_io::Connection;
 use std::alloc::Global;
@@ -19,17 +19,14 @@ pub enum ConnFault {
 #[derive(Clone, Copy, Debug, PartialEq, Eq)]
 pub struct AcceptFault;
 
-/// What accepts connections one after the other and closes them. A turn is an accept that failed, or a connection once it
-/// is closed.
+/// What accepts connections one after the other and closes them. A turn is an accept that failed,
+/// or a connection once it is closed.
 pub trait Peers {
     /// A connection.
     type Conn: Connection;
 
-    // How many turns there were.
-    ghost counted: { Self → ℕ };
-
-    // The turns in their order, where it tells them: over memory it does, over sockets not.
-    ghost told: { Self → Option (List Turn) };
+    // What it counts and tells of its turns: over memory it tells them, over sockets not.
+    ghost tally: { Self → Tally };
 
     // A connection was accepted, and is not closed yet.
     ghost IsOpen: { Self → Type 0 };
@@ -37,23 +34,26 @@ pub trait Peers {
     // The bytes that the reader of that connection told when it was accepted, where it tells them.
     ghost asked: { Self → Option (List ℕ) };
 
-    /// The next connection, of which no call has failed and to which nothing was written. The allocator is for what keeps
-    /// the connection. An error is a turn.
+    /// The next connection, of which no call has failed and to which nothing was written. The
+    /// allocator is for what keeps the connection. An error is a turn.
     fn accept(&mut self, alloc: Global) -> Result<Self::Conn, AcceptFault>
-        requires { counted self.old + 1 < 2 ^ 64 }
-        ensures accepted { IfOk result (λ conn. IsAccepted (counted self.old) (counted self.new) (told self.old) (told self.new) (asked self.new) (Self.Conn.Source.told conn) (Self.Conn.Sink.told conn)) }
+        requires { (tally self.old).turns + 1 < 2 ^ 64 }
+        ensures accepted { IfOk result (λ conn. IsAccepted (tally self.old) (tally self.new)
+            (asked self.new) (Self.Conn.Source.told conn) (Self.Conn.Sink.told conn)) }
         ensures open { IfOk result (λ conn. IsOpen self.new) }
-        ensures refused { OnErr result (CountsTurn unaccepted (counted self.old) (counted self.new) (told self.old) (told self.new)) };
+        ensures refused { OnErr result (IsUnaccepted (tally self.old) (tally self.new)) };
 
     /// Closes the connection that was accepted last, which is a turn.
     fn close(&mut self, conn: Self::Conn)
         requires open { IsOpen self.old }
-        requires room { counted self.old + 1 < 2 ^ 64 }
-        ensures { CountsTurn (closed (asked self.old) (Self.Conn.Sink.told conn).bytes) (counted self.old) (counted self.new) (told self.old) (told self.new) };
+        requires room { (tally self.old).turns + 1 < 2 ^ 64 }
+        ensures { IsClosed (asked self.old) (Self.Conn.Sink.told conn).bytes
+            (tally self.old) (tally self.new) };
 
     /// How many turns there were.
     fn turns(&self) -> u64
-        ensures { result ≡ counted self.now };
+        ensures { result ≡ (tally self.now).turns };
 
-    ghost all_told: { (peers : Self) (turns : List Turn) → told peers ≡ Some turns → length turns ≡ counted peers };
+    ghost all_told: { (peers : Self) (turns : List Turn) → (tally peers).told ≡ Some turns
+        → length turns ≡ (tally peers).turns };
 }

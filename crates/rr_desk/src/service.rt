@@ -14,14 +14,16 @@ pub trait Service {
     // What serving a connection does.
     ghost serves: { Serving };
 
-    /// Serves a connection: reads what it asks, asks the desk, and writes the reply. The error is that a read or a write
-    /// of the connection failed. The settings of the desk stay.
+    /// Serves a connection: reads what it asks, asks the desk, and writes the reply. The error is
+    /// that a read or a write of the connection failed. The settings of the desk stay.
     fn serve<S: Alter, C: Connection>(
         &self,
         alloc: Global,
         desk: &mut Desk<S>,
         conn: &mut C,
     ) -> Result<(), ConnFault>
-        ensures serves { serves S S.Store desk.old desk.new (C.Source.told conn.old) (C.Source.told conn.new) (C.Sink.told conn.old) (C.Sink.told conn.new) result }
+        ensures serves { serves S S.Store desk.old desk.new
+            (C.Source.told conn.old) (C.Source.told conn.new)
+            (C.Sink.told conn.old) (C.Sink.told conn.new) result }
         ensures settings { desk.new.settings ≡ desk.old.settings };
 }

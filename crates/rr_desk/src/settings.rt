@@ -4,8 +4,9 @@ ghost use Rattle.std.specs.Prelude.{◌≡◌, ◌≢◌, IfErr, IfOk, IfSome, N
 ghost use Rattle.std.specs.Option.{option_copied};
 ghost use Rattle.std.specs.Result.{result_ok};
 ghost use Rattle.rr_number.specs.Names.{maintainer_name_of, name_of};
-ghost use Rattle.rr_desk.specs.Settings.{IsDigest, IsSettings, built_in, digest_of, limit_of, needed, settings_of};
-ghost use Rattle.rr_desk.specs.declared.settings.SettingsFault.TheVariants.{Memory};
+ghost use Rattle.rr_desk.specs.Settings.{IsDigest, IsSettings, built_in, digest_of, limit_of};
+ghost use Rattle.rr_desk.specs.Settings.{needed, settings_of};
+ghost use Rattle.rr_desk.specs.declared.settings.ValueFault.TheVariants.{Memory};
 ghost use Rattle.rr_desk.specs.declared.settings.Setting.TheVariants as settings;
 
 use rr_number::Name;
@@ -30,9 +31,9 @@ pub enum Setting {
     Limit,
 }
 
-/// Why there are no settings.
+/// Why values are no settings.
 #[derive(Clone, Copy, Debug, PartialEq, Eq, Error)]
-pub enum SettingsFault {
+pub enum ValueFault {
     /// This setting, the first in the order of `Setting`, is missing or bad.
     #[error("a setting is missing or bad")]
     Bad(Setting),
@@ -41,16 +42,16 @@ pub enum SettingsFault {
     Memory,
 }
 
-impl From<AllocError> for SettingsFault {
+impl From<AllocError> for ValueFault {
     ghost from_gives = { λ _ fault. fault ≡ Memory };
 
-    fn from(_error: AllocError) -> SettingsFault {
-        SettingsFault::Memory
+    fn from(_error: AllocError) -> ValueFault {
+        ValueFault::Memory
     }
 }
 
-/// What a registry opens with: its source, its root maintainer with the digest of its secret; and the most names, 1 to
-/// 1,000,000, that an expansion of a set may reach (profile).
+/// What a registry opens with: its source, its root maintainer with the digest of its secret; and
+/// the most names, 1 to [`GREATEST_LIMIT`], that an expansion of a set may reach (profile).
 #[derive(Debug, Drop)]
 pub struct Settings {
     source: Name,
@@ -60,18 +61,19 @@ pub struct Settings {
 }
 
 impl Model for Settings {
-    ghost use Rattle.rr_desk.specs.Settings.{IsSettings, SettingsParts};
+    ghost use Rattle.rr_desk.specs.Settings.{IsSettings, SettingsParts, parts};
 
     ghost Value = { SettingsParts };
 
-    ghost view = { λ s. record { source = s.source; root = s.root; auth = s.auth; limit = s.limit } };
+    ghost view = { λ s. parts s.source s.root s.auth s.limit };
 
-    ghost invariant = { λ s. IsSettings (record { source = s.source; root = s.root; auth = s.auth; limit = s.limit }) };
+    ghost invariant = { λ s. IsSettings (parts s.source s.root s.auth s.limit) };
 }
 
 impl Settings {
-    /// The settings that these values are: a name, a maintainer's name, a value of `auth` of the scheme `SHA256-PW`, and a
-    /// limit of 1 to 1,000,000. `None` where one of them is not good; the error is want of memory.
+    /// The settings that these values are: a name, a maintainer's name, a value of `auth` of the
+    /// scheme `SHA256-PW`, and a limit of 1 to [`GREATEST_LIMIT`]. `None` if one of them is not
+    /// good; the error is that memory ran out.
     pub fn new(
         alloc: Global,
         source: &str,
@@ -79,28 +81,31 @@ impl Settings {
         auth: &str,
         limit: u64,
     ) -> Result<Option<Settings>, AllocError>
-        ensures { IfOk result (λ read. read ≡ result_ok (settings_of (Some source.now) (Some root.now) (Some auth.now) (Some limit))) }
+        ensures { IfOk result (λ read. read ≡ result_ok
+            (settings_of (Some source.now) (Some root.now) (Some auth.now) (Some limit))) }
     {
         match Settings::read(alloc, Some(source), Some(root), Some(auth), Some(limit)) {
             Ok(settings) => Ok(Some(settings)),
-            Err(SettingsFault::Bad(_)) => Ok(None),
-            Err(SettingsFault::Memory) => Err(AllocError),
+            Err(ValueFault::Bad(_)) => Ok(None),
+            Err(ValueFault::Memory) => Err(AllocError),
         }
     }
 
-    /// The same of values some of which may be missing. The fault is the first setting, in the order of `Setting`, that is
-    /// missing or bad, or want of memory.
-    #[tactic(auto, unfolding(crate::specs::Settings::settings_of), using(crate::proofs::GoodSettings::good_settings))]
+    /// The same of values some of which may be missing. The fault is the first setting, in the
+    /// order of `Setting`, that is missing or bad, or that memory ran out.
+    #[tactic(auto, unfolding(crate::specs::Settings::settings_of))]
     pub fn read(
         alloc: Global,
         source: Option<&str>,
         root: Option<&str>,
         auth: Option<&str>,
         limit: Option<u64>,
-    ) -> Result<Settings, SettingsFault>
-        ensures ok { IfOk result (λ read. settings_of (option_copied source.entry) (option_copied root.entry) (option_copied auth.entry) limit ≡ Ok read) }
+    ) -> Result<Settings, ValueFault>
+        ensures ok { IfOk result (λ read. settings_of (option_copied source.entry)
+            (option_copied root.entry) (option_copied auth.entry) limit ≡ Ok read) }
         ensures fault { IfErr result (λ fault. fault ≢ Memory
-            → settings_of (option_copied source.entry) (option_copied root.entry) (option_copied auth.entry) limit ≡ Err fault) }
+            → settings_of (option_copied source.entry)
+            (option_copied root.entry) (option_copied auth.entry) limit ≡ Err fault) }
     {
         let source = read_source(alloc, source)?;
         let root = read_root(alloc, root)?;
@@ -114,7 +119,7 @@ impl Settings {
         })
     }
 
-    /// The settings of the program without words (profile); the error is want of memory.
+    /// The settings of the program without words (profile); the error is that memory ran out.
     #[tactic(auto, using(crate::proofs::GoodSettings::built_in_read))]
     pub fn built_in(alloc: Global) -> Result<Settings, AllocError>
         ensures { IfOk result (λ settings. settings ≡ built_in) }
@@ -127,14 +132,16 @@ impl Settings {
 
     /// The source of the registry.
     pub fn source(&self) -> &Name
-        ensures { result.now ≡ self.now.source }
+        ensures source { result.now ≡ self.now.source }
+        ensures good { IsSettings self.now }
     {
         &self.source
     }
 
     /// The name of the root maintainer.
     pub fn root(&self) -> &Name
-        ensures { result.now ≡ self.now.root }
+        ensures root { result.now ≡ self.now.root }
+        ensures good { IsSettings self.now }
     {
         &self.root
     }
@@ -146,74 +153,74 @@ impl Settings {
         &self.auth
     }
 
-    /// The most names that an expansion may reach, 1 to 1,000,000.
+    /// The most names that an expansion may reach, 1 to [`GREATEST_LIMIT`].
     pub fn limit(&self) -> u64
         ensures { result ≡ self.now.limit }
     {
         self.limit
     }
-
-    /// Tells a caller's proof that the settings are good; it does nothing.
-    pub fn are_good(&self)
-        ensures { IsSettings self.now }
-    {
-        let _limit = self.limit;
-    }
 }
 
-/// The `auth` of the root of the program without words: the salt `a`, and the SHA-256 digest of `abc` (FIPS 180-4).
+/// The `auth` of the root of the program without words: the salt `a`, and the SHA-256 digest of
+/// `abc` (FIPS 180-4).
 const BUILT_IN_AUTH: &str =
     "SHA256-PW a:ba7816bf8f01cfea414140de5dae2223b00361a396177a9cb410ff61f20015ad";
 
 /// The name of a source.
-fn read_source(alloc: Global, given: Option<&str>) -> Result<Name, SettingsFault>
-    ensures ok { IfOk result (λ name. needed settings.Source name_of (option_copied given.entry) ≡ Ok name) }
-    ensures fault { IfErr result (λ fault. fault ≢ Memory → needed settings.Source name_of (option_copied given.entry) ≡ Err fault) }
+fn read_source(alloc: Global, given: Option<&str>) -> Result<Name, ValueFault>
+    ensures ok { IfOk result (λ name.
+        needed settings.Source name_of (option_copied given.entry) ≡ Ok name) }
+    ensures fault { IfErr result (λ fault. fault ≢ Memory
+        → needed settings.Source name_of (option_copied given.entry) ≡ Err fault) }
 {
     let Some(text) = given else {
-        return Err(SettingsFault::Bad(Setting::Source));
+        return Err(ValueFault::Bad(Setting::Source));
     };
     match Name::read(alloc, text.as_bytes())? {
         Some(name) => Ok(name),
-        None => Err(SettingsFault::Bad(Setting::Source)),
+        None => Err(ValueFault::Bad(Setting::Source)),
     }
 }
 
 /// The name of a maintainer.
-fn read_root(alloc: Global, given: Option<&str>) -> Result<Name, SettingsFault>
-    ensures ok { IfOk result (λ name. needed settings.Root maintainer_name_of (option_copied given.entry) ≡ Ok name) }
-    ensures fault { IfErr result (λ fault. fault ≢ Memory → needed settings.Root maintainer_name_of (option_copied given.entry) ≡ Err fault) }
+fn read_root(alloc: Global, given: Option<&str>) -> Result<Name, ValueFault>
+    ensures ok { IfOk result (λ name.
+        needed settings.Root maintainer_name_of (option_copied given.entry) ≡ Ok name) }
+    ensures fault { IfErr result (λ fault. fault ≢ Memory
+        → needed settings.Root maintainer_name_of (option_copied given.entry) ≡ Err fault) }
 {
     let Some(text) = given else {
-        return Err(SettingsFault::Bad(Setting::Root));
+        return Err(ValueFault::Bad(Setting::Root));
     };
     match Name::read_maintainer(alloc, text.as_bytes())? {
         Some(name) => Ok(name),
-        None => Err(SettingsFault::Bad(Setting::Root)),
+        None => Err(ValueFault::Bad(Setting::Root)),
     }
 }
 
 /// The digest of a secret.
-fn read_digest(alloc: Global, given: Option<&str>) -> Result<Auth, SettingsFault>
-    ensures ok { IfOk result (λ auth. needed settings.Auth digest_of (option_copied given.entry) ≡ Ok auth) }
-    ensures fault { IfErr result (λ fault. fault ≢ Memory → needed settings.Auth digest_of (option_copied given.entry) ≡ Err fault) }
+fn read_digest(alloc: Global, given: Option<&str>) -> Result<Auth, ValueFault>
+    ensures ok { IfOk result (λ auth.
+        needed settings.Auth digest_of (option_copied given.entry) ≡ Ok auth) }
+    ensures fault { IfErr result (λ fault. fault ≢ Memory
+        → needed settings.Auth digest_of (option_copied given.entry) ≡ Err fault) }
 {
     let Some(text) = given else {
-        return Err(SettingsFault::Bad(Setting::Auth));
+        return Err(ValueFault::Bad(Setting::Auth));
     };
     match rr_object::read_auth(alloc, text.as_bytes()) {
         Ok(Some(auth)) => Ok(auth),
-        Err(ObjectFault::Memory) => Err(SettingsFault::Memory),
-        _ => Err(SettingsFault::Bad(Setting::Auth)),
+        Err(ObjectFault::Memory) => Err(ValueFault::Memory),
+        _ => Err(ValueFault::Bad(Setting::Auth)),
     }
 }
 
 /// A limit within its bounds.
-fn read_limit(given: Option<u64>) -> Result<u64, SettingsFault>
+fn read_limit(given: Option<u64>) -> Result<u64, ValueFault>
     ensures { result ≡ needed settings.Limit limit_of given }
 {
     match given {
         Some(limit) if limit >= 1 && limit <= GREATEST_LIMIT => Ok(limit),
-        _ => Err(SettingsFault::Bad(Setting::Limit)),
+        _ => Err(ValueFault::Bad(Setting::Limit)),
     }
 }

@@ -1,20 +1,20 @@
 //! A registry and the store of its rows, which change together.
 
-ghost use Rattle.std.specs.Prelude.{◌≡◌, false, true, IsTrue, IfOk, OnErr, OnOk, is_some};
+ghost use Rattle.std.specs.Prelude.{◌≡◌, false, true, IfOk, IsTrue, OnErr, OnOk, is_some};
 ghost use Rattle.std.specs.FinMap.{get};
 ghost use Rattle.std.specs.List.{AllByRecursion};
 ghost use Rattle.sqlite.specs.Held.{state};
-ghost use Rattle.sqlite.specs.State.{HasCleanDisk, Survives};
 ghost use Rattle.rr_answer.specs.declared.query.Query.TheVariants.{Naming};
 ghost use Rattle.rr_answer.specs.Selections.{asked};
 ghost use Rattle.rr_auth.specs.Laws.{key_about};
 ghost use Rattle.rr_registry.specs.Runs.{IsStep};
-ghost use Rattle.rr_rows.specs.Entries.{TreesOf};
 ghost use Rattle.rr_rows.specs.Maps.{HasRows, IsObjectOf};
+ghost use Rattle.rr_store.specs.Calls.{OnCleanDisk, Writes, database};
 ghost use Rattle.rr_desk.specs.Halts.{IsHalted, changes};
-ghost use Rattle.rr_desk.specs.LookupParts.{is_refused};
-ghost use Rattle.rr_desk.specs.Private.{Follows, FollowsGain, FollowsNew, puts_one};
-ghost use Rattle.rr_desk.specs.Rows.{Holds, KeepsRows};
+ghost use Rattle.rr_desk.specs.LookupParts.{cause_of, refusal};
+ghost use Rattle.rr_desk.specs.Private.{Follows, FollowsGain, FollowsIn, FollowsNew, puts_one};
+ghost use Rattle.rr_desk.specs.Rows.{KeepsRows, OnlyLooks};
+ghost use Rattle.rr_desk.specs.Stocks.{IsHeld, IsStocked};
 
 use rr_auth::{Book, Item, Secrets};
 use rr_index::IndexedBook;
@@ -23,53 +23,66 @@ use rr_object::{Code, Key, Object};
 use rr_registry::{Outcome, Registry};
 use rr_store::{Store, StoreFault};
 use rr_submission::{Halted, Ledger};
-use sqlite::{Alter, Connection};
+use sqlite::{Alter, Connection, Error, ErrorCode};
 use std::alloc::{AllocError, Global};
 use std::marker::Model;
 
-/// A registry with the store that keeps its rows. Contracts see both, and whether a fault of the store stopped it: until then
-/// the store holds the rows of the registry.
+/// A registry with the store that keeps its rows. A fault of the store stops it: until then the
+/// store holds the rows of the registry, and from then on the error of the database is kept.
 #[derive(Drop)]
 pub struct Stored<S: Alter> {
     registry: Registry<IndexedBook>,
     store: Store<S>,
-    stopped: bool,
+    cause: Option<Error>,
 }
 
 impl<S: Alter> Model for Stored<S> {
-    ghost use Rattle.rr_desk.specs.Stocks.{Stock, stock_code, IsStocked};
+    ghost use Rattle.rr_desk.specs.Stocks.{Stock, stock_code, stock_of, IsStocked};
 
     ghost Value = { Stock S };
 
     ghost coded = { stock_code S.code };
 
-    ghost view = { λ s. record { registry = s.registry; store = s.store; stopped = s.stopped } };
+    ghost view = { λ s. stock_of s.registry s.store s.cause };
 
-    ghost invariant = { λ s. IsStocked S.Store (record { registry = s.registry; store = s.store; stopped = s.stopped }) };
+    ghost invariant = { λ s. IsStocked S.Store (stock_of s.registry s.store s.cause) };
 }
 
 impl<S: Alter> Stored<S> {
     /// A registry with a store that holds its rows.
     pub(crate) fn of(registry: Registry<IndexedBook>, store: Store<S>) -> Stored<S>
-        requires is_open { HasCleanDisk (state S.Store store) → IsTrue (state S.Store store).is_open }
-        requires rows { HasCleanDisk (state S.Store store) → HasRows registry (state S.Store store).now }
+        requires is_open { OnCleanDisk S.Store store (IsTrue (state S.Store store).is_open) }
+        requires rows { OnCleanDisk S.Store store (HasRows registry (database S.Store store)) }
         ensures registry { result.registry ≡ registry }
         ensures store { result.store ≡ store }
         ensures running { result.stopped ≡ false }
+        ensures held { IsHeld S.Store result }
     {
         store.settled();
         Stored {
             registry,
             store,
-            stopped: false,
+            cause: None,
         }
     }
 
-    /// Whether a fault of the store stopped it.
+    /// Whether a fault of the store stopped it; until then the store holds the rows of the
+    /// registry.
     pub fn is_stopped(&self) -> bool
-        ensures { result ≡ self.now.stopped }
+        ensures told { result ≡ self.now.stopped }
+        ensures held { IsStocked S.Store self.now }
+        ensures keeps { self.now.stopped ≡ false
+            → KeepsRows self.now.registry (state S.Store self.now.store) }
     {
-        self.stopped
+        self.cause.is_some()
+    }
+
+    /// The error of the database that stopped it.
+    pub fn cause(&self) -> Option<Error>
+        ensures cause { result ≡ self.now.cause }
+        ensures stopped { self.now.stopped ≡ is_some result }
+    {
+        self.cause
     }
 
     /// The registry.
@@ -79,22 +92,8 @@ impl<S: Alter> Stored<S> {
         &self.registry
     }
 
-    /// Tells a caller's proof that the store holds the rows of the registry; it does nothing.
-    pub fn holds(&self)
-        ensures { self.now.stopped ≡ false → HasCleanDisk (state S.Store self.now.store) → Holds self.now.registry (state S.Store self.now.store) }
-    {
-        let _stopped = self.stopped;
-    }
-
-    /// Tells a caller's proof what a stop leaves; it does nothing.
-    pub fn keeps(&self)
-        ensures { self.now.stopped ≡ false → KeepsRows self.now.registry (state S.Store self.now.store) }
-    {
-        self.holds();
-    }
-
-    /// The objects that name the maintainer, by class and key, as the rows of this source have it. A fault of the store stops
-    /// it, and want of memory changes nothing.
+    /// The objects that name the maintainer, by class and key, as the rows of this source have it.
+    /// A fault of the store stops it, and where memory runs out nothing changes.
     pub(crate) fn naming(
         &mut self,
         alloc: Global,
@@ -102,15 +101,20 @@ impl<S: Alter> Stored<S> {
         name: &Name,
     ) -> Result<Vec<Object>, StoreFault>
         requires running { self.old.stopped ≡ false }
-        ensures found { HasCleanDisk (state S.Store self.new.store) → IfOk result (λ objects. objects.items ≡ asked (Naming name.now) self.old.registry) }
-        ensures of_source { IfOk result (λ objects. AllByRecursion (IsObjectOf source.now) objects.items) }
-        ensures stops { self.new.stopped ≡ is_refused result }
+        ensures found { OnCleanDisk S.Store self.new.store (IfOk result (λ objects.
+            objects.items ≡ asked (Naming name.now) self.old.registry)) }
+        ensures of_source { IfOk result (λ objects.
+            AllByRecursion (IsObjectOf source.now) objects.items) }
+        ensures cause { self.new.cause ≡ refusal result }
+        ensures stops { self.new.stopped ≡ is_some (refusal result) }
         ensures registry { self.new.registry ≡ self.old.registry }
         ensures keeps { KeepsRows self.old.registry (state S.Store self.new.store) }
+        ensures only_looks { OnlyLooks
+            (state S.Store self.old.store) (state S.Store self.new.store) }
     {
         let found = self.store.naming(alloc, source, name);
         self.store.settled();
-        self.stopped = is_refused(&found);
+        self.cause = refusal(&found);
         found
     }
 
@@ -124,9 +128,11 @@ impl<S: Alter> Stored<S> {
     ) -> Result<Outcome, Halted>
         requires running { self.old.stopped ≡ false }
         requires key { key.now ≡ key_about item }
-        ensures decides { IfOk result (λ outcome. IsStep self.old.registry secrets.old item outcome self.new.registry) }
+        ensures decides { IfOk result (λ outcome.
+            IsStep self.old.registry secrets.old item outcome self.new.registry) }
         ensures running { OnOk result (self.new.stopped ≡ false) }
-        ensures halts { OnErr result (IsHalted self.old.registry secrets.old item self.new.registry self.new.stopped (state S.Store self.new.store)) }
+        ensures halts { OnErr result (IsHalted self.old.registry secrets.old item self.new.registry
+            self.new.stopped (state S.Store self.old.store) (state S.Store self.new.store)) }
         ensures same_secrets { secrets.new ≡ secrets.old }
     {
         let outcome = self.registry.apply(alloc, secrets, item);
@@ -135,8 +141,8 @@ impl<S: Alter> Stored<S> {
                 self.store.settled();
                 Ok(outcome)
             }
-            Err(_) => {
-                self.stopped = true;
+            Err(fault) => {
+                self.cause = Some(cause_of(fault));
                 Err(Halted)
             }
         }
@@ -152,13 +158,15 @@ impl<S: Alter> Stored<S> {
     }
 }
 
-/// The registry is changed first, then the rows. A fault of the store, for want of memory too, stops both for good.
+/// The registry is changed first, then the rows. A fault of the store stops both for good, also
+/// where memory runs out, since the rows then lack what the registry has.
 impl<S: Alter> Ledger for Stored<S> {
     ghost registry = { λ s. s.registry };
 
     ghost Ready = { λ s. s.stopped ≡ false };
 
-    ghost Halts = { λ old secrets item new. IsHalted old.registry secrets item new.registry new.stopped (state S.Store new.store) };
+    ghost Halts = { λ old secrets item new. IsHalted old.registry secrets item new.registry
+        new.stopped (state S.Store old.store) (state S.Store new.store) };
 
     fn sound(&self) {
         self.registry.sound();
@@ -177,14 +185,28 @@ impl<S: Alter> Ledger for Stored<S> {
     }
 }
 
-/// Whether the database refused.
-fn is_refused(found: &Result<Vec<Object>, StoreFault>) -> bool
-    ensures { result ≡ is_refused found.now }
+/// The error with which the database refused, if it did.
+fn refusal(found: &Result<Vec<Object>, StoreFault>) -> Option<Error>
+    ensures { result ≡ refusal found.now }
 {
-    matches!(found, Err(StoreFault::Store))
+    match found {
+        Err(StoreFault::Store(error)) => Some(*error),
+        Err(StoreFault::Memory) | Ok(_) => None,
+    }
 }
 
-/// The key that an item is about; the error is want of memory.
+/// The error of the database that a fault of its store is: of memory it is the one that SQLite has
+/// for it.
+fn cause_of(fault: StoreFault) -> Error
+    ensures { result ≡ cause_of fault }
+{
+    match fault {
+        StoreFault::Store(error) => error,
+        StoreFault::Memory => Error::SqliteFailure(ErrorCode::OutOfMemory),
+    }
+}
+
+/// The key that an item is about; the error is that memory ran out.
 fn copied_key(alloc: Global, item: &Item) -> Result<Key, AllocError>
     ensures { IfOk result (λ key. key ≡ key_about item.now) }
 {
@@ -203,10 +225,8 @@ fn follow<S: Alter>(
     outcome: Outcome,
 ) -> Result<(), StoreFault>
     requires { puts_one outcome ≡ true → is_some (get registry.now key.now) ≡ true }
-    ensures ok { HasCleanDisk (state S.Store store.new) → OnOk result (Follows key.now outcome registry.now (state S.Store store.old).now (state S.Store store.new).now) }
-    ensures is_open { HasCleanDisk (state S.Store store.new) → IsTrue (state S.Store store.old).is_open → OnOk result (IsTrue (state S.Store store.new).is_open) }
-    ensures err { HasCleanDisk (state S.Store store.new) → IsTrue (state S.Store store.new).is_open → OnErr result ((state S.Store store.new).now ≡ (state S.Store store.old).now) }
-    ensures crash { Survives (state S.Store store.old) (state S.Store store.new) (TreesOf (Follows key.now outcome registry.now (state S.Store store.old).now)) }
+    ensures follows { FollowsIn S.Store (Follows key.now outcome registry.now)
+        store.old store.new result }
     ensures changing { OnErr result (changes outcome ≡ true) }
 {
     match outcome {
@@ -225,10 +245,7 @@ fn add_stored<S: Alter>(
     key: &Key,
 ) -> Result<(), StoreFault>
     requires { is_some (get registry.now key.now) ≡ true }
-    ensures ok { HasCleanDisk (state S.Store store.new) → OnOk result (FollowsNew key.now registry.now (state S.Store store.old).now (state S.Store store.new).now) }
-    ensures is_open { HasCleanDisk (state S.Store store.new) → IsTrue (state S.Store store.old).is_open → OnOk result (IsTrue (state S.Store store.new).is_open) }
-    ensures err { HasCleanDisk (state S.Store store.new) → IsTrue (state S.Store store.new).is_open → OnErr result ((state S.Store store.new).now ≡ (state S.Store store.old).now) }
-    ensures crash { Survives (state S.Store store.old) (state S.Store store.new) (TreesOf (FollowsNew key.now registry.now (state S.Store store.old).now)) }
+    ensures { Writes S.Store (FollowsNew key.now registry.now) store.old store.new result }
 {
     match registry.book().get(key) {
         Some(object) => store.add(alloc, object),
@@ -244,10 +261,7 @@ fn put_stored<S: Alter>(
     key: &Key,
 ) -> Result<(), StoreFault>
     requires { is_some (get registry.now key.now) ≡ true }
-    ensures ok { HasCleanDisk (state S.Store store.new) → OnOk result (FollowsGain key.now registry.now (state S.Store store.old).now (state S.Store store.new).now) }
-    ensures is_open { HasCleanDisk (state S.Store store.new) → IsTrue (state S.Store store.old).is_open → OnOk result (IsTrue (state S.Store store.new).is_open) }
-    ensures err { HasCleanDisk (state S.Store store.new) → IsTrue (state S.Store store.new).is_open → OnErr result ((state S.Store store.new).now ≡ (state S.Store store.old).now) }
-    ensures crash { Survives (state S.Store store.old) (state S.Store store.new) (TreesOf (FollowsGain key.now registry.now (state S.Store store.old).now)) }
+    ensures { Writes S.Store (FollowsGain key.now registry.now) store.old store.new result }
 {
     match registry.book().get(key) {
         Some(object) => store.put(alloc, object),

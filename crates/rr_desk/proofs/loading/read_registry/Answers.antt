@@ -3,8 +3,8 @@ use Rattle.rr_load.proofs.Sources.{dumps_of_source}
 use Rattle.rr_desk.proofs.Loads.{taken_loads, unread_fails, unread_unasked, untaken_fails, untaken_unasked}
 use Rattle.rr_desk.proofs.loading.read_registry.Goals as goal
 
-pub returns-in_err-objects-clause-fails : goal.returns-in_err-objects-clause-fails
-returns-in_err-objects-clause-fails g c =
+pub returns-in_err-objects-clause-why : goal.returns-in_err-objects-clause-why
+returns-in_err-objects-clause-why g c =
     let exit = err_from_is_err_and c.from_residual.result c.from_residual.ensures.1 in
     rw (exit.1, exit.2) (unread_fails _ _ _ _ c.in_err-objects.ensures.reads)
 
@@ -13,8 +13,8 @@ returns-in_err-objects-clause-unasked g c =
     let exit = err_from_is_err_and c.from_residual.result c.from_residual.ensures.1 in
     rw (exit.1, exit.2) (unread_unasked _)
 
-pub returns-in_err-registry-clause-fails : goal.returns-in_err-registry-clause-fails
-returns-in_err-registry-clause-fails g c =
+pub returns-in_err-registry-clause-why : goal.returns-in_err-registry-clause-why
+returns-in_err-registry-clause-why g c =
     let exit = err_from_is_err_and c.from_residual-in_err-registry.result c.from_residual-in_err-registry.ensures.1 in
     rw (exit.1, exit.2) (untaken_fails _ _ _ _ _ c.in_ok-objects.ensures.reads c.in_err-registry.ensures)
 

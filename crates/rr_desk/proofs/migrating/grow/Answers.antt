@@ -1,6 +1,5 @@
 use Rattle.std.proofs.Common.{subst}
-use Rattle.std.proofs.lemmas.Result.{err_from_is_err_and}
-use Rattle.rr_store.proofs.CheckLemmas.{each_err}
+use Rattle.std.proofs.lemmas.Result.{IfErr-weaker, err_from_is_err_and}
 use Rattle.rr_desk.specs.Migrating.{AreRegistry}
 use Rattle.rr_desk.proofs.Migrated.{always_ok, unowned_growth, unsound_growth}
 use Rattle.rr_desk.proofs.migrating.grow.Goals as goal
@@ -11,7 +10,7 @@ returns-clause-ok c = always_ok _ _ (subst AreRegistry c.deref.ensures.value c.i
 pub returns-clause-fault : goal.returns-clause-fault
 returns-clause-fault c =
     let sound = subst AreRegistry c.deref.ensures.value c.in_ok-check_registry.ensures.ok in
-    each_err c.with_block.result _ _ c.with_block.ensures.fault (λ fault h. unowned_growth c.args.settings.now c.args.objects.items fault sound h)
+    IfErr-weaker c.with_block.result _ _ (λ fault h. unowned_growth c.args.settings.now c.args.objects.items fault sound h) c.with_block.ensures.fault
 
 pub returns-in_err-check_registry-clause-fault : goal.returns-in_err-check_registry-clause-fault
 returns-in_err-check_registry-clause-fault c =

@@ -1,53 +1,50 @@
 use Rattle.std.proofs.Common.{subst}
-use Rattle.sqlite.specs.Held.{state}
-use Rattle.rr_store.proofs.CheckLemmas.{each_err}
-use Rattle.rr_store.proofs.LookLemmas.{each_shown}
+use Rattle.std.proofs.lemmas.Result.{IfErr-weaker, err_from_is_err_and}
 use Rattle.rr_store.proofs.OtherVersions.{stored_says_it}
+use Rattle.rr_store.specs.Calls.{database}
 use Rattle.rr_store.specs.Opening.{IsOfNoneButOld}
 use Rattle.rr_desk.specs.Migrating.{IsGrown}
 use Rattle.rr_desk.specs.MigratingParts.{IsGrowthFault}
-use Rattle.rr_desk.proofs.Migrated.{always_err, always_ok, each_ok, grown_of_source, growth_rootless, no_old_registry}
+use Rattle.rr_desk.proofs.Migrated.{always_ok, each_ok, each_shown, grown_of_source, growth_rootless, no_old_registry, refused_old}
 use Rattle.rr_desk.proofs.migrating.stored_growth.Goals as goal
+
+pub returns-clause-looks : goal.returns-clause-looks
+returns-clause-looks g c =
+    let looks = c.in_ok-objects.ensures.looks in
+    record { rests = looks.rests; same = λ clean. always_ok c.grow.result _ (looks.same clean) }
 
 pub returns-clause-grown : goal.returns-clause-grown
 returns-clause-grown g c clean =
     let os = c.in_ok-objects.objects.items in
-    each_shown c.grow.result _ _ (IsGrown c.args.settings.now (state g.S.Store c.args.conn.now).now) c.grow.ensures.grown c.grow.ensures.ok
-    (λ r sound grown. record { objects = os; before = rw c.source.ensures at (c.in_ok-objects.ensures.ok clean); sound = sound; grown = grown })
+    each_shown c.grow.result _ _ (IsGrown c.args.settings.now (database g.S.Store c.args.conn.now)) c.grow.ensures.grown c.grow.ensures.ok
+    (λ r sound grown. record { objects = os; before = rw c.source.ensures.source at (c.in_ok-objects.ensures.stored clean); sound = sound; grown = grown })
 
 pub returns-clause-of_source : goal.returns-clause-of_source
 returns-clause-of_source g c =
     each_ok c.grow.result _ _ _ c.grow.ensures.grown c.grow.ensures.sound
-    (λ r grown sound. grown_of_source c.args.settings.now c.in_ok-objects.objects.items r c.are_good.ensures (rw c.source.ensures at c.in_ok-objects.ensures.of_source) grown sound)
+    (λ r grown sound. grown_of_source c.args.settings.now c.in_ok-objects.objects.items r c.source.ensures.good (rw c.source.ensures.source at c.in_ok-objects.ensures.of_source) grown sound)
 
-pub returns-clause-same : goal.returns-clause-same
-returns-clause-same g c clean = always_ok c.grow.result _ (c.in_ok-objects.ensures.same clean)
-
-pub returns-clause-err : goal.returns-clause-err
-returns-clause-err g c clean on = always_err c.grow.result _ (c.in_ok-objects.ensures.same clean).0.now_is
-
-pub returns-clause-wrong_version : goal.returns-clause-wrong_version
-returns-clause-wrong_version g c clean =
-    each_err c.grow.result _ _ c.grow.ensures.fault (λ fault h number is. absurd (subst (IsGrowthFault c.args.settings.now c.in_ok-objects.objects.items) is h))
-
-pub returns-clause-bad_row : goal.returns-clause-bad_row
-returns-clause-bad_row g c clean =
+pub returns-clause-why : goal.returns-clause-why
+returns-clause-why g c clean =
     let os = c.in_ok-objects.objects.items in
-    each_err c.grow.result _ _ c.grow.ensures.fault
-    (λ fault h is. no_old_registry c.args.settings.now.source os _ (rw c.source.ensures at (c.in_ok-objects.ensures.ok clean)) (subst (IsGrowthFault c.args.settings.now os) is h))
+    let stored = rw c.source.ensures.source at (c.in_ok-objects.ensures.stored clean) in
+    let says : IsOfNoneButOld (database g.S.Store c.args.conn.now) = stored_says_it _ c.args.settings.now.source os _ stored in
+    IfErr-weaker c.grow.result _ _ (λ fault h. record {
+      wrong_version = λ number is. absurd (subst (IsGrowthFault c.args.settings.now os) is h);
+      bad_row = λ is. no_old_registry c.args.settings.now.source os _ stored (subst (IsGrowthFault c.args.settings.now os) is h);
+      no_other_said = λ is. says;
+      tables = λ of. stored.rows.tidy.has;
+      no_root = λ is. growth_rootless c.args.settings.now os _ c.source.ensures.good stored (subst (IsGrowthFault c.args.settings.now os) is h);
+    }) c.grow.ensures.fault
 
-pub returns-clause-no_root : goal.returns-clause-no_root
-returns-clause-no_root g c clean =
-    let os = c.in_ok-objects.objects.items in
-    each_err c.grow.result _ _ c.grow.ensures.fault
-    (λ fault h is. growth_rootless c.args.settings.now os _ c.are_good.ensures (rw c.source.ensures at (c.in_ok-objects.ensures.ok clean)) (subst (IsGrowthFault c.args.settings.now os) is h))
+pub returns-in_err-objects-clause-looks : goal.returns-in_err-objects-clause-looks
+returns-in_err-objects-clause-looks g c =
+    let exit = err_from_is_err_and c.from_residual.result c.from_residual.ensures.1 in
+    rw exit.1 (record { rests = c.in_err-objects.ensures.looks.rests; same = λ clean. tt })
 
-pub returns-clause-no_other_said : goal.returns-clause-no_other_said
-returns-clause-no_other_said g c clean =
-    let says : IsOfNoneButOld (state g.S.Store c.args.conn.now).now = stored_says_it _ c.args.settings.now.source c.in_ok-objects.objects.items (state g.S.Store c.args.conn.now).now (rw c.source.ensures at (c.in_ok-objects.ensures.ok clean)) in
-    each_err c.grow.result _ _ c.grow.ensures.fault (λ fault h is. says)
-
-pub returns-clause-tables : goal.returns-clause-tables
-returns-clause-tables g c clean =
-    let tables = (c.in_ok-objects.ensures.ok clean).rows.tidy.has in
-    each_err c.grow.result _ _ c.grow.ensures.fault (λ fault h of. tables)
+pub returns-in_err-objects-clause-why : goal.returns-in_err-objects-clause-why
+returns-in_err-objects-clause-why g c =
+    let exit = err_from_is_err_and c.from_residual.result c.from_residual.ensures.1 in
+    rw (exit.1, exit.2) (λ clean.
+    let why = rw c.source.ensures.source at (c.in_err-objects.ensures.why clean) in
+    refused_old c.args.settings.now _ _ why.wrong_version why.bad_row why.no_other_said why.tables)

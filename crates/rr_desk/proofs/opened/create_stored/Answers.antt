@@ -15,20 +15,14 @@ returns-in-Ok-clause-running g c = c.of.ensures.running
 pub returns-in-Ok-clause-registry : goal.returns-in-Ok-clause-registry
 returns-in-Ok-clause-registry g c = c.of.ensures.registry
 
-pub returns-in-Ok-clause-vacant : goal.returns-in-Ok-clause-vacant
-returns-in-Ok-clause-vacant g c = rw c.of.ensures.store c.in-Ok.ensures.vacant
+pub returns-in-Ok-clause-holds : goal.returns-in-Ok-clause-holds
+returns-in-Ok-clause-holds g c = c.of.ensures.held
 
-pub returns-in-Ok-clause-crash : goal.returns-in-Ok-clause-crash
-returns-in-Ok-clause-crash g c = rw c.of.ensures.store c.in-Ok.ensures.crash
+pub returns-in-Ok-clause-makes : goal.returns-in-Ok-clause-makes
+returns-in-Ok-clause-makes g c = rw c.of.ensures.store c.in-Ok.ensures.makes
 
-pub returns-in-Err-clause-err : goal.returns-in-Err-clause-err
-returns-in-Err-clause-err g c = c.in-Err.ensures.err
+pub returns-in-Err-clause-fails : goal.returns-in-Err-clause-fails
+returns-in-Err-clause-fails g c = c.in-Err.ensures.fails
 
 pub returns-in-Err-clause-not_empty : goal.returns-in-Err-clause-not_empty
 returns-in-Err-clause-not_empty g c = c.in-Err.ensures.not_empty
-
-pub returns-in-Err-clause-err_crash : goal.returns-in-Err-clause-err_crash
-returns-in-Err-clause-err_crash g c = c.in-Err.ensures.err_crash
-
-pub returns-in-Err-clause-err_autocommit : goal.returns-in-Err-clause-err_autocommit
-returns-in-Err-clause-err_autocommit g c = c.in-Err.ensures.err_autocommit

@@ -10,72 +10,60 @@ pub open_all-requires : goal.open_all-requires
 open_all-requires g c = record { autocommit = c.requires.autocommit }
 
 pub of-requires-clause-is_open : goal.of-requires-clause-is_open
-of-requires-clause-is_open g c = c.in-Ok.ensures.is_open
+of-requires-clause-is_open g c = c.in-Ok.ensures.opens.is_open
 
 pub of-requires-clause-rows : goal.of-requires-clause-rows
-of-requires-clause-rows g c = λ clean. opened_rows c.args.source.now _ _ _ (c.in-Ok.ensures.ok clean) c.in-Ok-from_objects.ensures
+of-requires-clause-rows g c = λ clean. opened_rows c.args.source.now _ _ _ (c.in-Ok.ensures.opens.stored clean) c.in-Ok-from_objects.ensures
 
 pub returns-in-Ok-from_objects-clause-running : goal.returns-in-Ok-from_objects-clause-running
 returns-in-Ok-from_objects-clause-running g c = c.of.ensures.running
 
-pub returns-in-Ok-from_objects-clause-rows : goal.returns-in-Ok-from_objects-clause-rows
-returns-in-Ok-from_objects-clause-rows g c =
-    rw (c.of.ensures.registry, c.of.ensures.store)
-    (λ clean. subst (HasRows c.in-Ok-from_objects.registry) (c.in-Ok.ensures.same clean) (opened_rows c.args.source.now _ _ _ (c.in-Ok.ensures.ok clean) c.in-Ok-from_objects.ensures))
-
-pub returns-in-Ok-from_objects-clause-same : goal.returns-in-Ok-from_objects-clause-same
-returns-in-Ok-from_objects-clause-same g c = rw c.of.ensures.store c.in-Ok.ensures.same
-
-pub returns-in-Ok-from_objects-clause-crash : goal.returns-in-Ok-from_objects-clause-crash
-returns-in-Ok-from_objects-clause-crash g c = rw c.of.ensures.store c.in-Ok.ensures.crash
-
-pub returns-in-Err-from_objects-clause-wrong_version : goal.returns-in-Err-from_objects-clause-wrong_version
-returns-in-Err-from_objects-clause-wrong_version g c = rw c.refused.ensures (λ number is clean. absurd (no_version c.in-Err-from_objects.fault number is))
-
-pub returns-in-Err-from_objects-clause-bad_row : goal.returns-in-Err-from_objects-clause-bad_row
-returns-in-Err-from_objects-clause-bad_row g c =
-    rw (c.refused.ensures, c.close.ensures.same)
-    (λ is clean. bad_objects c.args.source.now _ _ _ c.in-Err-from_objects.ensures is (rw (c.in-Ok.ensures.same clean) at c.in-Ok.ensures.ok clean))
-
-pub returns-in-Err-from_objects-clause-err : goal.returns-in-Err-from_objects-clause-err
-returns-in-Err-from_objects-clause-err g c = rw c.close.ensures.same (λ clean on. c.in-Ok.ensures.same clean)
-
-pub returns-in-Err-from_objects-clause-err_crash : goal.returns-in-Err-from_objects-clause-err_crash
-returns-in-Err-from_objects-clause-err_crash g c = rw c.close.ensures.same c.in-Ok.ensures.crash
-
-pub returns-in-Err-from_objects-clause-err_autocommit : goal.returns-in-Err-from_objects-clause-err_autocommit
-returns-in-Err-from_objects-clause-err_autocommit g c = c.close.ensures.autocommit
-
-pub returns-in-Err-clause-wrong_version : goal.returns-in-Err-clause-wrong_version
-returns-in-Err-clause-wrong_version g c = c.in-Err.ensures.wrong_version
-
-pub returns-in-Err-clause-bad_row : goal.returns-in-Err-clause-bad_row
-returns-in-Err-clause-bad_row g c = λ is clean. unreadable_rows c.args.source.now _ (c.in-Err.ensures.bad_row is clean)
-
-pub returns-in-Err-clause-err : goal.returns-in-Err-clause-err
-returns-in-Err-clause-err g c = c.in-Err.ensures.err
-
-pub returns-in-Err-clause-err_crash : goal.returns-in-Err-clause-err_crash
-returns-in-Err-clause-err_crash g c = c.in-Err.ensures.err_crash
-
-pub returns-in-Err-clause-err_autocommit : goal.returns-in-Err-clause-err_autocommit
-returns-in-Err-clause-err_autocommit g c = c.in-Err.ensures.err_autocommit
-
 pub returns-in-Ok-from_objects-clause-of_source : goal.returns-in-Ok-from_objects-clause-of_source
 returns-in-Ok-from_objects-clause-of_source g c =
-    rw c.of.ensures.registry (taken_of_source c.args.source.now _ _ c.in-Ok-from_objects.ensures c.sound.ensures c.in-Ok.ensures.of_source)
+    rw c.of.ensures.registry (taken_of_source c.args.source.now _ _ c.in-Ok-from_objects.ensures c.sound.ensures c.in-Ok.ensures.opens.of_source)
 
-pub returns-in-Err-from_objects-clause-no_other_said : goal.returns-in-Err-from_objects-clause-no_other_said
-returns-in-Err-from_objects-clause-no_other_said g c =
+pub returns-in-Ok-from_objects-clause-holds : goal.returns-in-Ok-from_objects-clause-holds
+returns-in-Ok-from_objects-clause-holds g c = c.of.ensures.held
+
+pub returns-in-Ok-from_objects-clause-opens : goal.returns-in-Ok-from_objects-clause-opens
+returns-in-Ok-from_objects-clause-opens g c =
+    let opens = c.in-Ok.ensures.opens in record {
+      rows = rw (c.of.ensures.registry, c.of.ensures.store)
+          (λ clean. subst (HasRows c.in-Ok-from_objects.registry) (opens.same clean) (opened_rows c.args.source.now _ _ _ (opens.stored clean) c.in-Ok-from_objects.ensures));
+      same = rw c.of.ensures.store opens.same;
+      crash = rw c.of.ensures.store opens.crash;
+    }
+
+pub returns-in-Err-from_objects-clause-fails : goal.returns-in-Err-from_objects-clause-fails
+returns-in-Err-from_objects-clause-fails g c =
+    let opens = c.in-Ok.ensures.opens in record {
+      autocommit = c.close.ensures.autocommit;
+      kept = rw c.close.ensures.same (λ clean on. opens.same clean);
+      crash = rw c.close.ensures.same opens.crash;
+    }
+
+pub returns-in-Err-from_objects-clause-why : goal.returns-in-Err-from_objects-clause-why
+returns-in-Err-from_objects-clause-why g c =
+    let opens = c.in-Ok.ensures.opens in
     rw (c.refused.ensures, c.close.ensures.same)
-    (λ is clean. stored_says_it _ c.args.source.now _ _ (rw (c.in-Ok.ensures.same clean) at c.in-Ok.ensures.ok clean))
+    (λ clean.
+    let stored = rw (opens.same clean) at opens.stored clean in record {
+      wrong_version = λ number is. absurd (no_version c.in-Err-from_objects.fault number is);
+      bad_row = λ is. bad_objects c.args.source.now _ _ _ c.in-Err-from_objects.ensures is stored;
+      no_other_said = λ is. stored_says_it _ c.args.source.now _ _ stored;
+      tables = λ of. stored.rows.tidy.has;
+    })
 
-pub returns-in-Err-from_objects-clause-tables : goal.returns-in-Err-from_objects-clause-tables
-returns-in-Err-from_objects-clause-tables g c =
-    rw c.close.ensures.same (λ of clean. (rw (c.in-Ok.ensures.same clean) at c.in-Ok.ensures.ok clean).rows.tidy.has)
+pub returns-in-Err-clause-fails : goal.returns-in-Err-clause-fails
+returns-in-Err-clause-fails g c =
+    let rests = c.in-Err.ensures.fails.rests in
+    record { autocommit = rests.autocommit; kept = rests.same; crash = rests.crash }
 
-pub returns-in-Err-clause-no_other_said : goal.returns-in-Err-clause-no_other_said
-returns-in-Err-clause-no_other_said g c = c.in-Err.ensures.no_other_said
-
-pub returns-in-Err-clause-tables : goal.returns-in-Err-clause-tables
-returns-in-Err-clause-tables g c = c.in-Err.ensures.tables
+pub returns-in-Err-clause-why : goal.returns-in-Err-clause-why
+returns-in-Err-clause-why g c = λ clean.
+    let why = c.in-Err.ensures.fails.why clean in record {
+      wrong_version = why.wrong_version;
+      bad_row = λ is. unreadable_rows c.args.source.now _ (why.bad_row is);
+      no_other_said = why.no_other_said;
+      tables = why.tables;
+    }

@@ -1,4 +1,4 @@
-use Rattle.rr_desk.proofs.OpeningReads.{numbers_line}
+use Rattle.rr_desk.proofs.Opens.{numbers_line}
 use Rattle.rr_desk.proofs.opening.numbers_paragraph.Goals as goal
 
 pub span_paragraph-requires : goal.span_paragraph-requires

@@ -1,4 +1,4 @@
-use Rattle.rr_desk.proofs.OpeningReads.{four_open, in_order}
+use Rattle.rr_desk.proofs.Opens.{four_open, in_order}
 use Rattle.rr_desk.proofs.opening.opening_objects.Goals as goal
 
 pub returns : goal.returns

@@ -2,10 +2,10 @@ use Rattle.std.proofs.Common.{◌≡◌, ◌∙◌, ◌++◌, arith, subst, sym}
 use Rattle.std.proofs.lemmas.Grind.{common_steps}
 use Rattle.rr_text.specs.Fields.{AreFields}
 use Rattle.rr_desk.specs.Opening.{owned}
-use Rattle.rr_desk.proofs.OpeningReads.{owned_good}
+use Rattle.rr_desk.proofs.Opens.{owned_good}
 use Rattle.rr_desk.proofs.opening.owned.Goals as goal
 
 pub new-requires : goal.new-requires
 new-requires c =
     let same : c.in_ok-attributes-2.attributes.items ≡ c.args.attributes.items ++ owned c.args.settings.now = grind (arith, common_steps) in
-    subst AreFields (sym (c.deref.ensures.value ∙ same)) (owned_good c.args.attributes.items c.args.settings.now c.requires c.are_good.ensures)
+    subst AreFields (sym (c.deref.ensures.value ∙ same)) (owned_good c.args.attributes.items c.args.settings.now c.requires c.root.ensures.good)

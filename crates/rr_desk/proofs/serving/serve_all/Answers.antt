@@ -12,14 +12,14 @@ turns-preserved g c =
           let is = w.served-is in
           let more : c.if-take_turn.served ≡ c.turns.served + (if c.take_turn.result then 1 else 0) = rw w.if-take_turn.true (omega arith) in record {
             within = omega arith;
-            taken = turn_counted _ _ _ _ _ _ _ _ _ _ _ _ _ _ _ c.turns.invariant.taken c.take_turn.ensures.turn before more;
+            taken = turn_counted _ _ _ _ _ _ _ _ _ _ _ _ c.turns.invariant.taken c.take_turn.ensures.turn before more;
             settings = c.take_turn.ensures.settings ∙ c.turns.invariant.settings;
           }
       | else-take_turn w ↦
           let is = w.served-is in
           let more : c.if-take_turn.served ≡ c.turns.served + (if c.take_turn.result then 1 else 0) = rw w.if-take_turn.false (omega arith) in record {
             within = omega arith;
-            taken = turn_counted _ _ _ _ _ _ _ _ _ _ _ _ _ _ _ c.turns.invariant.taken c.take_turn.ensures.turn before more;
+            taken = turn_counted _ _ _ _ _ _ _ _ _ _ _ _ c.turns.invariant.taken c.take_turn.ensures.turn before more;
             settings = c.take_turn.ensures.settings ∙ c.turns.invariant.settings;
           }
     ]

@@ -6,6 +6,6 @@ use Rattle.rr_desk.proofs.serving.serve_all.Given as goal
 abbrev pub invariant-turns : goal.invariant-turns
 invariant-turns g l = record {
   within : l.served ≤ l.turn;
-  taken : TakesTurns g.S.Store g.V.Service.serves l.turn l.initial.desk l.desk (g.P.Peers.counted l.initial.peers) (g.P.Peers.counted l.peers) (g.P.Peers.told l.initial.peers) (g.P.Peers.told l.peers) l.served (l.turn - l.served);
+  taken : TakesTurns g.S.Store g.V.Service.serves l.turn l.initial.desk l.desk (g.P.Peers.tally l.initial.peers) (g.P.Peers.tally l.peers) l.served (l.turn - l.served);
   settings : l.desk.settings ≡ l.initial.desk.settings;
 }

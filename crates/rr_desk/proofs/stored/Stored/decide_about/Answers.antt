@@ -7,9 +7,9 @@ use Rattle.rr_desk.proofs.stored.Stored.decide_about.Goals as goal
 
 pub invariant_of-self : goal.invariant_of-self
 invariant_of-self g c = λ running.
-    still_held (state g.S.Store c.self.inside.store) (state g.S.Store c.follow.new.store) c.self.inside.registry c.apply-outcome.new.self c.args.key.now c.apply-outcome.result _ (c.self.invariant running)
+    still_held g.S.Store c.self.inside.store c.follow.new.store c.self.inside.registry c.apply-outcome.new.self c.args.key.now c.apply-outcome.result _ (c.self.invariant running)
     (subst (λ k. LeadsTo c.self.inside.registry k c.apply-outcome.result c.apply-outcome.new.self) (sym c.requires.key) (leads _ _ _ _ _ c.apply-outcome.ensures.step))
-    c.follow.ensures.crash c.in-Ok.ensures.ok c.in-Ok.ensures.is_open c.settled.ensures
+    c.in-Ok.ensures.follows c.settled.ensures
 
 pub follow-requires : goal.follow-requires
 follow-requires g c =
@@ -19,6 +19,6 @@ follow-requires g c =
 pub returns-in-Err-clause-halts : goal.returns-in-Err-clause-halts
 returns-in-Err-clause-halts g c =
     let running = rw (← c.self.view_is) at c.requires.running in
-    subst (λ s. IsHalted s.registry c.args.secrets.now c.args.item c.apply-outcome.new.self true (state g.S.Store c.follow.new.store)) c.self.view_is
-    (halts_there (state g.S.Store c.self.inside.store) (state g.S.Store c.follow.new.store) c.self.inside.registry c.apply-outcome.new.self c.args.secrets.now c.args.item c.args.key.now c.apply-outcome.result
-    c.requires.key c.apply-outcome.ensures.step c.in-Err.ensures.changing (c.self.invariant running) c.in-Err.ensures.err c.follow.ensures.crash)
+    subst (λ s. IsHalted s.registry c.args.secrets.now c.args.item c.apply-outcome.new.self true (state g.S.Store s.store) (state g.S.Store c.follow.new.store)) c.self.view_is
+    (halts_there g.S.Store c.self.inside.store c.follow.new.store c.self.inside.registry c.apply-outcome.new.self c.args.secrets.now c.args.item c.args.key.now c.apply-outcome.result _
+    c.requires.key c.apply-outcome.ensures.step c.in-Err.ensures.changing (c.self.invariant running) c.in-Err.ensures.follows)

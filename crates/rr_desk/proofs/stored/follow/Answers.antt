@@ -1,0 +1,11 @@
+use Rattle.rr_desk.proofs.Following.{loss_follows, writes_follow}
+use Rattle.rr_desk.proofs.stored.follow.Goals as goal
+
+pub returns-in-Added-clause-follows : goal.returns-in-Added-clause-follows
+returns-in-Added-clause-follows g c = rw c.in-Added.is (writes_follow _ _ _ _ _ _ (λ db h. h) c.add_stored.ensures)
+
+pub returns-in-Changed-clause-follows : goal.returns-in-Changed-clause-follows
+returns-in-Changed-clause-follows g c = rw c.in-Changed.is (writes_follow _ _ _ _ _ _ (λ db h. h) c.put_stored.ensures)
+
+pub returns-in-Deleted-clause-follows : goal.returns-in-Deleted-clause-follows
+returns-in-Deleted-clause-follows g c = rw c.in-Deleted.is (writes_follow _ _ _ _ _ _ (λ db. loss_follows c.args.key.now c.args.registry.now _ db) c.remove.ensures.takes)

@@ -1,4 +1,4 @@
--- Lemmas on what is written behind the head of a reply.
+-- Lemmas on what is written after the head of a reply.
 use Rattle.std.proofs.Common.{ℕ, List, [], ◌++◌, Ok, Err}
 use Rattle.std.specs.Prelude.{Result}
 use Rattle.rr_io.specs.Told.{Told}
@@ -7,15 +7,15 @@ use Rattle.rr_io.proofs.Transfers.{Takes-then, TakesFront-then}
 use Rattle.rr_desk.specs.Turns.{Answer}
 use Rattle.rr_http.specs.Answering.{IsAnswered}
 
-writes_behind : {T E : Type 0} (old between new : Told) (head text : List ℕ) (result : Result T E) → Takes old between head → Writes between new text result → Writes old new (head ++ text) result
-writes_behind old between new head text (Ok t) p q = Takes-then head text p q
-writes_behind old between new head text (Err e) p q = TakesFront-then head text p q
+writes_after : {T E : Type 0} (old between new : Told) (head text : List ℕ) (result : Result T E) → Takes old between head → Writes between new text result → Writes old new (head ++ text) result
+writes_after old between new head text (Ok t) p q = Takes-then head text p q
+writes_after old between new head text (Err e) p q = TakesFront-then head text p q
 
--- an answer behind the head of a reply
-pub answered_behind : {D : Type 0} (Answers : D → List ℕ → List ℕ → D → Type 0) (head query : List ℕ) (before after : D) (old between new : Told) (result : Answer) →
+-- an answer after the head of a reply
+pub answered_after : {D : Type 0} (Answers : D → List ℕ → List ℕ → D → Type 0) (head query : List ℕ) (before after : D) (old between new : Told) (result : Answer) →
     Takes old between head → IsAnswered Answers [] query before after between new result → IsAnswered Answers head query before after old new result
-answered_behind Answers head query before after old between new result p q = record {
+answered_after Answers head query before after old between new result p q = record {
   text = q.text;
   answers = q.answers;
-  tells = record { writes = writes_behind old between new head q.text result p q.tells.writes; cause = q.tells.cause };
+  tells = record { writes = writes_after old between new head q.text result p q.tells.writes; cause = q.tells.cause };
 }

@@ -17,7 +17,7 @@ use Rattle.rr_http.specs.BodyReaders.{body_aside, body_failed, body_missing, bod
 use Rattle.rr_http.specs.Answering.{EndsWhole, SubmitsBody, TellsMissing, in_memory}
 
 module _ (body rest : List ℕ) (missing faults reads : ℕ) where
-  -- the reader before, and after: so many zeros stand behind the bytes
+  -- the reader before, and after: so many zeros stand after the bytes
   abbrev start : Told
   start = record { bytes = Some (body ++ replicate missing 0); faults = 0; reads = 0 }
 
@@ -85,7 +85,7 @@ module _ (body rest : List ℕ) (missing faults reads : ℕ) where
   front_whole : (front : List ℕ) → ReadsItems start end front → EndsWhole front missing
   front_whole front p = elim p.apart [ inl whole ↦ inl whole | inr at_end ↦ inr (none_missing at_end.1) ]
 
-  -- a reading that did not come to the end ended with a failed read behind the bytes
+  -- a reading that did not come to the end ended with a failed read after the bytes
   falls_short : (bytes : List ℕ) (by : ReadEnd) → length body ≤ 1048576 → (0 < faults → (0 < missing) × (rest ≡ [])) → by ≢ Whole → Reads start end bytes by →
       (missing ≢ 0) × (rest ≡ [])
   falls_short bytes Whole small fails unended p = absurd (unended refl)

@@ -1,11 +1,9 @@
-pub mod FrontLemmas
-pub mod LineLemmas
+pub mod HeadLemmas
 pub mod RequestLemmas
-pub mod RouteLemmas
 pub mod ReplyLemmas
 pub mod WantLemmas
 pub mod SeenLemmas
-pub mod FrontReading
+pub mod HeadReading
 pub mod AnswerLemmas
 pub mod BodyLemmas
 pub mod ServingLemmas

@@ -1,13 +1,13 @@
 -- Lemmas on the replies to connections that tell their bytes.
 use Rattle.std.proofs.Common.{◌≡◌, ℕ, ◌≤◌, inl, inr, Bool, true, false, List, [], ◌++◌, length, take, drop, Option, None, Some, Ok, Err, arith, refl, ap, sym, ◌∙◌, subst}
-use Rattle.std.specs.Prelude.{Result, IfSome, nat_le}
+use Rattle.std.specs.Prelude.{Result, IfSome}
 use Rattle.std.proofs.lemmas.List.{append-nil, length-take}
 use Rattle.rr_io.specs.Told.{Told}
 use Rattle.rr_io.specs.Receiving.{Gives}
 use Rattle.rr_io.specs.Sending.{Takes, TakesFront}
 use Rattle.rr_io.proofs.Transfers.{TakesFront-more, TakesFront-then}
-use Rattle.rr_desk.specs.declared.dumping.DumpFault.{DumpFault}
-use Rattle.rr_desk.specs.declared.dumping.DumpFault.TheVariants as dump_fault
+use Rattle.rr_desk.specs.declared.dumping.DeskDumpFault.{DeskDumpFault}
+use Rattle.rr_desk.specs.declared.dumping.DeskDumpFault.TheVariants as dump_fault
 use Rattle.rr_desk.specs.declared.peers.ConnFault.TheVariants.{Read, Write}
 use Rattle.rr_desk.specs.Dumping.{Dumps}
 use Rattle.rr_desk.specs.Turns.{Answer}
@@ -15,36 +15,36 @@ use Rattle.rr_http.specs.declared.registrar.Registrar.{Ghosts}
 use Rattle.rr_text.specs.Entries.{entries}
 use Rattle.rr_submission.specs.SubmissionItems.{AreItems}
 use Rattle.rr_http.specs.Answering.{IsAnswered, Tells, dump_answer}
-use Rattle.rr_http.specs.FrontLines.{speaks_http}
-use Rattle.rr_http.specs.Fronts.{head_length}
+use Rattle.rr_http.specs.Lines.{speaks_http}
+use Rattle.rr_http.specs.Heads.{head_length}
 use Rattle.rr_http.specs.Replies.{given_head}
-use Rattle.rr_http.specs.ReplyBytes.{AnswersWithItsReply, AnswersWithItsReport, IsAnswerSent, IsDumpSent, IsFrontOf, IsSent, RepliesTo, RepliesToWants}
+use Rattle.rr_http.specs.ReplyBytes.{AnswersWithItsReply, AnswersWithItsReport, IsAnswerSent, IsDumpSent, IsCutOff, IsSent, RepliesTo, RepliesToWants}
 use Rattle.rr_http.specs.Requests.{Asks, refused, submission, query, dump}
-use Rattle.rr_http.specs.Serving.{ServesAsks, ServesWants}
-use Rattle.rr_http.specs.Wants.{FrontWants, HeadWants, IsWanted, Wants, whois, http}
-use Rattle.rr_http.proofs.ToldLemmas.{body_behind, wants_by_all}
+use Rattle.rr_http.specs.Serving.{ServesAsks, ServesWants, visit_of}
+use Rattle.rr_http.specs.Wants.{HeadWants, IsWanted, RequestWants, Wants, is_full, whois, http}
+use Rattle.rr_http.proofs.ToldLemmas.{body_after, wants_by_all}
 use Rattle.rr_http.proofs.WantLemmas.{head_within}
 
 -- the head of a request is in the front that says what is wanted
 head_placed : (found : Option ℕ) (text : List ℕ) (full : Bool) (place : ℕ) (asks : Asks) → IfSome found (λ n. n ≤ length text) →
-    HeadWants found text full (http place asks) → place ≤ length text
+    RequestWants found text full (http place asks) → place ≤ length text
 head_placed None text full place asks within wants = let none : place ≡ 0 = cc in omega arith
 head_placed (Some n) text full place asks within wants = let is = wants.2 in let same : place ≡ n = cc in omega arith
 
-front_placed : (speaks : Bool) (text : List ℕ) (full : Bool) (place : ℕ) (asks : Asks) → FrontWants speaks text full (http place asks) → place ≤ length text
-front_placed false text full place asks wants = cc
-front_placed true text full place asks wants = head_placed (head_length text) text full place asks (head_within text) wants
+head_placed_by : (speaks : Bool) (text : List ℕ) (full : Bool) (place : ℕ) (asks : Asks) → HeadWants speaks text full (http place asks) → place ≤ length text
+head_placed_by false text full place asks wants = cc
+head_placed_by true text full place asks wants = head_placed (head_length text) text full place asks (head_within text) wants
 
 placed : (front : List ℕ) (place : ℕ) (asks : Asks) → IsWanted (front ++ []) (http place asks) → place ≤ length front
 placed front place asks wanted =
-    let within = front_placed (speaks_http (take 8192 (front ++ []))) (take 8192 (front ++ [])) (nat_le 8192 (length (front ++ []))) place asks wanted in
+    let within = head_placed_by (speaks_http (take 8192 (front ++ []))) (take 8192 (front ++ [])) (is_full (front ++ [])) place asks wanted in
     omega (arith, within, length-take 8192 (front ++ []), ap (λ (xs : List ℕ). length xs) (append-nil front))
 
 module _ (old new : Told) (answered : List ℕ) (fresh : old.bytes ≡ Some []) (told : new.bytes ≡ Some answered) where
   taken : (text : List ℕ) → Takes old new text → answered ≡ text
   taken text takes = let all : new.bytes ≡ Some text = takes.appended [] fresh in cc
 
-  cut_short : (text : List ℕ) → TakesFront old new text → IsFrontOf text answered
+  cut_short : (text : List ℕ) → TakesFront old new text → IsCutOff text answered
   cut_short text cut =
       let all : new.bytes ≡ Some cut.front = cut.fails.bytes_stay cut.front (cut.takes.appended [] fresh) in
       let same : cut.front ≡ answered = cc in
@@ -60,7 +60,7 @@ module _ (old new : Told) (answered : List ℕ) (fresh : old.bytes ≡ Some []) 
   answer_sent desk head text before after result given =
       record { answer = given.text; answers = given.answers; sent = sent (head ++ given.text) result given.tells }
 
-  dumped : (text : List ℕ) (between : Told) (ended : Result ℕ DumpFault) → Takes old between given_head → Dumps text between new ended →
+  dumped : (text : List ℕ) (between : Told) (ended : Result ℕ DeskDumpFault) → Takes old between given_head → Dumps text between new ended →
       IsDumpSent text (dump_answer ended) answered
   dumped text between (Ok count) head dumps =
       let all : new.bytes ≡ Some (given_head ++ text) = dumps.appended given_head (head.appended [] fresh) in
@@ -74,8 +74,8 @@ module _ (old new : Told) (answered : List ℕ) (fresh : old.bytes ≡ Some []) 
   module _ {D : Type 0} (desk : Ghosts D) (before after : D) (from_old from_new : Told) (result : Answer) where
     -- what a request asks, with what is given behind its head
     to_asks : (from_first : Told) (bytes front : List ℕ) (place : ℕ) (asks : Asks) → from_first.bytes ≡ Some bytes → Gives from_first from_old front → place ≤ length front →
-        ServesAsks desk (drop place front) asks before after from_old from_new old new result → RepliesTo desk (drop place bytes) asks before after result answered
-    to_asks from_first bytes front place (refused refusal) is gives within serves = (sent _ result serves.2, serves.1)
+        ServesAsks desk (drop place front) asks before after (visit_of from_old from_new old new result) → RepliesTo desk (drop place bytes) asks before after result answered
+    to_asks from_first bytes front place (refused refusal) is gives within serves = (sent _ result serves.1, serves.0.same)
     to_asks from_first bytes front place (submission size) is gives within (inl (inl stopped)) =
         inl (sent _ result stopped.unavailable.tells, stopped.unavailable.same)
     to_asks from_first bytes front place (submission size) is gives within (inl (inr wanting)) =
@@ -84,7 +84,7 @@ module _ (old new : Told) (answered : List ℕ) (fresh : old.bytes ≡ Some []) 
       running = taken_in.running;
       body = taken_in.body;
       end = taken_in.end;
-      is_body = body_behind from_first from_old from_new bytes front taken_in.body place size taken_in.end is gives within taken_in.reads;
+      is_body = body_after from_first from_old from_new bytes front taken_in.body place size taken_in.end is gives within taken_in.reads;
       old = old;
       new = new;
       unwritten = fresh;
@@ -93,47 +93,39 @@ module _ (old new : Told) (answered : List ℕ) (fresh : old.bytes ≡ Some []) 
     })
     to_asks from_first bytes front place (query escaped) is gives within (same, inl turned) = inl (sent _ result turned.tells, turned.same)
     to_asks from_first bytes front place (query escaped) is gives within (same, inr (running, inl cut)) =
-        inr (running, inl (record { cut = cut_short given_head cut.cut; failed = cut.failed; same = cut.same }))
+        inr (running, inl (record { cut = cut_short given_head cut.0.cut; failed = cut.0.failed; same = cut.1 }))
     to_asks from_first bytes front place (query escaped) is gives within (same, inr (running, inr given)) =
         inr (running, inr (answer_sent desk given_head _ before after result given))
-    to_asks from_first bytes front place dump is gives within (same, kept, inl turned) = inl (sent _ result turned, kept)
-    to_asks from_first bytes front place dump is gives within (same, kept, inr (running, inl cut)) =
-        inr (running, subst (λ ended. IsDumpSent (desk.dumped before) ended answered) (sym cut.1) (cut_short _ (TakesFront-more given_head (desk.dumped before) cut.0)), kept)
-    to_asks from_first bytes front place dump is gives within (same, kept, inr (running, inr given)) =
-        inr (running, subst (λ ended. IsDumpSent (desk.dumped before) ended answered) (sym given.answer) (dumped (desk.dumped before) given.between given.ended given.head given.dumps), kept)
+    to_asks from_first bytes front place dump is gives within (left, inl turned) = inl (sent _ result turned, left.same)
+    to_asks from_first bytes front place dump is gives within (left, inr (running, inl cut)) =
+        inr (running, subst (λ ended. IsDumpSent (desk.dumped before) ended answered) (sym cut.failed) (cut_short _ (TakesFront-more given_head (desk.dumped before) cut.cut)), left.same)
+    to_asks from_first bytes front place dump is gives within (left, inr (running, inr given)) =
+        inr (running, subst (λ ended. IsDumpSent (desk.dumped before) ended answered) (sym given.answer) (dumped (desk.dumped before) given.between given.ended given.head given.dumps), left.same)
 
     to_wants : (from_first : Told) (bytes front : List ℕ) (wants : Wants) → from_first.bytes ≡ Some bytes → Gives from_first from_old front → IsWanted (front ++ []) wants →
-        ServesWants desk front wants before after from_old from_new old new result → RepliesToWants desk bytes wants before after result answered
+        ServesWants desk front wants before after (visit_of from_old from_new old new result) → RepliesToWants desk bytes wants before after result answered
     to_wants from_first bytes front (whois text) is gives wanted serves = answer_sent desk [] text before after result serves.1
     to_wants from_first bytes front (http place asks) is gives wanted serves = to_asks from_first bytes front place asks is gives (placed front place asks wanted) serves
 
 pub answers_with_its_reply : {D : Type 0} (desk : Ghosts D) → AnswersWithItsReply desk
-answers_with_its_reply desk before after from_old from_new old new asked answered result is fresh told (inl broken) =
+answers_with_its_reply desk before after visit asked answered is fresh told (inl broken) =
     let given = broken.breaks.gives.consumed asked is in
     inl (record {
       given = broken.bytes;
       rest = given.0;
       is = given.2;
       undecided = broken.undecided;
-      none = (let same : new ≡ old = broken.unwritten in let bytes : new.bytes ≡ old.bytes = ap (λ (told : Told). told.bytes) same in cc);
+      none = (let same : visit.writer_after ≡ visit.writer_before = broken.unwritten in
+          let bytes : visit.writer_after.bytes ≡ visit.writer_before.bytes = ap (λ (told : Told). told.bytes) same in cc);
       same = broken.same;
       failed = broken.failed;
     })
-answers_with_its_reply desk before after from_old from_new old new asked answered result is fresh told (inr (inl unserved)) =
-    let given = unserved.reads.gives.consumed asked is in
-    inr (inl (record {
-      front = unserved.front;
-      rest = given.0;
-      is = given.2;
-      speaks = unserved.unrouted.0;
-      is_refused = (sent old new answered fresh told _ result unserved.unrouted.3, unserved.unrouted.2);
-    }))
-answers_with_its_reply desk before after from_old from_new old new asked answered result is fresh told (inr (inr served)) = inr (inr (record {
+answers_with_its_reply desk before after visit asked answered is fresh told (inr served) = inr (record {
   wants = served.wants;
-  is_wanted = wants_by_all from_old served.between asked served.front served.ended served.wants is served.reads served.is_wanted;
-  replies = to_wants old new answered fresh told desk before after served.between from_new result from_old asked served.front served.wants is served.reads.gives
-      (served.is_wanted [] (λ over. refl)) served.serves;
-}))
+  is_wanted = wants_by_all visit.reader_before served.between asked served.head served.ended served.wants is served.reads served.is_wanted;
+  replies = to_wants visit.writer_before visit.writer_after answered fresh told desk before after served.between visit.reader_after visit.answer
+      visit.reader_before asked served.head served.wants is served.reads.gives (served.is_wanted [] (λ over. refl)) served.serves;
+})
 
 pub answers_with_its_report : {D : Type 0} (desk : Ghosts D) → AnswersWithItsReport desk
 answers_with_its_report desk before after old between new body answered missing done fresh told head submits =

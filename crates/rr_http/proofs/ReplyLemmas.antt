@@ -1,6 +1,7 @@
 -- Lemmas on the bytes of replies.
 use Rattle.std.proofs.Common.{◌≡◌, ℕ, ◌+◌, ◌≤◌, List, ◌++◌, length, Some, lit≤, refl, ap, ◌∙◌, append_assoc, arith}
-use Rattle.http.specs.StatusCode.{reason_phrase}
+use Rattle.std.specs.Prelude.{codes}
+use Rattle.http.specs.StatusCode.{code_digits, reason_phrase}
 use Rattle.rr_http.specs.declared.asking.Page.TheVariants as page
 use Rattle.rr_http.specs.declared.asking.Refusal.{Refusal}
 use Rattle.rr_http.specs.declared.asking.Refusal.TheVariants.{HeadTooLarge, BadRequest, NotImplemented, NotFound, MethodNotAllowed, LengthRequired, PayloadTooLarge, Unavailable}
@@ -42,6 +43,14 @@ allow_short Unavailable = lit≤ tt
 pub words_length : (refusal : Refusal) → length (status_words refusal) + 1 ≡ length (reason_of refusal) + 5
 unfolding status_words
 words_length refusal = omega arith
+
+pub ruleset lengths = (reason_short, words_length)
+
+-- the code and the reason words appended in turn
+pub words_joined : (refusal : Refusal) (start s1 s2 s3 : List ℕ) → s1 ≡ start ++ code_digits (status_of refusal) → s2 ≡ s1 ++ codes " " →
+    s3 ≡ s2 ++ reason_of refusal → s3 ≡ start ++ status_words refusal
+unfolding status_words
+words_joined refusal start s1 s2 s3 p q r = r ∙ (ap (λ xs. xs ++ reason_of refusal) (q ∙ ap (λ xs. xs ++ codes " ") p) ∙ simp append_assoc)
 
 -- five pieces appended in turn
 pub five_joined : (start a b c d e s1 s2 s3 s4 s5 : List ℕ) → s1 ≡ start ++ a → s2 ≡ s1 ++ b → s3 ≡ s2 ++ c → s4 ≡ s3 ++ d → s5 ≡ s4 ++ e →

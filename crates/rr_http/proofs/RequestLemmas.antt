@@ -13,13 +13,13 @@ use Rattle.rr_http.specs.declared.asking.Page.TheVariants as page
 use Rattle.rr_http.specs.Requests.{page_of, is_field_of, values_of}
 
 -- a field of another name has no value of this one
-pub values_passed : (name head : List ℕ) (rest behind : List HeaderSpan) (field : HeaderSpan) → rest ≡ field ∷ behind →
-    is_field_of name (header_bytes head field) ≡ false → values_of name (parts_of head rest) ≡ values_of name (parts_of head behind)
-values_passed name head rest behind field cut other = rw cut (rw other refl)
+pub values_passed : (name head : List ℕ) (rest after : List HeaderSpan) (field : HeaderSpan) → rest ≡ field ∷ after →
+    is_field_of name (header_bytes head field) ≡ false → values_of name (parts_of head rest) ≡ values_of name (parts_of head after)
+values_passed name head rest after field cut other = rw cut (rw other refl)
 
--- what holds of the spans holds of those behind the first
-pub within_behind : (n : ℕ) (rest behind : List HeaderSpan) (field : HeaderSpan) → rest ≡ field ∷ behind → All (IsHeaderWithin n) rest → All (IsHeaderWithin n) behind
-within_behind n rest behind field cut within = All-tail (IsHeaderWithin n) field behind (subst (λ spans. All (IsHeaderWithin n) spans) cut within)
+-- what holds of the spans holds of those after the first
+pub within_rest : (n : ℕ) (rest after : List HeaderSpan) (field : HeaderSpan) → rest ≡ field ∷ after → All (IsHeaderWithin n) rest → All (IsHeaderWithin n) after
+within_rest n rest after field cut within = All-tail (IsHeaderWithin n) field after (subst (λ spans. All (IsHeaderWithin n) spans) cut within)
 
 last_of : (a b q : Bool) → cond a (Some page.Submissions) (cond b (Some page.Dump) (cond q (Some page.Query) None)) ≡ Some page.Query → q ≡ true
 last_of true b q e = cc
@@ -28,9 +28,9 @@ last_of false false true e = refl
 last_of false false false e = cc
 
 -- the path of a query has seven bytes before the query
-pub query_behind : (path : List ℕ) → page_of path ≡ Some page.Query → 7 ≤ length path
+pub query_follows : (path : List ℕ) → page_of path ≡ Some page.Query → 7 ≤ length path
 unfolding page_of
-query_behind path e =
+query_follows path e =
     let begins = and_parts _ _ (last_of _ _ _ e) in
     let cut = (starts_is Decides-eqb path (codes "/query/") (starts_with nat_eq path (codes "/query/")) refl).0 begins.0 in
     omega (arith, simp length-append at (ap length cut))

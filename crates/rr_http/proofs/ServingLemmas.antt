@@ -1,33 +1,58 @@
 -- Lemmas on serving a connection.
-use Rattle.std.proofs.Common.{◌≡◌, ℕ, inl, inr, ◌⊎◌, Bool, List, length, subst}
-use Rattle.std.specs.Prelude.{nat_le}
+use Rattle.std.proofs.Common.{◌≡◌, ℕ, ◌-◌, inr, Bool, List, [], length, take, drop, subst, sym, ap, refl, arith}
+use Rattle.std.proofs.lemmas.List.{length-drop, take_all}
 use Rattle.rr_io.specs.Told.{Told}
-use Rattle.rr_desk.specs.Turns.{Answer}
+use Rattle.rr_desk.specs.Turns.{Answer, Visit}
+use Rattle.rr_http.specs.declared.asking.Refusal.{Refusal}
 use Rattle.rr_http.specs.declared.registrar.Registrar.{Ghosts}
-use Rattle.rr_http.specs.FrontLines.{speaks_http}
-use Rattle.rr_http.specs.Serving.{IsUnrouted, Serves, ServesWants}
-use Rattle.rr_http.specs.Wants.{FrontWants, ReadsFront, Wants}
+use Rattle.rr_http.specs.declared.heads.Head.TheVariants.{Whois, Http, Refused}
+use Rattle.rr_http.specs.Answering.{IsAnswered}
+use Rattle.rr_http.specs.Replies.{refusal_reply}
+use Rattle.rr_http.specs.Requests.{Asks, refused}
+use Rattle.rr_http.specs.Serving.{LeavesAll, Replies, Serves, ServesAsks, ServesHead, ServesWants, visit_of}
+use Rattle.rr_http.specs.Wants.{HeadWants, IsHead, ReadsHead, RequestAsks, RequestWants, is_full, whois, http}
 use Rattle.rr_http.proofs.WantLemmas.{wants_kept}
 
--- what is done of what a front wants serves the connection; the writer stayed as it was while the front was read
-pub front_served : {D : Type 0} (desk : Ghosts D) (before after : D) (from_old between from_new old middle new : Told) (result : Answer) (front : List ℕ) (ended : Bool) →
-    ReadsFront from_old between front ended → middle ≡ old →
-    IsUnrouted before after front between from_new middle new result
-    ⊎ ((wants : Wants) × FrontWants (speaks_http front) front (nat_le 8192 (length front)) wants × ServesWants desk front wants before after between from_new middle new result) →
-    Serves desk before after from_old from_new old new result
-front_served desk before after from_old between from_new old middle new result front ended reads still (inl unrouted) = inr (inl (record {
-  front = front;
+-- what is done of what the head of a connection wants serves it; the writer stayed as it was while the head was read
+pub head_served : {D : Type 0} (desk : Ghosts D) (before after : D) (from_old between from_new old middle new : Told) (result : Answer) (head : List ℕ) (ended : Bool) →
+    ReadsHead from_old between head ended → middle ≡ old → ServesHead desk head before after (visit_of between from_new middle new result) →
+    Serves desk before after (visit_of from_old from_new old new result)
+head_served desk before after from_old between from_new old middle new result head ended reads still done = inr (record {
+  head = head;
   ended = ended;
   between = between;
+  wants = done.wants;
   reads = reads;
-  unrouted = subst (λ told. IsUnrouted before after front between from_new told new result) still unrouted;
-}))
-front_served desk before after from_old between from_new old middle new result front ended reads still (inr done) = inr (inr (record {
-  front = front;
-  ended = ended;
-  between = between;
-  wants = done.0;
-  reads = reads;
-  is_wanted = λ more over. wants_kept front more ended done.0 reads.short reads.settled over done.1;
-  serves = subst (λ told. ServesWants desk front done.0 before after between from_new told new result) still done.2;
-}))
+  is_wanted = λ more over. wants_kept head more ended done.wants reads.short reads.settled over done.are_wanted;
+  serves = subst (λ told. ServesWants desk head done.wants before after (visit_of between from_new told new result)) still done.serves;
+})
+
+module _ {D : Type 0} (desk : Ghosts D) (read : List ℕ) (before after : D) (visit : Visit) where
+  -- a query by whois was answered
+  pub whois_served : (count : ℕ) → IsHead read (Whois count) → visit.reader_after ≡ visit.reader_before →
+      IsAnswered desk.Answers [] (take count read) before after visit.writer_before visit.writer_after visit.answer → ServesHead desk read before after visit
+  whois_served count head unread answered = record {
+    wants = whois (take count read);
+    are_wanted = subst (λ speaks. HeadWants speaks read (is_full read) (whois (take count read))) (sym head.0) (ap whois head.2);
+    serves = (unread, answered);
+  }
+
+  -- what a request asks was done
+  pub http_served : (count : ℕ) (asks : Asks) → IsHead read (Http count) → RequestAsks (take count read) asks →
+      ServesAsks desk (take (length read - count) (drop count read)) asks before after visit → ServesHead desk read before after visit
+  http_served count asks head asked serves = record {
+    wants = http count asks;
+    are_wanted = subst (λ speaks. HeadWants speaks read (is_full read) (http count asks)) (sym head.0)
+        (subst (λ found. RequestWants found read (is_full read) (http count asks)) (sym head.2) (asks, asked, refl));
+    serves = subst (λ xs. ServesAsks desk xs asks before after visit) (take_all _ _ (omega (arith, length-drop count read))) serves;
+  }
+
+  -- a head that is not whole was refused
+  pub refusal_served : (refusal : Refusal) → IsHead read (Refused refusal) → LeavesAll before after visit → Replies (refusal_reply refusal) visit →
+      ServesHead desk read before after visit
+  refusal_served refusal head left replies = record {
+    wants = http 0 (refused refusal);
+    are_wanted = subst (λ speaks. HeadWants speaks read (is_full read) (http 0 (refused refusal))) (sym head.0)
+        (subst (λ found. RequestWants found read (is_full read) (http 0 (refused refusal))) (sym head.1) (ap (λ r. http 0 (refused r)) head.2));
+    serves = (left, replies);
+  }

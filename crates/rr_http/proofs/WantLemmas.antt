@@ -1,5 +1,5 @@
 -- Lemmas on what a connection wants: its front says it.
-use Rattle.std.proofs.Common.{◌≡◌, ℕ, suc, ◌+◌, ◌-◌, ◌<◌, ◌≤◌, inl, inr, Bool, true, false, ◌==◌, ◌&&◌, List, [], ◌∷◌, ◌++◌, length, take, Option, None, Some, arith, refl, ap, sym, ◌∙◌, subst, length-append, if◌then◌else◌}
+use Rattle.std.proofs.Common.{◌≡◌, ℕ, suc, ◌+◌, ◌-◌, ◌<◌, ◌≤◌, inl, inr, Bool, true, false, ◌==◌, ◌&&◌, List, [], ◌∷◌, ◌++◌, length, take, Option, None, Some, arith, refl, ap, sym, ◌∙◌, subst, length-append}
 use Rattle.std.specs.Prelude.{nat_lt, nat_le, is_some, IfSome}
 use Rattle.std.specs.Option.{option_map}
 use Rattle.std.proofs.lemmas.Bool.{and_parts, and_right, le-leb, ltb-true, or_left, or_right}
@@ -9,18 +9,17 @@ use Rattle.std.proofs.lemmas.List.{append-nil, take-append-le, take_all}
 use Rattle.std.proofs.Math.Seq.{take-append-add}
 use Rattle.rr_bytes.specs.Blanks.{is_blank, is_line_feed}
 use Rattle.rr_bytes.specs.Trims.{trim_end}
-use Rattle.rr_http.specs.declared.fronts.Goal.TheVariants.{Line, Head}
-use Rattle.rr_http.specs.Fronts.{head_length, has_line_feed, is_reached, line_end}
-use Rattle.rr_http.specs.FrontLines.{line_of, names_version, speaks_http, whois_query}
-use Rattle.rr_http.specs.Wants.{FrontWants, HeadWants, IsParsed, Wants, WantsByItsFront, whois}
+use Rattle.rr_http.specs.Heads.{head_length, has_line_feed, line_end}
+use Rattle.rr_http.specs.Lines.{line_of, names_version, speaks_http, whois_query}
+use Rattle.rr_http.specs.Wants.{HeadWants, RequestAsks, RequestWants, Wants, WantsByItsHead, is_full, says_by, whois}
 
-line_of_feed : (b : ℕ) (bs : List ℕ) → (b == 10) ≡ true → line_of (b ∷ bs) ≡ []
+pub line_of_feed : (b : ℕ) (bs : List ℕ) → (b == 10) ≡ true → line_of (b ∷ bs) ≡ []
 line_of_feed b bs e = rw e refl
 
-one_more : (b : ℕ) (bs : List ℕ) (n : ℕ) → take (1 + n) (b ∷ bs) ≡ b ∷ take n bs
+pub one_more : (b : ℕ) (bs : List ℕ) (n : ℕ) → take (1 + n) (b ∷ bs) ≡ b ∷ take n bs
 one_more b bs n = ap (λ k. take k (b ∷ bs)) (let more : 1 + n ≡ suc n = omega arith in more)
 
-line_of_on : (b : ℕ) (bs : List ℕ) → (b == 10) ≡ false → line_of (b ∷ bs) ≡ b ∷ line_of bs
+pub line_of_on : (b : ℕ) (bs : List ℕ) → (b == 10) ≡ false → line_of (b ∷ bs) ≡ b ∷ line_of bs
 line_of_on b bs e = rw e (one_more b bs _)
 
 feed_behind : (b : ℕ) (bs : List ℕ) → (b == 10) ≡ false → has_line_feed (b ∷ bs) ≡ true → has_line_feed bs ≡ true
@@ -135,26 +134,26 @@ head_within (b ∷ bs) = within_step b bs (is_line_feed b && nat_lt 0 (line_end 
 
 -- what a whole head asks does not depend on what follows
 head_kept : (found : Option ℕ) (front more : List ℕ) (full wide : Bool) (wants : Wants) → is_some found ≡ true → IfSome found (λ place. place ≤ length front) →
-    HeadWants found front full wants → HeadWants found (front ++ more) wide wants
+    RequestWants found front full wants → RequestWants found (front ++ more) wide wants
 head_kept None front more full wide wants h within asked = cc
 head_kept (Some place) front more full wide wants h within asked =
-    (asked.0, subst (λ head. IsParsed head asked.0) (sym (take-append-le place front more within)) asked.1, asked.2)
+    (asked.0, subst (λ text. RequestAsks text asked.0) (sym (take-append-le place front more within)) asked.1, asked.2)
 
 -- a front that has what it was read for wants the same with more behind it
 reached_on : (front more : List ℕ) (speaks full wide : Bool) (wants : Wants) → speaks_http front ≡ speaks →
-    is_reached (if speaks then Head else Line) front ≡ true → FrontWants speaks front full wants → FrontWants (speaks_http (front ++ more)) (front ++ more) wide wants
+    says_by speaks front ≡ true → HeadWants speaks front full wants → HeadWants (speaks_http (front ++ more)) (front ++ more) wide wants
 reached_on front more false full wide wants is h asked =
-    subst (λ speaks. FrontWants speaks (front ++ more) wide wants) (sym (speaks_http-append front more h ∙ is))
+    subst (λ speaks. HeadWants speaks (front ++ more) wide wants) (sym (speaks_http-append front more h ∙ is))
     (asked ∙ ap whois (sym (whois_query-append front more h)))
 reached_on front more true full wide wants is h asked =
-    subst (λ speaks. FrontWants speaks (front ++ more) wide wants) (sym (speaks_http-append front more (head_has_feed front h) ∙ is))
-    (subst (λ found. HeadWants found (front ++ more) wide wants) (sym (head_length-append front more h))
+    subst (λ speaks. HeadWants speaks (front ++ more) wide wants) (sym (speaks_http-append front more (head_has_feed front h) ∙ is))
+    (subst (λ found. RequestWants found (front ++ more) wide wants) (sym (head_length-append front more h))
     (head_kept (head_length front) front more full wide wants h (head_within front) asked))
 
-same_wants : (front text : List ℕ) (full wide : Bool) (wants : Wants) → front ≡ text → full ≡ wide → FrontWants (speaks_http front) front full wants →
-    FrontWants (speaks_http text) text wide wants
+same_wants : (front text : List ℕ) (full wide : Bool) (wants : Wants) → front ≡ text → full ≡ wide → HeadWants (speaks_http front) front full wants →
+    HeadWants (speaks_http text) text wide wants
 same_wants front text full wide wants e f asked =
-    subst (λ xs. FrontWants (speaks_http xs) xs wide wants) e (subst (λ b. FrontWants (speaks_http front) front b wants) f asked)
+    subst (λ xs. HeadWants (speaks_http xs) xs wide wants) e (subst (λ b. HeadWants (speaks_http front) front b wants) f asked)
 
 -- the first 8,192 bytes are the front and some of what follows
 front_of_all : (front more : List ℕ) → length front ≤ 8192 → take 8192 (front ++ more) ≡ front ++ take (8192 - length front) more
@@ -165,13 +164,13 @@ front_of_all front more short =
 full_front : (front more : List ℕ) → length front ≡ 8192 → front ≡ take 8192 (front ++ more)
 full_front front more full = sym (front_of_all front more (omega arith) ∙ (ap (λ n. front ++ take n more) (let none : 8192 - length front ≡ 0 = omega arith in none) ∙ append-nil front))
 
-pub wants_kept : WantsByItsFront
+pub wants_kept : WantsByItsHead
 wants_kept front more ended wants short (inl reached) done asked =
-    subst (λ xs. FrontWants (speaks_http xs) xs (nat_le 8192 (length (front ++ more))) wants) (sym (front_of_all front more short))
-    (reached_on front (take (8192 - length front) more) (speaks_http front) (nat_le 8192 (length front)) (nat_le 8192 (length (front ++ more))) wants refl reached asked)
+    subst (λ xs. HeadWants (speaks_http xs) xs (is_full (front ++ more)) wants) (sym (front_of_all front more short))
+    (reached_on front (take (8192 - length front) more) (speaks_http front) (is_full front) (is_full (front ++ more)) wants refl reached asked)
 wants_kept front more ended wants short (inr (inl full)) done asked =
-    let at_front : nat_le 8192 (length front) ≡ true = le-leb 8192 (length front) (omega arith) in
-    let at_all : nat_le 8192 (length (front ++ more)) ≡ true = le-leb 8192 (length (front ++ more)) (omega (arith, length-append front more)) in
+    let at_front : is_full front ≡ true = le-leb 8192 (length front) (omega arith) in
+    let at_all : is_full (front ++ more) ≡ true = le-leb 8192 (length (front ++ more)) (omega (arith, length-append front more)) in
     same_wants front _ _ _ wants (full_front front more full) (at_front ∙ sym at_all) asked
 wants_kept front more ended wants short (inr (inr over)) done asked =
     let whole : front ++ more ≡ front = ap (λ xs. front ++ xs) (done over) ∙ append-nil front in

@@ -5,13 +5,18 @@ use Rattle.rr_io.specs.Receiving.{BreaksOff, Gives, IsSpent}
 use Rattle.rr_http.specs.declared.body_reading.BodyEnd.{BodyEnd}
 use Rattle.rr_http.specs.declared.body_reading.BodyEnd.TheVariants.{Whole, Short, Broken}
 
--- a body of so many bytes begins with those that came behind the head; the rest of it was read, and no byte behind it: it is whole, or
--- it is short because the input ended, or because a read failed (RFC 9112, 6.2)
+-- a body of so many bytes begins with those that came with the head; the rest of it was read, and
+-- no byte after it: it is whole, or it is short because the input ended, or because a read failed
+-- (RFC 9112, 6.2)
 abbrev pub ReadsBody : Told → Told → List ℕ → ℕ → List ℕ → BodyEnd → Type 0
-ReadsBody old new begun size body Whole =
-    (more : List ℕ) × Gives old new more × (body ≡ take size (begun ++ more)) × (length body ≡ size) × (length more ≡ size - length begun)
-ReadsBody old new begun size body Short = (more : List ℕ) × Gives old new more × IsSpent new × (body ≡ begun ++ more) × (length body < size)
-ReadsBody old new begun size body Broken = (more : List ℕ) × BreaksOff old new more × (body ≡ begun ++ more) × (length body < size)
+ReadsBody old new buffered size body Whole =
+    (more : List ℕ) × Gives old new more × (body ≡ take size (buffered ++ more))
+    × (length body ≡ size) × (length more ≡ size - length buffered)
+ReadsBody old new buffered size body Short =
+    (more : List ℕ) × Gives old new more × IsSpent new × (body ≡ buffered ++ more)
+    × (length body < size)
+ReadsBody old new buffered size body Broken =
+    (more : List ℕ) × BreaksOff old new more × (body ≡ buffered ++ more) × (length body < size)
 
 -- no more than so many bytes were read, and no read failed
 abbrev pub GivesWithin : Told → Told → ℕ → Type 0

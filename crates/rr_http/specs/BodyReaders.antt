@@ -19,9 +19,14 @@ body_failed body = body.failed
 abbrev pub body_reads : Body → ℕ
 body_reads body = body.reads
 
--- it tells the bytes that are left, and as many zeros behind them as never came, which it never gives (profile)
+-- it tells the bytes that are left, and as many zeros after them as never came, which it never
+-- gives (profile)
 abbrev pub body_told : Body → Told
-body_told body = record { bytes = Some (body_rest body ++ replicate (body_missing body) 0); faults = body_failed body; reads = body_reads body }
+body_told body = record {
+  bytes = Some (body_rest body ++ replicate (body_missing body) 0);
+  faults = body_failed body;
+  reads = body_reads body;
+}
 
 -- how many bytes never came stays the same
 abbrev pub body_aside : Body → Told

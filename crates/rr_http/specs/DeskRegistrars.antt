@@ -11,7 +11,9 @@ use Rattle.rr_desk.specs.declared.desk.Desk.{Desk}
 use Rattle.rr_desk.specs.Answering as desk_answering
 use Rattle.rr_desk.specs.Rows.{Holds, KeepsRows}
 use Rattle.rr_desk.specs.Stocks.{stock_ledger}
+use Rattle.rr_desk.specs.Turns.{Serving}
 use Rattle.rr_http.specs.declared.registrar.Registrar as registrar
+use Rattle.rr_http.specs.Serving.{Serves, visit_of}
 
 -- a desk decides items as the registry does that it keeps with its store
 abbrev pub desk_ledger : {S : Type 0} → store.Ghosts S → ledger.Ghosts (Desk S)
@@ -21,23 +23,30 @@ desk_ledger g = record {
   Halts = λ old secrets item new. (stock_ledger g).Halts old.stored secrets item new.stored;
 }
 
--- the text in which a desk answers a query, and what that leaves of the desk: its registry, whether it is stopped, and the rows of
--- its registry, also where a fault of the store stopped it; one that was stopped stays as it is
-pub record IsDeskAnswer {S : Type 0} (g : store.Ghosts S) (before : Desk S) (query text : List ℕ) (after : Desk S) : Type 0 where
+-- the text in which a desk answers a query, and what that leaves of the desk: its registry, whether
+-- it is stopped, and the rows of its registry, also where a fault of the store stopped it; one that
+-- was stopped stays as it is
+pub record IsDeskAnswer {S : Type 0} (g : store.Ghosts S) (before : Desk S) (query text : List ℕ)
+    (after : Desk S) : Type 0 where
   pub answer : Result (List ℕ) QueryFault
-  pub answered : desk_answering.IsAnswered (HasCleanDisk (state g after.stored.store)) before.stored.registry before.settings.limit query before.stored.stopped after.stored.stopped answer
+  pub answered : desk_answering.IsAnswered (HasCleanDisk (state g after.stored.store))
+      before.stored.registry before.settings.limit query before.stored.stopped
+      after.stored.stopped answer
   pub is : text ≡ answer_bytes answer
   pub same : after.stored.registry ≡ before.stored.registry
-  pub keeps : before.stored.stopped ≡ false → KeepsRows before.stored.registry (state g after.stored.store)
+  pub keeps : before.stored.stopped ≡ false
+      → KeepsRows before.stored.registry (state g after.stored.store)
   pub still : before.stored.stopped ≡ true → after ≡ before
 
--- where the disk gives back what was written, the rows of a desk that runs are those of its registry, and a stop leaves these
+-- where the disk gives back what was written, the rows of a desk that runs are those of its
+-- registry, and a stop leaves these
 abbrev pub IsKept : {S : Type 0} → store.Ghosts S → Desk S → Type 0
 IsKept g desk =
     desk.stored.stopped ≡ false → HasCleanDisk (state g desk.stored.store)
     → Holds desk.stored.registry (state g desk.stored.store)
 
--- a desk answers queries, gives the public dump of its registry, and takes submissions until it is stopped
+-- a desk answers queries, gives the public dump of its registry, and takes submissions until it is
+-- stopped
 abbrev pub desk_registrar : {S : Type 0} → store.Ghosts S → registrar.Ghosts (Desk S)
 desk_registrar g = record {
   ledger = desk_ledger g;
@@ -47,3 +56,8 @@ desk_registrar g = record {
   dumped = λ desk. dump false desk.stored.registry;
   Kept = λ desk. IsKept g desk;
 }
+
+-- what serving a connection of a desk does
+abbrev pub serves_desk : Serving
+serves_desk S g before after from_old from_new old new result =
+    Serves (desk_registrar g) before after (visit_of from_old from_new old new result)

@@ -1,12 +1,11 @@
 pub mod Asked
-pub mod Fronts
-pub mod FrontLines
-pub mod FrontParts
+pub mod Heads
+pub mod Lines
+pub mod HeadParts
 pub mod Requests
-pub mod Routes
 pub mod Replies
+pub mod Sides
 pub mod Wants
-pub mod Wanted
 pub mod Bodies
 pub mod BodyParts
 pub mod BodyReaders

@@ -2,7 +2,10 @@
 use Rattle.std.specs.Prelude.{ℕ, ◌+◌, List, [], ◌++◌, length, codes, decimal}
 use Rattle.http.specs.StatusCode.{code_digits}
 use Rattle.rr_http.specs.declared.asking.Refusal.{Refusal}
-use Rattle.rr_http.specs.declared.asking.Refusal.TheVariants.{HeadTooLarge, BadRequest, NotImplemented, NotFound, MethodNotAllowed, LengthRequired, PayloadTooLarge, Unavailable}
+use Rattle.rr_http.specs.declared.asking.Refusal.TheVariants.{HeadTooLarge, BadRequest}
+use Rattle.rr_http.specs.declared.asking.Refusal.TheVariants.{NotImplemented, NotFound}
+use Rattle.rr_http.specs.declared.asking.Refusal.TheVariants.{MethodNotAllowed, LengthRequired}
+use Rattle.rr_http.specs.declared.asking.Refusal.TheVariants.{PayloadTooLarge, Unavailable}
 use Rattle.rr_http.specs.Requests.{method_of}
 
 -- the status code of a refusal (RFC 9110, 15; RFC 6585, 5)
@@ -36,17 +39,21 @@ abbrev pub allow_line : Refusal → List ℕ
 allow_line (MethodNotAllowed page) = codes "Allow: " ++ (method_of page ++ codes "\r\n")
 allow_line other = []
 
--- the fields of a refusal, with the length of its body, and the empty line behind them (RFC 9112, 2.1; profile)
+-- the fields of a refusal, with the length of its body, and the empty line after them
+-- (RFC 9112, 2.1; profile)
 abbrev pub refusal_fields : Refusal → List ℕ
 refusal_fields refusal =
-    codes "\r\nContent-Type: text/plain\r\nContent-Length: " ++ (decimal (length (status_words refusal) + 1)
+    codes "\r\nContent-Type: text/plain\r\nContent-Length: "
+    ++ (decimal (length (status_words refusal) + 1)
     ++ (codes "\r\nConnection: close\r\n" ++ (allow_line refusal ++ codes "\r\n")))
 
 -- the reply to a request that is refused: its body is the status in words, and an LF (profile)
 unfoldable pub refusal_reply : Refusal → List ℕ
 refusal_reply refusal =
-    codes "HTTP/1.1 " ++ (status_words refusal ++ (refusal_fields refusal ++ (status_words refusal ++ codes "\n")))
+    codes "HTTP/1.1 " ++ (status_words refusal
+    ++ (refusal_fields refusal ++ (status_words refusal ++ codes "\n")))
 
--- the head of a reply whose body is what was asked: the body ends with the connection (RFC 9112, 6.3)
+-- the head of a reply whose body is what was asked: the body ends with the connection
+-- (RFC 9112, 6.3)
 unfoldable pub given_head : List ℕ
 given_head = codes "HTTP/1.1 200 OK\r\nContent-Type: text/plain\r\nConnection: close\r\n\r\n"

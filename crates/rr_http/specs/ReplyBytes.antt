@@ -1,5 +1,6 @@
 -- What a connection that tells its bytes is answered, by the bytes that it gives.
-use Rattle.std.specs.Prelude.{◌≡◌, ℕ, ◌<◌, true, false, ◌⊎◌, List, [], ◌++◌, length, map, drop, Ok, Err, Some}
+use Rattle.std.specs.Prelude.{◌≡◌, ℕ, ◌<◌, false, ◌⊎◌, List, [], ◌++◌, length, map, drop, Ok, Err}
+use Rattle.std.specs.Prelude.{Some}
 use Rattle.percent_encoding.specs.Percent.{percent_decode}
 use Rattle.rr_io.specs.Told.{Told}
 use Rattle.rr_io.specs.Sending.{Takes}
@@ -11,90 +12,103 @@ use Rattle.rr_submission.specs.declared.submission.Done.{Done}
 use Rattle.rr_submission.specs.Reports.{report}
 use Rattle.rr_submission.specs.SubmissionItems.{AreItems, Asked, submitted}
 use Rattle.rr_desk.specs.declared.peers.ConnFault.TheVariants.{Read, Write}
-use Rattle.rr_desk.specs.Turns.{Answer}
+use Rattle.rr_desk.specs.Turns.{Answer, Visit}
 use Rattle.rr_http.specs.declared.asking.Refusal.TheVariants.{Unavailable}
 use Rattle.rr_http.specs.declared.body_reading.BodyEnd.{BodyEnd}
 use Rattle.rr_http.specs.declared.registrar.Registrar.{Ghosts}
 use Rattle.rr_http.specs.Answering.{SubmitsBody}
-use Rattle.rr_http.specs.FrontLines.{speaks_http}
 use Rattle.rr_http.specs.Replies.{given_head, refusal_reply}
 use Rattle.rr_http.specs.Requests.{Asks, refused, submission, query, dump}
 use Rattle.rr_http.specs.Serving.{Serves, SubmitsRead}
 use Rattle.rr_http.specs.ToldBytes.{IsBodyOf}
 use Rattle.rr_http.specs.Wants.{IsUndecided, IsWanted, Wants, whois, http}
 
--- a front of the text is answered, and not all of it
-abbrev pub IsFrontOf : List ℕ → List ℕ → Type 0
-IsFrontOf text answered = (rest : List ℕ) × (text ≡ answered ++ rest) × (0 < length rest)
+-- the text is answered so far, and not all of it
+abbrev pub IsCutOff : List ℕ → List ℕ → Type 0
+IsCutOff text answered = (rest : List ℕ) × (text ≡ answered ++ rest) × (0 < length rest)
 
--- the text is answered, or a front of it where a write failed
+-- the text is answered, or not all of it where a write failed
 abbrev pub IsSent : List ℕ → Answer → List ℕ → Type 0
 IsSent text (Ok done) answered = answered ≡ text
 IsSent text (Err Read) answered = ⊥
-IsSent text (Err Write) answered = IsFrontOf text answered
+IsSent text (Err Write) answered = IsCutOff text answered
 
--- the dump is answered behind the head of a reply: whole, or a front of it where memory was wanting; or a front of both where a
--- write failed (profile)
+-- the dump is answered after the head of a reply: whole, or a part of it where memory ran out; or a
+-- part of both where a write failed (profile)
 abbrev pub IsDumpSent : List ℕ → Answer → List ℕ → Type 0
-IsDumpSent text (Ok done) answered = (front : List ℕ) × (rest : List ℕ) × (text ≡ front ++ rest) × (answered ≡ given_head ++ front)
+IsDumpSent text (Ok done) answered =
+    (part : List ℕ) × (rest : List ℕ) × (text ≡ part ++ rest) × (answered ≡ given_head ++ part)
 IsDumpSent text (Err Read) answered = ⊥
-IsDumpSent text (Err Write) answered = IsFrontOf (given_head ++ text) answered
+IsDumpSent text (Err Write) answered = IsCutOff (given_head ++ text) answered
 
 -- that the request cannot be served now is answered, and the desk was not asked
 abbrev pub IsRefusalSent : {D : Type 0} → D → D → Answer → List ℕ → Type 0
-IsRefusalSent before after result answered = IsSent (refusal_reply Unavailable) result answered × (after ≡ before)
+IsRefusalSent before after result answered =
+    IsSent (refusal_reply Unavailable) result answered × (after ≡ before)
 
--- a front of the head of a reply is answered, and the desk was not asked
-pub record IsHeadFrontSent {D : Type 0} (before after : D) (result : Answer) (answered : List ℕ) : Type 0 where
-  pub cut : IsFrontOf given_head answered
+-- not even the head of a reply is answered, and the desk was not asked
+pub record IsHeadCutOff {D : Type 0} (before after : D) (result : Answer) (answered : List ℕ)
+    : Type 0 where
+  pub cut : IsCutOff given_head answered
   pub failed : result ≡ Err Write
   pub same : after ≡ before
 
--- the answer of the desk to a query is answered behind these bytes
-pub record IsAnswerSent {D : Type 0} (desk : Ghosts D) (head text : List ℕ) (before after : D) (result : Answer) (answered : List ℕ) : Type 0 where
+-- the answer of the desk to a query is answered after these bytes
+pub record IsAnswerSent {D : Type 0} (desk : Ghosts D) (head text : List ℕ) (before after : D)
+    (result : Answer) (answered : List ℕ) : Type 0 where
   pub answer : List ℕ
   pub answers : desk.Answers before text answer after
   pub sent : IsSent (head ++ answer) result answered
 
--- a body of so many bytes was submitted, which is that of what stands behind the head, and its report is answered behind the head of
--- a reply, as far as it could be written
-pub record IsReportSent {D : Type 0} (desk : Ghosts D) (behind : List ℕ) (size : ℕ) (before after : D) (result : Answer) (answered : List ℕ) : Type 0 where
+-- a body of so many bytes was submitted, which is that of what stands after the head, and its
+-- report is answered after the head of a reply, as far as it could be written
+pub record IsReportSent {D : Type 0} (desk : Ghosts D) (given : List ℕ) (size : ℕ)
+    (before after : D) (result : Answer) (answered : List ℕ) : Type 0 where
   pub running : desk.stops before ≡ false
   pub body : List ℕ
   pub end : BodyEnd
-  pub is_body : IsBodyOf end size behind body
+  pub is_body : IsBodyOf end size given body
   pub old : Told
   pub new : Told
   pub unwritten : old.bytes ≡ Some []
   pub written : new.bytes ≡ Some answered
   pub submits : SubmitsRead desk body size end before after old new result
 
--- what a request is answered, by what it asks and what stands behind its head
+-- what a request is answered, by what it asks and what stands after its head
 abbrev pub RepliesTo : {D : Type 0} → Ghosts D → List ℕ → Asks → D → D → Answer → List ℕ → Type 0
-RepliesTo desk behind (refused refusal) before after result answered = IsSent (refusal_reply refusal) result answered × (after ≡ before)
-RepliesTo desk behind (submission size) before after result answered =
-    IsRefusalSent before after result answered ⊎ IsReportSent desk behind size before after result answered
-RepliesTo desk behind (query escaped) before after result answered =
+RepliesTo desk given (refused refusal) before after result answered =
+    IsSent (refusal_reply refusal) result answered × (after ≡ before)
+RepliesTo desk given (submission size) before after result answered =
+    IsRefusalSent before after result answered
+    ⊎ IsReportSent desk given size before after result answered
+RepliesTo desk given (query escaped) before after result answered =
     IsRefusalSent before after result answered
     ⊎ ((desk.stops before ≡ false)
-    × (IsHeadFrontSent before after result answered ⊎ IsAnswerSent desk given_head (percent_decode escaped) before after result answered))
-RepliesTo desk behind dump before after result answered =
+    × (IsHeadCutOff before after result answered
+    ⊎ IsAnswerSent desk given_head (percent_decode escaped) before after result answered))
+RepliesTo desk given dump before after result answered =
     IsRefusalSent before after result answered
-    ⊎ ((desk.stops before ≡ false) × IsDumpSent (desk.dumped before) result answered × (after ≡ before))
+    ⊎ ((desk.stops before ≡ false) × IsDumpSent (desk.dumped before) result answered
+    × (after ≡ before))
 
 -- what a connection is answered that gives these bytes in all, by what it wants
-abbrev pub RepliesToWants : {D : Type 0} → Ghosts D → List ℕ → Wants → D → D → Answer → List ℕ → Type 0
-RepliesToWants desk asked (whois text) before after result answered = IsAnswerSent desk [] text before after result answered
-RepliesToWants desk asked (http place asks) before after result answered = RepliesTo desk (drop place asked) asks before after result answered
+abbrev pub RepliesToWants : {D : Type 0} → Ghosts D → List ℕ → Wants → D → D → Answer → List ℕ
+    → Type 0
+RepliesToWants desk asked (whois text) before after result answered =
+    IsAnswerSent desk [] text before after result answered
+RepliesToWants desk asked (http place asks) before after result answered =
+    RepliesTo desk (drop place asked) asks before after result answered
 
 -- what its bytes want is answered
-pub record IsReplied {D : Type 0} (desk : Ghosts D) (before : D) (asked : List ℕ) (result : Answer) (answered : List ℕ) (after : D) : Type 0 where
+pub record IsReplied {D : Type 0} (desk : Ghosts D) (before : D) (asked : List ℕ) (result : Answer)
+    (answered : List ℕ) (after : D) : Type 0 where
   pub wants : Wants
   pub is_wanted : IsWanted asked wants
   pub replies : RepliesToWants desk asked wants before after result answered
 
 -- or a read failed before it was known what it wants, and nothing is answered
-pub record IsUnanswered {D : Type 0} (before : D) (asked : List ℕ) (result : Answer) (answered : List ℕ) (after : D) : Type 0 where
+pub record IsUnanswered {D : Type 0} (before : D) (asked : List ℕ) (result : Answer)
+    (answered : List ℕ) (after : D) : Type 0 where
   pub given : List ℕ
   pub rest : List ℕ
   pub is : asked ≡ given ++ rest
@@ -103,42 +117,39 @@ pub record IsUnanswered {D : Type 0} (before : D) (asked : List ℕ) (result : A
   pub same : after ≡ before
   pub failed : result ≡ Err Read
 
--- or memory was refused for the pages, where the bytes that were read speak HTTP, and it is answered that the request cannot be
--- served now
-pub record IsUnroutedReply {D : Type 0} (before : D) (asked : List ℕ) (result : Answer) (answered : List ℕ) (after : D) : Type 0 where
-  pub front : List ℕ
-  pub rest : List ℕ
-  pub is : asked ≡ front ++ rest
-  pub speaks : speaks_http front ≡ true
-  pub is_refused : IsRefusalSent before after result answered
-
--- the reply to a connection: by the desk, the bytes that it gives in all, and how serving it ended, the bytes that it is answered,
--- and what that leaves of the desk (RFC 3912, RFC 9112; profile)
+-- the reply to a connection: by the desk, the bytes that it gives in all, and how serving it ended,
+-- the bytes that it is answered, and what that leaves of the desk (RFC 3912, RFC 9112; profile)
 abbrev pub IsReply : {D : Type 0} → Ghosts D → D → List ℕ → Answer → List ℕ → D → Type 0
 IsReply desk before asked result answered after =
     IsUnanswered before asked result answered after
-    ⊎ (IsUnroutedReply before asked result answered after ⊎ IsReplied desk before asked result answered after)
+    ⊎ IsReplied desk before asked result answered after
 
--- each item of a body was decided, in order, and the whole report is answered behind the head of a reply: a line for each item, and
--- the last line (profile)
-pub record IsWholeReport {D : Type 0} (desk : Ghosts D) (body : List ℕ) (before after : D) (answered : List ℕ) : Type 0 where
+-- each item of a body was decided, in order, and the whole report is answered after the head of a
+-- reply: a line for each item, and the last line (profile)
+pub record IsWholeReport {D : Type 0} (desk : Ghosts D) (body : List ℕ) (before after : D)
+    (answered : List ℕ) : Type 0 where
   pub items : List Asked
   pub outcomes : List Outcome
   pub are_items : AreItems (desk.settings before).source [] (entries body) items
-  pub runs : Run (desk.ledger.registry before) (map submitted items) outcomes (desk.ledger.registry after)
+  pub runs : Run (desk.ledger.registry before) (map submitted items) outcomes
+      (desk.ledger.registry after)
   pub is : answered ≡ given_head ++ report Complete items outcomes
 
--- a submission that ended well misses no byte of its body, and is answered with the whole report on it
+-- a submission that ended well misses no byte of its body, and is answered with the whole report on
+-- it
 abbrev pub AnswersWithItsReport : {D : Type 0} → Ghosts D → Type 0
 AnswersWithItsReport {D} desk =
-    (before after : D) (old between new : Told) (body answered : List ℕ) (missing : ℕ) (done : Done) → old.bytes ≡ Some []
-    → new.bytes ≡ Some answered → Takes old between given_head
-    → SubmitsBody desk.ledger (desk.settings before).source body missing before after between new (Ok done)
+    (before after : D) (old between new : Told) (body answered : List ℕ) (missing : ℕ) (done : Done)
+    → old.bytes ≡ Some [] → new.bytes ≡ Some answered → Takes old between given_head
+    → SubmitsBody desk.ledger (desk.settings before).source body missing before after between new
+    (Ok done)
     → (missing ≡ 0) × IsWholeReport desk body before after answered
 
--- serving a connection that tells its bytes, to which nothing was written, answers it with its reply
+-- serving a connection that tells its bytes, to which nothing was written, answers it with its
+-- reply
 abbrev pub AnswersWithItsReply : {D : Type 0} → Ghosts D → Type 0
 AnswersWithItsReply {D} desk =
-    (before after : D) (from_old from_new old new : Told) (asked answered : List ℕ) (result : Answer) → from_old.bytes ≡ Some asked
-    → old.bytes ≡ Some [] → new.bytes ≡ Some answered → Serves desk before after from_old from_new old new result
-    → IsReply desk before asked result answered after
+    (before after : D) (visit : Visit) (asked answered : List ℕ)
+    → visit.reader_before.bytes ≡ Some asked → visit.writer_before.bytes ≡ Some []
+    → visit.writer_after.bytes ≡ Some answered → Serves desk before after visit
+    → IsReply desk before asked visit.answer answered after

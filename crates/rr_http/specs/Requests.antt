@@ -1,5 +1,7 @@
 -- What a request asks, by its method, its target and its fields (RFC 9110; profile).
-use Rattle.std.specs.Prelude.{ℕ, ◌≤◌, Bool, false, nat_eq, ◌==◌, ◌&&◌, not, nat_lt, nat_le, List, [], ◌∷◌, length, map, filter, drop, codes, Option, None, Some, Result, Ok, Err, if◌then◌else◌}
+use Rattle.std.specs.Prelude.{ℕ, ◌≤◌, Bool, false, nat_eq, ◌==◌, ◌&&◌, not, nat_lt, nat_le}
+use Rattle.std.specs.Prelude.{List, [], ◌∷◌, length, map, filter, drop, codes, Option, None, Some}
+use Rattle.std.specs.Prelude.{Result, Ok, Err, if◌then◌else◌}
 use Rattle.std.specs.List.{before_first, list_all, list_any, starts_with}
 use Rattle.std.specs.Str.{bytes_eq}
 use Rattle.std.specs.Char.{is_ascii_digit}
@@ -8,13 +10,17 @@ use Rattle.rr_bytes.specs.LetterCase.{is_keyword}
 use Rattle.rr_http.specs.declared.asking.Page.{Page}
 use Rattle.rr_http.specs.declared.asking.Page.TheVariants as page
 use Rattle.rr_http.specs.declared.asking.Refusal.{Refusal}
-use Rattle.rr_http.specs.declared.asking.Refusal.TheVariants.{BadRequest, NotImplemented, NotFound, MethodNotAllowed, LengthRequired, PayloadTooLarge}
+use Rattle.rr_http.specs.declared.asking.Refusal.TheVariants.{BadRequest, NotImplemented, NotFound}
+use Rattle.rr_http.specs.declared.asking.Refusal.TheVariants.{MethodNotAllowed, LengthRequired}
+use Rattle.rr_http.specs.declared.asking.Refusal.TheVariants.{PayloadTooLarge}
+use Rattle.rr_http.specs.declared.asking.TheConstants.{BODY_SIZE}
 
 -- a field of a head: its name, and its value less the white space around it (RFC 9110, 5)
 abbrev pub Part : Type 0
 Part = List ℕ × List ℕ
 
--- what a request asks: to be refused, the report on a body of so many bytes, the answer to a query with these escapes, or the dump
+-- what a request asks: to be refused, the report on a body of so many bytes, the answer to a query
+-- with these escapes, or the dump
 pub data Asks : Type 0 where
   refused : Refusal → Asks
   submission : ℕ → Asks
@@ -30,11 +36,15 @@ abbrev pub is_segment : List ℕ → Bool
 is_segment [] = false
 is_segment (b ∷ bs) = not (list_any (λ c. c == 47) (b ∷ bs))
 
--- the path of a query is `/query/` and one segment behind it (profile)
-abbrev pub is_query_path : List ℕ → Bool
-is_query_path path = starts_with nat_eq path (codes "/query/") && is_segment (drop 7 path)
+-- what stands after `/query/` in a path
+abbrev pub after_query : List ℕ → List ℕ
+after_query path = drop (length (codes "/query/")) path
 
--- the pages: `/submissions`, `/dump`, and `/query/` with one segment behind it (profile)
+-- the path of a query is `/query/` and one segment after it (profile)
+abbrev pub is_query_path : List ℕ → Bool
+is_query_path path = starts_with nat_eq path (codes "/query/") && is_segment (after_query path)
+
+-- the pages: `/submissions`, `/dump`, and `/query/` with one segment after it (profile)
 unfoldable pub page_of : List ℕ → Option Page
 page_of path =
     if bytes_eq path (codes "/submissions") then Some page.Submissions
@@ -62,7 +72,8 @@ is_length (b ∷ bs) = list_all is_ascii_digit (b ∷ bs)
 unfoldable pub size_of : List ℕ → Result ℕ Refusal
 size_of value =
     if is_length value
-    then (if nat_le (digits_value 10 value) 1048576 then Ok (digits_value 10 value) else Err PayloadTooLarge)
+    then (if nat_le (digits_value 10 value) BODY_SIZE then Ok (digits_value 10 value)
+    else Err PayloadTooLarge)
     else Err BadRequest
 
 -- a body has exactly one length (RFC 9110, 8.6; profile)
@@ -82,20 +93,23 @@ method_of page.Submissions = codes "POST"
 method_of page.Query = codes "GET"
 method_of page.Dump = codes "GET"
 
--- what is asked of a page by its own method; a query is what stands behind `/query/`
+-- what is asked of a page by its own method; a query is what stands after `/query/`
 abbrev pub asks_page : List ℕ → List Part → Page → Asks
-asks_page path parts page.Submissions = submits (sized (values_of (codes "Content-Length") parts))
-asks_page path parts page.Query = query (drop 7 path)
+asks_page path parts page.Submissions =
+    submits (sized (values_of (codes "Content-Length") parts))
+asks_page path parts page.Query = query (after_query path)
 asks_page path parts page.Dump = dump
 
 -- what is asked at a path
 abbrev pub asks_at : List ℕ → List ℕ → List Part → Option Page → Asks
 asks_at method path parts None = refused NotFound
 asks_at method path parts (Some found) =
-    if bytes_eq method (method_of found) then asks_page path parts found else refused (MethodNotAllowed found)
+    if bytes_eq method (method_of found) then asks_page path parts found
+    else refused (MethodNotAllowed found)
 
--- what a request asks. The first refusal of these is given: a transfer coding, no such page, another method, and for a body no
--- length, a bad length or more than one, a length that is too large (RFC 9110, 15; profile)
+-- what a request asks. The first refusal of these is given: a transfer coding, no such page,
+-- another method, and for a body no length, a bad length or more than one, a length that is too
+-- large (RFC 9110, 15; profile)
 unfoldable pub asks_of : List ℕ → List ℕ → List Part → Asks
 asks_of method target parts =
     if has_field (codes "Transfer-Encoding") parts then refused NotImplemented
@@ -104,6 +118,6 @@ asks_of method target parts =
 -- a body that is asked for has at most 1,048,576 bytes (profile)
 abbrev pub HasSmallSize : Asks → Type 0
 HasSmallSize (refused refusal) = Unit {0}
-HasSmallSize (submission size) = size ≤ 1048576
+HasSmallSize (submission size) = size ≤ BODY_SIZE
 HasSmallSize (query escaped) = Unit {0}
 HasSmallSize dump = Unit {0}

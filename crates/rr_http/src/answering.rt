@@ -1,19 +1,17 @@
 //! What each thing that a connection wants is answered.
 
-ghost use Rattle.std.specs.Prelude.{◌≡◌, ◌≤◌, ◌⊎◌, [], Err, IfOk, false, length};
+ghost use Rattle.std.specs.Prelude.{◌≡◌, ◌≤◌, [], Err, IfOk, false, length};
 ghost use Rattle.percent_encoding.specs.Percent.{percent_decode};
-ghost use Rattle.rr_auth.specs.Sources.{IsRegistryOf};
-ghost use Rattle.rr_submission.specs.SubmissionLaws.{ConfinesTexts};
-ghost use Rattle.rr_submission.specs.Submissions.{UnlessStoreFault};
-ghost use Rattle.rr_http.specs.Answering.{AnswersDump, AnswersQuery, IsAnswered, IsHeadCut, SubmitsBody, Tells, dump_answer};
-ghost use Rattle.rr_http.specs.Replies.{given_head, refusal_reply};
+ghost use Rattle.rr_http.specs.Answering.{AnswersDump, AnswersQuery, AnswersRunning, IsAnswered};
+ghost use Rattle.rr_http.specs.Answering.{KeepsDesk, SubmitsBody, Tells, dump_answer};
+ghost use Rattle.rr_http.specs.Replies.{refusal_reply};
 
 use crate::asking::{BODY_SIZE, Refusal};
 use crate::body::Body;
 use crate::registrar::Registrar;
 use crate::replying::{write_given_head, write_refusal};
 use percent_encoding::percent_decode;
-use rr_desk::{ConnFault, DeskFault, Done, DumpFault};
+use rr_desk::{ConnFault, DeskDumpFault, DeskFault, Done};
 use rr_io::Sink;
 use std::alloc::{AllocError, Global};
 
@@ -35,7 +33,8 @@ pub fn answer_whois<D: Registrar, W: Sink>(
     query: &[u8],
     writer: &mut W,
 ) -> Result<(), ConnFault>
-    ensures answers { IsAnswered D.Answers [] query.now desk.old desk.new (W.told writer.old) (W.told writer.new) result }
+    ensures answers { IsAnswered D.Answers [] query.now desk.old desk.new
+        (W.told writer.old) (W.told writer.new) result }
     ensures settings { D.settings desk.new ≡ D.settings desk.old }
     ensures aside { W.aside writer.new ≡ W.aside writer.old }
 {
@@ -52,7 +51,8 @@ pub fn answer_query<D: Registrar, W: Sink>(
     escaped: &[u8],
     writer: &mut W,
 ) -> Result<(), ConnFault>
-    ensures answers { AnswersQuery D.Answers (D.stops desk.old) (percent_decode escaped.now) desk.old desk.new (W.told writer.old) (W.told writer.new) result }
+    ensures answers { AnswersQuery D.Answers (D.stops desk.old) (percent_decode escaped.now)
+        desk.old desk.new (W.told writer.old) (W.told writer.new) result }
     ensures settings { D.settings desk.new ≡ D.settings desk.old }
     ensures aside { W.aside writer.new ≡ W.aside writer.old }
 {
@@ -74,15 +74,15 @@ fn decoded(alloc: Global, escaped: &[u8]) -> Result<Vec<u8>, AllocError>
     Ok(query)
 }
 
-/// Writes the head of a reply, and behind it the answer to a query.
+/// Writes the head of a reply, and after it the answer to a query.
 fn give_answer<D: Registrar, W: Sink>(
     alloc: Global,
     desk: &mut D,
     query: &[u8],
     writer: &mut W,
 ) -> Result<(), ConnFault>
-    ensures answers { IsHeadCut desk.old desk.new (W.told writer.old) (W.told writer.new) result
-        ⊎ IsAnswered D.Answers given_head query.now desk.old desk.new (W.told writer.old) (W.told writer.new) result }
+    ensures answers { AnswersRunning D.Answers query.now desk.old desk.new
+        (W.told writer.old) (W.told writer.new) result }
     ensures settings { D.settings desk.new ≡ D.settings desk.old }
     ensures aside { W.aside writer.new ≡ W.aside writer.old }
 {
@@ -98,7 +98,8 @@ pub fn give_dump<D: Registrar, W: Sink>(
     desk: &D,
     writer: &mut W,
 ) -> Result<(), ConnFault>
-    ensures dumps { AnswersDump (D.dumped desk.now) (D.stops desk.now) (W.told writer.old) (W.told writer.new) result }
+    ensures dumps { AnswersDump (D.dumped desk.now) (D.stops desk.now)
+        (W.told writer.old) (W.told writer.new) result }
     ensures aside { W.aside writer.new ≡ W.aside writer.old }
 {
     if desk.stopped() {
@@ -114,12 +115,12 @@ pub fn give_dump<D: Registrar, W: Sink>(
 }
 
 /// What a connection is answered whose dump was cut short.
-fn dump_answer(fault: DumpFault) -> Result<(), ConnFault>
+fn dump_answer(fault: DeskDumpFault) -> Result<(), ConnFault>
     ensures { result ≡ dump_answer (Err fault) }
 {
     match fault {
-        DumpFault::Write => Err(ConnFault::Write),
-        DumpFault::Memory | DumpFault::Stopped => Ok(()),
+        DeskDumpFault::Write => Err(ConnFault::Write),
+        DeskDumpFault::Memory | DeskDumpFault::Stopped => Ok(()),
     }
 }
 
@@ -133,11 +134,9 @@ pub fn submit_body<D: Registrar, W: Sink>(
 ) -> Result<Done, DeskFault>
     requires small { length bytes.now ≤ BODY_SIZE }
     requires running { D.stops desk.old ≡ false }
-    ensures submits { SubmitsBody D.ledger (D.settings desk.old).source bytes.now missing desk.old desk.new (W.told writer.old) (W.told writer.new) result }
-    ensures runs { UnlessStoreFault result (D.stops desk.new ≡ false) }
-    ensures confined { ConfinesTexts (D.settings desk.old).source (D.ledger.registry desk.old) }
-    ensures kept { UnlessStoreFault result (D.Kept desk.new) }
-    ensures of_source { IsRegistryOf (D.settings desk.old).source (D.ledger.registry desk.old) → IsRegistryOf (D.settings desk.new).source (D.ledger.registry desk.new) }
+    ensures submits { SubmitsBody D.ledger (D.settings desk.old).source bytes.now missing
+        desk.old desk.new (W.told writer.old) (W.told writer.new) result }
+    ensures keeps { KeepsDesk D.Registrar desk.old desk.new result }
     ensures settings { D.settings desk.new ≡ D.settings desk.old }
     ensures aside { W.aside writer.new ≡ W.aside writer.old }
 {

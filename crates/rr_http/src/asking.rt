@@ -1,31 +1,58 @@
 //! What a request asks: its page, its method, and the size of its body.
 
-ghost use Rattle.std.specs.Prelude.{◌≡◌, ◌≤◌, ◌∷◌, [], IfOk, Some, codes, length, All, IfSome, MatchOption};
+ghost use Rattle.std.specs.Prelude.{◌≡◌, ◌≤◌, ◌∷◌, [], IfOk, Some, codes, length, All, IfSome};
+ghost use Rattle.std.specs.Prelude.{MatchOption};
 ghost use Rattle.std.specs.Str.{bytes_eq};
 ghost use Rattle.httparse.specs.Spans.{IsHeaderWithin, header_bytes};
 ghost use Rattle.rr_http.specs.Asked.{parts_of, seen};
-ghost use Rattle.rr_http.specs.Requests.{HasSmallSize, asks_of, asks_page, is_length, is_field_of, method_of, page_of, path_of, size_of, sized, values_of};
+ghost use Rattle.rr_http.specs.Requests.{HasSmallSize, asks_of, asks_page, is_length, is_field_of};
+ghost use Rattle.rr_http.specs.Requests.{is_query_path, is_segment, method_of, page_of, path_of};
+ghost use Rattle.rr_http.specs.Requests.{size_of, sized, values_of};
+ghost use Rattle.rr_http.specs.Wants.{RequestAsks};
 
-use crate::routing::Pages;
 use http::Method;
-use httparse::spans::HeaderSpan;
-use rr_bytes::{are_digits, capped_value, is_keyword};
+use httparse::Status;
+use httparse::spans::{EMPTY_HEADER_SPAN, HeaderSpan, parse_request};
+use rr_bytes::{are_digits, capped_value, cut_before, is_keyword};
+use std::str;
 
 /// How many bytes the body of a request has at most (profile).
 pub const BODY_SIZE: usize = 1_048_576;
+
+/// How many fields the head of a request has at most (profile).
+pub const FIELD_LIMIT: usize = 64;
 
 /// What stands at a path.
 #[derive(Clone, Copy, Debug, PartialEq, Eq)]
 pub enum Page {
     /// The report on a body that is submitted, by `POST /submissions`.
     Submissions,
-    /// The answer to a query, by `GET /query/{query}`.
+    /// The answer to a query, by `GET /query/` and the query.
     Query,
     /// The public dump, by `GET /dump`.
     Dump,
 }
 
+/// What the path of a query begins with (profile).
+const QUERY: &[u8] = b"/query/";
+
 impl Page {
+    /// The page at a path, if there is one (profile).
+    #[tactic(auto, unfolding(crate::specs::Requests::page_of))]
+    fn at(path: &[u8]) -> Option<Page>
+        ensures { result ≡ page_of path.now }
+    {
+        if path == b"/submissions".as_slice() {
+            Some(Page::Submissions)
+        } else if path == b"/dump".as_slice() {
+            Some(Page::Dump)
+        } else if is_query_path(path) {
+            Some(Page::Query)
+        } else {
+            None
+        }
+    }
+
     /// Whether this is the method of the page (RFC 9110, 9.3).
     fn takes(self, method: &[u8]) -> bool
         ensures { result ≡ bytes_eq method.now (method_of self) }
@@ -35,6 +62,19 @@ impl Page {
             Page::Query | Page::Dump => method == Method::GET.as_str().as_bytes(),
         }
     }
+}
+
+/// Whether the path is that of a query: one segment follows `/query/` (RFC 3986, 3.3; profile).
+fn is_query_path(path: &[u8]) -> bool
+    ensures { result ≡ is_query_path path.now }
+{
+    path.starts_with(QUERY) && is_segment(&path[QUERY.len()..])
+}
+
+fn is_segment(text: &[u8]) -> bool
+    ensures { result ≡ is_segment text.now }
+{
+    !text.is_empty() && !text.contains(&b'/')
 }
 
 /// Why a request is refused.
@@ -54,7 +94,7 @@ pub enum Refusal {
     LengthRequired,
     /// The body is larger than 1,048,576 bytes: 413.
     PayloadTooLarge,
-    /// The desk is stopped, or memory was refused: 503.
+    /// The desk is stopped, or memory ran out: 503.
     Unavailable,
 }
 
@@ -71,15 +111,30 @@ pub enum Asked<'a> {
     Dump,
 }
 
-/// What a request of this method, target and fields asks (RFC 9110; profile). The spans of the fields are of `head`.
+/// What a request asks whose head is this, if it is one (RFC 9112, 2.1).
+pub fn read_request(head: &[u8]) -> Asked<'_>
+    ensures asks { RequestAsks head.now (seen result) }
+    ensures small { HasSmallSize (seen result) }
+{
+    let mut fields = [EMPTY_HEADER_SPAN; FIELD_LIMIT];
+    match parse_request(head, &mut fields) {
+        Ok(Status::Complete(spans)) => match str::from_utf8(spans.path.of(head)) {
+            Ok(target) => asked_of(
+                spans.method.of(head),
+                target.as_bytes(),
+                head,
+                &fields[..spans.headers],
+            ),
+            Err(_) => Asked::Refused(Refusal::BadRequest),
+        },
+        Ok(Status::Partial) | Err(_) => Asked::Refused(Refusal::BadRequest),
+    }
+}
+
+/// What a request of this method, target and fields asks (RFC 9110; profile). The spans of the
+/// fields are of `head`.
 #[tactic(auto, unfolding(crate::specs::Requests::asks_of))]
-pub fn read_request<'a>(
-    pages: &Pages,
-    method: &[u8],
-    target: &'a str,
-    head: &[u8],
-    fields: &[HeaderSpan],
-) -> Asked<'a>
+fn asked_of<'a>(method: &[u8], target: &'a [u8], head: &[u8], fields: &[HeaderSpan]) -> Asked<'a>
     requires { All (IsHeaderWithin (length head.now)) fields.now }
     ensures asks { seen result ≡ asks_of method.now target.now (parts_of head.now fields.now) }
     ensures small { HasSmallSize (seen result) }
@@ -87,12 +142,12 @@ pub fn read_request<'a>(
     if find_value(head, fields, b"Transfer-Encoding").is_some() {
         return Asked::Refused(Refusal::NotImplemented);
     }
-    let path = path_of(target);
-    match pages.find(path) {
+    let (path, _) = cut_before(target, b'?');
+    match Page::at(path) {
         None => Asked::Refused(Refusal::NotFound),
         Some(page) => {
             if page.takes(method) {
-                read_page(path.as_bytes(), page, head, fields)
+                asked_at(path, page, head, fields)
             } else {
                 Asked::Refused(Refusal::MethodNotAllowed(page))
             }
@@ -101,8 +156,8 @@ pub fn read_request<'a>(
 }
 
 /// What a request by the method of the page asks.
-#[tactic(auto, using(crate::proofs::RequestLemmas::query_behind))]
-fn read_page<'a>(path: &'a [u8], page: Page, head: &[u8], fields: &[HeaderSpan]) -> Asked<'a>
+#[tactic(auto, using(crate::proofs::RequestLemmas::query_follows))]
+fn asked_at<'a>(path: &'a [u8], page: Page, head: &[u8], fields: &[HeaderSpan]) -> Asked<'a>
     requires at_page { page_of path.now ≡ Some page }
     requires within { All (IsHeaderWithin (length head.now)) fields.now }
     ensures asks { seen result ≡ asks_page path.now (parts_of head.now fields.now) page }
@@ -113,37 +168,28 @@ fn read_page<'a>(path: &'a [u8], page: Page, head: &[u8], fields: &[HeaderSpan])
             Ok(size) => Asked::Submission(size),
             Err(refusal) => Asked::Refused(refusal),
         },
-        Page::Query => Asked::Query(&path[7..]),
+        Page::Query => Asked::Query(&path[QUERY.len()..]),
         Page::Dump => Asked::Dump,
-    }
-}
-
-/// The path of a target, which ends before its first `?`.
-fn path_of(target: &str) -> &str
-    ensures { result.now ≡ path_of target.now }
-{
-    match target.split_once('?') {
-        Some((path, _)) => path,
-        None => target,
     }
 }
 
 /// The size of the body that the fields tell (RFC 9110, 8.6).
 fn read_size(head: &[u8], fields: &[HeaderSpan]) -> Result<usize, Refusal>
     requires { All (IsHeaderWithin (length head.now)) fields.now }
-    ensures sized { result ≡ sized (values_of (codes "Content-Length") (parts_of head.now fields.now)) }
-    ensures small { IfOk result (λ size. size ≤ 1048576) }
+    ensures sized { result
+        ≡ sized (values_of (codes "Content-Length") (parts_of head.now fields.now)) }
+    ensures small { IfOk result (λ size. size ≤ BODY_SIZE) }
 {
     match find_value(head, fields, b"Content-Length") {
         None => Err(Refusal::LengthRequired),
-        Some((value, behind)) => match find_value(head, behind, b"Content-Length") {
+        Some((value, rest)) => match find_value(head, rest, b"Content-Length") {
             None => size_of(value),
             Some(_) => Err(Refusal::BadRequest),
         },
     }
 }
 
-/// The value of the first field of this name, and the fields behind it.
+/// The value of the first field of this name, and the fields after it.
 fn find_value<'a, 'f>(
     head: &'a [u8],
     fields: &'f [HeaderSpan],
@@ -151,15 +197,16 @@ fn find_value<'a, 'f>(
 ) -> Option<(&'a [u8], &'f [HeaderSpan])>
     requires { All (IsHeaderWithin (length head.now)) fields.now }
     ensures value { MatchOption result (values_of name.now (parts_of head.now fields.now) ≡ [])
-        (λ found. values_of name.now (parts_of head.now fields.now) ≡ found.0.now ∷ values_of name.now (parts_of head.now found.1.now)) }
+        (λ found. values_of name.now (parts_of head.now fields.now)
+        ≡ found.0.now ∷ values_of name.now (parts_of head.now found.1.now)) }
     ensures within { IfSome result (λ found. All (IsHeaderWithin (length head.now)) found.1.now) }
 {
     let mut rest = fields;
-    'fields: while let Some((field, behind)) = rest.split_first() {
+    'fields: while let Some((field, after)) = rest.split_first() {
         if is_field_of(head, field, name) {
-            return Some((field.value.of(head), behind));
+            return Some((field.value.of(head), after));
         }
-        rest = behind;
+        rest = after;
     }
     None
 }
@@ -176,7 +223,7 @@ fn is_field_of(head: &[u8], field: &HeaderSpan, name: &[u8]) -> bool
 #[tactic(auto, unfolding(crate::specs::Requests::size_of))]
 fn size_of(text: &[u8]) -> Result<usize, Refusal>
     ensures size { result ≡ size_of text.now }
-    ensures small { IfOk result (λ size. size ≤ 1048576) }
+    ensures small { IfOk result (λ size. size ≤ BODY_SIZE) }
 {
     if !is_length(text) {
         return Err(Refusal::BadRequest);

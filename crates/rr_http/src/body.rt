@@ -6,9 +6,9 @@ use rr_io::Source;
 use std::io;
 use std::io::ErrorKind;
 
-/// A body that was read, as a reader: it gives the bytes that came, and where the body is short it fails behind them,
-/// each time that it is read. It tells the bytes that never came as left to read, so that no reading of a short body ends
-/// but by a failed read.
+/// A body that was read, as a reader: it gives the bytes that came, and where the body is short it
+/// fails after them, each time that it is read. It tells the bytes that never came as left to read,
+/// so that no reading of a short body ends but by a failed read.
 #[derive(Drop)]
 pub struct Body<'a> {
     rest: &'a [u8],
@@ -50,11 +50,11 @@ impl<'a> Source for Body<'a> {
             self.failed = self.failed.saturating_add(1);
             return Err(io::Error::from(ErrorKind::UnexpectedEof));
         }
-        let (front, behind) = self.rest.split_at(self.rest.len().min(buf.len()));
-        buf[..front.len()].copy_from_slice(front);
-        self.rest = behind;
+        let (given, rest) = self.rest.split_at(self.rest.len().min(buf.len()));
+        buf[..given.len()].copy_from_slice(given);
+        self.rest = rest;
         self.reads = self.reads.saturating_add(1);
-        Ok(front.len())
+        Ok(given.len())
     }
 
     fn failed_reads(&self) -> u64 {

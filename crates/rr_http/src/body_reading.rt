@@ -19,21 +19,24 @@ pub enum BodyEnd {
     Broken,
 }
 
-/// Reads the body of a request, of `size` bytes, the first of which are those that came behind its head: gives its bytes,
-/// or those that came of it, and how the reading ended. No byte behind the body is asked for. The error is want of memory.
+/// Reads the body of a request, of `size` bytes, the first of which are those that came with its
+/// head: gives its bytes, or those that came of it, and how the reading ended. No byte after the
+/// body is asked for. The error is that memory ran out.
 pub fn read_body<R: Source>(
     alloc: Global,
     reader: &mut R,
-    begun: &[u8],
+    buffered: &[u8],
     size: usize,
 ) -> Result<(Vec<u8>, BodyEnd), AllocError>
     requires { size ≤ BODY_SIZE }
-    ensures reads { IfOk result (λ read. ReadsBody (R.told reader.old) (R.told reader.new) begun.now size read.0.items read.1) }
-    ensures no_memory { OnErr result (GivesWithin (R.told reader.old) (R.told reader.new) (size - length begun.now)) }
+    ensures reads { IfOk result (λ read. ReadsBody (R.told reader.old) (R.told reader.new)
+        buffered.now size read.0.items read.1) }
+    ensures no_memory { OnErr result
+        (GivesWithin (R.told reader.old) (R.told reader.new) (size - length buffered.now)) }
     ensures aside { R.aside reader.new ≡ R.aside reader.old }
 {
     let mut body = Vec::with_capacity(alloc, size)?;
-    body.extend_from_slice(&begun[..begun.len().min(size)])?;
+    body.extend_from_slice(&buffered[..buffered.len().min(size)])?;
     let end = read_rest(reader, &mut body, size)?;
     Ok((body, end))
 }
@@ -46,8 +49,10 @@ fn read_rest<R: Source>(
 ) -> Result<BodyEnd, AllocError>
     requires small { size ≤ BODY_SIZE }
     requires within { length body.old.items ≤ size }
-    ensures reads { IfOk result (λ end. ReadsRest (R.told reader.old) (R.told reader.new) body.old.items size body.new.items end) }
-    ensures no_memory { OnErr result (GivesWithin (R.told reader.old) (R.told reader.new) (size - length body.old.items)) }
+    ensures reads { IfOk result (λ end. ReadsRest (R.told reader.old) (R.told reader.new)
+        body.old.items size body.new.items end) }
+    ensures no_memory { OnErr result
+        (GivesWithin (R.told reader.old) (R.told reader.new) (size - length body.old.items)) }
     ensures aside { R.aside reader.new ≡ R.aside reader.old }
 {
     let mut block = [0u8; READ_SIZE];

@@ -1,7 +1,6 @@
 //! Both protocols on one port.
 
-ghost use Rattle.rr_http.specs.DeskRegistrars.{desk_registrar};
-ghost use Rattle.rr_http.specs.Serving.{Serves};
+ghost use Rattle.rr_http.specs.DeskRegistrars.{serves_desk};
 
 use crate::serving::serve_one;
 use rr_desk::{ConnFault, Desk, Service};
@@ -9,12 +8,13 @@ use rr_io::Connection;
 use sqlite::Alter;
 use std::alloc::Global;
 
-/// Serves whois and HTTP on one port, told apart by the first line of a connection (RFC 3912, RFC 9112; profile).
+/// Serves whois and HTTP on one port, told apart by the first line of a connection (RFC 3912, RFC
+/// 9112; profile).
 #[derive(Clone, Copy, Debug, PartialEq, Eq)]
 pub struct Both;
 
 impl Service for Both {
-    ghost serves = { λ S g before after from_old from_new old new result. Serves (desk_registrar g) before after from_old from_new old new result };
+    ghost serves = { serves_desk };
 
     fn serve<S: Alter, C: Connection>(
         &self,

@@ -5,7 +5,7 @@ ghost use Rattle.rr_answer.specs.Dumps.{dump};
 ghost use Rattle.rr_http.specs.DeskRegistrars.{IsDeskAnswer, IsKept, desk_ledger};
 
 use crate::registrar::Registrar;
-use rr_desk::{Answered, Desk, DeskFault, Done, DumpFault, WriteFault};
+use rr_desk::{Answered, Desk, DeskDumpFault, DeskFault, Done, WriteFault};
 use rr_io::{Sink, Source};
 use sqlite::Alter;
 use std::alloc::Global;
@@ -36,7 +36,7 @@ impl<S: Alter> Registrar for Desk<S> {
         Desk::answer(self, alloc, query, writer)
     }
 
-    fn dump<W: Sink>(&self, alloc: Global, writer: &mut W) -> Result<usize, DumpFault> {
+    fn dump<W: Sink>(&self, alloc: Global, writer: &mut W) -> Result<usize, DeskDumpFault> {
         Desk::dump(self, alloc, writer, false)
     }
 

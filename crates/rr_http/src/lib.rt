@@ -1,4 +1,5 @@
-//! Connections of whois and HTTP: what each asks, and the bytes that answer it (RFC 3912, RFC 9112).
+//! Connections of whois and HTTP: what each asks, and the bytes that answer it (RFC 3912, RFC
+//! 9112).
 #![tactic(auto)]
 
 mod answering;
@@ -7,21 +8,16 @@ mod body;
 mod body_reading;
 mod both;
 mod desk_registrar;
-mod fronts;
+mod heads;
 pub mod laws;
-mod lines;
 mod registrar;
 mod replying;
-mod routing;
 mod serving;
-mod wanting;
 
 pub use asking::{Asked, BODY_SIZE, Page, Refusal, read_request};
 pub use body_reading::{BodyEnd, read_body};
 pub use both::Both;
-pub use fronts::FRONT_SIZE;
+pub use heads::{HEAD_SIZE, Head, read_head};
 pub use registrar::Registrar;
 pub use replying::write_refusal;
-pub use routing::Pages;
 pub use serving::serve_one;
-pub use wanting::{Wanted, read_front, wanted_of};

@@ -8,8 +8,9 @@ ghost use Rattle.rr_submission.specs.SubmissionLaws.{ConfinesTexts};
 ghost use Rattle.rr_submission.specs.Submissions.{Submits, UnlessStoreFault};
 ghost use Rattle.rr_desk.specs.Dumping.{Dumps};
 ghost use Rattle.rr_desk.specs.Settings.{SettingsParts};
+ghost use Rattle.rr_http.specs.Sides.{sides};
 
-use rr_desk::{Answered, DeskFault, Done, DumpFault, WriteFault};
+use rr_desk::{Answered, DeskDumpFault, DeskFault, Done, WriteFault};
 use rr_io::{Sink, Source};
 use std::alloc::Global;
 
@@ -37,43 +38,42 @@ pub trait Registrar {
     fn stopped(&self) -> bool
         ensures { result ≡ stops self.now };
 
-    /// Answers a query. After a failed write the writer has taken a front of the answer.
+    /// Answers a query. After a failed write the writer has taken a part of the answer.
     fn answer<W: Sink>(
         &mut self,
         alloc: Global,
         query: &[u8],
         writer: &mut W,
     ) -> Result<Answered, WriteFault>
-        ensures answers { (text : List ℕ) × (Answers self.old query.now text self.new) × Writes (W.told writer.old) (W.told writer.new) text result }
+        ensures answers { (text : List ℕ) × Answers self.old query.now text self.new
+            × Writes (W.told writer.old) (W.told writer.new) text result }
         ensures settings { settings self.new ≡ settings self.old }
         ensures aside { W.aside writer.new ≡ W.aside writer.old };
 
     /// Writes the public dump.
-    fn dump<W: Sink>(&self, alloc: Global, writer: &mut W) -> Result<usize, DumpFault>
-        ensures dumps { stops self.now ≡ false → Dumps (dumped self.now) (W.told writer.old) (W.told writer.new) result }
+    fn dump<W: Sink>(&self, alloc: Global, writer: &mut W) -> Result<usize, DeskDumpFault>
+        ensures dumps { stops self.now ≡ false
+            → Dumps (dumped self.now) (W.told writer.old) (W.told writer.new) result }
         ensures aside { W.aside writer.new ≡ W.aside writer.old };
 
-    /// Submits what the reader gives, and writes the report. Only a fault of the store stops it, and after any other end
-    /// the rows are those of its registry. What the holders of a prefix hold is changed by nobody else.
+    /// Submits what the reader gives, and writes the report. Only a fault of the store stops it,
+    /// and after any other end the rows are those of its registry. What the holders of a prefix
+    /// hold is changed by nobody else.
     fn submit<R: Source, W: Sink>(
         &mut self,
         alloc: Global,
         reader: &mut R,
         writer: &mut W,
     ) -> Result<Done, DeskFault>
-        ensures submits { stops self.old ≡ false → Submits ledger (settings self.old).source (record {
-          reader_before = R.told reader.old;
-          reader_after = R.told reader.new;
-          writer_before = W.told writer.old;
-          writer_after = W.told writer.new;
-          before = ledger.registry self.old;
-          after = ledger.registry self.new;
-        }) self.old self.new result }
+        ensures submits { stops self.old ≡ false → Submits ledger (settings self.old).source
+            (sides R.Source W.Sink reader.old reader.new writer.old writer.new
+            (ledger.registry self.old) (ledger.registry self.new)) self.old self.new result }
         ensures runs { stops self.old ≡ false → UnlessStoreFault result (stops self.new ≡ false) }
         ensures confined { stops self.old ≡ false
             → ConfinesTexts (settings self.old).source (ledger.registry self.old) }
         ensures kept { stops self.old ≡ false → UnlessStoreFault result (Kept self.new) }
-        ensures of_source { IsRegistryOf (settings self.old).source (ledger.registry self.old) → IsRegistryOf (settings self.new).source (ledger.registry self.new) }
+        ensures of_source { IsRegistryOf (settings self.old).source (ledger.registry self.old)
+            → IsRegistryOf (settings self.new).source (ledger.registry self.new) }
         ensures settings { settings self.new ≡ settings self.old }
         ensures reader_aside { R.aside reader.new ≡ R.aside reader.old }
         ensures writer_aside { W.aside writer.new ≡ W.aside writer.old };

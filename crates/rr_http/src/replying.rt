@@ -2,7 +2,8 @@
 
 ghost use Rattle.std.specs.Prelude.{◌≡◌, ◌+◌, ◌≤◌, ◌++◌, length};
 ghost use Rattle.rr_io.specs.Sending.{Writes};
-ghost use Rattle.rr_http.specs.Replies.{allow_line, given_head, reason_of, refusal_fields, refusal_reply, status_of, status_words};
+ghost use Rattle.rr_http.specs.Replies.{allow_line, given_head, reason_of, refusal_fields};
+ghost use Rattle.rr_http.specs.Replies.{refusal_reply, status_of, status_words};
 
 use crate::asking::{Page, Refusal};
 use http::StatusCode;
@@ -10,8 +11,8 @@ use rr_io::{Sink, write_all};
 use rr_submission::ShortText;
 use std::io;
 
-/// Writes the reply to a request that is refused, whole in the first call of the writer. After a fault the writer has
-/// taken a front of it.
+/// Writes the reply to a request that is refused, whole in the first call of the writer. After a
+/// fault the writer has taken a part of it.
 pub fn write_refusal<W: Sink>(writer: &mut W, refusal: Refusal) -> io::Result<()>
     ensures writes { Writes (W.told writer.old) (W.told writer.new) (refusal_reply refusal) result }
     ensures aside { W.aside writer.new ≡ W.aside writer.old }
@@ -19,8 +20,8 @@ pub fn write_refusal<W: Sink>(writer: &mut W, refusal: Refusal) -> io::Result<()
     write_all(writer, refusal_reply(refusal).as_bytes())
 }
 
-/// Writes the head of a reply whose body is what was asked, whole in the first call of the writer. After a fault the
-/// writer has taken a front of it.
+/// Writes the head of a reply whose body is what was asked, whole in the first call of the writer.
+/// After a fault the writer has taken a part of it.
 #[tactic(auto, unfolding(crate::specs::Replies::given_head))]
 pub fn write_given_head<W: Sink>(writer: &mut W) -> io::Result<()>
     ensures writes { Writes (W.told writer.old) (W.told writer.new) given_head result }
@@ -46,7 +47,7 @@ fn refusal_reply(refusal: Refusal) -> ShortText
     reply
 }
 
-/// Appends the fields of a refusal, and the empty line behind them.
+/// Appends the fields of a refusal, and the empty line after them.
 #[tactic(auto, using(crate::proofs::ReplyLemmas::allow_short))]
 fn push_fields(reply: &mut ShortText, refusal: Refusal)
     requires { length reply.old ≤ 48 }
@@ -61,7 +62,7 @@ fn push_fields(reply: &mut ShortText, refusal: Refusal)
 }
 
 /// Appends the status code and its reason words.
-#[tactic(auto, using(crate::proofs::ReplyLemmas::reason_short), unfolding(crate::specs::Replies::status_words))]
+#[tactic(auto, using(crate::proofs::ReplyLemmas::reason_short))]
 fn push_words(reply: &mut ShortText, refusal: Refusal)
     requires { length reply.old ≤ 200 }
     ensures value { reply.new ≡ reply.old ++ status_words refusal }
@@ -99,7 +100,7 @@ fn reason(refusal: Refusal) -> &'static str
 }
 
 /// How many bytes the body of a refusal has: the status in words, and an LF.
-#[tactic(auto, using(crate::proofs::ReplyLemmas::reason_short, crate::proofs::ReplyLemmas::words_length))]
+#[tactic(auto, using(crate::proofs::ReplyLemmas::lengths))]
 fn body_length(refusal: Refusal) -> usize
     ensures { result ≡ length (status_words refusal) + 1 }
 {

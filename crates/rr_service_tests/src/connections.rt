@@ -5,7 +5,8 @@ use std::alloc::{AllocError, Global};
 use std::process::Abort;
 use std::test::Fail;
 
-/// A connection that gives these bytes and then ends, at most `step` of them in a call, and takes all that is written.
+/// A connection that gives these bytes and then ends, at most `step` of them in a call, and takes
+/// all that is written.
 pub fn ending(bytes: &[u8], step: usize) -> MemoryInput<'_> {
     MemoryInput {
         bytes,
@@ -28,8 +29,8 @@ pub fn expect_served<D: Office, R: Abort + AllocGlobal>(
     expect_text(rt, &answered, str::from_utf8(reply)?)
 }
 
-/// Asserts that a connection is served that gives these bytes and then ends, at most `step` of them in a call, and what
-/// it is answered.
+/// Asserts that a connection is served that gives these bytes and then ends, at most `step` of them
+/// in a call, and what it is answered.
 pub fn expect_reply<D: Office, R: Abort + AllocGlobal>(
     rt: &R,
     desk: &mut D,
@@ -73,7 +74,8 @@ fn page(alloc: Global, body: &str) -> Result<String, AllocError> {
 fn refusal(alloc: Global, words: &str, allow: &str) -> Result<String, AllocError> {
     let length = words.len() + 1;
     format!(in alloc;
-        "HTTP/1.1 {words}\r\nContent-Type: text/plain\r\nContent-Length: {length}\r\nConnection: close\r\n{allow}\r\n{words}\n"
+        "HTTP/1.1 {words}\r\nContent-Type: text/plain\r\nContent-Length: {length}\r\n\
+         Connection: close\r\n{allow}\r\n{words}\n"
     )
 }
 

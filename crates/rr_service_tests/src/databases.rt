@@ -54,7 +54,8 @@ source:         TEST
 /// The class of a row of version 1, its key, its object, and the maintainer that this names.
 pub type OldRow = (i64, &'static str, &'static str, &'static str);
 
-/// What the tests do with a database. No call promises anything, so what uses a database by this trait is soon proved.
+/// What the tests do with a database. No call promises anything, so what uses a database by this
+/// trait is soon proved.
 pub trait Database: Sized {
     /// Executes a statement; answers with the number of the rows that it changed.
     fn run(&mut self, sql: &str) -> Result<usize, Error>;
@@ -62,7 +63,7 @@ pub trait Database: Sized {
     /// Adds the rows of an object to tables of version 1.
     fn add(&mut self, row: OldRow) -> Result<(), Error>;
 
-    /// The texts in the first column of what a statement selects, each with a bar behind it.
+    /// The texts in the first column of what a statement selects, each with a bar after it.
     fn texts(&mut self, alloc: Global, sql: &str) -> Result<Vec<u8>, Fail>;
 
     /// Makes a store of the four objects.
@@ -84,8 +85,8 @@ pub trait Database: Sized {
     /// Puts an object into the store, and takes out another.
     fn changed(self, alloc: Global, put: &str, removed: &str) -> Result<Self, Fail>;
 
-    /// Makes a store of the four objects, puts the moved one in place of its old text, and takes it out, while the disk
-    /// lets it: how many of the three were done.
+    /// Makes a store of the four objects, puts the moved one in place of its old text, and takes it
+    /// out, while the disk lets it: how many of the three were done.
     fn written(self, alloc: Global) -> Result<(usize, Self), Fail>;
 
     /// Migrates tables of version 1, with this root.
@@ -247,8 +248,8 @@ fn exchange<S: Alter>(
     }
 }
 
-/// Puts the moved object in place of its old text, and takes it out, while the disk lets it: how many writes were done
-/// with the one that made the store.
+/// Puts the moved object in place of its old text, and takes it out, while the disk lets it: how
+/// many writes were done with the one that made the store.
 fn put_and_removed<S: Alter>(alloc: Global, store: &mut Store<S>) -> Result<usize, Fail> {
     if !puts(alloc, store, MOVED)? {
         Ok(1)
@@ -303,7 +304,7 @@ fn four(alloc: Global) -> Result<Vec<Object>, Fail> {
     Ok(objects)
 }
 
-/// The canonical texts of objects, one behind the other.
+/// The canonical texts of objects, one after the other.
 fn text_of(alloc: Global, objects: &[Object]) -> Result<Vec<u8>, Fail> {
     let mut text = Vec::new(alloc);
     for object in objects {
@@ -312,22 +313,22 @@ fn text_of(alloc: Global, objects: &[Object]) -> Result<Vec<u8>, Fail> {
     Ok(text)
 }
 
-/// Whether the bytes are these texts, one behind the other.
+/// Whether the bytes are these texts, one after the other.
 pub fn is_made_of(bytes: &[u8], texts: &[&str]) -> bool {
     let mut rest = bytes;
     for text in texts {
         if !rest.starts_with(text.as_bytes()) {
             return false;
         }
-        let Some(behind) = rest.get(text.len()..) else {
+        let Some(after) = rest.get(text.len()..) else {
             return false;
         };
-        rest = behind;
+        rest = after;
     }
     rest.is_empty()
 }
 
-/// Asserts that the bytes are these texts, one behind the other.
+/// Asserts that the bytes are these texts, one after the other.
 pub fn expect_texts<R: Abort>(rt: &R, bytes: &[u8], texts: &[&str]) -> Result<(), Fail> {
     let found = str::from_utf8(bytes)?;
     assert!(rt; is_made_of(bytes, texts), "found {found}");

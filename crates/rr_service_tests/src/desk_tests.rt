@@ -3,6 +3,7 @@ use crate::desks::{Office, Trial, expect_kept, expect_report, try_new};
 use crate::stopped::expect_stopped;
 use crate::texts::{THREE, THREE_ADDED};
 use rr_desk::{CreateFault, DeskFault, Done};
+use sqlite::{Constraint, Error, ErrorCode};
 use std::process::Abort;
 use std::test::Fail;
 
@@ -27,8 +28,8 @@ const ALL: Result<Done, DeskFault> = Ok(Done {
     refused: 0,
 });
 
-/// Submits the three to a desk, whose reads fail after so many bytes; asserts the answer, the report, and how many of
-/// them the desk keeps.
+/// Submits the three to a desk, whose reads fail after so many bytes; asserts the answer, the
+/// report, and how many of them the desk keeps.
 fn expect_submitted<D: Office, R: Abort + AllocGlobal>(
     rt: &R,
     desk: &mut D,
@@ -51,8 +52,8 @@ fn expect_rest<D: Office + Drop, R: Abort + AllocGlobal>(rt: &R, mut desk: D) ->
     Ok(())
 }
 
-/// The three are submitted with a read that fails inside the last of them, and then whole, each time to the desk that
-/// the tables keep. No other desk is made in its place.
+/// The three are submitted with a read that fails inside the last of them, and then whole, each
+/// time to the desk that the tables keep. No other desk is made in its place.
 struct Filling;
 
 impl Trial for Filling {
@@ -72,7 +73,8 @@ fn a_desk_keeps_what_it_told(rt: HostRuntime) -> Result<(), Fail> {
     try_new(&rt, &Filling)
 }
 
-/// The three are submitted with a writer that fails after so many bytes, by which so many items are decided.
+/// The three are submitted with a writer that fails after so many bytes, by which so many items are
+/// decided.
 #[derive(Drop)]
 struct Room {
     room: usize,
@@ -80,7 +82,8 @@ struct Room {
 }
 
 impl Trial for Room {
-    /// Asserts the answer, that the front of the report was written, and how many of the three stand in the tables.
+    /// Asserts the answer, that the front of the report was written, and how many of the three
+    /// stand in the tables.
     fn tried<D: Office + Drop, R: Abort + AllocGlobal>(
         &self,
         rt: &R,
@@ -146,10 +149,15 @@ const BEGUN_AGAIN: &str = "\
 % items 3
 ";
 
+/// Why the database refuses a second row of one key.
+const TAKEN: Error = Error::SqliteFailure(ErrorCode::ConstraintViolation(Constraint::Unique));
+
 /// Asserts that the second of its items stops a desk whose database has that index.
 fn expect_refused<D: Office, R: Abort + AllocGlobal>(rt: &R, desk: &mut D) -> Result<(), Fail> {
     let wanted = Err(DeskFault::StoreFault { items: 1 });
+    assert_eq!(rt; desk.cause(), None);
     expect_report(rt, desk, (SECOND_REFUSED, usize::MAX), wanted, STOPPED)?;
+    assert_eq!(rt; desk.cause(), Some(TAKEN));
     expect_stopped(rt, desk)
 }
 

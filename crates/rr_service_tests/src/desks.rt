@@ -3,12 +3,12 @@ ghost use Rattle.std.specs.Prelude.{◌≡◌, false, IfOk};
 
 use crate::texts::full_dump;
 use rr_desk::{
-    ConnFault, CreateFault, Desk, DeskFault, Done, DumpFault, MemoryInput, MemoryPeers, Served,
+    ConnFault, CreateFault, Desk, DeskDumpFault, DeskFault, Done, MemoryInput, MemoryPeers, Served,
     Settings, WriteFault, serve_all,
 };
 use rr_http::{Both, Registrar, serve_one};
 use rr_io::{Counted, Cut, Joined, Sink, Source};
-use sqlite::{Alter, Connection};
+use sqlite::{Alter, Connection, Error};
 use std::alloc::{AllocError, Global};
 use std::process::Abort;
 use std::test::Fail;
@@ -21,21 +21,24 @@ pub struct Submitted {
     pub reads: u64,
 }
 
-/// What the tests do with a desk. No call promises anything, so what uses a desk by this trait is soon proved.
+/// What the tests do with a desk. No call promises anything, so what uses a desk by this trait is
+/// soon proved.
 pub trait Office: Sized {
-    /// Submits a text whose reads fail after so many bytes, with a report whose writes fail after others.
+    /// Submits a text whose reads fail after so many bytes, with a report whose writes fail after
+    /// others.
     fn submitted(&mut self, alloc: Global, text: &str, given: usize, room: usize) -> Submitted;
 
     /// The number of the error that is answered to a query, and the answer.
     fn answered(&mut self, alloc: Global, query: &str) -> Result<(u8, Vec<u8>), Fail>;
 
     /// What is answered to the full dump, and the bytes of it.
-    fn dumped(&self, alloc: Global) -> (Result<usize, DumpFault>, Vec<u8>);
+    fn dumped(&self, alloc: Global) -> (Result<usize, DeskDumpFault>, Vec<u8>);
 
     /// How the serving of a connection ends, and what it is answered.
     fn served(&mut self, alloc: Global, input: MemoryInput<'_>) -> (Result<(), ConnFault>, Vec<u8>);
 
-    /// Takes so many turns of these connections: how many were served and failed, and the connections.
+    /// Takes so many turns of these connections: how many were served and failed, and the
+    /// connections.
     fn turned<'a>(
         &mut self,
         alloc: Global,
@@ -46,7 +49,10 @@ pub trait Office: Sized {
     /// Whether a fault of the store stopped it.
     fn is_stopped(&self) -> bool;
 
-    /// The same desk, begun again.
+    /// The error of the database that stopped it.
+    fn cause(&self) -> Option<Error>;
+
+    /// The same desk, opened again.
     fn begun_again(self, alloc: Global) -> Result<Self, Fail>;
 
     /// The desk that its database keeps, closed and opened again, after these statements.
@@ -82,7 +88,7 @@ impl<S: Alter + Drop> Office for Desk<S> {
         Ok((error, writer.into_inner()))
     }
 
-    fn dumped(&self, alloc: Global) -> (Result<usize, DumpFault>, Vec<u8>) {
+    fn dumped(&self, alloc: Global) -> (Result<usize, DeskDumpFault>, Vec<u8>) {
         let mut writer = Counted::new(Vec::new(alloc));
         let count = self.dump(alloc, &mut writer, true);
         (count, writer.into_inner())
@@ -111,6 +117,10 @@ impl<S: Alter + Drop> Office for Desk<S> {
         self.stopped()
     }
 
+    fn cause(&self) -> Option<Error> {
+        Desk::cause(self)
+    }
+
     fn begun_again(self, alloc: Global) -> Result<Desk<S>, Fail> {
         Ok(desk_of(self.reopen(alloc))?)
     }
@@ -124,8 +134,8 @@ impl<S: Alter + Drop> Office for Desk<S> {
     }
 }
 
-/// Submits what the reader gives, and writes the report. Like the two calls behind it, it promises nothing, so that long
-/// contracts are not met over readers and writers of many parts.
+/// Submits what the reader gives, and writes the report. Like the two calls after it, it promises
+/// nothing, so that long contracts are not met over readers and writers of many parts.
 fn submit<S: Alter, R: Source, W: Sink>(
     alloc: Global,
     desk: &mut Desk<S>,

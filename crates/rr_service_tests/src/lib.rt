@@ -1,6 +1,7 @@
-//! Tests of stores and desks over databases in memory, and of the connections that desks serve: what stands after
-//! submissions, migrations and stops, and after faults of readers, writers and the store; what connections want, and what
-//! they are answered. What is expected comes from the rules, read by hand.
+//! Tests of stores and desks over databases in memory, and of the connections that desks serve:
+//! what stands after submissions, migrations and stops, and after faults of readers, writers and
+//! the store; what connections want, and what they are answered. What is expected comes from the
+//! rules, read by hand.
 #![tactic(auto)]
 
 #[cfg(test)]

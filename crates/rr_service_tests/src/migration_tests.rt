@@ -9,8 +9,10 @@ use std::test::Fail;
 /// The three tables, of version 1 and with no object.
 const TABLES: &[&str] = &[
     "CREATE TABLE IF NOT EXISTS meta (name TEXT NOT NULL PRIMARY KEY, value TEXT NOT NULL) STRICT",
-    "CREATE TABLE IF NOT EXISTS object (class INTEGER NOT NULL CHECK (class >= 1 AND class <= 7), okey TEXT NOT NULL, body BLOB NOT NULL, PRIMARY KEY (class, okey)) STRICT",
-    "CREATE TABLE IF NOT EXISTS named (maintainer TEXT NOT NULL, class INTEGER NOT NULL, okey TEXT NOT NULL, PRIMARY KEY (maintainer, class, okey)) STRICT",
+    "CREATE TABLE IF NOT EXISTS object (class INTEGER NOT NULL CHECK (class >= 1 AND class <= 7), \
+     okey TEXT NOT NULL, body BLOB NOT NULL, PRIMARY KEY (class, okey)) STRICT",
+    "CREATE TABLE IF NOT EXISTS named (maintainer TEXT NOT NULL, class INTEGER NOT NULL, \
+     okey TEXT NOT NULL, PRIMARY KEY (maintainer, class, okey)) STRICT",
     "INSERT INTO meta (name, value) VALUES ('version', '1')",
 ];
 
@@ -31,8 +33,8 @@ pub fn lay<D: Database>(database: &mut D, rows: &[OldRow]) -> Result<(), Error> 
     Ok(())
 }
 
-/// Selections, and what they give of the migrated tables: keys of a block have eight digits, and names and the version
-/// are written anew.
+/// Selections, and what they give of the migrated tables: keys of a block have eight digits, and
+/// names and the version are written anew.
 const ANEW: &[(&str, &[u8])] = &[
     (
         "SELECT okey FROM object WHERE class = 2 ORDER BY okey",
@@ -58,7 +60,8 @@ fn expect_selected<D: Database, R: Abort + AllocGlobal>(
     Ok(())
 }
 
-/// Asserts what migration makes of the tables of version 1, and that it makes nothing of them a second time.
+/// Asserts what migration makes of the tables of version 1, and that it makes nothing of them a
+/// second time.
 fn expect_anew<D: Database + Drop, R: Abort + AllocGlobal>(
     rt: &R,
     mut database: D,
@@ -72,7 +75,8 @@ fn expect_anew<D: Database + Drop, R: Abort + AllocGlobal>(
     Ok(())
 }
 
-/// Rows of version 1, and why they are not migrated: the root is none of them, or a key has eight digits.
+/// Rows of version 1, and why they are not migrated: the root is none of them, or a key has eight
+/// digits.
 const REFUSED: &[(&[OldRow], MigrateFault)] = &[
     (&[(1, "A-MNT", HOLDER, "A-MNT")], MigrateFault::NoRoot),
     (

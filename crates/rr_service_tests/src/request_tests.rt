@@ -1,7 +1,7 @@
-//! What no clause says: that heads are read in pieces of any size, and what worked requests ask and are replied. What is
-//! expected comes from the rules, read by hand.
+//! What no clause says: that heads are read in pieces of any size, and what worked requests ask and
+//! are replied. What is expected comes from the rules, read by hand.
 use rr_http::{
-    Asked, BodyEnd, FRONT_SIZE, Page, Refusal, Wanted, read_body, read_front, wanted_of,
+    Asked, BodyEnd, HEAD_SIZE, Head, Page, Refusal, read_body, read_head, read_request,
     write_refusal,
 };
 use rr_io::{Counted, Cut, Sink, Source};
@@ -22,43 +22,44 @@ enum Seen {
 }
 
 /// What a connection wants that gives these bytes, at most `step` in a read.
-fn outcome(alloc: Global, text: &[u8], step: usize) -> Seen {
-    let mut front = [0u8; FRONT_SIZE];
+fn outcome(text: &[u8], step: usize) -> Seen {
+    let mut buf = [0u8; HEAD_SIZE];
     let mut reader = Cut::new(Counted::new(text), step.max(1), 100_000);
-    match read_front(&mut reader, &mut front) {
-        Ok((count, _)) => wants_of(alloc, &front[..count]),
+    match read_head(&mut reader, &mut buf) {
+        Ok((head, count)) => wanted(head, &buf[..count]),
         Err(_) => Seen::Failed,
     }
 }
 
-/// What a connection wants of which this front was read.
-fn wants_of(alloc: Global, front: &[u8]) -> Seen {
-    match wanted_of(alloc, front) {
-        Ok(wanted) => summary(wanted),
-        Err(_) => Seen::Failed,
-    }
-}
-
-fn summary(wanted: Wanted<'_>) -> Seen {
-    match wanted {
-        Wanted::Whois(query) => Seen::Whois(query.len()),
-        Wanted::Http(place, asked) => match asked {
-            Asked::Refused(refusal) => Seen::Refused(refusal),
-            Asked::Submission(size) => Seen::Submission(place, size),
-            Asked::Query(escaped) => Seen::Query(escaped.len()),
-            Asked::Dump => Seen::Dump,
+/// What a connection wants of which these bytes were read, with this at their head.
+fn wanted(head: Head, read: &[u8]) -> Seen {
+    match head {
+        Head::Whois(count) => Seen::Whois(count),
+        Head::Http(count) => match read.get(..count) {
+            Some(head) => summary(count, read_request(head)),
+            None => Seen::Failed,
         },
+        Head::Refused(refusal) => Seen::Refused(refusal),
+    }
+}
+
+fn summary(place: usize, asked: Asked<'_>) -> Seen {
+    match asked {
+        Asked::Refused(refusal) => Seen::Refused(refusal),
+        Asked::Submission(size) => Seen::Submission(place, size),
+        Asked::Query(escaped) => Seen::Query(escaped.len()),
+        Asked::Dump => Seen::Dump,
     }
 }
 
 /// Asserts what a connection wants that gives these bytes, at most `step` in a read.
-fn expect_seen<R: Abort + AllocGlobal>(rt: &R, text: &[u8], step: usize, wanted: Seen) {
-    let found = outcome(rt.alloc(), text, step);
+fn expect_seen<R: Abort>(rt: &R, text: &[u8], step: usize, wanted: Seen) {
+    let found = outcome(text, step);
     assert_eq!(rt; found, wanted, "{step} bytes a read of {text:?}");
 }
 
 /// Asserts what connections want that give these bytes, at most seven in a read.
-fn expect_each<R: Abort + AllocGlobal>(rt: &R, cases: &[(&[u8], Seen)]) {
+fn expect_each<R: Abort>(rt: &R, cases: &[(&[u8], Seen)]) {
     for (text, wanted) in cases {
         expect_seen(rt, text, 7, *wanted);
     }
@@ -102,7 +103,8 @@ fn dump_request(alloc: Global, fields: usize, value: usize) -> Result<Vec<u8>, A
     Ok(text)
 }
 
-/// How many fields a request for the dump has and how many bytes each beside its name, its size, and what is wanted.
+/// How many fields a request for the dump has and how many bytes each beside its name, its size,
+/// and what is wanted.
 type Size = (usize, usize, usize, Seen);
 
 /// Asserts what requests of these sizes want.
@@ -180,7 +182,8 @@ const LENGTHS: &[(&[u8], Seen)] = &[
         Seen::Refused(Refusal::PayloadTooLarge),
     ),
     (
-        b"POST /submissions HTTP/1.1\r\nContent-Length: 99999999999999999999999999999999999999\r\n\r\n",
+        b"POST /submissions HTTP/1.1\r\n\
+          Content-Length: 99999999999999999999999999999999999999\r\n\r\n",
         Seen::Refused(Refusal::PayloadTooLarge),
     ),
     (
@@ -300,7 +303,7 @@ fn each_high_byte_stands_in_a_value(rt: HostRuntime) {
     }
 }
 
-/// Two refusals, one behind the other.
+/// Two refusals, one after the other.
 const WRITTEN: &str = "\
 HTTP/1.1 411 Length Required\r
 Content-Type: text/plain\r
@@ -369,14 +372,14 @@ fn a_refusal_is_written_in_one_call(rt: HostRuntime) {
     }
 }
 
-/// Asserts the body that is read, behind these bytes of it, and how it ends.
+/// Asserts the body that is read after these bytes of it, and how it ends.
 fn expect_body<T: Source, R: Abort + AllocGlobal>(
     rt: &R,
     reader: &mut T,
-    begun: &[u8],
+    buffered: &[u8],
     wanted: (&[u8], BodyEnd),
 ) -> Result<(), AllocError> {
-    let (body, end) = read_body(rt.alloc(), reader, begun, 4)?;
+    let (body, end) = read_body(rt.alloc(), reader, buffered, 4)?;
     assert_eq!(rt; (body.as_slice(), end), wanted);
     Ok(())
 }

@@ -1,4 +1,5 @@
-//! Whole connections, and the bytes that answer them. What is expected comes from the rules, read by hand.
+//! Whole connections, and the bytes that answer them. What is expected comes from the rules, read
+//! by hand.
 use crate::connections::{Reply, ending, expect_replies, expect_reply, expect_served};
 use crate::desks::{Office, Trial, try_new};
 use crate::stopped::{stop, try_fused};
@@ -26,7 +27,7 @@ source:         TEST
 
 ";
 
-/// The public dump behind that submission.
+/// The public dump after that submission.
 const DUMP: &str = "\
 mntner:         ROOT-MNT
 auth:           # filtered
@@ -56,8 +57,8 @@ source:         TEST
 % end 6
 ";
 
-/// A submission of two items without a password, which leaves the registry as it is: its head has 50 bytes, its first
-/// paragraph ends with the 51st byte of its body, and the body has 94.
+/// A submission of two items without a password, which leaves the registry as it is: its head has
+/// 50 bytes, its first paragraph ends with the 51st byte of its body, and the body has 94.
 const TWO: &str = "\
 POST /submissions HTTP/1.1\r
 Content-Length: 94\r
@@ -213,8 +214,8 @@ fn a_request_is_refused_by_the_first_status_that_holds(rt: HostRuntime) -> Resul
     try_new(&rt, &Replies(REFUSED))
 }
 
-/// Fronts with a byte that stands behind them up to a size, and the replies: heads of 8,192 bytes without their end and
-/// of a byte less, and such a line.
+/// Heads with a byte that stands after them up to a size, and the replies: heads of 8,192 bytes
+/// without their end and of a byte less, and such a line.
 const LONG: &[(&str, u8, usize, &str)] = &[
     ("GET /dump HTTP/1.1\r\nA: ", b'b', 8_192, TOO_LARGE),
     ("GET /dump HTTP/1.1\r\nA: ", b'b', 8_191, BAD_REQUEST),
@@ -230,8 +231,8 @@ impl Trial for Long {
         rt: &R,
         mut desk: D,
     ) -> Result<(), Fail> {
-        for (front, byte, size, reply) in LONG {
-            let mut text = Vec::from_slice(rt.alloc(), front.as_bytes())?;
+        for (head, byte, size, reply) in LONG {
+            let mut text = Vec::from_slice(rt.alloc(), head.as_bytes())?;
             text.resize(*size, *byte)?;
             expect_reply(rt, &mut desk, &text, 1, reply)?;
         }
@@ -378,8 +379,8 @@ fn a_stopped_desk_serves_nothing(rt: HostRuntime) -> Result<(), Fail> {
     try_fused(&rt, &Stopped)
 }
 
-/// The reply to the two items where only so many bytes of the request come. In its first line it is no request yet: it
-/// is a name at first, and then two words that are no query.
+/// The reply to the two items where only so many bytes of the request come. In its first line it is
+/// no request yet: it is a name at first, and then two words that are no query.
 fn cut_reply(count: usize) -> &'static str {
     match count {
         0 | 6..=25 => "% error 1\n",
@@ -413,15 +414,15 @@ fn a_request_is_cut_at_each_place(rt: HostRuntime) -> Result<(), Fail> {
     try_new(&rt, &Cuts)
 }
 
-/// The front of a text that has so many bytes.
-fn front(text: &str, count: usize) -> Result<&[u8], Fail> {
+/// So many bytes of a text.
+fn first(text: &str, count: usize) -> Result<&[u8], Fail> {
     match text.as_bytes().get(..count) {
-        Some(front) => Ok(front),
-        None => Err("no such front".into()),
+        Some(bytes) => Ok(bytes),
+        None => Err("the text is shorter".into()),
     }
 }
 
-/// A short body, of which the complete paragraphs count: its first one stands behind it.
+/// A short body, of which the complete paragraphs count: its first one stands after it.
 struct Short;
 
 impl Trial for Short {
@@ -430,7 +431,7 @@ impl Trial for Short {
         rt: &R,
         mut desk: D,
     ) -> Result<(), Fail> {
-        expect_reply(rt, &mut desk, front(POSTED, 150)?, 1, BEGUN)?;
+        expect_reply(rt, &mut desk, first(POSTED, 150)?, 1, BEGUN)?;
         expect_reply(rt, &mut desk, EXACT.as_bytes(), 1, TEN)
     }
 }
@@ -448,7 +449,8 @@ fn breaking(text: &str, reads: usize) -> MemoryInput<'_> {
     }
 }
 
-/// Asserts what is replied where a read of a text fails at each place: nothing before so many bytes have come.
+/// Asserts what is replied where a read of a text fails at each place: nothing before so many bytes
+/// have come.
 fn expect_broken<D: Office, R: Abort + AllocGlobal>(
     rt: &R,
     desk: &mut D,
@@ -525,7 +527,8 @@ fn a_write_fails_at_each_place(rt: HostRuntime) -> Result<(), Fail> {
     Ok(())
 }
 
-/// A request with bytes behind it, which are not looked at, however many come at once, and the reply to it.
+/// A request with bytes after it, which are not looked at, however many come at once, and the reply
+/// to it.
 #[derive(Drop)]
 struct Alone {
     request: &'static str,
@@ -548,7 +551,7 @@ impl Trial for Alone {
 }
 
 #[test]
-fn bytes_behind_a_request_are_not_looked_at(rt: HostRuntime) -> Result<(), Fail> {
+fn bytes_after_a_request_are_not_looked_at(rt: HostRuntime) -> Result<(), Fail> {
     for (request, reply) in REPLIED {
         try_new(&rt, &Alone { request, reply })?;
     }

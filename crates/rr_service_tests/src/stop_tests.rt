@@ -1,4 +1,4 @@
-//! A stop at each call of a disk, and the rows that are found behind it.
+//! A stop at each call of a disk, and the rows that are found after it.
 
 use crate::databases::{
     Database, HOLDER, MOVED, NUMBERS, ROOT, TEN, WHOLE, expect_texts, is_made_of,
@@ -21,7 +21,8 @@ source:         TEST
 /// More calls than the writes of a test make of one file.
 const CALLS: u64 = 2_000;
 
-/// Few pages are kept, and the log is soon copied into the file of the database, so that both files are called often.
+/// Few pages are kept, and the log is soon copied into the file of the database, so that both files
+/// are called often.
 const OPTIONS: Options = Options {
     cache_pages: 32,
     spill_pages: 32,
@@ -124,7 +125,7 @@ fn read<D: Database + Drop>(alloc: Global, database: D) -> Result<(Found, D), Fa
     let (opened, database) = database.opened(alloc, "TEST")?;
     match opened {
         Ok(rows) => Ok((reads(2, rows), database)),
-        Err(OpenFault::Store) => Ok((writes(alloc, 0), database)),
+        Err(OpenFault::Store(_)) => Ok((writes(alloc, 0), database)),
         Err(OpenFault::WrongVersion(1)) => {
             let (rows, database) = database.old_objects(alloc)?;
             Ok((reads(1, rows), database))
@@ -133,7 +134,8 @@ fn read<D: Database + Drop>(alloc: Global, database: D) -> Result<(Found, D), Fa
     }
 }
 
-/// Does this with a database that is left then; answers with what comes of it, and with what the database is kept in.
+/// Does this with a database that is left then; answers with what comes of it, and with what the
+/// database is kept in.
 fn does_last<S: Alter + Drop>(
     alloc: Global,
     conn: Connection<S>,
@@ -167,8 +169,8 @@ fn does_in_files<D: Disk + Drop>(
     Ok((found, store.close()))
 }
 
-/// Does this with the database of the files, until their disk fails; answers with what comes of it, and with the files.
-/// None where the disk fails before.
+/// Does this with the database of the files, until their disk fails; answers with what comes of it,
+/// and with the files. None where the disk fails before.
 fn run<D: Disk + Drop>(
     alloc: Global,
     files: Files<D>,
@@ -180,7 +182,7 @@ fn run<D: Disk + Drop>(
     }
 }
 
-/// What is read behind a stop.
+/// What is read after a stop.
 fn read_again<D: Crash + Drop>(alloc: Global, mut files: Files<D>) -> Result<Found, Fail> {
     files.log.crash();
     files.db.crash();
@@ -190,8 +192,8 @@ fn read_again<D: Crash + Drop>(alloc: Global, mut files: Files<D>) -> Result<Fou
     }
 }
 
-/// How many writes of this deed were done on these files, and what is read behind the stop. None where the disk fails
-/// before.
+/// How many writes of this deed were done on these files, and what is read after the stop. None
+/// where the disk fails before.
 fn stopped<D: Crash + Drop>(
     alloc: Global,
     files: Files<D>,
@@ -220,8 +222,8 @@ fn is_written(done: usize, text: &[u8]) -> bool {
         .any(|texts| is_made_of(text, texts))
 }
 
-/// How many of the three writes were done at the stop of this file's call, where the disk did not fail before. Asserts
-/// what stands behind the stop.
+/// How many of the three writes were done at the stop of this file's call, where the disk did not
+/// fail before. Asserts what stands after the stop.
 fn expect_written<R: Abort + AllocGlobal>(
     rt: &R,
     part: Part,
@@ -236,7 +238,8 @@ fn expect_written<R: Abort + AllocGlobal>(
     Ok(Some(done))
 }
 
-/// Stops the three writes at each call of this file: how many were done at a stop, and last of all the three.
+/// Stops the three writes at each call of this file: how many were done at a stop, and last of all
+/// the three.
 fn stop_writes<R: Abort + AllocGlobal>(rt: &R, part: Part) -> Result<[bool; 4], Fail> {
     let mut seen = [false; 4];
     for calls in 0..CALLS {
@@ -253,7 +256,7 @@ fn stop_writes<R: Abort + AllocGlobal>(rt: &R, part: Part) -> Result<[bool; 4], 
 }
 
 #[test]
-fn a_stop_leaves_the_rows_before_a_write_or_behind_it(rt: HostRuntime) -> Result<(), Fail> {
+fn a_stop_leaves_the_rows_before_a_write_or_after_it(rt: HostRuntime) -> Result<(), Fail> {
     assert_eq!(rt; stop_writes(&rt, Part::Log)?, [true; 4]);
     let _seen = stop_writes(&rt, Part::Database)?;
     Ok(())
@@ -287,8 +290,9 @@ const BEFORE: &[&str] = &[ROOT, NUMBERS];
 
 const BEHIND: &[&str] = &[ROOT, NUMBERS, UPPER];
 
-/// Whether the files, one of which fails after so many calls, were migrated, and whether their tables are migrated behind
-/// the stop, where the disk did not fail before. Asserts what stands behind it.
+/// Whether the files, one of which fails after so many calls, were migrated, and whether their
+/// tables are migrated after the stop, where the disk did not fail before. Asserts what stands
+/// after it.
 fn expect_migrated<R: Abort + AllocGlobal>(
     rt: &R,
     old: &Files<Memory>,
@@ -309,8 +313,8 @@ fn expect_migrated<R: Abort + AllocGlobal>(
     Ok(Some((is_done, is_new)))
 }
 
-/// Stops the migration at each call of this file: whether a stop left the tables of version 1, and whether one left
-/// those of version 2.
+/// Stops the migration at each call of this file: whether a stop left the tables of version 1, and
+/// whether one left those of version 2.
 fn stop_migration<R: Abort + AllocGlobal>(
     rt: &R,
     old: &Files<Memory>,

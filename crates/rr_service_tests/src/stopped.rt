@@ -1,7 +1,7 @@
 //! Desks that a fault of the store stopped.
 use crate::desks::{Office, Trial, expect_text, try_in};
 use crate::texts::THREE;
-use rr_desk::{DeskFault, DumpFault};
+use rr_desk::{DeskDumpFault, DeskFault};
 use sqlite::{Connection, Files, Options};
 use sqlite_disk::{Disk, Fuse, Memory};
 use std::alloc::Global;
@@ -23,7 +23,8 @@ fn try_in_files<D: Disk + Drop, T: Trial, R: Abort + AllocGlobal>(
     }
 }
 
-/// Tries this with a new desk over a database in files in memory, of which the log fails after a hundred calls.
+/// Tries this with a new desk over a database in files in memory, of which the log fails after a
+/// hundred calls.
 pub fn try_fused<T: Trial, R: Abort + AllocGlobal>(rt: &R, trial: &T) -> Result<(), Fail> {
     let files = Files {
         log: Fuse::new(Memory::new(rt.alloc()), 100),
@@ -58,7 +59,7 @@ fn expect_unread<D: Office, R: Abort + AllocGlobal>(rt: &R, desk: &mut D) {
 /// Asserts that a desk which is stopped gives no dump.
 fn expect_no_dump<D: Office, R: Abort + AllocGlobal>(rt: &R, desk: &D) {
     let (answer, dump) = desk.dumped(rt.alloc());
-    assert_eq!(rt; answer, Err(DumpFault::Stopped));
+    assert_eq!(rt; answer, Err(DeskDumpFault::Stopped));
     assert!(rt; dump.is_empty());
 }
 

@@ -14,8 +14,9 @@ source:         TEST
 ";
 
 /// The body of one object gets another blank.
-const SPACED: &str =
-    "UPDATE object SET body = x'696e65746e756d3a20202020202020202031302e302e302e30202d2031302e3235352e3235352e3235350a6d6e742d62793a202020202020202020412d4d4e540a736f757263653a202020202020202020544553540a' WHERE okey = '0a000000-0affffff'";
+const SPACED: &str = "UPDATE object SET body = x'696e65746e756d3a20202020202020202031302e302e302e30\
+     202d2031302e3235352e3235352e3235350a6d6e742d62793a202020202020202020412d4d4e540a\
+     736f757263653a202020202020202020544553540a' WHERE okey = '0a000000-0affffff'";
 
 /// Makes a store of the four objects in a database where there is none.
 fn filled<D: Database + Drop, R: Abort + AllocGlobal>(rt: &R, database: D) -> Result<D, Fail> {
@@ -58,7 +59,7 @@ fn expect_given<D: Database + Drop, R: Abort + AllocGlobal>(
     Ok(())
 }
 
-/// Asserts what a store gives behind a put and a removal, opened without its objects and with them.
+/// Asserts what a store gives after a put and a removal, opened without its objects and with them.
 fn expect_changed<D: Database + Drop, R: Abort + AllocGlobal>(
     rt: &R,
     database: D,
@@ -76,7 +77,8 @@ const OBJECT: &str = "DELETE FROM object";
 
 const NAMED: &str = "DELETE FROM named";
 
-/// Statements, and what a store answers that is made over another after them: a row of any table leaves no room.
+/// Statements, and what a store answers that is made over another after them: a row of any table
+/// leaves no room.
 const VACANT: &[(&[&str], Option<CreateFault>)] = &[
     (&[], Some(CreateFault::NotEmpty)),
     (&[OBJECT, NAMED], Some(CreateFault::NotEmpty)),
@@ -106,7 +108,8 @@ fn expect_room<D: Database + Drop, R: Abort + AllocGlobal>(
     Ok(())
 }
 
-/// Statements with a source, and what a store of the four objects answers that is opened after one of them.
+/// Statements with a source, and what a store of the four objects answers that is opened after one
+/// of them.
 const OTHERS: &[(&str, &str, Option<OpenFault>)] = &[
     ("UPDATE meta SET value = '2'", "TEST", None),
     (
@@ -177,7 +180,7 @@ fn expect_fault<D: Database + Drop, R: Abort + AllocGlobal>(
 enum Claim {
     /// What a new store gives.
     Given,
-    /// What a store gives behind a put and a removal.
+    /// What a store gives after a put and a removal.
     Changed,
     /// What a store answers that is made over another, after these statements.
     Room(&'static [&'static str], Option<CreateFault>),

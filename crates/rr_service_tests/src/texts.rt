@@ -44,7 +44,8 @@ const ELEVEN: &str =
 const TWELVE: &str =
     "inetnum:        12.0.0.0/8\nmnt-by:         ROOT-MNT\nsource:         TEST\n\n";
 
-/// The objects that a registry of the built-in settings opens with, and the three inetnums behind them.
+/// The objects that a registry of the built-in settings opens with, and the three inetnums after
+/// them.
 const KEPT: [&str; 7] = [ROOT, NUMBERS, FOUR_OCTETS, ADDRESSES, TEN, ELEVEN, TWELVE];
 
 /// A submission of three inetnums of the root, with its secret.
@@ -83,7 +84,8 @@ pub fn full_dump(alloc: Global, added: usize) -> Result<String, Fail> {
     Ok(format!(in alloc; "{text}% end {count}\n")?)
 }
 
-/// A request with a submission of an inetnum, of one whose prefix is too long, and of an AS number, which has 160 bytes.
+/// A request with a submission of an inetnum, of one whose prefix is too long, and of an AS number,
+/// which has 160 bytes.
 pub const POSTED: &str = "\
 POST /submissions HTTP/1.1\r
 Content-Length: 160\r

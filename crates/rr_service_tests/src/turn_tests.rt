@@ -31,7 +31,8 @@ fn expect_turn<R: Abort>(
     }
 }
 
-/// Asserts what three connections were asked and answered: a submission, a query that could not be read, and a query.
+/// Asserts what three connections were asked and answered: a submission, a query that could not be
+/// read, and a query.
 fn expect_turns<R: Abort + AllocGlobal>(rt: &R, turns: &[MemoryTurn<'_>]) -> Result<(), Fail> {
     assert_eq!(rt; turns.len(), 3);
     expect_turn(rt, turns, 1, EXACT, "")?;
@@ -40,7 +41,8 @@ fn expect_turns<R: Abort + AllocGlobal>(rt: &R, turns: &[MemoryTurn<'_>]) -> Res
     expect_turn(rt, turns, 0, POSTED, report.as_str())
 }
 
-/// So many turns of three connections, of which the second breaks, and how many are served and fail.
+/// So many turns of three connections, of which the second breaks, and how many are served and
+/// fail.
 #[derive(Drop)]
 struct Turns {
     count: u64,

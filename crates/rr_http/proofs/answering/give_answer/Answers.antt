@@ -1,6 +1,6 @@
 use Rattle.std.proofs.Common.{inr}
-use Rattle.rr_http.proofs.AnswerLemmas.{answered_behind}
+use Rattle.rr_http.proofs.AnswerLemmas.{answered_after}
 use Rattle.rr_http.proofs.answering.give_answer.Goals as goal
 
 pub returns-in-Ok-clause-answers : goal.returns-in-Ok-clause-answers
-returns-in-Ok-clause-answers g c = inr (answered_behind _ _ _ _ _ _ _ _ _ c.in-Ok.ensures.writes c.answer_whois.ensures.answers)
+returns-in-Ok-clause-answers g c = inr (answered_after _ _ _ _ _ _ _ _ _ c.in-Ok.ensures.writes c.answer_whois.ensures.answers)

@@ -6,5 +6,10 @@ returns-clause-submits g c =
     body_submitted _ _ _ _ _ _ _ _ _ c.new-body.result c.submit.new.reader c.requires.small c.new-body.ensures.rest c.new-body.ensures.missing c.new-body.ensures.failed
     c.new-body.ensures.reads c.submit.ensures.reader_aside (c.submit.ensures.submits c.requires.running)
 
-pub returns-clause-confined : goal.returns-clause-confined
-returns-clause-confined g c = c.submit.ensures.confined c.requires.running
+pub returns-clause-keeps : goal.returns-clause-keeps
+returns-clause-keeps g c = record {
+  runs = c.submit.ensures.runs c.requires.running;
+  confined = c.submit.ensures.confined c.requires.running;
+  kept = c.submit.ensures.kept c.requires.running;
+  of_source = c.submit.ensures.of_source;
+}

@@ -1,7 +1,7 @@
 use Rattle.std.proofs.Common.{◌≡◌, ◌≤◌, ◌+◌, ℕ, List, ap, arith, length, length-append, rules, take, ◌∙◌}
 use Rattle.std.proofs.lemmas.List.{length-take}
 use Rattle.rr_io.proofs.Transfers.{Gives-then}
-use Rattle.rr_http.proofs.FrontReading.{on_err}
+use Rattle.rr_http.proofs.HeadReading.{on_err}
 use Rattle.rr_http.proofs.body_reading.read_rest.Goals as goal
 
 -- what was read so far, and what this read gave, which has room in the body

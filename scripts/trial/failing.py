@@ -9,7 +9,7 @@ from trial.running import TOP, Failure, expect, run, short
 
 # A number that no count comes to.
 NONE = 1 << 60
-NEVER_MADE = (b"there is no such file", b"the database has no registry that can be read")
+NEVER_MADE = (b"there is no such database", b"the database has no registry that can be read")
 
 
 class Failing:

@@ -7,7 +7,15 @@ from trial.texts import item
 
 PASSWORD = b"password: bc\n"
 AUTH_OF = {b"A-MNT": b"SHA256-PW ab:" + DIGEST.encode(), b"B-MNT": b"SHA256-PW :" + DIGEST.encode()}
-REPORT_CUT = "standard output: the report could not be written: submit the whole text again; items decided before that: {}"
+REPORT_CUT = "standard output: the report could not be written, so submit the whole text again: {}; items decided before that: {}"
+# Why a writer took no more: the system's word for it, as the program tells it.
+READER_ENDED = "its reader has ended: let it read to the end"
+DISK_FULL = "the disk is full: make room"
+# Why a database refused, where its file could not be read or written.
+DISK_FAILED = "the disk cannot be read or written: look at its health, and keep a copy of the database"
+STORE_FAILED = f"the database failed, so submit the whole text again: {DISK_FAILED}"
+STORE_FULL = f"the database failed, so submit the whole text again: {DISK_FULL}"
+SERVED_IN_VAIN = "irrdesk: irr.db: the database failed, and each request is refused until the server is started again: {}\n"
 READING_CUT = "{}: the submission could not be read to its end: submit all of it again; items decided before that: {}"
 
 
@@ -119,7 +127,7 @@ class Submission:
             self.expect_status(ran, self.lines())
             return check_rows(rows, self.dumps[-1])
         items = min(ran.printed.count(b"\n") + 1, len(self.words))
-        expect((ran.status, ran.said.decode()), (5, f"irrdesk: {REPORT_CUT.format(items)}\n"), "how it ended")
+        expect((ran.status, ran.said.decode()), (5, f"irrdesk: {REPORT_CUT.format(DISK_FULL, items)}\n"), "how it ended")
         return check_rows(rows, self.dumps[items])
 
     def check_cut(self, before, name):
@@ -193,7 +201,7 @@ QUERIES = [b"object mntner a-mnt", b"C-MNT", b"less 10.1.2.3", b"more 10.1.0.0/1
 # Dumps, and what is wrong with each.
 DUMPS = {
     "a dump": (ASKED.dumps[-1], None),
-    "a public dump": (opened().dump(full=False), "paragraph 1 is no object: E05"),
+    "a public dump": (opened().dump(full=False), "paragraph 1 is not an object: E05"),
     "a dump twice over": (opened().dump() * 2, "paragraph 5 has the key of one before it"),
     "a block alone": (item(b"as-block", b"AS0 - AS65535"), "paragraph 1 names a maintainer who is not in the dump"),
 }

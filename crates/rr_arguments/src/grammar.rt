@@ -4,22 +4,24 @@ use crate::help;
 use clap::{Arg, ArgAction};
 use std::alloc::{AllocError, Global};
 
-/// What the words may be.
+/// The version of the program, and that of the tables that it reads.
+const VERSION: &str = "1.2.0 (tables 2)";
+
+/// What the words may be. The commands stand in the order in which a registry meets them.
 pub fn program<'a>(alloc: Global) -> Result<clap::Command<'a>, AllocError> {
     let program = clap::Command::new(alloc, "irrdesk")
         .bin_name("irrdesk")?
-        .version("1.1.0")
+        .version(VERSION)
         .about(help::PROGRAM)
         .after_help(help::PROGRAM_EXAMPLE)
-        .disable_help_subcommand(true)
         .subcommand_required(true);
     let program = with(program, init(alloc))?;
     let program = with(program, submit(alloc))?;
     let program = with(program, query(alloc))?;
+    let program = with(program, serve(alloc))?;
     let program = with(program, dump(alloc))?;
     let program = with(program, load(alloc))?;
     let program = with(program, migrate(alloc))?;
-    let program = with(program, serve(alloc))?;
     with(program, probe(alloc))
 }
 
@@ -81,7 +83,7 @@ fn serve<'a>(alloc: Global) -> Result<clap::Command<'a>, AllocError> {
             alloc,
             "N",
             "count",
-            "Ends after so many connections, 1 to 1000000",
+            "Ends after this many connections, 1 to 1000000",
         ))
 }
 
@@ -110,7 +112,7 @@ fn needed<'a>(alloc: Global, place: &'a str, help: &'a str) -> Arg<'a> {
         .help(help)
 }
 
-/// A value that a command needs, behind an option of this name.
+/// A value that a command needs, after an option of this name.
 fn option<'a>(alloc: Global, place: &'a str, name: &'a str, help: &'a str) -> Arg<'a> {
     needed(alloc, place, help).long(name).value_name(place)
 }

@@ -1,33 +1,38 @@
-//! What `--help` says of the program and of each command, each with an example. No line has more than 79 columns.
+//! What `--help` says of the program and of each command, each with an example. No line has more
+//! than 79 columns.
 
 /// What the program is.
 pub const PROGRAM: &str = "An Internet routing registry for IPv4 (RFC 2622, RFC 2725).
 
 Without a command it submits standard input to a registry in memory, of which
 nothing lasts, and prints the report. The root maintainer of that registry is
-ROOT-MNT, whose secret `bc` is published.";
+ROOT-MNT, whose password `bc` is published.";
 
 /// The program by an example, and its statuses.
 pub const PROGRAM_EXAMPLE: &str = "Example, with the settings in irr.toml:
   irrdesk init irr.toml
   irrdesk submit irr.toml objects.rpsl
   irrdesk query irr.toml 10.1.2.3
-`irrdesk COMMAND --help` shows each command by an example.
+`irrdesk help COMMAND` shows each command by an example.
 
 irr.toml has the name of the registry, its root maintainer with the salt and
-the digest of its secret, the most names that an expansion of a set may reach,
+the hash of its password, the most names that an expansion of a set may reach,
 and the path of the database:
   source = \"TEST\"
   root = \"ROOT-MNT\"
   auth = \"SHA256-PW salt:digest\"
   limit = 10000
   store = \"irr.db\"
-This prints the value of `auth` for the salt `salt` and the secret `secret`:
+This prints the value of `auth` for the salt `salt` and the password `secret`:
   printf 'SHA256-PW salt:%.64s\\n' \"$(printf %s saltsecret | sha256sum)\"
 
-Status: 0 done, 1 an item was refused or an answer is an error, 2 wrong
-arguments, 3 the settings, 4 the database, 5 a file, a stream, a socket,
-memory, or a dump that is not loaded.";
+Status:
+  0  done
+  1  an item was refused, or an answer is an error
+  2  wrong arguments
+  3  the settings
+  4  the database
+  5  a file, a stream, a socket, memory, or a dump that is not loaded";
 
 /// What `init` does.
 pub const INIT: &str = "Makes the database of a registry, with its opening objects";
@@ -44,8 +49,8 @@ pub const SUBMIT: &str = "Submits a file, item by item, and prints the report";
 
 /// `submit` by an example.
 pub const SUBMIT_EXAMPLE: &str =
-    "Example, with the root's secret `bc` and this in objects.rpsl, where each line
-begins in the first column:
+    "Example, with the root's password `bc` and this in objects.rpsl, where each
+line begins in the first column:
   password: bc
 
   inetnum:  10.0.0.0/8
@@ -76,9 +81,9 @@ pub const QUERY_EXAMPLE: &str = "Examples:
   irrdesk query irr.toml inverse origin AS1   the routes of an AS
   irrdesk query irr.toml expand AS-X          the members of a set
   irrdesk query irr.toml prefixes AS-X        the prefixes of a set
-These are no errors: `% no entries`, where nothing was found; `% empty`, where
-a set that is registered gives nothing; and `% missing NAME`, where a set that
-is named on the way is not registered. An error is one line `% error n` with
+These are not errors: `% no entries`, if nothing was found; `% empty`, if a set
+that is registered gives nothing; and `% missing NAME`, if a set that is named
+on the way is not registered. An error is one line `% error n` with
 status 1: 1 is a bad query, 2 one over 1024 bytes, 3 an expansion over the
 limit, 4 memory, 5 the database, 6 one that failed before.";
 
@@ -98,24 +103,24 @@ pub const LOAD: &str = "Makes a registry from a full dump, in a new database";
 pub const LOAD_EXAMPLE: &str = "Example, with another `store` in the settings new.toml:
   tail -n 1 backup.rpsl
   irrdesk load new.toml backup.rpsl
-prints `% end n`, and `loaded n objects`. All of it is loaded, or nothing. Any
-RPSL text is, also a dump that was cut between two objects: where its last
-line is not `% end n`, it is not whole.";
+prints `% end n`, and `loaded n objects`. All of it is loaded, or nothing. A
+dump that was cut between two objects also loads: if its last line is not
+`% end n`, it is not whole.";
 
 /// What `migrate` does.
 pub const MIGRATE: &str = "Migrates a database of version 1, with AS numbers of two octets";
 
 /// `migrate` by an example.
 pub const MIGRATE_EXAMPLE: &str =
-    "Example, behind a copy of the file and of the log that may lie beside it, since
-there is no way back:
+    "There is no way back, so copy the database first, with the log that may lie
+beside it:
   mkdir kept
   cp irr.db* kept/
   irrdesk migrate irr.toml
 prints `migrated to version 2`, which has AS numbers of four octets.";
 
 /// What `serve` does.
-pub const SERVE: &str = "Answers whois and HTTP on a port of 127.0.0.1, one peer at a time";
+pub const SERVE: &str = "Answers whois and HTTP on a port of 127.0.0.1, one client at a time";
 
 /// `serve` by an example.
 pub const SERVE_EXAMPLE: &str = "Example, for a thousand connections:
@@ -130,7 +135,7 @@ listens on 127.0.0.1 alone, nothing on it is encrypted, and no other program
 can use the database meanwhile.";
 
 /// What `probe` does.
-pub const PROBE: &str = "Asks for the root maintainer over a connection, and prints the reply";
+pub const PROBE: &str = "Opens the registry, and answers itself one whois query";
 
 /// `probe` by an example.
 pub const PROBE_EXAMPLE: &str = "Example:

@@ -1,4 +1,5 @@
-//! The command line of the program: what its words may be, what they ask for, and the help that they are shown.
+//! The command line of the program: what its words may be, what they ask for, and the help that
+//! they are shown.
 #![tactic(auto)]
 
 mod command;

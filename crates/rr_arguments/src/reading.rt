@@ -15,8 +15,8 @@ const GREATEST_PORT: usize = 65_535;
 /// The greatest number of connections that are served in one run (profile).
 const GREATEST_COUNT: usize = 1_000_000;
 
-/// The command that the words ask for, of which the first is the program's own name. The fault is that they ask for
-/// none, or want of memory.
+/// The command that the words ask for, of which the first is the program's own name. The fault is
+/// that they ask for none, or that memory ran out.
 pub fn read_command<'a>(
     alloc: Global,
     words: &'a [String],
@@ -32,8 +32,8 @@ pub fn read_command<'a>(
     }
 }
 
-/// Whether these are the words of a query behind its settings: each of them is one of the query, also one that begins with a
-/// dash and would be an option elsewhere (profile).
+/// Whether these are the words of a query after its settings: each of them is one of the query,
+/// also one that begins with a dash and would be an option elsewhere (profile).
 fn is_query(name: &str, settings: &str, query: &[String]) -> bool {
     name == "query" && !settings.starts_with('-') && !query.is_empty()
 }
@@ -59,7 +59,7 @@ fn read_words<'a>(alloc: Global, words: &'a [String]) -> Result<Command<'a>, Arg
     }
 }
 
-/// The command of this name, with what was found behind it.
+/// The command of this name, with what was found after it.
 fn read_found<'a>(
     alloc: Global,
     name: &'a str,
@@ -128,19 +128,40 @@ fn read_refusal<'a>(alloc: Global, error: &clap::Error) -> Result<Command<'a>, A
     }
 }
 
-/// The first paragraph of a refusal as one line, without the word `error`.
+/// A refusal as one line: what is wrong, a suggestion if there is one, and the usage, with `;`
+/// between them. It is without the word `error` and without the last paragraph, which points to
+/// `--help`.
 fn one_line(alloc: Global, text: &str) -> Result<String, AllocError> {
     let told = text.strip_prefix("error: ").unwrap_or(text);
-    let front = match told.split_once("\n\n") {
-        Some((front, _)) => front,
+    let told = match told.split_once("\n\nFor more information") {
+        Some((told, _)) => told,
         None => told,
     };
     let mut line = String::new(alloc);
-    for part in front.lines() {
-        if !line.is_empty() {
-            line.push(' ')?;
+    let mut is_apart = false;
+    for part in told.lines() {
+        let part = part.trim();
+        if part.is_empty() {
+            is_apart = true;
+        } else {
+            push_part(&mut line, part, is_apart)?;
+            is_apart = false;
         }
-        line.push_str(part.trim())?;
     }
     Ok(line)
+}
+
+/// Adds a line of a refusal, which an empty line may part from those before it. The usage gets a
+/// small letter first.
+fn push_part(line: &mut String, part: &str, is_apart: bool) -> Result<(), AllocError> {
+    if !line.is_empty() {
+        line.push_str(if is_apart { "; " } else { " " })?;
+    }
+    match part.strip_prefix("Usage: ") {
+        Some(usage) => {
+            line.push_str("usage: ")?;
+            line.push_str(usage)
+        }
+        None => line.push_str(part),
+    }
 }

@@ -1,1 +1,2 @@
+pub mod Probing
 pub mod Serving

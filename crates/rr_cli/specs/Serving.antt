@@ -1,27 +1,70 @@
 -- What the serving of a command does, and what it prints (profile).
-use Rattle.std.specs.Prelude.{◌≡◌, ◌⊎◌, ℕ, List, ◌++◌, Option, Result, Ok, Err, codes, decimal, nat_eq, if◌then◌else◌}
-use Rattle.std.specs.List.{starts_with}
+use Rattle.std.specs.Prelude.{◌≡◌, ◌⊎◌, ℕ, List, ◌++◌, Ok, Err, codes, decimal}
 use Rattle.sqlite_trees.specs.declared.store.Store.{Ghosts}
-use Rattle.rr_io.specs.Sending.{Writes}
+use Rattle.rr_io.specs.Sending.{Takes, TakesFront, Writes}
 use Rattle.rr_io.specs.Told.{Told}
-use Rattle.rr_desk.specs.Turns.{Serving, TakesTurns, Turn}
+use Rattle.rr_desk.specs.Turns.{Serving, TakesTurns, Tally}
 use Rattle.rr_desk.specs.declared.desk.Desk.{Desk}
 use Rattle.rr_commands.specs.declared.trouble.Trouble.{Trouble}
-use Rattle.rr_commands.specs.declared.trouble.Trouble.TheVariants.{Unwritten}
+use Rattle.rr_commands.specs.declared.trouble.Trouble.TheVariants.{ListenerUnopened, Unwritten}
+use Rattle.rr_commands.specs.Commands.{Answer, AtDesk, Commands, DeskAction, Ending, Gives}
 
 -- the line that says how many turns were served, and how many failed (profile)
 unfoldable pub served_line : ℕ → ℕ → List ℕ
-served_line served failed = codes "served " ++ (decimal served ++ (codes ", failed " ++ (decimal failed ++ codes "\n")))
+served_line served failed =
+    codes "served " ++ (decimal served ++ (codes ", failed " ++ (decimal failed ++ codes "\n")))
 
--- so many turns of a listener were taken, and how many were served and how many failed was printed: the status is 0, also where
--- some failed, and the one fault is that this could not be printed whole (profile)
-pub record HasServed {S : Type 0} (g : Ghosts S) (serves : Serving) (count : ℕ) (before after : Desk S) (counted_before counted_after : ℕ) (told_before told_after : Option (List Turn)) (output_before output_after : Told) (result : Result ℕ Trouble) : Type 0 where
+-- so many turns of a listener were taken, and how many were served and how many failed was printed:
+-- the status is 0, also where some failed, and the one fault is that this could not be printed
+-- whole (profile)
+pub record HasServed {S : Type 0} (g : Ghosts S) (serves : Serving) (count : ℕ)
+    (before after : Desk S) (tally_before tally_after : Tally) (output_before output_after : Told)
+    (result : Answer) : Type 0 where
   pub served : ℕ
   pub failed : ℕ
-  pub turns : TakesTurns g serves count before after counted_before counted_after told_before told_after served failed
+  pub turns : TakesTurns g serves count before after tally_before tally_after served failed
   pub prints : Writes output_before output_after (served_line served failed) result
   pub status : (result ≡ Ok 0) ⊎ (result ≡ Err Unwritten)
 
--- the status of a probe: 1 where the reply is an error, and else 0 (profile)
-abbrev pub reply_status : List ℕ → ℕ
-reply_status reply = if starts_with nat_eq reply (codes "% error ") then 1 else 0
+-- what the line begins with that says where the program listens (profile)
+unfoldable pub listening_head : List ℕ
+listening_head = codes "listening on 127.0.0.1:"
+
+-- that line (profile)
+abbrev pub listening_line : ℕ → List ℕ
+listening_line port = listening_head ++ (decimal port ++ codes "\n")
+
+-- why nothing was served: the listener was not opened, and nothing was printed, or where it listens
+-- could not be printed (profile)
+abbrev pub ListensNot : ℕ → Trouble → Told → Told → Type 0
+ListensNot port (ListenerUnopened cause) old new = new ≡ old
+ListensNot port Unwritten old new = TakesFront old new (listening_line port)
+ListensNot port _ old new = ⊥
+
+-- the port is not listened on, or that could not be said: nothing was served (profile)
+pub record HasNotListened (port : ℕ) (old new : Told) (answer : Answer) : Type 0 where
+  pub trouble : Trouble
+  pub told : answer ≡ Err trouble
+  pub said : ListensNot port trouble old new
+
+-- the port was listened on, that was said, and then turns were served (profile)
+pub record HasListened {S : Type 0} (g : Ghosts S) (serves : Serving) (port count : ℕ)
+    (old new : Told) (before after : Desk S) (answer : Answer) : Type 0 where
+  pub between : Told
+  pub said : Takes old between (listening_line port)
+  pub tally_before : Tally
+  pub tally_after : Tally
+  pub served : HasServed g serves count before after tally_before tally_after between new answer
+
+-- what the command does at a desk (profile)
+abbrev pub ServesDesk : {S : Type 0} →
+    Ghosts S → Serving → ℕ → ℕ → Told → Told → DeskAction S
+ServesDesk g serves port count old new before after answer =
+    (HasNotListened port old new answer × (after ≡ before))
+    ⊎ HasListened g serves port count old new before after answer
+
+-- what the command does (profile)
+abbrev pub ServesBy : {S : Type 0} →
+    Ghosts S → Gives S → Serving → ℕ → ℕ → Told → Told → Ending → Type 0
+ServesBy g gives serves port count old new =
+    Commands (AtDesk g gives (ServesDesk g serves port count old new) old new) old new

@@ -5,14 +5,16 @@ mod probing;
 mod run;
 mod serving;
 
+use rr_commands::{DatabaseFiles, Progress};
 use rr_io::Counted;
 use std::env;
 use std::process::ExitCode;
 
 fn main(rt: HostRuntime) -> ExitCode {
     let mut input = Counted::new(rt.stdin());
-    let mut output = Counted::new(rt.stdout());
+    let mut output = Progress::new(&rt, Counted::new(rt.stdout()));
     let mut errors = Counted::new(rt.stderr());
     let words = env::args(&rt);
-    ExitCode::from(run::run(&rt, words, &mut input, &mut output, &mut errors))
+    let databases = DatabaseFiles::new(&rt);
+    ExitCode::from(run::run(&rt, &databases, words, &mut input, &mut output, &mut errors))
 }

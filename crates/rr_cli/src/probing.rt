@@ -1,14 +1,15 @@
 //! A question of the program to itself, over a connection.
 
-ghost use Rattle.std.specs.Prelude.{◌≡◌, ◌+◌, ◌<◌, ◌^◌};
-ghost use Rattle.rr_cli.specs.Serving.{reply_status};
+ghost use Rattle.std.specs.Prelude.{◌≡◌, ◌+◌, ◌<◌, ◌^◌, string_bytes};
+ghost use Rattle.rr_commands.specs.Commands.{AtDesk};
+ghost use Rattle.rr_cli.specs.Probing.{PrintsReply, ProbesBy, ProbesDesk, reply_status};
 
 use rr_commands::{
-    Cause, DeskTask, ProgramFault, Trouble, perform_at_desk, print, read_settings_file,
+    Cause, Databases, Output, ProgramFault, Trouble, close, ended, open_desk, read_settings_file,
 };
-use rr_desk::{Desk, Peers, serve_all};
+use rr_desk::{Desk, Peers, Settings, serve_all};
 use rr_http::Both;
-use rr_io::Sink;
+use rr_io::{Sink, write_all};
 use rr_listener::Listener;
 use sqlite::Alter;
 use std::alloc::Global;
@@ -17,60 +18,67 @@ use std::io::{ErrorKind, Read, Write};
 use std::net::{Ipv4Addr, Shutdown, TcpStream};
 use std::time::Duration;
 
-/// The status where the reply is an error.
+/// The status if the reply is an error.
 const ERROR: u8 = 1;
 
 /// How many seconds the reply is waited for (profile).
 const REPLY_WAIT: u64 = 10;
 
-/// Asks the registry that the settings name for its root maintainer, by whois over a connection to a listener of its own, and
-/// prints the reply: the status is 0, or 1 where the reply is an error.
-pub fn probe<'a, W: Sink>(
+/// Asks the registry that the settings name for its root maintainer, by whois over a connection to
+/// a listener of its own, and prints the reply: the status is 0, or 1 if the reply is an error.
+pub fn probe<'a, D: Databases, W: Output>(
     rt: &HostRuntime,
+    databases: &D,
     settings: &'a str,
     output: &mut W,
-) -> Result<u8, ProgramFault<'a>> {
-    let (read, store) = read_settings_file(rt, settings)?;
-    let mut reply = Vec::new(rt.alloc());
-    let probing = Probing {
-        rt,
-        reply: &mut reply,
-    };
-    match perform_at_desk(rt, read, store.as_str(), probing) {
-        Ok(status) => {
-            print(output, reply.as_slice())?;
-            Ok(status)
-        }
-        Err(trouble) => Err(located(trouble, store)),
+) -> Result<u8, ProgramFault<'a>>
+    ensures { ProbesBy D.Disk.Store (D.gives databases.now)
+        (W.told output.old) (W.told output.new) result }
+{
+    let (read, mut path) = read_settings_file(rt, settings)?;
+    let answer = probe_at(rt, databases, read, &mut path, output);
+    ended(answer, settings, path, output)
+}
+
+/// Asks the registry in the database at a path for its root maintainer, and prints the reply.
+fn probe_at<D: Databases, W: Sink>(
+    rt: &HostRuntime,
+    databases: &D,
+    settings: Settings,
+    path: &mut String,
+    output: &mut W,
+) -> Result<u8, Trouble>
+    ensures { AtDesk D.Disk.Store (D.gives databases.now)
+        (ProbesDesk (W.told output.old) (W.told output.new))
+        (W.told output.old) (W.told output.new) settings (string_bytes path.old) result }
+{
+    let mut desk = open_desk(rt, databases, settings, path)?;
+    let answer = probe_desk(rt, &mut desk, output);
+    close(databases, desk.close());
+    answer
+}
+
+/// Asks a desk for its root maintainer, and prints the reply.
+fn probe_desk<S: Alter, W: Sink>(
+    rt: &HostRuntime,
+    desk: &mut Desk<S>,
+    output: &mut W,
+) -> Result<u8, Trouble>
+    ensures { ProbesDesk (W.told output.old) (W.told output.new) desk.old desk.new result }
+{
+    match ask_for_root(rt, desk) {
+        Ok(reply) => print_reply(reply.as_slice(), output),
+        Err(trouble) => Err(trouble),
     }
 }
 
-/// A fault of a probe, about the database where that is not opened.
-fn located<'a>(trouble: Trouble, store: String) -> ProgramFault<'a> {
-    match trouble {
-        Trouble::Database(_) | Trouble::Opening(_) => ProgramFault::named(store, trouble),
-        _ => ProgramFault::plain(trouble),
-    }
-}
-
-/// The question, whose reply is kept here.
-#[derive(Drop)]
-struct Probing<'a, 'b> {
-    rt: &'a HostRuntime,
-    reply: &'b mut Vec<u8>,
-}
-
-impl DeskTask for Probing<'_, '_> {
-    fn perform<S: Alter>(self, desk: &mut Desk<S>) -> Result<u8, Trouble> {
-        let Probing { rt, reply } = self;
-        match ask_for_root(rt, desk) {
-            Ok(read) => {
-                let status = reply_status(read.as_slice());
-                *reply = read;
-                Ok(status)
-            }
-            Err(trouble) => Err(trouble),
-        }
+/// Prints a reply: the status is 0, or 1 if it is an error.
+fn print_reply<W: Sink>(reply: &[u8], output: &mut W) -> Result<u8, Trouble>
+    ensures { PrintsReply reply.now (W.told output.old) (W.told output.new) result }
+{
+    match write_all(output, reply) {
+        Ok(()) => Ok(reply_status(reply)),
+        Err(_) => Err(Trouble::Unwritten),
     }
 }
 
@@ -92,7 +100,7 @@ fn serve_asked<S: Alter, P: Peers>(
     peers: &mut P,
     peer: TcpStream,
 ) -> Result<Vec<u8>, Trouble>
-    requires { P.counted peers.old + 1 < 2 ^ 64 }
+    requires { (P.tally peers.old).turns + 1 < 2 ^ 64 }
 {
     if is_served(alloc, desk, peers) {
         match read_reply(alloc, peer) {
@@ -100,13 +108,13 @@ fn serve_asked<S: Alter, P: Peers>(
             Err(error) => Err(trouble_of(&error)),
         }
     } else {
-        Err(Trouble::ProbeFailed(Cause::Other))
+        Err(Trouble::ProbeFailed(Cause::Unnumbered))
     }
 }
 
 /// Takes a turn of a listener, and says whether it was served.
 fn is_served<S: Alter, P: Peers>(alloc: Global, desk: &mut Desk<S>, peers: &mut P) -> bool
-    requires { P.counted peers.old + 1 < 2 ^ 64 }
+    requires { (P.tally peers.old).turns + 1 < 2 ^ 64 }
 {
     serve_all(alloc, desk, peers, &Both, 1).failed == 0
 }
@@ -118,7 +126,7 @@ fn trouble_of(error: &io::Error) -> Trouble {
     }
 }
 
-/// Connects to a listener, and writes a query and nothing behind it (RFC 3912, 2).
+/// Connects to a listener, and writes a query and nothing after it (RFC 3912, 2).
 fn ask(rt: &HostRuntime, listener: &Listener<'_>, query: &[u8]) -> io::Result<TcpStream> {
     let mut peer = TcpStream::connect(rt, (Ipv4Addr::LOCALHOST, listener.port()?))?;
     peer.set_read_timeout(Some(Duration::from_secs(REPLY_WAIT)))?;
@@ -135,7 +143,7 @@ fn read_reply(alloc: Global, mut peer: TcpStream) -> io::Result<Vec<u8>> {
     Ok(reply)
 }
 
-/// 1 where the reply is an error, and else 0.
+/// 1 if the reply is an error, and else 0.
 fn reply_status(reply: &[u8]) -> u8
     ensures { result ≡ reply_status reply.now }
 {

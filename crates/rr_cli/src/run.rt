@@ -3,24 +3,33 @@
 use crate::probing::probe;
 use crate::serving::serve;
 use rr_arguments::{ArgumentsFault, Command, read_command};
-use rr_commands::{ProgramFault, Trouble, dump, init, load, migrate, plain, print, query, submit};
+use rr_commands::{
+    Databases, Output, ProgramFault, Trouble, dump, init, load, migrate, plain, print, query,
+    submit,
+};
 use rr_io::{Sink, Source};
 use std::env::Args;
 use std::io;
-use std::io::ErrorKind;
+use std::io::{ErrorKind, IsTerminal, Write};
 
-/// Does what the words ask for, the first of which is the program's own name, and gives the status: 0 where it is done, 1
-/// where an item was refused or an answer was an error, and at a fault, which has its line on `errors`, 2 where the words are
-/// wrong, 3 where the settings are, 4 where the store failed, and else 5 (profile).
-pub fn run<R: Source, W: Sink, E: Sink>(
+/// What a terminal shows before objects are typed on it.
+const HINT: &[u8] =
+    b"irrdesk: objects are read from this terminal: `irrdesk help` lists the commands\n";
+
+/// Does what the words ask for, the first of which is the program's own name, and gives the status:
+/// 0 if it is done, 1 if an item was refused or an answer was an error, and at a fault, which has
+/// its line on `errors`, 2 if the words are wrong, 3 if the settings are, 4 if the store failed,
+/// and else 5 (profile).
+pub fn run<D: Databases, R: Source, W: Output, E: Sink>(
     rt: &HostRuntime,
+    databases: &D,
     words: io::Result<Args>,
     input: &mut R,
     output: &mut W,
     errors: &mut E,
 ) -> u8 {
     match collect(rt, words) {
-        Ok(words) => match perform(rt, words.as_slice(), input, output) {
+        Ok(words) => match perform(rt, databases, words.as_slice(), input, output) {
             Ok(status) => status,
             Err(fault) => fault.tell(errors),
         },
@@ -54,29 +63,40 @@ fn fault_of(fault: ArgumentsFault<'_>) -> ProgramFault<'_> {
 }
 
 /// Does what the words ask for.
-fn perform<'a, R: Source, W: Sink>(
+fn perform<'a, D: Databases, R: Source, W: Output>(
     rt: &HostRuntime,
+    databases: &D,
     words: &'a [String],
     input: &mut R,
     output: &mut W,
 ) -> Result<u8, ProgramFault<'a>> {
     match read_command(rt.alloc(), words).map_err(fault_of)? {
-        Command::Plain => plain(rt.alloc(), input, output),
-        Command::Init { settings } => init(rt, settings, output),
-        Command::Submit { settings, file } => submit(rt, settings, file, output),
+        Command::Plain => {
+            hint(rt);
+            plain(rt.alloc(), input, output)
+        }
+        Command::Init { settings } => init(rt, databases, settings, output),
+        Command::Submit { settings, file } => submit(rt, databases, settings, file, output),
         Command::Query {
             settings,
             query: words,
-        } => query(rt, settings, words.as_str(), output),
-        Command::Dump { settings, full } => dump(rt, settings, full, output),
-        Command::Load { settings, file } => load(rt, settings, file, output),
-        Command::Migrate { settings } => migrate(rt, settings, output),
+        } => query(rt, databases, settings, words.as_str(), output),
+        Command::Dump { settings, full } => dump(rt, databases, settings, full, output),
+        Command::Load { settings, file } => load(rt, databases, settings, file, output),
+        Command::Migrate { settings } => migrate(rt, databases, settings, output),
         Command::Serve {
             settings,
             port,
             count,
-        } => serve(rt, settings, port, count, output),
-        Command::Probe { settings } => probe(rt, settings, output),
+        } => serve(rt, databases, settings, port, count, output),
+        Command::Probe { settings } => probe(rt, databases, settings, output),
         Command::Print(text) => print(output, text.as_bytes()),
+    }
+}
+
+/// Says on a terminal that objects are read from it.
+fn hint(rt: &HostRuntime) {
+    if rt.stdin().is_terminal() && rt.stderr().is_terminal() {
+        let _ = rt.stderr().write_all(HINT);
     }
 }

@@ -1,111 +1,171 @@
 //! Serving connections, of a registry in a database.
 
-ghost use Rattle.std.specs.Prelude.{◌≡◌, ◌+◌, ◌<◌, ◌^◌, false};
-ghost use Rattle.sqlite.specs.Held.{state};
-ghost use Rattle.sqlite.specs.State.{HasCleanDisk};
+ghost use Rattle.std.specs.Prelude.{◌≡◌, ◌+◌, ◌<◌, ◌^◌, false, string_bytes};
 ghost use Rattle.rr_io.specs.Sending.{Writes};
-ghost use Rattle.rr_desk.specs.Rows.{Holds};
-ghost use Rattle.rr_cli.specs.Serving.{HasServed, served_line};
+ghost use Rattle.rr_desk.specs.Stocks.{IsStocked};
+ghost use Rattle.rr_commands.specs.Commands.{AtDesk, EndsAs};
+ghost use Rattle.rr_cli.specs.Serving.{HasServed, ServesBy, ServesDesk, listening_head};
+ghost use Rattle.rr_cli.specs.Serving.{listening_line, served_line};
 
 use itoa::Buffer;
 use rr_commands::{
-    Cause, DeskTask, ProgramFault, STANDARD_OUTPUT, Trouble, perform_at_desk, read_settings_file,
+    Cause, DatabaseCause, Databases, Output, ProgramFault, Trouble, close, ended, open_desk,
+    read_settings_file,
 };
-use rr_desk::{Desk, Peers, Served, Service, serve_all};
+use rr_desk::{ConnFault, Desk, Peers, Served, Service, Settings, serve_all};
 use rr_http::Both;
-use rr_io::{Sink, write_pieces};
+use rr_io::{Connection, Counted, Sink, write_pieces};
 use rr_listener::Listener;
-use sqlite::Alter;
+use sqlite::{Alter, Error};
 use std::alloc::Global;
 use std::io;
 
-/// Serves so many connections to this port of 127.0.0.1, by whois and HTTP, from the registry that the settings name. Prints
-/// where it listens, and at the end how many connections were served and how many failed: the status is 0 in any case.
-pub fn serve<'a, W: Sink>(
+/// Serves so many connections to this port of 127.0.0.1, by whois and HTTP, from the registry that
+/// the settings name. Prints where it listens, and at the end how many connections were served and
+/// how many failed: the status is 0 in any case. If the database fails meanwhile, that is said once
+/// on standard error.
+pub fn serve<'a, D: Databases, W: Output>(
     rt: &HostRuntime,
+    databases: &D,
     settings: &'a str,
     port: u16,
     count: u64,
     output: &mut W,
-) -> Result<u8, ProgramFault<'a>> {
-    let (read, store) = read_settings_file(rt, settings)?;
-    let serving = Serving {
-        rt,
-        port,
-        count,
-        output,
-    };
-    match perform_at_desk(rt, read, store.as_str(), serving) {
-        Ok(status) => Ok(status),
-        Err(trouble) => Err(located(rt.alloc(), trouble, store, port)),
-    }
+) -> Result<u8, ProgramFault<'a>>
+    ensures { ServesBy D.Disk.Store (D.gives databases.now) ⟦<Both as Service>⟧.serves port count
+        (W.told output.old) (W.told output.new) result }
+{
+    let (read, mut path) = read_settings_file(rt, settings)?;
+    let answer = serve_from(rt, databases, read, &mut path, port, count, output);
+    ended_at(rt.alloc(), answer, port, settings, path, output)
 }
 
-/// A fault of serving, about the database, standard output or the address.
-fn located<'a>(alloc: Global, trouble: Trouble, store: String, port: u16) -> ProgramFault<'a> {
-    match trouble {
-        Trouble::Database(_) | Trouble::Opening(_) => ProgramFault::named(store, trouble),
-        Trouble::Unwritten => ProgramFault::of(STANDARD_OUTPUT, trouble),
-        Trouble::ListenerUnopened(_) => match format!(in alloc; "127.0.0.1:{port}") {
-            Ok(address) => ProgramFault::named(address, trouble),
-            Err(_) => ProgramFault::plain(trouble),
-        },
-        _ => ProgramFault::plain(trouble),
-    }
-}
-
-/// The serving of so many connections to this port, of which this writer is told.
-#[derive(Drop)]
-struct Serving<'a, 'b, W> {
-    rt: &'a HostRuntime,
+/// How serving ended; trouble with the listener is about its address.
+fn ended_at<'a, W: Output>(
+    alloc: Global,
+    answer: Result<u8, Trouble>,
     port: u16,
-    count: u64,
-    output: &'b mut W,
-}
-
-impl<W: Sink> DeskTask for Serving<'_, '_, W> {
-    fn perform<S: Alter>(self, desk: &mut Desk<S>) -> Result<u8, Trouble> {
-        let Serving {
-            rt,
-            port,
-            count,
-            output,
-        } = self;
-        serve_at(rt, desk, port, count, output)
+    settings: &'a str,
+    path: String,
+    output: &W,
+) -> Result<u8, ProgramFault<'a>>
+    ensures { EndsAs answer result }
+{
+    match answer {
+        Err(Trouble::ListenerUnopened(cause)) => {
+            Err(about_port(alloc, Trouble::ListenerUnopened(cause), port))
+        }
+        _ => ended(answer, settings, path, output),
     }
 }
 
-/// Listens on this port, says so, and serves so many connections of a desk.
-fn serve_at<S: Alter, W: Sink>(
+/// A fault about a port of 127.0.0.1.
+fn about_port<'a>(alloc: Global, trouble: Trouble, port: u16) -> ProgramFault<'a>
+    ensures { result.trouble ≡ trouble }
+{
+    match format!(in alloc; "127.0.0.1:{port}") {
+        Ok(address) => ProgramFault::named(address, trouble),
+        Err(_) => ProgramFault::plain(trouble),
+    }
+}
+
+/// Serves so many connections to this port from the registry in the database at a path.
+fn serve_from<D: Databases, W: Sink>(
     rt: &HostRuntime,
-    desk: &mut Desk<S>,
+    databases: &D,
+    settings: Settings,
+    path: &mut String,
     port: u16,
     count: u64,
     output: &mut W,
-) -> Result<u8, Trouble> {
+) -> Result<u8, Trouble>
+    ensures { AtDesk D.Disk.Store (D.gives databases.now)
+        (ServesDesk D.Disk.Store ⟦<Both as Service>⟧.serves port count
+        (W.told output.old) (W.told output.new))
+        (W.told output.old) (W.told output.new) settings (string_bytes path.old) result }
+{
+    let mut desk = open_desk(rt, databases, settings, path)?;
+    let watched = Watched {
+        rt,
+        path: path.as_str(),
+    };
+    let answer = serve_at(rt, &mut desk, &watched, port, count, output);
+    close(databases, desk.close());
+    answer
+}
+
+/// Listens on this port, says so, and serves so many connections of a desk.
+fn serve_at<S: Alter, V: Service, W: Sink>(
+    rt: &HostRuntime,
+    desk: &mut Desk<S>,
+    service: &V,
+    port: u16,
+    count: u64,
+    output: &mut W,
+) -> Result<u8, Trouble>
+    ensures { ServesDesk S.Store V.serves port count
+        (W.told output.old) (W.told output.new) desk.old desk.new result }
+{
     match Listener::open(rt, port) {
         Ok(mut listener) => match write_listening(output, port) {
-            Ok(()) => serve_turns(rt.alloc(), desk, &mut listener, count, output),
+            Ok(()) => serve_turns(rt.alloc(), desk, &mut listener, service, count, output),
             Err(_) => Err(Trouble::Unwritten),
         },
         Err(error) => Err(Trouble::ListenerUnopened(Cause::of(&error))),
     }
 }
 
-/// Takes so many turns of a listener, by whois and HTTP, and prints how many were served and how many failed.
-fn serve_turns<S: Alter, P: Peers, W: Sink>(
+/// What serves as `Both` does, and says on standard error when the database fails, and why, which
+/// stops the desk.
+#[derive(Drop)]
+struct Watched<'a> {
+    rt: &'a HostRuntime,
+    path: &'a str,
+}
+
+impl Watched<'_> {
+    /// Says that the database failed with this error.
+    fn say(&self, error: Error) {
+        let mut errors = Counted::new(self.rt.stderr());
+        let trouble = Trouble::ServedInVain(DatabaseCause::of(error));
+        let _ = ProgramFault::of(self.path, trouble).tell(&mut errors);
+    }
+}
+
+impl Service for Watched<'_> {
+    ghost serves = { ⟦<Both as Service>⟧.serves };
+
+    fn serve<S: Alter, C: Connection>(
+        &self,
+        alloc: Global,
+        desk: &mut Desk<S>,
+        conn: &mut C,
+    ) -> Result<(), ConnFault> {
+        let was_stopped = desk.stopped();
+        let answer = Both.serve(alloc, desk, conn);
+        if let (false, Some(error)) = (was_stopped, desk.cause()) {
+            self.say(error);
+        }
+        answer
+    }
+}
+
+/// Takes so many turns of a listener, and prints how many were served and how many failed.
+fn serve_turns<S: Alter, P: Peers, V: Service, W: Sink>(
     alloc: Global,
     desk: &mut Desk<S>,
     peers: &mut P,
+    service: &V,
     count: u64,
     output: &mut W,
 ) -> Result<u8, Trouble>
-    requires { P.counted peers.old + count < 2 ^ 64 }
-    ensures served { HasServed S.Store ⟦<Both as Service>⟧.serves count desk.old desk.new (P.counted peers.old) (P.counted peers.new) (P.told peers.old) (P.told peers.new) (W.told output.old) (W.told output.new) result }
+    requires { (P.tally peers.old).turns + count < 2 ^ 64 }
+    ensures served { HasServed S.Store V.serves count desk.old desk.new
+        (P.tally peers.old) (P.tally peers.new) (W.told output.old) (W.told output.new) result }
     ensures settings { desk.new.settings ≡ desk.old.settings }
-    ensures rows { desk.new.stored.stopped ≡ false → HasCleanDisk (state S.Store desk.new.stored.store) → Holds desk.new.stored.registry (state S.Store desk.new.stored.store) }
+    ensures rows { IsStocked S.Store desk.new.stored }
 {
-    let served = serve_all(alloc, desk, peers, &Both, count);
+    let served = serve_all(alloc, desk, peers, service, count);
     match write_served(output, served) {
         Ok(()) => Ok(0),
         Err(_) => Err(Trouble::Unwritten),
@@ -113,22 +173,33 @@ fn serve_turns<S: Alter, P: Peers, W: Sink>(
 }
 
 /// Writes where the program listens.
-fn write_listening<W: Sink>(output: &mut W, port: u16) -> io::Result<()> {
+fn write_listening<W: Sink>(output: &mut W, port: u16) -> io::Result<()>
+    ensures writes { Writes (W.told output.old) (W.told output.new) (listening_line port) result }
+{
     let mut buffer = Buffer::new();
     write_pieces(
         output,
         &[
-            b"listening on 127.0.0.1:",
-            buffer.format(port).as_bytes(),
+            listening_head(),
+            buffer.format(u64::from(port)).as_bytes(),
             b"\n",
         ],
     )
 }
 
+/// What the line begins with that says where the program listens.
+#[tactic(auto, unfolding(crate::specs::Serving::listening_head))]
+fn listening_head() -> &'static [u8]
+    ensures { result.now ≡ listening_head }
+{
+    b"listening on 127.0.0.1:"
+}
+
 /// Writes how many turns were served, and how many failed.
 #[tactic(auto, unfolding(crate::specs::Serving::served_line))]
 fn write_served<W: Sink>(output: &mut W, served: Served) -> io::Result<()>
-    ensures writes { Writes (W.told output.old) (W.told output.new) (served_line served.served served.failed) result }
+    ensures writes { Writes (W.told output.old) (W.told output.new)
+        (served_line served.served served.failed) result }
 {
     let mut served_digits = Buffer::new();
     let mut failed_digits = Buffer::new();

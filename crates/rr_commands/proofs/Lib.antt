@@ -1,4 +1,3 @@
 mod AskedLemmas
-mod PlainLemmas
 mod ShownLemmas
 mod WritingLemmas

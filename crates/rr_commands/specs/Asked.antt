@@ -1,12 +1,13 @@
 -- What the query of a command does (profile).
-use Rattle.std.specs.Prelude.{◌≡◌, ℕ, ◌==◌, Bool, List, Result, Ok, Err, IfErr, IfOk, if◌then◌else◌}
+use Rattle.std.specs.Prelude.{◌≡◌, ℕ, ◌==◌, List, Result, Ok, Err, IfErr, IfOk, if◌then◌else◌}
+use Rattle.sqlite_trees.specs.declared.store.Store.{Ghosts}
 use Rattle.rr_io.specs.Sending.{Writes}
 use Rattle.rr_io.specs.Told.{Told}
-use Rattle.rr_auth.specs.Registries.{Reg}
 use Rattle.rr_answer.specs.declared.fault.QueryFault.{QueryFault}
 use Rattle.rr_answer.specs.Answers.{answer_bytes}
-use Rattle.rr_desk.specs.Answering.{IsAnswered}
-use Rattle.rr_commands.specs.declared.trouble.Trouble.{Trouble}
+use Rattle.rr_desk.specs.Desks.{GivesAnswer}
+use Rattle.rr_desk.specs.declared.desk.Desk.{Desk}
+use Rattle.rr_commands.specs.Commands.{Answer, AtDesk, Commands, Ending, Gives}
 use Rattle.rr_commands.specs.declared.trouble.Trouble.TheVariants.{Unwritten}
 
 -- 0 where no error was written, and else 1, by the number of the error (profile)
@@ -18,11 +19,16 @@ abbrev pub answer_status : Result (List ℕ) QueryFault → ℕ
 answer_status (Ok text) = 0
 answer_status (Err fault) = 1
 
--- a desk was asked: its answer was made whole and then printed, and the status says whether it is an error; or it could not be
--- written whole (profile)
-pub record HasAsked (clean : Type 0) (registry : Reg) (limit : ℕ) (text : List ℕ) (before after : Bool) (old new : Told) (result : Result ℕ Trouble) : Type 0 where
-  pub answer : Result (List ℕ) QueryFault
-  pub answered : IsAnswered clean registry limit text before after answer
-  pub writes : Writes old new (answer_bytes answer) result
-  pub status : IfOk result (λ status. status ≡ answer_status answer)
-  pub fault : IfErr result (λ fault. fault ≡ Unwritten)
+-- a desk was asked: its answer was made whole and then printed, and the status says whether it is
+-- an error; or it could not be written whole (profile)
+pub record HasAsked {S : Type 0} (g : Ghosts S) (text : List ℕ) (unprinted printed : Told)
+    (before after : Desk S) (answer : Answer) : Type 0 where
+  pub given : Result (List ℕ) QueryFault
+  pub gives : GivesAnswer g before after text given
+  pub writes : Writes unprinted printed (answer_bytes given) answer
+  pub status : IfOk answer (λ status. status ≡ answer_status given)
+  pub trouble : IfErr answer (λ trouble. trouble ≡ Unwritten)
+
+-- what the command does (profile)
+abbrev pub AsksBy : {S : Type 0} → Ghosts S → Gives S → List ℕ → Told → Told → Ending → Type 0
+AsksBy g gives text old new = Commands (AtDesk g gives (HasAsked g text old new) old new) old new

@@ -1,7 +1,7 @@
 -- Why a file, a socket or a database could not be used, and how that is told (profile).
-use Rattle.std.specs.Prelude.{ℕ, List, codes}
+use Rattle.std.specs.Prelude.{ℕ, ℤ, pos, negsuc, List, ◌++◌, Option, None, Some, codes}
 use Rattle.std.specs.declared.io.ErrorKind.{ErrorKind}
-use Rattle.std.specs.declared.io.ErrorKind.TheVariants.{NotFound, PermissionDenied, IsADirectory, NotADirectory, AddrInUse, OutOfMemory}
+use Rattle.std.specs.declared.io.ErrorKind.TheVariants as kind
 use Rattle.sqlite.specs.declared.error.Error.{Error}
 use Rattle.sqlite.specs.declared.error.Error.TheVariants.{SqliteFailure}
 use Rattle.sqlite.specs.declared.error.ErrorCode.{ErrorCode}
@@ -11,47 +11,107 @@ use Rattle.rr_commands.specs.declared.cause.Cause.TheVariants as cause
 use Rattle.rr_commands.specs.declared.cause.DatabaseCause.{DatabaseCause}
 use Rattle.rr_commands.specs.declared.cause.DatabaseCause.TheVariants as database
 
--- the cause of an error of the system, by its kind (profile)
-abbrev pub cause_of : ErrorKind → Cause
-cause_of NotFound = cause.Missing
-cause_of PermissionDenied = cause.Denied
-cause_of IsADirectory = cause.Folder
-cause_of NotADirectory = cause.NoFolder
-cause_of AddrInUse = cause.Taken
-cause_of OutOfMemory = cause.Memory
-cause_of _ = cause.Other
+-- the cause that has this number of the system, if it has one (profile)
+abbrev pub numbered : Option ℤ → Cause
+numbered None = cause.Unnumbered
+numbered (Some (pos number)) = cause.Numbered number
+numbered (Some (negsuc number)) = cause.Unnumbered
 
--- a cause in words (profile)
+-- the cause of an error of the system, by its kind, and else by its number (profile)
+abbrev pub cause_of : ErrorKind → Option ℤ → Cause
+cause_of kind.NotFound code = cause.Missing
+cause_of kind.PermissionDenied code = cause.Denied
+cause_of kind.IsADirectory code = cause.Folder
+cause_of kind.NotADirectory code = cause.NoFolder
+cause_of kind.FilesystemLoop code = cause.Loop
+cause_of kind.InvalidFilename code = cause.LongName
+cause_of kind.InvalidInput code = cause.BadName
+cause_of kind.ReadOnlyFilesystem code = cause.ReadOnly
+cause_of kind.StorageFull code = cause.Full
+cause_of kind.QuotaExceeded code = cause.Quota
+cause_of kind.FileTooLarge code = cause.TooLarge
+cause_of kind.BrokenPipe code = cause.Ended
+cause_of kind.AddrInUse code = cause.Taken
+cause_of kind.AddrNotAvailable code = cause.NoAddress
+cause_of kind.OutOfMemory code = cause.Memory
+cause_of _ code = numbered code
+
+-- a cause in words, before its number if it has one (profile)
 abbrev pub cause_text : Cause → List ℕ
 cause_text cause.Missing = codes "there is none of that name: correct the path"
 cause_text cause.Denied = codes "permission is denied: ask for it, or take another file or port"
 cause_text cause.Folder = codes "it is a folder: name a file"
-cause_text cause.NoFolder = codes "a part of the path is no folder: correct the path"
+cause_text cause.NoFolder = codes "a part of the path is not a folder: correct the path"
+cause_text cause.Loop = codes "the path leads through too many links: correct the path"
+cause_text cause.LongName = codes "the name is too long: shorten it"
+cause_text cause.BadName = codes "no file has such a name: correct the path"
+cause_text cause.ReadOnly = codes "the file system is read-only: take another path"
+cause_text cause.Full = codes "the disk is full: make room"
+cause_text cause.Quota = codes "the quota is used up: make room, or ask for more"
+cause_text cause.TooLarge =
+    codes "no file may grow so large: raise the limit, as `ulimit -f` shows it"
+cause_text cause.Ended = codes "its reader has ended: let it read to the end"
 cause_text cause.Taken = codes "the address is in use: take another port"
+cause_text cause.NoAddress = codes "the machine has no such address: see that 127.0.0.1 can be used"
 cause_text cause.Memory = codes "out of memory: give the program more"
-cause_text cause.Other = codes "the system refuses: look at its log"
+cause_text (cause.Numbered number) = codes "system error "
+cause_text cause.Unnumbered = codes "the system does not say why"
+
+-- the number that the system gives a cause, where the words do not say what it is (profile)
+abbrev pub number_of : Cause → Option ℕ
+number_of (cause.Numbered number) = Some number
+number_of _ = None
 
 -- the cause of a failure of the database, by its code (profile)
 abbrev pub code_cause : ErrorCode → DatabaseCause
 code_cause code.CannotOpen = database.Unopened
 code_cause code.DatabaseBusy = database.Busy
-code_cause code.NotADatabase = database.Damaged
+code_cause code.NotADatabase = database.Other
 code_cause code.DatabaseCorrupt = database.Damaged
 code_cause code.DiskFull = database.Full
+code_cause code.SystemIoFailure = database.Failed
+code_cause code.Closed = database.Failed
+code_cause (code.ConstraintViolation rule) = database.Forbidden
 code_cause code.OutOfMemory = database.Memory
-code_cause _ = database.Other
+code_cause _ = database.Unknown
 
 -- the cause of an error of the database (profile)
 abbrev pub database_cause : Error → DatabaseCause
 database_cause (SqliteFailure failure) = code_cause failure
-database_cause _ = database.Other
+database_cause _ = database.Unknown
 
--- a cause in words (profile)
+-- why a desk stopped, by the error of its database that it keeps (profile)
+abbrev pub stop_cause : Option Error → DatabaseCause
+stop_cause None = database.Unknown
+stop_cause (Some error) = database_cause error
+
+-- a cause in words, before that of the system if it has one (profile)
 abbrev pub database_text : DatabaseCause → List ℕ
-database_text database.Missing = codes "there is no such file: `irrdesk init` or `irrdesk load` makes it"
-database_text database.Unopened = codes "it cannot be opened or made: look at its folder and its permissions"
-database_text database.Busy = codes "another process has it open: stop that, or ask over its port"
-database_text database.Damaged = codes "it is no database of a registry, or it is damaged: name another file, or restore a backup"
+database_text database.Missing =
+    codes "there is no such database: `irrdesk init` or `irrdesk load` makes it"
+database_text database.NoFolder =
+    codes "the folder of the database is missing: make it, or correct `store`"
+database_text (database.Refused cause) = codes "the database cannot be opened or made: "
+database_text database.Unopened =
+    codes "the database cannot be opened or made: look at its folder, its links and its "
+    ++ codes "permissions"
+database_text database.Busy =
+    codes "in use, most likely by the running server: ask it over its port, or stop it first"
+database_text database.Other =
+    codes "it is not the database of a registry, or it is damaged: name another file, or restore "
+    ++ codes "a backup"
+database_text database.Damaged = codes "the database is damaged: restore a backup"
 database_text database.Full = codes "the disk is full: make room"
+database_text database.Failed =
+    codes "the disk cannot be read or written: look at its health, and keep a copy of the "
+    ++ codes "database"
+database_text database.Forbidden =
+    codes "a rule that was added to the tables forbids the change: take the rule out"
 database_text database.Memory = codes "out of memory: give the program more"
-database_text database.Other = codes "the system refuses to read or write it: look at the system's log"
+database_text database.Unknown = codes "the database cannot be used: look at its disk"
+
+-- a cause in words if it tells more than these do, and else these (profile)
+abbrev pub text_or : DatabaseCause → List ℕ → List ℕ
+text_or database.Other words = words
+text_or database.Unknown words = words
+text_or cause words = database_text cause

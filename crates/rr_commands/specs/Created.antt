@@ -1,42 +1,49 @@
 -- What the making of a registry does, by how it ends (profile).
-use Rattle.std.specs.Prelude.{◌≡◌, ℕ, ◌⊎◌, List, Result, Err, IsTrue, codes}
-use Rattle.sqlite.specs.State.{State, HasCleanDisk}
+use Rattle.std.specs.Prelude.{◌≡◌, ℕ, ◌⊎◌, List, Err, codes}
+use Rattle.sqlite_trees.specs.declared.store.Store.{Ghosts}
+use Rattle.sqlite.specs.Held.{Held}
 use Rattle.rr_io.specs.Told.{Told}
-use Rattle.rr_auth.specs.Registries.{Reg}
-use Rattle.rr_auth.specs.Sources.{IsRegistryOf}
-use Rattle.rr_rows.specs.Made.{HasRow, IsVacant}
-use Rattle.rr_rows.specs.Tables.{HasTables}
+use Rattle.rr_store.specs.Calls.{OnCleanDisk, database}
 use Rattle.rr_store.specs.declared.fault.CreateFault.{CreateFault}
 use Rattle.rr_store.specs.declared.fault.CreateFault.TheVariants.{NotEmpty}
+use Rattle.rr_desk.specs.Opened.{HasOpeningRows, IsOccupied, MakesNone, MakesTables, Runs}
 use Rattle.rr_desk.specs.Opening.{IsOpened}
-use Rattle.rr_desk.specs.Rows.{Holds}
 use Rattle.rr_desk.specs.Settings.{SettingsParts}
+use Rattle.rr_desk.specs.declared.desk.Desk.{Desk}
+use Rattle.rr_commands.specs.Commands.{Answer, Commands, ConnectionAction, Ending, Gives}
+use Rattle.rr_commands.specs.Commands.{InDatabase}
 use Rattle.rr_commands.specs.Printed.{Tells}
-use Rattle.rr_commands.specs.declared.trouble.Trouble.{Trouble}
 use Rattle.rr_commands.specs.declared.trouble.Trouble.TheVariants.{Creating}
 
 -- the line that says how many objects a registry opens with (profile)
 abbrev pub created_line : List ℕ
 created_line = codes "created 4 objects\n"
 
--- no registry was made, and nothing was printed: why not, and that the rows are as they were (profile)
-pub record IsUncreated (before after : State) (unprinted printed : Told) (result : Result ℕ Trouble) : Type 0 where
-  pub cause : CreateFault
-  pub told : result ≡ Err (Creating cause)
-  pub not_empty : HasCleanDisk after → cause ≡ NotEmpty → HasTables before.now.schema × HasRow before.now
-  pub same : HasCleanDisk after → IsTrue after.is_open → after.now ≡ before.now
-  pub silent : printed ≡ unprinted
+module _ {S : Type 0} (g : Ghosts S) (settings : SettingsParts) (unprinted printed : Told) where
+  -- no registry was made, and nothing was printed (profile)
+  pub record IsUncreated (before after : Held S) (answer : Answer) : Type 0 where
+    pub fault : CreateFault
+    pub told : answer ≡ Err (Creating fault)
+    pub none : MakesNone g (HasOpeningRows settings) before after
+    pub not_empty : fault ≡ NotEmpty → OnCleanDisk g after (IsOccupied (database g before))
+    pub silent : printed ≡ unprinted
 
--- the database, which had no rows, holds those of the registry that opens with the settings, and that is told (profile)
-pub record HasCreated (settings : SettingsParts) (before after : State) (unprinted printed : Told) (result : Result ℕ Trouble) : Type 0 where
-  pub registry : Reg
-  pub opened : IsOpened settings registry
-  pub of_source : IsRegistryOf settings.source registry
-  pub vacant : HasCleanDisk after → IsVacant before.now
-  pub holds : HasCleanDisk after → Holds registry after
-  pub tells : Tells created_line unprinted printed result
+  -- the registry that opens with the settings was made, and that was printed (profile)
+  pub record IsCreated (before after : Held S) (answer : Answer) : Type 0 where
+    pub desk : Desk S
+    pub runs : Runs g settings desk
+    pub opened : IsOpened settings desk.stored.registry
+    pub makes : MakesTables g (HasOpeningRows settings) before desk.stored.store
+    pub closed : after ≡ desk.stored.store
+    pub tells : Tells created_line unprinted printed answer
 
--- what the making of a registry does: of its database and its writer, each before and after (profile)
-abbrev pub Creates : SettingsParts → State → State → Told → Told → Result ℕ Trouble → Type 0
-Creates settings before after unprinted printed result =
-    IsUncreated before after unprinted printed result ⊎ HasCreated settings before after unprinted printed result
+-- what the command does in a database (profile)
+abbrev pub CreatesIn : {S : Type 0} → Ghosts S → SettingsParts → Told → Told → ConnectionAction S
+CreatesIn g settings old new before after answer =
+    IsUncreated g settings old new before after answer
+    ⊎ IsCreated g settings old new before after answer
+
+-- what the command does (profile)
+abbrev pub CreatesBy : {S : Type 0} → Ghosts S → Gives S → Told → Told → Ending → Type 0
+CreatesBy g gives old new =
+    Commands (λ settings. InDatabase gives (CreatesIn g settings old new) old new) old new

@@ -1,8 +1,15 @@
 -- The line that says a fault on standard error (profile).
-use Rattle.std.specs.Prelude.{ℕ, ◌==◌, ◌||◌, nat_lt, List, [], ◌++◌, map, Option, None, Some, codes, decimal, string_bytes, if◌then◌else◌}
-use Rattle.rr_commands.specs.Troubles.{before_number, behind_number, detail, told_number}
+use Rattle.std.specs.Prelude.{ℕ, ◌==◌, ◌||◌, nat_lt, List, [], ◌++◌, map, Option, None, Some, codes}
+use Rattle.std.specs.Prelude.{decimal, string_bytes, if◌then◌else◌}
+use Rattle.std.specs.Option.{option_and_then}
+use Rattle.rr_commands.specs.Causes.{number_of}
+use Rattle.rr_commands.specs.Troubles.{cause_words, trouble_cause, trouble_number}
+use Rattle.rr_commands.specs.Words.{after_number, before, before_number}
+use Rattle.rr_commands.specs.declared.cause.Cause.{Cause}
 use Rattle.rr_commands.specs.declared.fault.About.{About}
 use Rattle.rr_commands.specs.declared.fault.About.TheVariants.{Nothing, Word, Named}
+use Rattle.rr_commands.specs.declared.trouble.Place.{Place}
+use Rattle.rr_commands.specs.declared.trouble.Place.TheVariants as place
 use Rattle.rr_commands.specs.declared.trouble.Trouble.{Trouble}
 
 -- a byte as a line shows it: `?` for a control character (profile)
@@ -15,16 +22,28 @@ name_shown Nothing = []
 name_shown (Word word) = map shown word.now ++ codes ": "
 name_shown (Named name) = map shown (string_bytes name) ++ codes ": "
 
+-- the name of where something went wrong, of a command that reads this file and uses this database,
+-- and a colon (profile)
+abbrev pub place_shown : Place → List ℕ → List ℕ → List ℕ
+place_shown place.Nothing file database = []
+place_shown place.Database file database = map shown database ++ codes ": "
+place_shown place.File file database = map shown file ++ codes ": "
+place_shown place.Output file database = map shown (codes "standard output") ++ codes ": "
+
 -- a number in decimal digits, or nothing (profile)
 abbrev pub number_text : Option ℕ → List ℕ
 number_text None = []
 number_text (Some number) = decimal number
 
--- what went wrong, to the end of the line (profile)
-unfoldable pub trouble_text : Trouble → List ℕ
-trouble_text trouble =
-    before_number trouble ++ (number_text (told_number trouble) ++ (behind_number trouble ++ (detail trouble ++ codes "\n")))
+-- what went wrong, to the end of the line: `written` is why standard output took no more (profile)
+unfoldable pub trouble_text : Trouble → Cause → List ℕ
+trouble_text trouble written =
+    before trouble ++ (cause_words trouble (trouble_cause trouble written)
+    ++ (number_text (option_and_then number_of (trouble_cause trouble written))
+    ++ (before_number trouble
+    ++ (number_text (trouble_number trouble) ++ (after_number trouble ++ codes "\n")))))
 
 -- the line begins with the program's name (profile)
-unfoldable pub fault_line : About → Trouble → List ℕ
-fault_line about trouble = codes "irrdesk: " ++ (name_shown about ++ trouble_text trouble)
+unfoldable pub fault_line : About → Trouble → Cause → List ℕ
+fault_line about trouble written =
+    codes "irrdesk: " ++ (name_shown about ++ trouble_text trouble written)

@@ -2,6 +2,7 @@ pub mod Causes
 pub mod Faults
 pub mod SettingsFiles
 pub mod Troubles
+pub mod Words
 pub mod Submitted
 pub mod Printed
 pub mod Created
@@ -9,3 +10,4 @@ pub mod Asked
 pub mod Dumped
 pub mod Loaded
 pub mod Migrated
+pub mod Commands

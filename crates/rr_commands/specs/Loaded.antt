@@ -1,51 +1,78 @@
 -- What the load of a command does, by how it ends (profile).
-use Rattle.std.specs.Prelude.{◌≡◌, ℕ, ◌⊎◌, List, ◌++◌, length, Result, Err, IsTrue, codes, decimal}
+use Rattle.std.specs.Prelude.{◌≡◌, ℕ, ◌⊎◌, List, ◌++◌, length, Err, codes, decimal}
 use Rattle.std.specs.FinMap.{values}
-use Rattle.sqlite.specs.State.{State, HasCleanDisk}
+use Rattle.sqlite_trees.specs.declared.store.Store.{Ghosts}
+use Rattle.sqlite.specs.Held.{Held}
 use Rattle.rr_io.specs.Told.{Told}
-use Rattle.rr_auth.specs.Registries.{Reg}
-use Rattle.rr_auth.specs.Sources.{IsRegistryOf}
-use Rattle.rr_rows.specs.Made.{HasRow, IsVacant}
-use Rattle.rr_rows.specs.Tables.{HasTables}
+use Rattle.rr_store.specs.Calls.{OnCleanDisk, database}
+use Rattle.rr_desk.specs.Loaded.{FailsToLoad, HasLoadedRows, IsLoaded}
+use Rattle.rr_desk.specs.Opened.{IsOccupied, MakesNone, MakesTables, Runs}
+use Rattle.rr_desk.specs.Settings.{SettingsParts}
+use Rattle.rr_desk.specs.declared.desk.Desk.{Desk}
 use Rattle.rr_desk.specs.declared.loading.DeskLoadFault.{DeskLoadFault}
 use Rattle.rr_desk.specs.declared.loading.DeskLoadFault.TheVariants.{NotEmpty}
-use Rattle.rr_desk.specs.Loaded.{FailsToLoad, IsLoaded}
-use Rattle.rr_desk.specs.Rows.{Holds}
+use Rattle.rr_commands.specs.Commands.{Answer, Commands, ConnectionAction, Ending, Gives}
+use Rattle.rr_commands.specs.Commands.{HasNoFile, InDatabase}
 use Rattle.rr_commands.specs.Printed.{Tells}
-use Rattle.rr_commands.specs.declared.trouble.Trouble.{Trouble}
 use Rattle.rr_commands.specs.declared.trouble.Trouble.TheVariants.{Loading}
 
 -- the line that says how many objects were loaded (profile)
 abbrev pub loaded_line : ℕ → List ℕ
 loaded_line count = codes "loaded " ++ (decimal count ++ codes " objects\n")
 
--- the line without their number, for want of memory to count them (profile)
+-- the line without their number, if memory ran out as they were counted (profile)
 abbrev pub uncounted_line : List ℕ
 uncounted_line = codes "loaded the dump\n"
 
 -- either line was written (profile)
-abbrev pub TellsLoaded : ℕ → Told → Told → Result ℕ Trouble → Type 0
-TellsLoaded count old new result = Tells (loaded_line count) old new result ⊎ Tells uncounted_line old new result
+abbrev pub TellsLoaded : ℕ → Told → Told → Answer → Type 0
+TellsLoaded count old new answer =
+    Tells (loaded_line count) old new answer ⊎ Tells uncounted_line old new answer
 
--- no registry was made of what was read, and nothing was printed: why not, and that the rows are as they were (profile)
-pub record IsUnloaded (source : List ℕ) (start now : Told) (before after : State) (unprinted printed : Told) (result : Result ℕ Trouble) : Type 0 where
-  pub cause : DeskLoadFault
-  pub told : result ≡ Err (Loading cause)
-  pub fails : FailsToLoad source start now cause
-  pub not_empty : HasCleanDisk after → cause ≡ NotEmpty → HasTables before.now.schema × HasRow before.now
-  pub same : HasCleanDisk after → IsTrue after.is_open → after.now ≡ before.now
-  pub silent : printed ≡ unprinted
+module _ {S : Type 0} (g : Ghosts S) (settings : SettingsParts) (start end : Told)
+    (unprinted printed : Told) where
+  -- no registry was made of what was read, and nothing was printed (profile)
+  pub record IsUnloaded (before after : Held S) (answer : Answer) : Type 0 where
+    pub fault : DeskLoadFault
+    pub told : answer ≡ Err (Loading fault)
+    pub fails : FailsToLoad settings.source start end fault
+    pub none : MakesNone g (HasLoadedRows settings.source start end) before after
+    pub not_empty : fault ≡ NotEmpty → OnCleanDisk g after (IsOccupied (database g before))
+    pub silent : printed ≡ unprinted
 
--- a dump was read to its end, the database, which had no rows, holds those of its registry, and that is told (profile)
-pub record HasLoaded (source : List ℕ) (start now : Told) (before after : State) (unprinted printed : Told) (result : Result ℕ Trouble) : Type 0 where
-  pub registry : Reg
-  pub loaded : IsLoaded source start now registry
-  pub of_source : IsRegistryOf source registry
-  pub vacant : HasCleanDisk after → IsVacant before.now
-  pub holds : HasCleanDisk after → Holds registry after
-  pub tells : TellsLoaded (length (values registry)) unprinted printed result
+  -- a dump was read to its end, its registry was made, and that was printed (profile)
+  pub record HasLoaded (before after : Held S) (answer : Answer) : Type 0 where
+    pub desk : Desk S
+    pub runs : Runs g settings desk
+    pub loaded : IsLoaded settings.source start end desk.stored.registry
+    pub makes : MakesTables g (HasLoadedRows settings.source start end) before desk.stored.store
+    pub closed : after ≡ desk.stored.store
+    pub tells : TellsLoaded (length (values desk.stored.registry)) unprinted printed answer
 
--- what a load does: of its reader, its database and its writer, each before and after (profile)
-abbrev pub Loads : List ℕ → Told → Told → State → State → Told → Told → Result ℕ Trouble → Type 0
-Loads source start now before after unprinted printed result =
-    IsUnloaded source start now before after unprinted printed result ⊎ HasLoaded source start now before after unprinted printed result
+-- what the load of a dump does in a database: the reader of the dump told this at its start and at
+-- its end (profile)
+abbrev pub Loads : {S : Type 0} → Ghosts S → SettingsParts → Told → Told → Told → Told →
+    ConnectionAction S
+Loads g settings start end old new before after answer =
+    IsUnloaded g settings start end old new before after answer
+    ⊎ HasLoaded g settings start end old new before after answer
+
+-- a file was loaded into a database: what its reader told when it was opened, and when all was done
+-- (profile)
+pub record LoadsFile {S : Type 0} (g : Ghosts S) (settings : SettingsParts) (old new : Told)
+    (before after : Held S) (answer : Answer) : Type 0 where
+  pub start : Told
+  pub end : Told
+  pub loads : Loads g settings start end old new before after answer
+
+-- what the command does in a database: its file is not opened and the database as it was, or what
+-- is read is loaded (profile)
+abbrev pub LoadsIn : {S : Type 0} → Ghosts S → SettingsParts → Told → Told → ConnectionAction S
+LoadsIn g settings old new before after answer =
+    (HasNoFile old new answer × (after ≡ before))
+    ⊎ LoadsFile g settings old new before after answer
+
+-- what the command does (profile)
+abbrev pub LoadsBy : {S : Type 0} → Ghosts S → Gives S → Told → Told → Ending → Type 0
+LoadsBy g gives old new =
+    Commands (λ settings. InDatabase gives (LoadsIn g settings old new) old new) old new

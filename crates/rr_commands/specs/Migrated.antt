@@ -1,45 +1,49 @@
 -- What the migration of a command does, by how it ends (profile).
-use Rattle.std.specs.Prelude.{◌≡◌, ℕ, ◌⊎◌, List, Result, Err, IsTrue, codes}
-use Rattle.sqlite.specs.State.{State, HasCleanDisk}
+use Rattle.std.specs.Prelude.{◌≡◌, ℕ, ◌⊎◌, List, Err, codes}
+use Rattle.sqlite_trees.specs.declared.store.Store.{Ghosts}
+use Rattle.sqlite.specs.Held.{Held}
 use Rattle.rr_io.specs.Told.{Told}
-use Rattle.rr_auth.specs.Registries.{Reg}
-use Rattle.rr_auth.specs.Sources.{IsRegistryOf}
-use Rattle.rr_store.specs.Migrating.{IsMigrated}
-use Rattle.rr_store.specs.Opening.{IsNotOld}
+use Rattle.rr_store.specs.Calls.{OnCleanDisk, database}
 use Rattle.rr_store.specs.declared.fault.MigrateFault.{MigrateFault}
-use Rattle.rr_store.specs.declared.fault.MigrateFault.TheVariants.{BadRow, NoRoot, WrongVersion}
-use Rattle.rr_desk.specs.Migrating.{HasNoOldRegistry, IsGrown, IsRootless}
-use Rattle.rr_desk.specs.Rows.{Holds}
+use Rattle.rr_desk.specs.Migrating.{IsMigratedBy, MigratesTables, RefusesOldRegistry}
+use Rattle.rr_desk.specs.Opened.{MakesNone, Runs}
 use Rattle.rr_desk.specs.Settings.{SettingsParts}
+use Rattle.rr_desk.specs.declared.desk.Desk.{Desk}
+use Rattle.rr_commands.specs.Commands.{Answer, Commands, ConnectionAction, Ending, Gives}
+use Rattle.rr_commands.specs.Commands.{InDatabase}
 use Rattle.rr_commands.specs.Printed.{Tells}
-use Rattle.rr_commands.specs.declared.trouble.Trouble.{Trouble}
 use Rattle.rr_commands.specs.declared.trouble.Trouble.TheVariants.{Migrating}
 
 -- the line that says that tables were migrated (profile)
 abbrev pub migrated_line : List ℕ
 migrated_line = codes "migrated to version 2\n"
 
--- the tables were not migrated, and nothing was printed: why not, and that the rows are as they were (profile)
-pub record IsUnmigrated (settings : SettingsParts) (before after : State) (unprinted printed : Told) (result : Result ℕ Trouble) : Type 0 where
-  pub cause : MigrateFault
-  pub told : result ≡ Err (Migrating cause)
-  pub wrong_version : (number : ℕ) → cause ≡ WrongVersion number → HasCleanDisk after → IsNotOld number before.now
-  pub bad_row : cause ≡ BadRow → HasCleanDisk after → HasNoOldRegistry settings.source before.now
-  pub no_root : cause ≡ NoRoot → HasCleanDisk after → IsRootless settings before.now
-  pub same : HasCleanDisk after → IsTrue after.is_open → after.now ≡ before.now
-  pub silent : printed ≡ unprinted
+module _ {S : Type 0} (g : Ghosts S) (settings : SettingsParts) (unprinted printed : Told) where
+  -- the tables were not migrated, and nothing was printed (profile)
+  pub record IsUnmigrated (before after : Held S) (answer : Answer) : Type 0 where
+    pub fault : MigrateFault
+    pub told : answer ≡ Err (Migrating fault)
+    pub none : MakesNone g (IsMigratedBy settings (database g before)) before after
+    pub why : OnCleanDisk g after (RefusesOldRegistry settings (database g before) fault)
+    pub silent : printed ≡ unprinted
 
--- the rows of a registry of version 1 were made those of version 2, with the block of the other AS numbers, and that is told
--- (RFC 6793; profile)
-pub record HasMigrated (settings : SettingsParts) (before after : State) (unprinted printed : Told) (result : Result ℕ Trouble) : Type 0 where
-  pub registry : Reg
-  pub of_source : IsRegistryOf settings.source registry
-  pub grown : HasCleanDisk after → IsGrown settings before.now registry
-  pub migrated : HasCleanDisk after → IsMigrated settings.root settings.source before.now after.now
-  pub holds : HasCleanDisk after → Holds registry after
-  pub tells : Tells migrated_line unprinted printed result
+  -- the rows of a registry of version 1 were made those of version 2, with the block of the other
+  -- AS numbers, and that was printed (RFC 6793; profile)
+  pub record IsMigrated (before after : Held S) (answer : Answer) : Type 0 where
+    pub desk : Desk S
+    pub runs : Runs g settings desk
+    pub migrates : MigratesTables g settings before desk.stored
+    pub closed : after ≡ desk.stored.store
+    pub tells : Tells migrated_line unprinted printed answer
 
--- what a migration does: of its database and its writer, each before and after (profile)
-abbrev pub Migrates : SettingsParts → State → State → Told → Told → Result ℕ Trouble → Type 0
-Migrates settings before after unprinted printed result =
-    IsUnmigrated settings before after unprinted printed result ⊎ HasMigrated settings before after unprinted printed result
+-- what the command does in a database (profile)
+abbrev pub MigratesIn : {S : Type 0} →
+    Ghosts S → SettingsParts → Told → Told → ConnectionAction S
+MigratesIn g settings old new before after answer =
+    IsUnmigrated g settings old new before after answer
+    ⊎ IsMigrated g settings old new before after answer
+
+-- what the command does (profile)
+abbrev pub MigratesBy : {S : Type 0} → Ghosts S → Gives S → Told → Told → Ending → Type 0
+MigratesBy g gives old new =
+    Commands (λ settings. InDatabase gives (MigratesIn g settings old new) old new) old new

@@ -1,17 +1,19 @@
 -- Settings as TOML (profile).
-use Rattle.std.specs.Prelude.{◌≡◌, ◌==◌, ℕ, ℤ, pos, negsuc, List, length, Option, Some, None, Result, Ok, Err, codes, if◌then◌else◌}
+use Rattle.std.specs.Prelude.{◌≡◌, ◌==◌, ℕ, ℤ, pos, negsuc, List, length, Option, Some, None}
+use Rattle.std.specs.Prelude.{Result, Ok, Err, codes, if◌then◌else◌}
 use Rattle.std.specs.Option.{option_and_then}
 use Rattle.toml.specs.Data.{Members, as_integer, as_str, get_member}
 use Rattle.toml.specs.Parse.{parse_document}
 use Rattle.rr_desk.specs.Settings.{SettingsParts, settings_of}
 use Rattle.rr_desk.specs.declared.settings.Setting.{Setting}
 use Rattle.rr_desk.specs.declared.settings.Setting.TheVariants as setting
-use Rattle.rr_desk.specs.declared.settings.SettingsFault.{SettingsFault as PartsFault}
-use Rattle.rr_desk.specs.declared.settings.SettingsFault.TheVariants as parts
+use Rattle.rr_desk.specs.declared.settings.ValueFault.{ValueFault}
+use Rattle.rr_desk.specs.declared.settings.ValueFault.TheVariants as value
 use Rattle.rr_commands.specs.declared.settings_file.SettingKey.{SettingKey}
 use Rattle.rr_commands.specs.declared.settings_file.SettingKey.TheVariants as key
 use Rattle.rr_commands.specs.declared.settings_file.SettingsFault.{SettingsFault}
-use Rattle.rr_commands.specs.declared.settings_file.SettingsFault.TheVariants.{BadToml, BadKey, Memory}
+use Rattle.rr_commands.specs.declared.settings_file.SettingsFault.TheVariants.{BadToml, BadKey}
+use Rattle.rr_commands.specs.declared.settings_file.SettingsFault.TheVariants.{Memory}
 
 -- the key of a setting (profile)
 abbrev pub key_of : Setting → SettingKey
@@ -38,19 +40,20 @@ abbrev pub number_at : List ℕ → Members → Option ℕ
 number_at name table = option_and_then whole (integer_at name table)
 
 -- why a table has no settings of a registry, by the setting that is missing or bad (profile)
-abbrev pub fault_of : PartsFault → SettingsFault
-fault_of (parts.Bad setting) = BadKey (key_of setting)
-fault_of parts.Memory = Memory
+abbrev pub fault_of : ValueFault → SettingsFault
+fault_of (value.Bad setting) = BadKey (key_of setting)
+fault_of value.Memory = Memory
 
 -- the same value, or the fault that the other one is
-abbrev pub with_fault : {X : Type 0} → Result X PartsFault → Result X SettingsFault
+abbrev pub with_fault : {X : Type 0} → Result X ValueFault → Result X SettingsFault
 with_fault (Ok value) = Ok value
 with_fault (Err fault) = Err (fault_of fault)
 
 -- the settings of a registry that a table has (profile)
 abbrev pub parts_of : Members → Result SettingsParts SettingsFault
 parts_of table = with_fault (settings_of
-    (text_at (codes "source") table) (text_at (codes "root") table) (text_at (codes "auth") table) (number_at (codes "limit") table))
+    (text_at (codes "source") table) (text_at (codes "root") table)
+    (text_at (codes "auth") table) (number_at (codes "limit") table))
 
 -- a path of a database is not empty (profile)
 abbrev pub path_of : Option (List ℕ) → Result (List ℕ) SettingsFault
@@ -62,12 +65,14 @@ abbrev pub store_of : Members → Result (List ℕ) SettingsFault
 store_of table = path_of (text_at (codes "store") table)
 
 -- a pair, or the first fault of its parts
-abbrev pub both : {X Y : Type 0} → Result X SettingsFault → Result Y SettingsFault → Result (X × Y) SettingsFault
+abbrev pub both : {X Y : Type 0} →
+    Result X SettingsFault → Result Y SettingsFault → Result (X × Y) SettingsFault
 both (Err fault) other = Err fault
 both (Ok value) (Err fault) = Err fault
 both (Ok value) (Ok other) = Ok (value, other)
 
--- the settings and the path of the database that a table has, or the first key that is missing or bad (profile)
+-- the settings and the path of the database that a table has, or the first key that is missing or
+-- bad (profile)
 abbrev pub settings_in : Option Members → Result (SettingsParts × List ℕ) SettingsFault
 settings_in None = Err BadToml
 settings_in (Some table) = both (parts_of table) (store_of table)

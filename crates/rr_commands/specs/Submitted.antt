@@ -1,55 +1,98 @@
 -- What the submission of a command does, by how it ends (profile).
 use Rattle.std.specs.Prelude.{◌≡◌, ℕ, ◌==◌, ◌⊎◌, false, List, Result, Ok, Err, if◌then◌else◌}
-use Rattle.sqlite_trees.specs.declared.store.Store as store
+use Rattle.sqlite_trees.specs.declared.store.Store.{Ghosts}
 use Rattle.rr_io.specs.Told.{Told}
 use Rattle.rr_submission.specs.declared.submission.Done.{Done}
 use Rattle.rr_submission.specs.declared.submission.DeskFault.{DeskFault}
-use Rattle.rr_submission.specs.Submissions.{Sides, Submits, UnlessStoreFault}
+use Rattle.rr_submission.specs.declared.submission.DeskFault.TheVariants as desk
+use Rattle.rr_submission.specs.Submissions.{UnlessStoreFault}
+use Rattle.rr_desk.specs.Desks.{SubmitsTo}
 use Rattle.rr_desk.specs.Opening.{IsOpened}
 use Rattle.rr_desk.specs.Settings.{built_in}
-use Rattle.rr_desk.specs.Stocks.{Stock, stock_ledger}
+use Rattle.rr_desk.specs.declared.desk.Desk.{Desk}
+use Rattle.rr_commands.specs.Causes.{stop_cause}
+use Rattle.rr_commands.specs.Commands.{Answer, AtDesk, Commands, DeskAction, Ending, EndsAs}
+use Rattle.rr_commands.specs.Commands.{Gives, HasNoFile}
+use Rattle.rr_commands.specs.declared.cause.DatabaseCause.{DatabaseCause}
 use Rattle.rr_commands.specs.declared.trouble.Trouble.{Trouble}
-use Rattle.rr_commands.specs.declared.trouble.Trouble.TheVariants.{Submission}
+use Rattle.rr_commands.specs.declared.trouble.Trouble.TheVariants.{Creating, Submission, Memory}
 
 -- 0 where no item was refused, and else 1 (profile)
 abbrev pub done_status : Done → ℕ
 done_status done = if done.refused == 0 then 0 else 1
 
--- the status of a submission, or its fault, by the desk's answer (profile)
-abbrev pub submission_end : Result Done DeskFault → Result ℕ Trouble
-submission_end (Ok done) = Ok (done_status done)
-submission_end (Err fault) = Err (Submission fault)
+-- the status of a submission, or its fault, by the desk's answer and why its database failed, if it
+-- did (profile)
+abbrev pub submission_end : Result Done DeskFault → DatabaseCause → Answer
+submission_end (Ok done) cause = Ok (done_status done)
+submission_end (Err fault) cause = Err (Submission fault cause)
 
--- a submission was made to a desk, and its answer is told; only a fault of the store stopped the desk (profile)
-pub record HasSubmitted {S : Type 0} (g : store.Ghosts S) (source : List ℕ) (sides : Sides) (old new : Stock S) (result : Result ℕ Trouble) : Type 0 where
-  pub answer : Result Done DeskFault
-  pub submits : Submits (stock_ledger g) source sides old new answer
-  pub runs : UnlessStoreFault answer (new.stopped ≡ false)
-  pub told : result ≡ submission_end answer
+-- a submission was made to a desk, and its answer is told; only a fault of the store stopped the
+-- desk (profile)
+pub record HasSubmitted {S : Type 0} (g : Ghosts S) (before after : Desk S)
+    (unread read unprinted printed : Told) (answer : Answer) : Type 0 where
+  pub result : Result Done DeskFault
+  pub submits : SubmitsTo g before after unread read unprinted printed result
+  pub runs : UnlessStoreFault result (after.stored.stopped ≡ false)
+  pub told : answer ≡ submission_end result (stop_cause after.stored.cause)
 
 -- there is no desk, and nothing was read or printed (profile)
-pub record IsUnbegun (input_before input_after output_before output_after : Told) (result : Result ℕ Trouble) : Type 0 where
-  pub cause : Trouble
-  pub told : result ≡ Err cause
-  pub unread : input_after ≡ input_before
-  pub unprinted : output_after ≡ output_before
+pub record HasNoDesk (unread read unprinted printed : Told) (answer : Answer) : Type 0 where
+  pub trouble : Trouble
+  pub told : answer ≡ Err trouble
+  pub is_unread : read ≡ unread
+  pub is_silent : printed ≡ unprinted
 
--- a submission was made to a registry with the opening objects of the built-in settings and no others (profile)
-pub record HasSubmittedPlain {S : Type 0} (g : store.Ghosts S) (input_before input_after output_before output_after : Told) (result : Result ℕ Trouble) : Type 0 where
-  pub old : Stock S
-  pub new : Stock S
-  pub opened : IsOpened built_in old.registry
-  pub submitted : HasSubmitted g built_in.source (record {
-    reader_before = input_before;
-    reader_after = input_after;
-    writer_before = output_before;
-    writer_after = output_after;
-    before = old.registry;
-    after = new.registry;
-  }) old new result
+-- a submission was made to a registry with the opening objects of the built-in settings and no
+-- others (profile)
+pub record HasSubmittedPlain {S : Type 0} (g : Ghosts S) (unread read unprinted printed : Told)
+    (answer : Answer) : Type 0 where
+  pub before : Desk S
+  pub after : Desk S
+  pub settings : before.settings ≡ built_in
+  pub opened : IsOpened built_in before.stored.registry
+  pub submitted : HasSubmitted g before after unread read unprinted printed answer
 
 -- what the program does without words (profile)
-abbrev pub RunsPlain : {S : Type 0} → store.Ghosts S → Told → Told → Told → Told → Result ℕ Trouble → Type 0
-RunsPlain g input_before input_after output_before output_after result =
-    IsUnbegun input_before input_after output_before output_after result
-    ⊎ HasSubmittedPlain g input_before input_after output_before output_after result
+abbrev pub RunsPlain : {S : Type 0} → Ghosts S → Told → Told → Told → Told → Answer → Type 0
+RunsPlain g unread read unprinted printed answer =
+    HasNoDesk unread read unprinted printed answer
+    ⊎ HasSubmittedPlain g unread read unprinted printed answer
+
+-- a file was submitted to a desk: what its reader told when it was opened, and when all was done
+-- (profile)
+pub record SubmitsFile {S : Type 0} (g : Ghosts S) (unprinted printed : Told)
+    (before after : Desk S) (answer : Answer) : Type 0 where
+  pub start : Told
+  pub end : Told
+  pub submitted : HasSubmitted g before after start end unprinted printed answer
+
+-- what the submission of a command does at a desk: its file is not opened and the desk as it was,
+-- or it is submitted (profile)
+abbrev pub SubmitsDesk : {S : Type 0} → Ghosts S → Told → Told → DeskAction S
+SubmitsDesk g unprinted printed before after answer =
+    (HasNoFile unprinted printed answer × (after ≡ before))
+    ⊎ SubmitsFile g unprinted printed before after answer
+
+-- what the command does (profile)
+abbrev pub SubmitsBy : {S : Type 0} → Ghosts S → Gives S → Told → Told → Ending → Type 0
+SubmitsBy g gives old new = Commands (AtDesk g gives (SubmitsDesk g old new) old new) old new
+
+-- what went wrong without words: a database in memory fails only because memory ran out (profile)
+abbrev pub plain_trouble : Trouble → Trouble
+plain_trouble (Creating fault) = Memory
+plain_trouble (Submission (desk.StoreFault items) cause) = Memory
+plain_trouble (Submission desk.Stopped cause) = Memory
+plain_trouble trouble = trouble
+
+-- how a run without words ends (profile)
+abbrev pub plain_end : Answer → Answer
+plain_end (Ok status) = Ok status
+plain_end (Err trouble) = Err (plain_trouble trouble)
+
+-- what the program does without words, and how it ends (profile)
+pub record EndsPlain {S : Type 0} (g : Ghosts S) (unread read unprinted printed : Told)
+    (result : Ending) : Type 0 where
+  pub answer : Answer
+  pub runs : RunsPlain g unread read unprinted printed answer
+  pub ends : EndsAs (plain_end answer) result

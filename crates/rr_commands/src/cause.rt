@@ -1,14 +1,17 @@
 //! Why a file, a socket or a database could not be used, in words of the program's own.
 
-ghost use Rattle.std.specs.Prelude.{◌≡◌};
-ghost use Rattle.rr_commands.specs.Causes.{cause_of, cause_text, code_cause, database_cause, database_text};
-ghost use Rattle.std.specs.IoError.{error_kind};
+ghost use Rattle.std.specs.Prelude.{◌≡◌, ℤ, Option};
+ghost use Rattle.std.specs.IoError.{error_kind, raw_os_error};
+ghost use Rattle.rr_commands.specs.Causes.{cause_of, cause_text, code_cause, database_cause};
+ghost use Rattle.rr_commands.specs.Causes.{database_text, number_of, numbered, stop_cause};
+ghost use Rattle.rr_commands.specs.Causes.{text_or};
 
 use sqlite::ErrorCode;
 use std::io;
 use std::io::ErrorKind;
 
-/// Why the system refused a file or a socket.
+/// Why the system refused a file or a socket. Only causes that ask for different things of the
+/// reader are told apart.
 #[derive(Clone, Copy)]
 pub enum Cause {
     /// There is none of that name.
@@ -19,31 +22,73 @@ pub enum Cause {
     Folder,
     /// The path leads through a file as if that were a folder.
     NoFolder,
+    /// The path leads through too many links, as one that leads to itself.
+    Loop,
+    /// The name is too long.
+    LongName,
+    /// The path has a zero byte.
+    BadName,
+    /// The file system is read-only.
+    ReadOnly,
+    /// The disk is full.
+    Full,
+    /// The quota is used up.
+    Quota,
+    /// A file may not grow so large.
+    TooLarge,
+    /// Who reads has ended.
+    Ended,
     /// The address is taken.
     Taken,
+    /// The machine has no such address.
+    NoAddress,
     /// Memory ran out.
     Memory,
-    /// Any other cause.
-    Other,
+    /// Any other cause, by the number that the system gives it.
+    Numbered(u32),
+    /// A cause that has no number.
+    Unnumbered,
 }
 
 impl Cause {
     /// The cause of an error of the system.
     pub fn of(error: &io::Error) -> Cause
-        ensures { result ≡ cause_of (error_kind error.now) }
+        ensures { result ≡ cause_of (error_kind error.now) (raw_os_error error.now) }
     {
         match error.kind() {
             ErrorKind::NotFound => Cause::Missing,
             ErrorKind::PermissionDenied => Cause::Denied,
             ErrorKind::IsADirectory => Cause::Folder,
             ErrorKind::NotADirectory => Cause::NoFolder,
+            ErrorKind::FilesystemLoop => Cause::Loop,
+            ErrorKind::InvalidFilename => Cause::LongName,
+            ErrorKind::InvalidInput => Cause::BadName,
+            ErrorKind::ReadOnlyFilesystem => Cause::ReadOnly,
+            ErrorKind::StorageFull => Cause::Full,
+            ErrorKind::QuotaExceeded => Cause::Quota,
+            ErrorKind::FileTooLarge => Cause::TooLarge,
+            ErrorKind::BrokenPipe => Cause::Ended,
             ErrorKind::AddrInUse => Cause::Taken,
+            ErrorKind::AddrNotAvailable => Cause::NoAddress,
             ErrorKind::OutOfMemory => Cause::Memory,
-            _ => Cause::Other,
+            _ => Cause::numbered(error.raw_os_error()),
         }
     }
 
-    /// The cause in words.
+    /// The cause that has this number of the system, if it has one.
+    fn numbered(code: Option<i32>) -> Cause
+        ensures { result ≡ numbered code }
+    {
+        match code {
+            Some(code) => match u32::try_from(code) {
+                Ok(number) => Cause::Numbered(number),
+                Err(_) => Cause::Unnumbered,
+            },
+            None => Cause::Unnumbered,
+        }
+    }
+
+    /// The cause in words, before its number if it has one.
     pub fn text(self) -> &'static str
         ensures { result.now ≡ cause_text self }
     {
@@ -51,10 +96,31 @@ impl Cause {
             Cause::Missing => "there is none of that name: correct the path",
             Cause::Denied => "permission is denied: ask for it, or take another file or port",
             Cause::Folder => "it is a folder: name a file",
-            Cause::NoFolder => "a part of the path is no folder: correct the path",
+            Cause::NoFolder => "a part of the path is not a folder: correct the path",
+            Cause::Loop => "the path leads through too many links: correct the path",
+            Cause::LongName => "the name is too long: shorten it",
+            Cause::BadName => "no file has such a name: correct the path",
+            Cause::ReadOnly => "the file system is read-only: take another path",
+            Cause::Full => "the disk is full: make room",
+            Cause::Quota => "the quota is used up: make room, or ask for more",
+            Cause::TooLarge =>
+                "no file may grow so large: raise the limit, as `ulimit -f` shows it",
+            Cause::Ended => "its reader has ended: let it read to the end",
             Cause::Taken => "the address is in use: take another port",
+            Cause::NoAddress => "the machine has no such address: see that 127.0.0.1 can be used",
             Cause::Memory => "out of memory: give the program more",
-            Cause::Other => "the system refuses: look at its log",
+            Cause::Numbered(_) => "system error ",
+            Cause::Unnumbered => "the system does not say why",
+        }
+    }
+
+    /// The number that the system gives the cause, if the words do not say what it is.
+    pub fn number(self) -> Option<u64>
+        ensures { result ≡ number_of self }
+    {
+        match self {
+            Cause::Numbered(number) => Some(u64::from(number)),
+            _ => None,
         }
     }
 }
@@ -64,18 +130,28 @@ impl Cause {
 pub enum DatabaseCause {
     /// The file is missing.
     Missing,
-    /// The file cannot be opened or made.
+    /// The folder of a file that is to be made is missing.
+    NoFolder,
+    /// The system refuses the file.
+    Refused(Cause),
+    /// The file, its log or its folder cannot be opened or made.
     Unopened,
     /// Another process has it open.
     Busy,
-    /// The file is no database, or damaged.
+    /// The file is no database, or has other tables than a registry.
+    Other,
+    /// The file is damaged.
     Damaged,
     /// The disk is full.
     Full,
+    /// The disk cannot be read or written.
+    Failed,
+    /// A rule that was added to the tables forbids the change.
+    Forbidden,
     /// Memory ran out.
     Memory,
-    /// Any other cause.
-    Other,
+    /// A cause that asks for nothing else.
+    Unknown,
 }
 
 impl DatabaseCause {
@@ -85,7 +161,17 @@ impl DatabaseCause {
     {
         match error {
             sqlite::Error::SqliteFailure(code) => DatabaseCause::of_code(code),
-            _ => DatabaseCause::Other,
+            _ => DatabaseCause::Unknown,
+        }
+    }
+
+    /// Why a desk stopped, by the error of its database that it keeps.
+    pub fn of_stop(error: Option<sqlite::Error>) -> DatabaseCause
+        ensures { result ≡ stop_cause error }
+    {
+        match error {
+            Some(error) => DatabaseCause::of(error),
+            None => DatabaseCause::Unknown,
         }
     }
 
@@ -95,29 +181,53 @@ impl DatabaseCause {
         match code {
             ErrorCode::CannotOpen => DatabaseCause::Unopened,
             ErrorCode::DatabaseBusy => DatabaseCause::Busy,
-            ErrorCode::NotADatabase | ErrorCode::DatabaseCorrupt => DatabaseCause::Damaged,
+            ErrorCode::NotADatabase => DatabaseCause::Other,
+            ErrorCode::DatabaseCorrupt => DatabaseCause::Damaged,
             ErrorCode::DiskFull => DatabaseCause::Full,
+            ErrorCode::SystemIoFailure | ErrorCode::Closed => DatabaseCause::Failed,
+            ErrorCode::ConstraintViolation(_) => DatabaseCause::Forbidden,
             ErrorCode::OutOfMemory => DatabaseCause::Memory,
-            _ => DatabaseCause::Other,
+            _ => DatabaseCause::Unknown,
         }
     }
 
-    /// The cause in words.
+    /// The cause in words, before that of the system if it has one.
     pub fn text(self) -> &'static str
         ensures { result.now ≡ database_text self }
     {
         match self {
             DatabaseCause::Missing =>
-                "there is no such file: `irrdesk init` or `irrdesk load` makes it",
+                "there is no such database: `irrdesk init` or `irrdesk load` makes it",
+            DatabaseCause::NoFolder =>
+                "the folder of the database is missing: make it, or correct `store`",
+            DatabaseCause::Refused(_) => "the database cannot be opened or made: ",
             DatabaseCause::Unopened =>
-                "it cannot be opened or made: look at its folder and its permissions",
-            DatabaseCause::Busy => "another process has it open: stop that, or ask over its port",
-            DatabaseCause::Damaged =>
-                "it is no database of a registry, or it is damaged: name another file, or restore a backup",
-            DatabaseCause::Full => "the disk is full: make room",
-            DatabaseCause::Memory => "out of memory: give the program more",
+                "the database cannot be opened or made: look at its folder, its links and its \
+                permissions",
+            DatabaseCause::Busy =>
+                "in use, most likely by the running server: ask it over its port, or stop it first",
             DatabaseCause::Other =>
-                "the system refuses to read or write it: look at the system's log",
+                "it is not the database of a registry, or it is damaged: name another file, or \
+                restore a backup",
+            DatabaseCause::Damaged => "the database is damaged: restore a backup",
+            DatabaseCause::Full => "the disk is full: make room",
+            DatabaseCause::Failed =>
+                "the disk cannot be read or written: look at its health, and keep a copy of the \
+                database",
+            DatabaseCause::Forbidden =>
+                "a rule that was added to the tables forbids the change: take the rule out",
+            DatabaseCause::Memory => "out of memory: give the program more",
+            DatabaseCause::Unknown => "the database cannot be used: look at its disk",
+        }
+    }
+
+    /// The cause in words if it tells more than these do, and else these.
+    pub fn text_or(self, words: &'static str) -> &'static str
+        ensures { result.now ≡ text_or self words.now }
+    {
+        match self {
+            DatabaseCause::Other | DatabaseCause::Unknown => words,
+            _ => self.text(),
         }
     }
 }

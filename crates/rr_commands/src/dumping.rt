@@ -1,63 +1,57 @@
 //! Dumps, of the registry in a database.
 
-ghost use Rattle.std.specs.Prelude.{◌≡◌, false};
+ghost use Rattle.std.specs.Prelude.{◌≡◌, false, string_bytes};
 ghost use Rattle.rr_answer.specs.Dumps as dumps;
-ghost use Rattle.rr_commands.specs.Dumped.{HasDumped};
+ghost use Rattle.rr_commands.specs.Commands.{AtDesk};
+ghost use Rattle.rr_commands.specs.Dumped.{DumpsBy, DumpsDesk, HasDumped};
 
-use crate::desk_task::{DeskTask, perform_at_desk};
+use crate::databases::{Databases, close, open_desk};
 use crate::fault::ProgramFault;
-use crate::output::STANDARD_OUTPUT;
-use crate::progress::{Progress, Things};
+use crate::output::{Output, ended};
+use crate::progress::Shown;
 use crate::settings_reading::read_settings_file;
 use crate::trouble::Trouble;
-use rr_desk::{Desk, DumpFault};
+use rr_desk::{Desk, Settings};
 use rr_io::Sink;
 use sqlite::Alter;
 use std::alloc::Global;
 
-/// Prints the dump of the registry that the settings name, with all of each object where it is to be full, and else with their
-/// public forms.
-pub fn dump<'a, W: Sink>(
+/// Prints the dump of the registry that the settings name, with all of each object if it is to be
+/// full, and else with their public forms.
+pub fn dump<'a, D: Databases, W: Output>(
     rt: &HostRuntime,
+    databases: &D,
     settings: &'a str,
     full: bool,
     output: &mut W,
-) -> Result<u8, ProgramFault<'a>> {
-    let (read, store) = read_settings_file(rt, settings)?;
-    let dumping = Dumping { rt, full, output };
-    match perform_at_desk(rt, read, store.as_str(), dumping) {
-        Ok(status) => Ok(status),
-        Err(trouble) => Err(located(trouble, store)),
-    }
+) -> Result<u8, ProgramFault<'a>>
+    ensures { DumpsBy D.Disk.Store (D.gives databases.now) full
+        (W.told output.old) (W.told output.new) result }
+{
+    let (read, mut path) = read_settings_file(rt, settings)?;
+    let answer = dump_at(rt, databases, read, &mut path, full, output);
+    ended(answer, settings, path, output)
 }
 
-/// A fault of a dump, about standard output or the database.
-fn located<'a>(trouble: Trouble, store: String) -> ProgramFault<'a> {
-    match trouble {
-        Trouble::Dumping(DumpFault::Write) => ProgramFault::of(STANDARD_OUTPUT, trouble),
-        Trouble::Database(_) | Trouble::Opening(_) | Trouble::Dumping(DumpFault::Stopped) => {
-            ProgramFault::named(store, trouble)
-        }
-        _ => ProgramFault::plain(trouble),
-    }
-}
-
-/// A dump of all of each object or of the public forms, for this writer.
-#[derive(Drop)]
-struct Dumping<'a, 'b, W> {
-    rt: &'a HostRuntime,
+/// Prints the dump of the registry in the database at a path.
+fn dump_at<D: Databases, W: Output>(
+    rt: &HostRuntime,
+    databases: &D,
+    settings: Settings,
+    path: &mut String,
     full: bool,
-    output: &'b mut W,
-}
-
-impl<W: Sink> DeskTask for Dumping<'_, '_, W> {
-    fn perform<S: Alter>(self, desk: &mut Desk<S>) -> Result<u8, Trouble> {
-        let Dumping { rt, full, output } = self;
-        let mut report = Progress::new(rt, Things::Objects, output);
-        let answer = dump_to(rt.alloc(), desk, full, &mut report);
-        report.end();
-        answer
-    }
+    output: &mut W,
+) -> Result<u8, Trouble>
+    ensures { AtDesk D.Disk.Store (D.gives databases.now)
+        (DumpsDesk full (W.told output.old) (W.told output.new))
+        (W.told output.old) (W.told output.new) settings (string_bytes path.old) result }
+{
+    let desk = open_desk(rt, databases, settings, path)?;
+    output.show(Shown::Objects);
+    let answer = dump_to(rt.alloc(), &desk, full, output);
+    output.show(Shown::Nothing);
+    close(databases, desk.close());
+    answer
 }
 
 /// Writes the dump of a desk.
@@ -68,7 +62,8 @@ pub fn dump_to<S: Alter, W: Sink>(
     writer: &mut W,
 ) -> Result<u8, Trouble>
     requires { desk.now.stored.stopped ≡ false }
-    ensures dumped { HasDumped (dumps.dump full desk.now.stored.registry) (W.told writer.old) (W.told writer.new) result }
+    ensures dumped { HasDumped (dumps.dump full desk.now.stored.registry)
+        (W.told writer.old) (W.told writer.new) result }
     ensures aside { W.aside writer.new ≡ W.aside writer.old }
 {
     match desk.dump(alloc, writer, full) {

@@ -1,12 +1,17 @@
 //! Why the program fails, and the line on standard error that says so.
 
-ghost use Rattle.std.specs.Prelude.{◌≡◌, ◌++◌, codes, map};
+ghost use Rattle.std.specs.Prelude.{◌≡◌, ◌++◌, [], codes, map, string_bytes};
 ghost use Rattle.rr_io.specs.Sending.{TakesSome, Writes};
-ghost use Rattle.rr_commands.specs.Faults.{fault_line, name_shown, shown, trouble_text};
-ghost use Rattle.rr_commands.specs.Troubles.{trouble_status};
+ghost use Rattle.rr_commands.specs.Faults.{fault_line, name_shown, number_text, place_shown};
+ghost use Rattle.rr_commands.specs.Faults.{shown, trouble_text};
+ghost use Rattle.rr_commands.specs.Troubles.{place_of, trouble_status};
 ghost use Rattle.rr_commands.specs.declared.fault.About.TheVariants as abouts;
+ghost use Rattle.rr_commands.specs.declared.trouble.Place.TheVariants as place;
 
-use crate::trouble::Trouble;
+use crate::cause::Cause;
+use crate::output::STANDARD_OUTPUT;
+use crate::trouble::{Place, Trouble};
+use crate::words::{after_number, before, before_number};
 use itoa::Buffer;
 use rr_io::{Sink, write_all, write_pieces};
 use std::io;
@@ -22,11 +27,13 @@ pub enum About<'a> {
     Named(String),
 }
 
-/// Why the program fails: what it is about, and what went wrong with it.
+/// Why the program fails: what it is about, what went wrong with it, and why standard output took
+/// no more, if it is that.
 #[derive(Drop)]
 pub struct ProgramFault<'a> {
     about: About<'a>,
     trouble: Trouble,
+    written: Cause,
 }
 
 impl<'a> ProgramFault<'a> {
@@ -38,6 +45,7 @@ impl<'a> ProgramFault<'a> {
         ProgramFault {
             about: About::Nothing,
             trouble,
+            written: Cause::Unnumbered,
         }
     }
 
@@ -49,6 +57,7 @@ impl<'a> ProgramFault<'a> {
         ProgramFault {
             about: About::Word(word),
             trouble,
+            written: Cause::Unnumbered,
         }
     }
 
@@ -60,12 +69,48 @@ impl<'a> ProgramFault<'a> {
         ProgramFault {
             about: About::Named(name),
             trouble,
+            written: Cause::Unnumbered,
         }
     }
 
-    /// Says the fault in one line on standard error, and gives the program's status, which a failed write does not change.
+    /// A fault of standard output, which took no more for this cause.
+    pub fn of_output(trouble: Trouble, written: Cause) -> ProgramFault<'a>
+        ensures about { name_shown result.about ≡ place_shown place.Output [] [] }
+        ensures trouble { result.trouble ≡ trouble }
+        ensures written { result.written ≡ written }
+    {
+        ProgramFault {
+            about: About::Word(STANDARD_OUTPUT),
+            trouble,
+            written,
+        }
+    }
+
+    /// The fault of a command that reads this file and uses this database, by what its trouble is
+    /// about.
+    pub fn placed(
+        trouble: Trouble,
+        file: &'a str,
+        database: String,
+        written: Cause,
+    ) -> ProgramFault<'a>
+        ensures trouble { result.trouble ≡ trouble }
+        ensures about { name_shown result.about
+            ≡ place_shown (place_of trouble) file.now (string_bytes database) }
+    {
+        match trouble.place() {
+            Place::Nothing => ProgramFault::plain(trouble),
+            Place::Database => ProgramFault::named(database, trouble),
+            Place::File => ProgramFault::of(file, trouble),
+            Place::Output => ProgramFault::of_output(trouble, written),
+        }
+    }
+
+    /// Says the fault in one line on standard error, and gives the program's status, which a failed
+    /// write does not change.
     pub fn tell<E: Sink>(self, errors: &mut E) -> u8
-        ensures says { TakesSome (E.told errors.old) (E.told errors.new) (fault_line self.entry.about self.entry.trouble) }
+        ensures says { TakesSome (E.told errors.old) (E.told errors.new)
+            (fault_line self.entry.about self.entry.trouble self.entry.written) }
         ensures status { result ≡ trouble_status self.entry.trouble }
         ensures aside { E.aside errors.new ≡ E.aside errors.old }
     {
@@ -76,12 +121,13 @@ impl<'a> ProgramFault<'a> {
     /// Writes the line.
     #[tactic(auto, unfolding(crate::specs::Faults::fault_line))]
     fn write_line<E: Sink>(&self, errors: &mut E) -> io::Result<()>
-        ensures writes { Writes (E.told errors.old) (E.told errors.new) (fault_line self.now.about self.now.trouble) result }
+        ensures writes { Writes (E.told errors.old) (E.told errors.new)
+            (fault_line self.now.about self.now.trouble self.now.written) result }
         ensures aside { E.aside errors.new ≡ E.aside errors.old }
     {
         write_all(errors, b"irrdesk: ")?;
         write_about(errors, &self.about)?;
-        write_trouble(errors, self.trouble)
+        write_trouble(errors, self.trouble, self.written)
     }
 }
 
@@ -99,7 +145,8 @@ fn write_about<E: Sink>(errors: &mut E, about: &About<'_>) -> io::Result<()>
 
 /// Writes a name, and a colon.
 fn write_name<E: Sink>(errors: &mut E, name: &[u8]) -> io::Result<()>
-    ensures writes { Writes (E.told errors.old) (E.told errors.new) (map shown name.now ++ codes ": ") result }
+    ensures writes { Writes (E.told errors.old) (E.told errors.new)
+        (map shown name.now ++ codes ": ") result }
     ensures aside { E.aside errors.new ≡ E.aside errors.old }
 {
     write_shown(errors, name)?;
@@ -126,23 +173,34 @@ fn shown(byte: u8) -> u8
 
 /// Writes what went wrong, to the end of the line.
 #[tactic(auto, unfolding(crate::specs::Faults::trouble_text))]
-fn write_trouble<E: Sink>(errors: &mut E, trouble: Trouble) -> io::Result<()>
-    ensures writes { Writes (E.told errors.old) (E.told errors.new) (trouble_text trouble) result }
+fn write_trouble<E: Sink>(errors: &mut E, trouble: Trouble, written: Cause) -> io::Result<()>
+    ensures writes { Writes (E.told errors.old) (E.told errors.new)
+        (trouble_text trouble written) result }
     ensures aside { E.aside errors.new ≡ E.aside errors.old }
 {
-    let mut buffer = Buffer::new();
-    let number = match trouble.told_number() {
-        Some(number) => buffer.format(number).as_bytes(),
-        None => b"",
-    };
+    let cause = trouble.cause(written);
+    let mut code_digits = Buffer::new();
+    let mut digits = Buffer::new();
     write_pieces(
         errors,
         &[
-            trouble.before_number().as_bytes(),
-            number,
-            trouble.behind_number().as_bytes(),
-            trouble.detail().as_bytes(),
+            before(trouble).as_bytes(),
+            trouble.cause_words(cause).as_bytes(),
+            number_text(&mut code_digits, cause.and_then(Cause::number)),
+            before_number(trouble).as_bytes(),
+            number_text(&mut digits, trouble.number()),
+            after_number(trouble).as_bytes(),
             b"\n",
         ],
     )
+}
+
+/// A number in decimal digits, or nothing.
+fn number_text(digits: &mut Buffer, number: Option<u64>) -> &[u8]
+    ensures { result.now ≡ number_text number }
+{
+    match number {
+        Some(number) => digits.format(number).as_bytes(),
+        None => b"",
+    }
 }

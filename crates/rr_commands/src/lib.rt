@@ -1,11 +1,11 @@
-//! What each command but `serve` and `probe` does: over the files and the database that it names, and, under that, over any
-//! database, reader and writer.
+//! What each command but `serve` and `probe` does, over the files and the database that its
+//! settings name; the databases are in files, or in whatever else keeps them.
 #![tactic(auto)]
 
 mod cause;
 mod creation;
-mod database;
-mod desk_task;
+mod databases;
+mod diagnosis;
 mod dumping;
 mod fault;
 mod files;
@@ -19,15 +19,17 @@ mod settings_file;
 mod settings_reading;
 mod submission;
 mod trouble;
+mod words;
 
 pub use cause::{Cause, DatabaseCause};
 pub use creation::{create_to, init};
-pub use desk_task::{DeskTask, perform_at_desk};
+pub use databases::{Absent, DatabaseFiles, Databases, close, open_desk};
 pub use dumping::{dump, dump_to};
 pub use fault::ProgramFault;
 pub use loading::{load, load_to};
 pub use migrating::{migrate, migrate_to};
-pub use output::{STANDARD_OUTPUT, print};
+pub use output::{Output, ended, print};
+pub use progress::{Progress, Shown};
 pub use querying::{answer_to, query};
 pub use settings_file::{SettingKey, SettingsFault, read_settings};
 pub use settings_reading::read_settings_file;

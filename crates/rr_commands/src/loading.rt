@@ -2,23 +2,20 @@
 
 ghost use Rattle.std.specs.Prelude.{◌≡◌, IfOk, false, length};
 ghost use Rattle.std.specs.FinMap.{values};
-ghost use Rattle.sqlite.specs.Held.{state};
-ghost use Rattle.sqlite.specs.State.{Survives};
-ghost use Rattle.rr_store.specs.Kept.{IsLeft};
-ghost use Rattle.rr_desk.specs.Loaded.{HasLoadedRows};
-ghost use Rattle.rr_commands.specs.Loaded.{Loads, TellsLoaded, loaded_line};
+ghost use Rattle.rr_commands.specs.Commands.{EndsAs, InDatabase};
+ghost use Rattle.rr_commands.specs.Loaded.{Loads, LoadsBy, LoadsIn, TellsLoaded, loaded_line};
 ghost use Rattle.rr_commands.specs.Printed.{Tells};
 
-use crate::database::{DatabaseTask, perform_making};
+use crate::databases::{Absent, Databases, close};
 use crate::fault::ProgramFault;
 use crate::files::open_file;
-use crate::output::{STANDARD_OUTPUT, tell};
+use crate::output::{Output, tell};
 use crate::places::about_paragraph;
-use crate::progress::{Progress, Reading};
+use crate::progress::{Reading, Shown};
 use crate::settings_reading::read_settings_file;
-use crate::trouble::{Trouble, paragraph_of};
+use crate::trouble::Trouble;
 use itoa::Buffer;
-use rr_desk::{Desk, DeskLoadFault, Settings};
+use rr_desk::{Desk, Settings};
 use rr_index::IndexedBook;
 use rr_io::{Counted, Sink, Source, write_pieces};
 use rr_registry::Registry;
@@ -26,74 +23,85 @@ use sqlite::{Alter, Connection};
 use std::alloc::{AllocError, Global};
 use std::fs::File;
 
-/// Makes the registry of a dump in the database that the settings name, which is to be new or without rows, and says how many
-/// objects it has.
-pub fn load<'a, W: Sink>(
+/// Makes the registry of a dump in the database that the settings name, which is to be new or
+/// without rows, and says how many objects it has.
+pub fn load<'a, D: Databases, W: Output>(
     rt: &HostRuntime,
+    databases: &D,
     settings: &'a str,
     file: &'a str,
     output: &mut W,
-) -> Result<u8, ProgramFault<'a>> {
-    let (read, store) = read_settings_file(rt, settings)?;
-    let loading = Loading {
-        rt,
-        settings: read,
-        file,
-        output,
-    };
-    match perform_making(rt, store.as_str(), loading) {
-        Ok(status) => Ok(status),
-        Err(trouble) => Err(located(rt, trouble, file, store)),
-    }
+) -> Result<u8, ProgramFault<'a>>
+    ensures { LoadsBy D.Disk.Store (D.gives databases.now)
+        (W.told output.old) (W.told output.new) result }
+{
+    let (read, path) = read_settings_file(rt, settings)?;
+    let answer = load_at(rt, databases, read, path.as_str(), file, output);
+    ended_in_dump(rt, answer, file, path, output)
 }
 
-/// A fault of a load, about the dump, a paragraph of it, standard output, or the database.
-fn located<'a>(
+/// How a load ended; trouble with a paragraph of the dump is about its line and its key.
+fn ended_in_dump<'a, W: Output>(
     rt: &HostRuntime,
-    trouble: Trouble,
+    answer: Result<u8, Trouble>,
     file: &'a str,
-    store: String,
-) -> ProgramFault<'a> {
-    match trouble {
-        Trouble::Database(_) | Trouble::Loading(DeskLoadFault::NotEmpty | DeskLoadFault::Store) => {
-            ProgramFault::named(store, trouble)
-        }
-        Trouble::Unwritten => ProgramFault::of(STANDARD_OUTPUT, trouble),
-        Trouble::Loading(DeskLoadFault::Memory) | Trouble::Memory => ProgramFault::plain(trouble),
-        Trouble::Loading(fault) => match paragraph_of(fault) {
-            Some(number) => about_paragraph(rt, file, number, trouble),
-            None => ProgramFault::of(file, trouble),
+    path: String,
+    output: &W,
+) -> Result<u8, ProgramFault<'a>>
+    ensures { EndsAs answer result }
+{
+    match answer {
+        Ok(status) => Ok(status),
+        Err(trouble) => match trouble.paragraph() {
+            Some(number) => Err(about_paragraph(rt, file, number, trouble)),
+            None => Err(ProgramFault::placed(trouble, file, path, output.cause())),
         },
-        _ => ProgramFault::of(file, trouble),
     }
 }
 
-/// The load of the dump in a file, whose source these settings say, and of which this writer is told.
-#[derive(Drop)]
-struct Loading<'a, 'b, W> {
-    rt: &'a HostRuntime,
+/// Makes the registry of a dump in the database at a path, and says how many objects it has.
+fn load_at<D: Databases, W: Output>(
+    rt: &HostRuntime,
+    databases: &D,
     settings: Settings,
-    file: &'a str,
-    output: &'b mut W,
-}
-
-impl<W: Sink> DatabaseTask for Loading<'_, '_, W> {
-    fn perform<S: Alter>(self, conn: Connection<S>) -> (Connection<S>, Result<u8, Trouble>) {
-        let Loading {
-            rt,
-            settings,
-            file,
-            output,
-        } = self;
-        match open_file(rt, file) {
-            Ok(file) => load_file(rt, conn, settings, file, output),
-            Err(trouble) => (conn, Err(trouble)),
+    path: &str,
+    file: &str,
+    output: &mut W,
+) -> Result<u8, Trouble>
+    ensures { InDatabase (D.gives databases.now)
+        (LoadsIn D.Disk.Store settings (W.told output.old) (W.told output.new))
+        (W.told output.old) (W.told output.new) path.now result }
+{
+    match databases.open(path, Absent::Made) {
+        Ok(conn) => {
+            let (conn, answer) = load_file(rt, conn, settings, file, output);
+            close(databases, conn);
+            answer
         }
+        Err(cause) => Err(Trouble::Database(cause)),
     }
 }
 
-/// Loads the dump in a file into a database, whose connection is given back.
-fn load_file<S: Alter, W: Sink>(
+/// Opens the file of a dump, and loads it into a database, whose connection is given back.
+fn load_file<S: Alter, W: Output>(
+    rt: &HostRuntime,
+    conn: Connection<S>,
+    settings: Settings,
+    file: &str,
+    output: &mut W,
+) -> (Connection<S>, Result<u8, Trouble>)
+    requires { conn.in_transaction ≡ false }
+    ensures { LoadsIn S.Store settings
+        (W.told output.old) (W.told output.new) conn result.0 result.1 }
+{
+    match open_file(rt, file) {
+        Ok(file) => load_shown(rt, conn, settings, file, output),
+        Err(trouble) => (conn, Err(trouble)),
+    }
+}
+
+/// Loads the dump in a file into a database, and shows on a terminal how many bytes were read.
+fn load_shown<S: Alter, W: Output>(
     rt: &HostRuntime,
     conn: Connection<S>,
     settings: Settings,
@@ -101,17 +109,18 @@ fn load_file<S: Alter, W: Sink>(
     output: &mut W,
 ) -> (Connection<S>, Result<u8, Trouble>)
     requires { conn.in_transaction ≡ false }
+    ensures { LoadsIn S.Store settings
+        (W.told output.old) (W.told output.new) conn result.0 result.1 }
 {
-    let mut reader = Counted::new(file);
-    let mut reading = Reading::new(rt, &mut reader);
-    let mut report = Progress::behind(rt, output);
-    let loaded = load_to(rt.alloc(), conn, settings, &mut reading, &mut report);
+    let mut reading = Reading::new(rt, Counted::new(file));
+    output.show(Shown::Others);
+    let loaded = load_to(rt.alloc(), conn, settings, &mut reading, output);
     reading.end();
     loaded
 }
 
-/// Makes the registry of the dump that a reader gives in a database, and writes how many objects it has. The connection is
-/// given back.
+/// Makes the registry of the dump that a reader gives in a database, and writes how many objects it
+/// has. The connection is given back.
 pub fn load_to<S: Alter, R: Source, W: Sink>(
     alloc: Global,
     conn: Connection<S>,
@@ -120,8 +129,8 @@ pub fn load_to<S: Alter, R: Source, W: Sink>(
     writer: &mut W,
 ) -> (Connection<S>, Result<u8, Trouble>)
     requires { conn.in_transaction ≡ false }
-    ensures loads { Loads settings.source (R.told reader.old) (R.told reader.new) (state S.Store conn) (state S.Store result.0) (W.told writer.old) (W.told writer.new) result.1 }
-    ensures crash { Survives (state S.Store conn) (state S.Store result.0) (IsLeft (state S.Store conn).is_open (HasLoadedRows settings.source (R.told reader.old) (R.told reader.new))) }
+    ensures loads { Loads S.Store settings (R.told reader.old) (R.told reader.new)
+        (W.told writer.old) (W.told writer.new) conn result.0 result.1 }
     ensures autocommit { result.0.in_transaction ≡ false }
     ensures reader_aside { R.aside reader.new ≡ R.aside reader.old }
     ensures writer_aside { W.aside writer.new ≡ W.aside writer.old }
@@ -135,13 +144,14 @@ pub fn load_to<S: Alter, R: Source, W: Sink>(
     }
 }
 
-/// Writes how many objects were loaded; where memory is wanting to count them, that they were.
+/// Writes how many objects were loaded; if memory runs out as they are counted, that they were.
 fn tell_loaded<W: Sink>(
     alloc: Global,
     registry: &Registry<IndexedBook>,
     writer: &mut W,
 ) -> Result<u8, Trouble>
-    ensures tells { TellsLoaded (length (values registry.now)) (W.told writer.old) (W.told writer.new) result }
+    ensures tells { TellsLoaded (length (values registry.now))
+        (W.told writer.old) (W.told writer.new) result }
     ensures aside { W.aside writer.new ≡ W.aside writer.old }
 {
     match object_count(alloc, registry) {
@@ -150,7 +160,7 @@ fn tell_loaded<W: Sink>(
     }
 }
 
-/// How many objects a registry has; the error is want of memory.
+/// How many objects a registry has; the error is that memory ran out.
 fn object_count(alloc: Global, registry: &Registry<IndexedBook>) -> Result<u64, AllocError>
     ensures { IfOk result (λ count. count ≡ length (values registry.now)) }
 {

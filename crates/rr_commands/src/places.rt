@@ -1,6 +1,6 @@
 //! Where a paragraph stands in a file: its line and its key, for messages.
 
-ghost use Rattle.std.specs.Prelude.{◌≤◌, length};
+ghost use Rattle.std.specs.Prelude.{◌≡◌, ◌≤◌, length};
 
 use crate::fault::ProgramFault;
 use crate::files::open_file;
@@ -13,14 +13,16 @@ use std::fs::File;
 use std::io::{BufRead, BufReader, Read};
 use std::{fs, io};
 
-/// A fault about the paragraph of this number, from 1, of a file: it names the line and, where they can be read, the class and
-/// the key, if the file is one that can be read again.
+/// A fault about the paragraph of this number, from 1, of a file: it names the line and, if they
+/// can be read, the class and the key, if the file is one that can be read again.
 pub fn about_paragraph<'a>(
     rt: &HostRuntime,
     file: &'a str,
     number: u64,
     trouble: Trouble,
-) -> ProgramFault<'a> {
+) -> ProgramFault<'a>
+    ensures { result.trouble ≡ trouble }
+{
     match place(rt, file, number) {
         Some(place) => ProgramFault::named(place, trouble),
         None => ProgramFault::of(file, trouble),
@@ -36,7 +38,7 @@ fn place(rt: &HostRuntime, file: &str, number: u64) -> Option<String> {
     let reader = BufReader::new(alloc, open_file(rt, file).ok()?).ok()?;
     let mut lines = Lines::new(alloc, reader);
     let key = find_paragraph(alloc, &mut lines, number)?;
-    let line = lines.begun?;
+    let line = lines.start?;
     match key {
         Some(key) => {
             let class = key.class().name();
@@ -54,7 +56,7 @@ fn key_text(alloc: Global, key: &Key) -> Option<String> {
     String::from_utf8(text.into_inner()).ok()
 }
 
-/// Reads up to the paragraph of this number, and gives its key, where it has one.
+/// Reads up to the paragraph of this number, and gives its key, if it has one.
 fn find_paragraph(alloc: Global, lines: &mut Lines, number: u64) -> Option<Option<Key>> {
     let mut paragraphs = Paragraphs::new(alloc).ok()?;
     let mut found = None;
@@ -64,18 +66,19 @@ fn find_paragraph(alloc: Global, lines: &mut Lines, number: u64) -> Option<Optio
     Some(found)
 }
 
-/// Reads the next paragraph of a file, notes where it begins, and gives its key, where it has one; `None` at the end, or where
-/// the file cannot be read.
+/// Reads the next paragraph of a file, notes where it begins, and gives its key, if it has one;
+/// `None` at the end, or if the file cannot be read.
 fn next_of_file(
     alloc: Global,
     paragraphs: &mut Paragraphs,
     lines: &mut Lines,
 ) -> Option<Option<Key>> {
-    lines.begun = None;
+    lines.start = None;
     next_key(alloc, paragraphs, &mut Counted::new(lines))
 }
 
-/// Reads the next paragraph, and gives its key, where it has one; `None` at the end, or where it cannot be read.
+/// Reads the next paragraph, and gives its key, if it has one; `None` at the end, or if it
+/// cannot be read.
 fn next_key<R: Source>(
     alloc: Global,
     paragraphs: &mut Paragraphs,
@@ -88,14 +91,15 @@ fn next_key<R: Source>(
     }
 }
 
-/// A file that gives no more than a line in one read, and knows on which line the paragraph begins that is read.
+/// A file that gives no more than a line in one read, and knows on which line the paragraph begins
+/// that is read.
 #[derive(Drop)]
 struct Lines {
     alloc: Global,
     reader: BufReader<File>,
     ended: u64,
     is_line_start: bool,
-    begun: Option<u64>,
+    start: Option<u64>,
 }
 
 impl Lines {
@@ -105,14 +109,14 @@ impl Lines {
             reader,
             ended: 0,
             is_line_start: true,
-            begun: None,
+            start: None,
         }
     }
 
     /// Notes a piece of a line that was read.
     fn note(&mut self, piece: &[u8]) {
-        if self.begun.is_none() && self.is_line_start && begins_paragraph(self.alloc, piece) {
-            self.begun = Some(self.ended.saturating_add(1));
+        if self.start.is_none() && self.is_line_start && begins_paragraph(self.alloc, piece) {
+            self.start = Some(self.ended.saturating_add(1));
         }
         self.is_line_start = piece.ends_with(b"\n");
         if self.is_line_start {
@@ -124,7 +128,7 @@ impl Lines {
 impl Read for Lines {
     fn read(&mut self, buf: &mut [u8]) -> io::Result<usize> {
         let held = self.reader.fill_buf()?;
-        let piece = line_front(held, buf.len());
+        let piece = line_prefix(held, buf.len());
         let count = piece.len();
         buf[..count].copy_from_slice(piece);
         self.reader.consume(count);
@@ -133,21 +137,22 @@ impl Read for Lines {
     }
 }
 
-/// The front of a text up to its first line end, and of so many bytes at most.
-fn line_front(text: &[u8], most: usize) -> &[u8]
+/// The prefix of a text up to its first line end, and of so many bytes at most.
+fn line_prefix(text: &[u8], most: usize) -> &[u8]
     ensures { length result.now ≤ most }
 {
-    let front = match text.split_at_checked(most) {
-        Some((front, _)) => front,
+    let prefix = match text.split_at_checked(most) {
+        Some((prefix, _)) => prefix,
         None => text,
     };
-    match front.iter().position(|byte| *byte == b'\n') {
-        Some(place) => &front[..place + 1],
-        None => front,
+    match prefix.iter().position(|byte| *byte == b'\n') {
+        Some(place) => &prefix[..place + 1],
+        None => prefix,
     }
 }
 
-/// Whether a paragraph begins with a line that begins so: one that is neither blank nor skipped (RFC 2622, 2; profile).
+/// Whether a paragraph begins with a line that begins so: one that is neither blank nor skipped
+/// (RFC 2622, 2; profile).
 fn begins_paragraph(alloc: Global, line: &[u8]) -> bool {
     !matches!(next_paragraph(alloc, line, 0), Ok(None))
 }

@@ -1,5 +1,7 @@
 //! How far a long command has come, on the last line of a terminal.
 
+use crate::cause::Cause;
+use crate::output::Output;
 use rr_io::{Sink, Source};
 use std::io;
 use std::io::{IsTerminal, Write};
@@ -20,7 +22,8 @@ const LARGE: u64 = 8_388_608;
 /// What is counted of the bytes that pass.
 #[derive(Clone, Copy)]
 pub enum Things {
-    /// The items of a report: each has a line, and the last line, which begins with `%`, is that of none.
+    /// The items of a report: each has a line, and the last line, which begins with `%`, is that of
+    /// none.
     Items,
     /// The objects of a dump: an empty line ends each.
     Objects,
@@ -38,12 +41,13 @@ impl Things {
     }
 }
 
-/// A count on one line of standard error, which is written over, and only where standard error is a terminal.
+/// A count on one line of standard error, which is written over, and only if standard error is a
+/// terminal.
 #[derive(Drop)]
 struct Meter<'a> {
     rt: &'a HostRuntime,
     things: Things,
-    begun: Option<Instant>,
+    started: Option<Instant>,
     drawn: Option<Instant>,
     is_shown: bool,
     /// Whether what is printed may stand on the same terminal.
@@ -55,9 +59,10 @@ struct Meter<'a> {
 }
 
 impl<'a> Meter<'a> {
-    /// A count of these things, which begins now; whether they are printed where the count may stand.
+    /// A count of these things, which begins now; whether they are printed where the count may
+    /// stand.
     fn new(rt: &'a HostRuntime, things: Things, is_shared: bool) -> Meter<'a> {
-        let begun = if rt.stderr().is_terminal() {
+        let started = if rt.stderr().is_terminal() {
             Instant::now(rt).ok()
         } else {
             None
@@ -65,10 +70,25 @@ impl<'a> Meter<'a> {
         Meter {
             rt,
             things,
-            begun,
+            started,
             drawn: None,
             is_shown: false,
             is_shared,
+            is_line_empty: true,
+            is_note: false,
+            count: 0,
+        }
+    }
+
+    /// A count that is never drawn.
+    fn silent(rt: &'a HostRuntime) -> Meter<'a> {
+        Meter {
+            rt,
+            things: Things::Items,
+            started: None,
+            drawn: None,
+            is_shown: false,
+            is_shared: false,
             is_line_empty: true,
             is_note: false,
             count: 0,
@@ -80,7 +100,7 @@ impl<'a> Meter<'a> {
         Meter {
             rt,
             things: Things::Items,
-            begun: None,
+            started: None,
             drawn: None,
             is_shown: rt.stderr().is_terminal(),
             is_shared: rt.stdout().is_terminal(),
@@ -98,7 +118,7 @@ impl<'a> Meter<'a> {
         }
     }
 
-    /// Takes the line away where what is printed next would stand behind it; answers whether it did.
+    /// Takes the line away if what is printed next would stand after it; answers whether it did.
     fn make_way(&mut self) -> bool {
         let is_in_the_way = self.is_shown && self.is_shared;
         if is_in_the_way {
@@ -107,10 +127,10 @@ impl<'a> Meter<'a> {
         is_in_the_way
     }
 
-    /// Counts what is in the bytes that pass, and draws the line where it is time to, or where it had made way for them;
-    /// never over a printed line that has not ended.
+    /// Counts what is in the bytes that pass, and draws the line if it is time to, or if it
+    /// had made way for them; never over a printed line that has not ended.
     fn pass(&mut self, bytes: &[u8], made_way: bool) {
-        if let Some(begun) = self.begun {
+        if let Some(started) = self.started {
             let more = match self.things {
                 Things::Items => self.item_lines(bytes),
                 Things::Objects => self.empty_lines(bytes),
@@ -118,7 +138,7 @@ impl<'a> Meter<'a> {
             };
             self.count = self.count.saturating_add(more);
             if !self.is_shared || bytes.ends_with(b"\n") {
-                self.show(begun, made_way);
+                self.show(started, made_way);
             }
         }
     }
@@ -151,12 +171,12 @@ impl<'a> Meter<'a> {
         count
     }
 
-    /// Draws the line, where it had made way or it is time to.
-    fn show(&mut self, begun: Instant, made_way: bool) {
+    /// Draws the line, if it had made way or it is time to.
+    fn show(&mut self, started: Instant, made_way: bool) {
         let Ok(now) = Instant::now(self.rt) else {
             return;
         };
-        let is_late = now.duration_since(begun) >= Duration::from_millis(QUIET);
+        let is_late = now.duration_since(started) >= Duration::from_millis(QUIET);
         if is_late && (made_way || self.is_due(now)) {
             self.draw(now);
         }
@@ -179,64 +199,92 @@ impl<'a> Meter<'a> {
     }
 }
 
-/// A writer whose text is counted.
-#[derive(Drop)]
-pub struct Progress<'a, 'b, W> {
-    report: &'b mut W,
-    meter: Meter<'a>,
+/// What standard output shows of how far a command is.
+#[derive(Clone, Copy)]
+pub enum Shown {
+    /// Nothing.
+    Nothing,
+    /// The items of the report that passes.
+    Items,
+    /// The objects of the dump that passes.
+    Objects,
+    /// The count of something else, which goes before what is printed.
+    Others,
 }
 
-impl<'a, 'b, W: Sink> Progress<'a, 'b, W> {
-    /// The writer, with these things of its text counted from now on.
-    pub fn new(rt: &'a HostRuntime, things: Things, report: &'b mut W) -> Progress<'a, 'b, W> {
-        Progress {
-            report,
-            meter: Meter::new(rt, things, rt.stdout().is_terminal()),
-        }
-    }
+/// Standard output, which shows on a terminal how much passed, and keeps why a write failed.
+#[derive(Drop)]
+pub struct Progress<'a, W> {
+    rt: &'a HostRuntime,
+    writer: W,
+    meter: Meter<'a>,
+    cause: Cause,
+}
 
-    /// The writer of what is printed where the count of something else may stand, which goes before it.
-    pub fn behind(rt: &'a HostRuntime, report: &'b mut W) -> Progress<'a, 'b, W> {
+impl<'a, W: Sink> Progress<'a, W> {
+    /// The writer, which shows nothing so far.
+    pub fn new(rt: &'a HostRuntime, writer: W) -> Progress<'a, W> {
         Progress {
-            report,
-            meter: Meter::eraser(rt),
+            rt,
+            writer,
+            meter: Meter::silent(rt),
+            cause: Cause::Unnumbered,
         }
-    }
-
-    /// Takes the count away.
-    pub fn end(&mut self) {
-        self.meter.clear();
     }
 }
 
 /// It passes each write on, and tells what the writer tells.
-impl<W: Sink> Sink for Progress<'_, '_, W> {
-    ghost told = { λ p. W.told p.report.now };
+impl<W: Sink> Sink for Progress<'_, W> {
+    ghost told = { λ p. W.told p.writer };
 
-    ghost aside = { λ p. W.aside p.report.now };
+    ghost aside = { λ p. W.aside p.writer };
 
     fn write(&mut self, bytes: &[u8]) -> io::Result<usize> {
         let made_way = self.meter.make_way();
-        let count = self.report.write(bytes)?;
-        self.meter.pass(&bytes[..count], made_way);
-        Ok(count)
+        match self.writer.write(bytes) {
+            Ok(count) => {
+                self.meter.pass(&bytes[..count], made_way);
+                Ok(count)
+            }
+            Err(error) => {
+                self.cause = Cause::of(&error);
+                Err(error)
+            }
+        }
     }
 
     fn failed_writes(&self) -> u64 {
-        self.report.failed_writes()
+        self.writer.failed_writes()
+    }
+}
+
+impl<W: Sink> Output for Progress<'_, W> {
+    fn show(&mut self, shown: Shown) {
+        self.meter.clear();
+        let is_shared = self.rt.stdout().is_terminal();
+        self.meter = match shown {
+            Shown::Nothing => Meter::silent(self.rt),
+            Shown::Items => Meter::new(self.rt, Things::Items, is_shared),
+            Shown::Objects => Meter::new(self.rt, Things::Objects, is_shared),
+            Shown::Others => Meter::eraser(self.rt),
+        };
+    }
+
+    fn cause(&self) -> Cause {
+        self.cause
     }
 }
 
 /// A reader whose bytes are counted.
 #[derive(Drop)]
-pub struct Reading<'a, 'b, R> {
-    reader: &'b mut R,
+pub struct Reading<'a, R> {
+    reader: R,
     meter: Meter<'a>,
 }
 
-impl<'a, 'b, R: Source> Reading<'a, 'b, R> {
+impl<'a, R: Source> Reading<'a, R> {
     /// The reader, with its bytes counted from now on.
-    pub fn new(rt: &'a HostRuntime, reader: &'b mut R) -> Reading<'a, 'b, R> {
+    pub fn new(rt: &'a HostRuntime, reader: R) -> Reading<'a, R> {
         Reading {
             reader,
             meter: Meter::new(rt, Things::Bytes, false),
@@ -250,10 +298,10 @@ impl<'a, 'b, R: Source> Reading<'a, 'b, R> {
 }
 
 /// It passes each read on, and tells what the reader tells.
-impl<R: Source> Source for Reading<'_, '_, R> {
-    ghost told = { λ p. R.told p.reader.now };
+impl<R: Source> Source for Reading<'_, R> {
+    ghost told = { λ p. R.told p.reader };
 
-    ghost aside = { λ p. R.aside p.reader.now };
+    ghost aside = { λ p. R.aside p.reader };
 
     fn read(&mut self, buf: &mut [u8]) -> io::Result<usize> {
         let count = self.reader.read(buf)?;
@@ -274,7 +322,8 @@ pub struct Opening<'a> {
 }
 
 impl<'a> Opening<'a> {
-    /// Shows the line for a database of so many bytes, where that is large and standard error is a terminal.
+    /// Shows the line for a database of so many bytes, if that is large and standard error is a
+    /// terminal.
     pub fn begin(rt: &'a HostRuntime, size: u64) -> Opening<'a> {
         let is_shown = size >= LARGE && rt.stderr().is_terminal();
         if is_shown {

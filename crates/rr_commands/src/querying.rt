@@ -1,71 +1,61 @@
 //! Queries, of the registry in a database.
 
-ghost use Rattle.std.specs.Prelude.{◌≡◌, false};
+ghost use Rattle.std.specs.Prelude.{◌≡◌, false, string_bytes};
 ghost use Rattle.sqlite.specs.Held.{state};
-ghost use Rattle.sqlite.specs.State.{HasCleanDisk};
 ghost use Rattle.rr_desk.specs.Rows.{KeepsRows};
-ghost use Rattle.rr_commands.specs.Asked.{HasAsked, error_status};
+ghost use Rattle.rr_commands.specs.Asked.{AsksBy, HasAsked, error_status};
+ghost use Rattle.rr_commands.specs.Commands.{AtDesk};
 
-use crate::desk_task::{DeskTask, perform_at_desk};
+use crate::databases::{Databases, close, open_desk};
 use crate::fault::ProgramFault;
-use crate::output::STANDARD_OUTPUT;
+use crate::output::{Output, ended};
 use crate::settings_reading::read_settings_file;
 use crate::trouble::Trouble;
-use rr_desk::{Answered, Desk};
+use rr_desk::{Answered, Desk, Settings};
 use rr_io::Sink;
 use sqlite::Alter;
 use std::alloc::Global;
 
-/// The status where the answer is an error.
+/// The status if the answer is an error.
 const ERROR: u8 = 1;
 
-/// Asks the registry that the settings name, and prints the answer: the status is 0, or 1 where the answer is an error.
-pub fn query<'a, W: Sink>(
+/// Asks the registry that the settings name, and prints the answer: the status is 0, or 1 if the
+/// answer is an error.
+pub fn query<'a, D: Databases, W: Output>(
     rt: &HostRuntime,
+    databases: &D,
     settings: &'a str,
-    query: &str,
+    text: &str,
     output: &mut W,
-) -> Result<u8, ProgramFault<'a>> {
-    let (read, store) = read_settings_file(rt, settings)?;
-    let asking = Asking {
-        alloc: rt.alloc(),
-        query: query.as_bytes(),
-        output,
-    };
-    match perform_at_desk(rt, read, store.as_str(), asking) {
-        Ok(status) => Ok(status),
-        Err(trouble) => Err(located(trouble, store)),
-    }
+) -> Result<u8, ProgramFault<'a>>
+    ensures { AsksBy D.Disk.Store (D.gives databases.now) text.now
+        (W.told output.old) (W.told output.new) result }
+{
+    let (read, mut path) = read_settings_file(rt, settings)?;
+    let answer = query_at(rt, databases, read, &mut path, text.as_bytes(), output);
+    ended(answer, settings, path, output)
 }
 
-/// A fault of a query, about the database or standard output.
-fn located<'a>(trouble: Trouble, store: String) -> ProgramFault<'a> {
-    match trouble {
-        Trouble::Database(_) | Trouble::Opening(_) => ProgramFault::named(store, trouble),
-        _ => ProgramFault::of(STANDARD_OUTPUT, trouble),
-    }
+/// Asks the registry in the database at a path, and prints the answer.
+fn query_at<D: Databases, W: Sink>(
+    rt: &HostRuntime,
+    databases: &D,
+    settings: Settings,
+    path: &mut String,
+    text: &[u8],
+    output: &mut W,
+) -> Result<u8, Trouble>
+    ensures { AtDesk D.Disk.Store (D.gives databases.now)
+        (HasAsked D.Disk.Store text.now (W.told output.old) (W.told output.new))
+        (W.told output.old) (W.told output.new) settings (string_bytes path.old) result }
+{
+    let mut desk = open_desk(rt, databases, settings, path)?;
+    let answer = answer_to(rt.alloc(), &mut desk, text, output);
+    close(databases, desk.close());
+    answer
 }
 
-/// A query, whose answer this writer is given.
-#[derive(Drop)]
-struct Asking<'a, 'b, W> {
-    alloc: Global,
-    query: &'a [u8],
-    output: &'b mut W,
-}
-
-impl<W: Sink> DeskTask for Asking<'_, '_, W> {
-    fn perform<S: Alter>(self, desk: &mut Desk<S>) -> Result<u8, Trouble> {
-        let Asking {
-            alloc,
-            query,
-            output,
-        } = self;
-        answer_to(alloc, desk, query, output)
-    }
-}
-
-/// Asks a desk, and writes the answer: the status is 0, or 1 where the answer is an error.
+/// Asks a desk, and writes the answer: the status is 0, or 1 if the answer is an error.
 pub fn answer_to<S: Alter, W: Sink>(
     alloc: Global,
     desk: &mut Desk<S>,
@@ -73,8 +63,8 @@ pub fn answer_to<S: Alter, W: Sink>(
     writer: &mut W,
 ) -> Result<u8, Trouble>
     requires { desk.old.stored.stopped ≡ false }
-    ensures asked { HasAsked (HasCleanDisk (state S.Store desk.new.stored.store)) desk.old.stored.registry desk.old.settings.limit query.now
-        desk.old.stored.stopped desk.new.stored.stopped (W.told writer.old) (W.told writer.new) result }
+    ensures asked { HasAsked S.Store query.now
+        (W.told writer.old) (W.told writer.new) desk.old desk.new result }
     ensures registry { desk.new.stored.registry ≡ desk.old.stored.registry }
     ensures settings { desk.new.settings ≡ desk.old.settings }
     ensures keeps { KeepsRows desk.old.stored.registry (state S.Store desk.new.stored.store) }
@@ -86,7 +76,7 @@ pub fn answer_to<S: Alter, W: Sink>(
     }
 }
 
-/// 0 where no error was written, and else 1.
+/// 0 if no error was written, and else 1.
 fn answered_status(answered: Answered) -> u8
     ensures { result ≡ error_status answered.error }
 {

@@ -4,10 +4,12 @@ ghost use Rattle.std.specs.Prelude.{◌≡◌, ◌≢◌, Err, IfErr, IfOk, None
 ghost use Rattle.std.specs.Option.{option_copied};
 ghost use Rattle.toml.specs.Parse.{parse_document};
 ghost use Rattle.toml.specs.View.{table_view};
-ghost use Rattle.rr_commands.specs.SettingsFiles.{integer_at, key_of, number_at, parts_of, settings_text, store_of, text_at, whole};
-ghost use Rattle.rr_commands.specs.declared.settings_file.SettingsFault.TheVariants.{BadToml, Memory};
+ghost use Rattle.rr_commands.specs.SettingsFiles.{integer_at, key_of, number_at, parts_of};
+ghost use Rattle.rr_commands.specs.SettingsFiles.{settings_text, store_of, text_at, whole};
+ghost use Rattle.rr_commands.specs.declared.settings_file.SettingsFault.TheVariants.{BadToml};
+ghost use Rattle.rr_commands.specs.declared.settings_file.SettingsFault.TheVariants.{Memory};
 
-use rr_desk::{Setting, Settings};
+use rr_desk::{Setting, Settings, ValueFault};
 use std::alloc::{AllocError, Global};
 use toml::Table;
 
@@ -59,9 +61,10 @@ impl From<AllocError> for SettingsFault {
     }
 }
 
-/// The settings that a TOML text gives, and the path of the database, its key `store`: a text that is not empty. The faults
-/// are `BadToml`; `BadKey` with the first key that is missing or bad, in the order `source`, `root`, `auth`, `limit`, `store`;
-/// and want of memory. Other keys are ignored (profile).
+/// The settings that a TOML text gives, and the path of the database, its key `store`: a text that
+/// is not empty. The faults are `BadToml`; `BadKey` with the first key that is missing or bad, in
+/// the order `source`, `root`, `auth`, `limit`, `store`; and that memory ran out. Other keys are
+/// ignored (profile).
 pub fn read_settings(alloc: Global, text: &str) -> Result<(Settings, String), SettingsFault>
     ensures ok { IfOk result (λ read. settings_text text.now ≡ Ok (read.0, string_bytes read.1)) }
     ensures fault { IfErr result (λ fault. fault ≢ Memory → settings_text text.now ≡ Err fault) }
@@ -75,7 +78,8 @@ pub fn read_settings(alloc: Global, text: &str) -> Result<(Settings, String), Se
 /// The table that the text is.
 fn read_table(alloc: Global, text: &str) -> Result<Table, SettingsFault>
     ensures ok { IfOk result (λ table. parse_document text.now ≡ Some (table_view table)) }
-    ensures fault { IfErr result (λ fault. fault ≢ Memory → (fault ≡ BadToml) × (parse_document text.now ≡ None)) }
+    ensures fault { IfErr result (λ fault. fault ≢ Memory
+        → (fault ≡ BadToml) × (parse_document text.now ≡ None)) }
 {
     match toml::table_from_str(alloc, text) {
         Ok(table) => Ok(table),
@@ -92,7 +96,8 @@ fn read_table(alloc: Global, text: &str) -> Result<Table, SettingsFault>
 /// The settings of a registry.
 fn read_parts(alloc: Global, table: &Table) -> Result<Settings, SettingsFault>
     ensures ok { IfOk result (λ settings. parts_of (table_view table.now) ≡ Ok settings) }
-    ensures fault { IfErr result (λ fault. fault ≢ Memory → parts_of (table_view table.now) ≡ Err fault) }
+    ensures fault { IfErr result (λ fault. fault ≢ Memory
+        → parts_of (table_view table.now) ≡ Err fault) }
 {
     let source = text_at(table, "source");
     let root = text_at(table, "root");
@@ -100,17 +105,16 @@ fn read_parts(alloc: Global, table: &Table) -> Result<Settings, SettingsFault>
     let limit = number_at(table, "limit");
     match Settings::read(alloc, source, root, auth, limit) {
         Ok(settings) => Ok(settings),
-        Err(rr_desk::SettingsFault::Bad(setting)) => {
-            Err(SettingsFault::BadKey(SettingKey::of(setting)))
-        }
-        Err(rr_desk::SettingsFault::Memory) => Err(SettingsFault::Memory),
+        Err(ValueFault::Bad(setting)) => { Err(SettingsFault::BadKey(SettingKey::of(setting))) }
+        Err(ValueFault::Memory) => Err(SettingsFault::Memory),
     }
 }
 
 /// The path of the database.
 fn read_store(alloc: Global, table: &Table) -> Result<String, SettingsFault>
     ensures ok { IfOk result (λ store. store_of (table_view table.now) ≡ Ok (string_bytes store)) }
-    ensures fault { IfErr result (λ fault. fault ≢ Memory → store_of (table_view table.now) ≡ Err fault) }
+    ensures fault { IfErr result (λ fault. fault ≢ Memory
+        → store_of (table_view table.now) ≡ Err fault) }
 {
     match text_at(table, "store") {
         Some(store) if !store.is_empty() => Ok(String::from_str(alloc, store)?),
@@ -118,7 +122,7 @@ fn read_store(alloc: Global, table: &Table) -> Result<String, SettingsFault>
     }
 }
 
-/// The text at a key, where a text stands there.
+/// The text at a key, if there is one.
 fn text_at<'a>(table: &'a Table, key: &str) -> Option<&'a str>
     ensures { option_copied result ≡ text_at key.now (table_view table.now) }
 {
@@ -128,7 +132,7 @@ fn text_at<'a>(table: &'a Table, key: &str) -> Option<&'a str>
     }
 }
 
-/// The whole number at a key, where one stands there that is not negative.
+/// The whole number at a key, if there is one that is not negative.
 fn number_at(table: &Table, key: &str) -> Option<u64>
     ensures { result ≡ number_at key.now (table_view table.now) }
 {
@@ -138,7 +142,7 @@ fn number_at(table: &Table, key: &str) -> Option<u64>
     }
 }
 
-/// The whole number at a key, where one stands there.
+/// The whole number at a key, if there is one.
 fn integer_at(table: &Table, key: &str) -> Option<i64>
     ensures { result ≡ integer_at key.now (table_view table.now) }
 {
@@ -148,7 +152,7 @@ fn integer_at(table: &Table, key: &str) -> Option<i64>
     }
 }
 
-/// The number, where it is not negative.
+/// The number, if it is not negative.
 fn whole(number: i64) -> Option<u64>
     ensures { result ≡ whole number }
 {

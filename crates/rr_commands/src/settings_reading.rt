@@ -1,5 +1,8 @@
 //! Settings files.
 
+ghost use Rattle.std.specs.Prelude.{IfErr, IsTrue};
+ghost use Rattle.rr_commands.specs.Commands.{is_of_settings};
+
 use crate::cause::Cause;
 use crate::fault::ProgramFault;
 use crate::settings_file::{SettingsFault, read_settings};
@@ -13,11 +16,14 @@ use std::io::{ErrorKind, Read};
 /// The most bytes of a settings file (profile).
 const MOST_BYTES: u64 = 1_048_576;
 
-/// The settings in a file, and the path of the database. The fault is about the file (status 3), or want of memory (status 5).
+/// The settings in a file, and the path of the database. The fault is about the file (status 3), or
+/// that memory ran out (status 5).
 pub fn read_settings_file<'a>(
     rt: &HostRuntime,
     file: &'a str,
-) -> Result<(Settings, String), ProgramFault<'a>> {
+) -> Result<(Settings, String), ProgramFault<'a>>
+    ensures { IfErr result (λ fault. IsTrue (is_of_settings fault.trouble)) }
+{
     let bytes = match read_bytes(rt, file) {
         Ok(bytes) => bytes,
         Err(error) => return Err(ProgramFault::of(file, trouble_of(&error))),
@@ -28,7 +34,7 @@ pub fn read_settings_file<'a>(
     }
 }
 
-/// The bytes of a file, or one more than the most where it has more.
+/// The bytes of a file, or one more than the most if it has more.
 fn read_bytes(rt: &HostRuntime, file: &str) -> io::Result<Vec<u8>> {
     let mut bytes = Vec::new(rt.alloc());
     File::open(rt, file)?
@@ -37,7 +43,9 @@ fn read_bytes(rt: &HostRuntime, file: &str) -> io::Result<Vec<u8>> {
     Ok(bytes)
 }
 
-fn trouble_of(error: &io::Error) -> Trouble {
+fn trouble_of(error: &io::Error) -> Trouble
+    ensures { IsTrue (is_of_settings result) }
+{
     match error.kind() {
         ErrorKind::OutOfMemory => Trouble::Memory,
         _ => Trouble::SettingsUnread(Cause::of(error)),
@@ -45,7 +53,9 @@ fn trouble_of(error: &io::Error) -> Trouble {
 }
 
 /// The settings that the bytes of a file are.
-fn read_text(alloc: Global, bytes: &[u8]) -> Result<(Settings, String), Trouble> {
+fn read_text(alloc: Global, bytes: &[u8]) -> Result<(Settings, String), Trouble>
+    ensures { IfErr result (λ trouble. IsTrue (is_of_settings trouble)) }
+{
     if bytes.len() as u64 > MOST_BYTES {
         return Err(Trouble::SettingsTooLong);
     }
@@ -60,12 +70,12 @@ fn read_text(alloc: Global, bytes: &[u8]) -> Result<(Settings, String), Trouble>
     }
 }
 
-/// The line, from 1, where it shows that a text is no TOML.
+/// The line, from 1, at which it shows that a text is no TOML.
 fn bad_line(alloc: Global, text: &str) -> u64 {
     let place = match toml::table_from_str(alloc, text) {
         Ok(_) => 0,
         Err(error) => error.span().map_or(0, |span| span.start),
     };
-    let front = text.as_bytes().get(..place).unwrap_or(b"");
-    1 + front.iter().filter(|byte| **byte == b'\n').count() as u64
+    let before = text.as_bytes().get(..place).unwrap_or(b"");
+    1 + before.iter().filter(|byte| **byte == b'\n').count() as u64
 }

@@ -1,19 +1,21 @@
 //! Submissions, of standard input to a registry in memory, or of a file to one in a database.
 
-ghost use Rattle.std.specs.Prelude.{◌≡◌, IfOk, false};
-ghost use Rattle.sqlite.specs.Held.{state};
-ghost use Rattle.sqlite.specs.State.{HasCleanDisk};
+ghost use Rattle.std.specs.Prelude.{◌≡◌, IfOk, false, string_bytes};
 ghost use Rattle.sqlite.specs.Steps.{over_memory};
 ghost use Rattle.rr_desk.specs.Opening.{IsOpened};
-ghost use Rattle.rr_desk.specs.Rows.{Holds};
 ghost use Rattle.rr_desk.specs.Settings.{built_in};
-ghost use Rattle.rr_commands.specs.Submitted.{HasSubmitted, RunsPlain, done_status};
+ghost use Rattle.rr_desk.specs.Stocks.{IsStocked};
+ghost use Rattle.rr_commands.specs.Commands.{AtDesk};
+ghost use Rattle.rr_commands.specs.Submitted.{EndsPlain, HasSubmitted, RunsPlain, SubmitsBy};
+ghost use Rattle.rr_commands.specs.Submitted.{SubmitsDesk};
+ghost use Rattle.rr_commands.specs.Submitted.{done_status, plain_trouble};
 
-use crate::desk_task::{DeskTask, perform_at_desk};
+use crate::cause::DatabaseCause;
+use crate::databases::{Databases, close, open_desk};
 use crate::fault::ProgramFault;
 use crate::files::open_file;
-use crate::output::STANDARD_OUTPUT;
-use crate::progress::{Progress, Things};
+use crate::output::{Output, ended};
+use crate::progress::Shown;
 use crate::settings_reading::read_settings_file;
 use crate::trouble::Trouble;
 use rr_desk::{Desk, DeskFault, Done, Settings};
@@ -21,95 +23,93 @@ use rr_io::{Counted, Sink, Source};
 use sqlite::{Alter, Connection};
 use std::alloc::Global;
 
-/// The status where an item was refused.
+/// The status if an item was refused.
 const REFUSED: u8 = 1;
 
-/// Submits `input` to a registry in memory, which opens with the built-in settings, and prints the report: the status is 0
-/// where each item was accepted, and 1 where one was refused.
-pub fn plain<'a, R: Source, W: Sink>(
+/// Submits `input` to a registry in memory, which opens with the built-in settings, and prints the
+/// report: the status is 0 if each item was accepted, and 1 if one was refused.
+pub fn plain<'a, R: Source, W: Output>(
     alloc: Global,
     input: &mut R,
     output: &mut W,
-) -> Result<u8, ProgramFault<'a>> {
+) -> Result<u8, ProgramFault<'a>>
+    ensures { EndsPlain over_memory (R.told input.old) (R.told input.new)
+        (W.told output.old) (W.told output.new) result }
+{
     match submit_plain(alloc, input, output) {
         Ok(status) => Ok(status),
-        Err(trouble) => Err(match trouble {
-            Trouble::Submission(DeskFault::ReadFault { .. }) => {
-                ProgramFault::of("standard input", trouble)
-            }
-            Trouble::Submission(DeskFault::WriteFault { .. }) => {
-                ProgramFault::of(STANDARD_OUTPUT, trouble)
-            }
-            // A database in memory fails for want of memory alone.
-            Trouble::Creating(_)
-            | Trouble::Submission(DeskFault::StoreFault { .. } | DeskFault::Stopped) => {
-                ProgramFault::plain(Trouble::Memory)
-            }
-            _ => ProgramFault::plain(trouble),
-        }),
+        Err(trouble) => Err(ProgramFault::placed(
+            plain_trouble(trouble),
+            "standard input",
+            String::new(alloc),
+            output.cause(),
+        )),
     }
 }
 
-/// Submits a file to the registry that the settings name, and prints the report: the status is 0 where each item was accepted,
-/// and 1 where one was refused.
-pub fn submit<'a, W: Sink>(
+/// What went wrong without words: a database in memory fails only because memory ran out.
+fn plain_trouble(trouble: Trouble) -> Trouble
+    ensures { result ≡ plain_trouble trouble }
+{
+    match trouble {
+        Trouble::Creating(_)
+        | Trouble::Submission(DeskFault::StoreFault { .. } | DeskFault::Stopped, _) => {
+            Trouble::Memory
+        }
+        _ => trouble,
+    }
+}
+
+/// Submits a file to the registry that the settings name, and prints the report: the status is 0 if
+/// each item was accepted, and 1 if one was refused.
+pub fn submit<'a, D: Databases, W: Output>(
     rt: &HostRuntime,
+    databases: &D,
     settings: &'a str,
     file: &'a str,
     output: &mut W,
-) -> Result<u8, ProgramFault<'a>> {
-    let (read, store) = read_settings_file(rt, settings)?;
-    let submission = Submission { rt, file, output };
-    match perform_at_desk(rt, read, store.as_str(), submission) {
-        Ok(status) => Ok(status),
-        Err(trouble) => Err(located(trouble, file, store)),
-    }
+) -> Result<u8, ProgramFault<'a>>
+    ensures { SubmitsBy D.Disk.Store (D.gives databases.now)
+        (W.told output.old) (W.told output.new) result }
+{
+    let (read, mut path) = read_settings_file(rt, settings)?;
+    let answer = submit_at(rt, databases, read, &mut path, file, output);
+    ended(answer, file, path, output)
 }
 
-/// A fault of a submission, about the file that is read, standard output, or the database.
-fn located<'a>(trouble: Trouble, file: &'a str, store: String) -> ProgramFault<'a> {
-    match trouble {
-        Trouble::Submission(DeskFault::WriteFault { .. }) => {
-            ProgramFault::of(STANDARD_OUTPUT, trouble)
-        }
-        Trouble::Database(_)
-        | Trouble::Opening(_)
-        | Trouble::Submission(DeskFault::StoreFault { .. } | DeskFault::Stopped) => {
-            ProgramFault::named(store, trouble)
-        }
-        Trouble::Submission(DeskFault::Memory) | Trouble::Memory => ProgramFault::plain(trouble),
-        _ => ProgramFault::of(file, trouble),
-    }
+/// Submits a file to the registry in the database at a path, and prints the report.
+fn submit_at<D: Databases, W: Output>(
+    rt: &HostRuntime,
+    databases: &D,
+    settings: Settings,
+    path: &mut String,
+    file: &str,
+    output: &mut W,
+) -> Result<u8, Trouble>
+    ensures { AtDesk D.Disk.Store (D.gives databases.now)
+        (SubmitsDesk D.Disk.Store (W.told output.old) (W.told output.new))
+        (W.told output.old) (W.told output.new) settings (string_bytes path.old) result }
+{
+    let mut desk = open_desk(rt, databases, settings, path)?;
+    let answer = submit_file(rt, &mut desk, file, output);
+    close(databases, desk.close());
+    answer
 }
 
-/// The submission of a file, whose report this writer is given.
-#[derive(Drop)]
-struct Submission<'a, 'b, W> {
-    rt: &'a HostRuntime,
-    file: &'a str,
-    output: &'b mut W,
-}
-
-impl<W: Sink> DeskTask for Submission<'_, '_, W> {
-    fn perform<S: Alter>(self, desk: &mut Desk<S>) -> Result<u8, Trouble> {
-        let Submission { rt, file, output } = self;
-        submit_file(rt, desk, file, output)
-    }
-}
-
-/// Submits a file to a desk.
-fn submit_file<S: Alter, W: Sink>(
+/// Submits a file to a desk, and prints the report.
+fn submit_file<S: Alter, W: Output>(
     rt: &HostRuntime,
     desk: &mut Desk<S>,
     file: &str,
     output: &mut W,
 ) -> Result<u8, Trouble>
     requires { desk.old.stored.stopped ≡ false }
+    ensures { SubmitsDesk S.Store (W.told output.old) (W.told output.new) desk.old desk.new result }
 {
     let mut reader = Counted::new(open_file(rt, file)?);
-    let mut report = Progress::new(rt, Things::Items, output);
-    let answer = submit_to(rt.alloc(), desk, &mut reader, &mut report);
-    report.end();
+    output.show(Shown::Items);
+    let answer = submit_to(rt.alloc(), desk, &mut reader, output);
+    output.show(Shown::Nothing);
     answer
 }
 
@@ -119,7 +119,8 @@ pub fn submit_plain<R: Source, W: Sink>(
     input: &mut R,
     output: &mut W,
 ) -> Result<u8, Trouble>
-    ensures { RunsPlain over_memory (R.told input.old) (R.told input.new) (W.told output.old) (W.told output.new) result }
+    ensures { RunsPlain over_memory (R.told input.old) (R.told input.new)
+        (W.told output.old) (W.told output.new) result }
 {
     match Connection::open_in_memory(alloc) {
         Ok(conn) => submit_new(alloc, conn, input, output),
@@ -135,7 +136,8 @@ fn submit_new<S: Alter + Drop, R: Source, W: Sink>(
     output: &mut W,
 ) -> Result<u8, Trouble>
     requires { conn.in_transaction ≡ false }
-    ensures { RunsPlain S.Store (R.told input.old) (R.told input.new) (W.told output.old) (W.told output.new) result }
+    ensures { RunsPlain S.Store (R.told input.old) (R.told input.new)
+        (W.told output.old) (W.told output.new) result }
 {
     let mut desk = plain_desk(alloc, conn)?;
     submit_to(alloc, &mut desk, input, output)
@@ -165,24 +167,21 @@ pub fn submit_to<S: Alter, R: Source, W: Sink>(
     writer: &mut W,
 ) -> Result<u8, Trouble>
     requires { desk.old.stored.stopped ≡ false }
-    ensures submitted { HasSubmitted S.Store desk.old.settings.source (record {
-      reader_before = R.told reader.old;
-      reader_after = R.told reader.new;
-      writer_before = W.told writer.old;
-      writer_after = W.told writer.new;
-      before = desk.old.stored.registry;
-      after = desk.new.stored.registry;
-    }) desk.old.stored desk.new.stored result }
-    ensures rows { desk.new.stored.stopped ≡ false → HasCleanDisk (state S.Store desk.new.stored.store) → Holds desk.new.stored.registry (state S.Store desk.new.stored.store) }
+    ensures submitted { HasSubmitted S.Store desk.old desk.new
+        (R.told reader.old) (R.told reader.new) (W.told writer.old) (W.told writer.new) result }
+    ensures rows { IsStocked S.Store desk.new.stored }
     ensures settings { desk.new.settings ≡ desk.old.settings }
 {
     match desk.submit(alloc, reader, writer) {
         Ok(done) => Ok(done_status(done)),
-        Err(fault) => Err(Trouble::Submission(fault)),
+        Err(fault) => {
+            let cause = DatabaseCause::of_stop(desk.cause());
+            Err(Trouble::Submission(fault, cause))
+        }
     }
 }
 
-/// 0 where each item was accepted, and else 1.
+/// 0 if each item was accepted, and else 1.
 fn done_status(done: Done) -> u8
     ensures { result ≡ done_status done }
 {

@@ -1,24 +1,38 @@
 -- How long a peer is waited for (profile).
-use Rattle.std.specs.Prelude.{◌≡◌, ◌⊎◌, ℕ, ◌+◌, ◌-◌, ◌*◌, ◌/◌, ◌==◌, true, min, is_some, Option, None, Some, if◌then◌else◌}
+use Rattle.std.specs.Prelude.{◌≡◌, ◌⊎◌, ℕ, ◌+◌, ◌-◌, ◌*◌, ◌/◌, ◌==◌, true, min, is_some, Option}
+use Rattle.std.specs.Prelude.{None, Some}
+use Rattle.std.specs.Prelude.{if◌then◌else◌}
+use Rattle.std.specs.Duration.{as_nanos}
+use Rattle.std.specs.Option.{option_map}
+use Rattle.std.specs.declared.time.Duration.{Duration}
 
 -- a second, in nanoseconds
 abbrev pub second : ℕ
 second = 1_000_000_000
 
--- what a call waits for a peer that has so much time left, in nanoseconds: 10 seconds at most, and not past the end (profile)
+-- what a call waits for a peer that has so much time left, in nanoseconds: 10 seconds at most, and
+-- not past the end (profile)
 abbrev pub wait_of : ℕ → Option ℕ
 wait_of left = if left == 0 then None else Some (min left (10 * second))
 
--- what the next call waits, in nanoseconds, where the peer is given so many seconds in all and has taken so many nanoseconds
+-- what the next call waits, in nanoseconds, if the peer is given so many seconds in all and has
+-- taken so many nanoseconds
 abbrev pub next_wait : ℕ → ℕ → Option ℕ
 next_wait seconds taken = wait_of (seconds * second - taken)
 
--- there is a wait, and it stands as the timeout of the next call; it is told where another one stood (profile)
+-- there is a wait, and it stands as the timeout of the next call; it is told if another one stood
+-- (profile)
 pub record SetsWait (wait before after told : Option ℕ) : Type 0 where
   pub there_is : is_some wait ≡ true
   pub stands : after ≡ wait
   pub is_told : (told ≡ wait) ⊎ ((told ≡ None) × (before ≡ wait))
 
--- how many seconds a peer is given to take a reply of which so many bytes went out: 60, and one more for each 16 KiB (profile)
+-- the same of timeouts (profile)
+abbrev pub SetsTimeout : Option ℕ → Option Duration → Option Duration → Option Duration → Type 0
+SetsTimeout wait before after set =
+    SetsWait wait (option_map as_nanos before) (option_map as_nanos after) (option_map as_nanos set)
+
+-- how many seconds a peer is given to take a reply of which so many bytes went out: 60, and one
+-- more for each 16 KiB (profile)
 abbrev pub reply_time : ℕ → ℕ
 reply_time written = 60 + written / 16_384

@@ -3,7 +3,7 @@
 ghost use Rattle.std.specs.Prelude.{◌≡◌, ◌+◌, min, IfOk, None, OnErr, Some};
 ghost use Rattle.std.specs.Duration.{as_nanos, max_nanos};
 ghost use Rattle.std.specs.Option.{option_map};
-ghost use Rattle.rr_listener.specs.ServingTimes.{SetsWait, next_wait};
+ghost use Rattle.rr_listener.specs.ServingTimes.{SetsTimeout, SetsWait, next_wait};
 
 use std::io;
 use std::io::ErrorKind;
@@ -12,7 +12,9 @@ use std::time::Duration;
 /// How many seconds a call waits for a peer at most (profile).
 const LONGEST_WAIT: u64 = 10;
 
-/// How much of its time a peer has taken. Time passes while a call waits for the peer, and not while the desk works.
+/// How much of its time a peer has taken. Time passes while a call waits for the peer, and not
+/// while the desk works, since one peer is served at a time and the others wait in the system's
+/// queue.
 #[derive(Clone, Copy)]
 pub struct Deadline {
     taken: Duration,
@@ -33,16 +35,18 @@ impl Deadline {
 
     /// Takes so much of the time.
     pub fn take(&mut self, waited: Duration)
-        ensures taken { as_nanos self.new.taken ≡ min (as_nanos self.old.taken + as_nanos waited) max_nanos }
+        ensures taken { as_nanos self.new.taken
+            ≡ min (as_nanos self.old.taken + as_nanos waited) max_nanos }
         ensures timeout { self.new.timeout ≡ self.old.timeout }
     {
         self.taken = self.taken.saturating_add(waited);
     }
 
-    /// The timeout to set before the next call, where the peer is given so many seconds in all; none where the one that was
-    /// set last still serves. The error is that the time is over.
+    /// The timeout to set before the next call, if the peer is given so many seconds in all; none
+    /// if the one that was set last still serves. The error is that the time is over.
     pub fn next_timeout(&mut self, seconds: u64) -> io::Result<Option<Duration>>
-        ensures sets { IfOk result (λ told. SetsWait (next_wait seconds (as_nanos self.old.taken)) (option_map as_nanos self.old.timeout) (option_map as_nanos self.new.timeout) (option_map as_nanos told)) }
+        ensures sets { IfOk result (λ set. SetsTimeout (next_wait seconds (as_nanos self.old.taken))
+            self.old.timeout self.new.timeout set) }
         ensures over { OnErr result (next_wait seconds (as_nanos self.old.taken) ≡ None) }
         ensures taken { self.new.taken ≡ self.old.taken }
     {
@@ -52,9 +56,9 @@ impl Deadline {
         }
     }
 
-    /// Notes the timeout of the next call, and gives it where another one stood.
+    /// Notes the timeout of the next call, and gives it if another one stood.
     fn set(&mut self, wait: Duration) -> Option<Duration>
-        ensures sets { SetsWait (Some (as_nanos wait)) (option_map as_nanos self.old.timeout) (option_map as_nanos self.new.timeout) (option_map as_nanos result) }
+        ensures sets { SetsTimeout (Some (as_nanos wait)) self.old.timeout self.new.timeout result }
         ensures taken { self.new.taken ≡ self.old.taken }
     {
         if self.timeout == Some(wait) {
@@ -64,8 +68,8 @@ impl Deadline {
         Some(wait)
     }
 
-    /// How long the next call may wait, where the peer is given so many seconds in all: at most 10 seconds, and not past the
-    /// end. `None` where the time is over.
+    /// How long the next call may wait, if the peer is given so many seconds in all: at most 10
+    /// seconds, and not past the end. `None` if the time is over.
     fn next_wait(&self, seconds: u64) -> Option<Duration>
         ensures { option_map as_nanos result ≡ next_wait seconds (as_nanos self.now.taken) }
     {

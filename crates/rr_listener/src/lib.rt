@@ -1,10 +1,11 @@
-//! A listener on 127.0.0.1, whose connections over TCP are served one after the other, and how long their peers are waited for.
+//! A listener on 127.0.0.1, whose connections over TCP are served one after the other, and how long
+//! their peers are waited for.
 #![tactic(auto)]
 
 mod deadline;
 mod listener;
-mod reply;
-mod request;
+mod peer_reader;
+mod peer_writer;
 mod stream;
 
 pub use listener::Listener;

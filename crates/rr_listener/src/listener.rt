@@ -8,7 +8,8 @@ use std::alloc::Global;
 use std::io;
 use std::net::{Ipv4Addr, TcpListener};
 
-/// What listens on a port of 127.0.0.1, over TCP. It counts its turns, and tells neither these nor their bytes.
+/// What listens on a port of 127.0.0.1, over TCP. It counts its turns, and contracts see neither
+/// these nor their bytes.
 #[derive(Drop)]
 pub struct Listener<'a> {
     rt: &'a HostRuntime,
@@ -17,7 +18,7 @@ pub struct Listener<'a> {
 }
 
 impl<'a> Listener<'a> {
-    /// A listener on this port, or on any free one where it is 0. The error is the system's.
+    /// A listener on this port, or on any free one if it is 0. The error is the system's.
     pub fn open(rt: &'a HostRuntime, port: u16) -> io::Result<Listener<'a>>
         ensures { IfOk result (λ listener. listener.turns ≡ 0) }
     {
@@ -41,9 +42,7 @@ impl<'a> Peers for Listener<'a> {
 
     type Conn = Stream<'a>;
 
-    ghost counted = { λ listener. listener.turns };
-
-    ghost told = { λ _. None };
+    ghost tally = { λ listener. record { turns = listener.turns; told = None; waiting = None } };
 
     ghost IsOpen = { λ _. Unit {0} };
 

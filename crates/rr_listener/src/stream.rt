@@ -3,43 +3,47 @@
 ghost use Rattle.std.specs.Prelude.{◌≡◌, IfOk, None};
 ghost use Rattle.rr_desk.specs.Turns.{IsFresh};
 
-use crate::reply::Reply;
-use crate::request::Request;
+use crate::peer_reader::PeerReader;
+use crate::peer_writer::PeerWriter;
 use rr_io::{Counted, Joined, Sink, Source};
 use std::io;
 use std::net::TcpListener;
 
 /// A connection over TCP: what the peer sends, and what it is sent.
-pub type Stream<'a> = Joined<Counted<Request<'a>>, Counted<Reply<'a>>>;
+pub type Stream<'a> = Joined<Counted<PeerReader<'a>>, Counted<PeerWriter<'a>>>;
 
 /// Waits for the next connection to a socket. The error is the system's.
 pub fn accept_stream<'a>(rt: &'a HostRuntime, socket: &TcpListener) -> io::Result<Stream<'a>>
-    ensures fresh { IfOk result (λ stream. IsFresh (⟦<Stream<'static> as Source>⟧.told stream) (⟦<Stream<'static> as Sink>⟧.told stream)) }
-    ensures untold { IfOk result (λ stream. (⟦<Stream<'static> as Source>⟧.told stream).bytes ≡ None) }
+    ensures fresh { IfOk result (λ stream. IsFresh
+        (⟦<Stream<'static> as Source>⟧.told stream)
+        (⟦<Stream<'static> as Sink>⟧.told stream)) }
+    ensures untold { IfOk result (λ stream.
+        (⟦<Stream<'static> as Source>⟧.told stream).bytes ≡ None) }
 {
     let (writing, _peer) = socket.accept()?;
     let reading = writing.try_clone()?;
     Ok(Joined::new(
-        Counted::new(Request::new(rt, reading)),
-        Counted::new(Reply::new(rt, writing)),
+        Counted::new(PeerReader::new(rt, reading)),
+        Counted::new(PeerWriter::new(rt, writing)),
     ))
 }
 
-/// Ends a connection, and closes it. Where the peer may get what was written it is told first that nothing more comes, and
-/// what it still sends is taken in for a while: a socket that is closed over bytes that were not read resets the connection, and
-/// the peer may lose the reply.
+/// Ends a connection, and closes it. If the peer may get what was written it is told first that
+/// nothing more comes, and what it still sends is taken in for a while: a socket that is closed
+/// over bytes that were not read resets the connection, and the peer may lose the reply.
 pub fn end_stream(stream: Stream<'_>) {
-    let (request, reply) = stream.into_parts();
-    if reply.failed_writes() > 0 {
+    let (reader, writer) = stream.into_parts();
+    if writer.failed_writes() > 0 {
         return;
     }
-    let reply = reply.into_inner();
-    if reply.is_begun() {
-        let _ = settle(request.into_inner(), reply);
+    let writer = writer.into_inner();
+    if writer.has_written() {
+        let _ = settle(reader.into_inner(), writer);
     }
 }
 
-fn settle(request: Request<'_>, reply: Reply<'_>) -> io::Result<()> {
-    reply.finish()?;
-    request.drain()
+/// Tells the peer that nothing more comes, and takes in what it still sends.
+fn settle(reader: PeerReader<'_>, writer: PeerWriter<'_>) -> io::Result<()> {
+    writer.finish()?;
+    reader.drain()
 }

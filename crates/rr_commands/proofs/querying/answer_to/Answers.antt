@@ -7,14 +7,14 @@ pub returns-in-Ok-clause-asked : goal.returns-in-Ok-clause-asked
 returns-in-Ok-clause-asked g c =
     let made = c.in-Ok.ensures.answers in
     record {
-      answer = made.answer;
-      answered = made.answered;
+      given = made.answer;
+      gives = made.answered;
       writes = made.writes;
       status = c.answered_status.ensures ∙ (ap error_status made.told ∙ error_status-told made.answer);
-      fault = tt;
+      trouble = tt;
     }
 
 pub returns-in-Err-clause-asked : goal.returns-in-Err-clause-asked
 returns-in-Err-clause-asked g c =
     let made = c.in-Err.ensures.answers in
-    record { answer = made.answer; answered = made.answered; writes = made.writes; status = tt; fault = refl }
+    record { given = made.answer; gives = made.answered; writes = made.writes; status = tt; trouble = refl }

@@ -13,22 +13,29 @@ use std::time::Instant;
 /// How many calls a write makes at most, so that it waits for 90 seconds at most (profile).
 const MOST_CALLS: u32 = 9;
 
-/// The bytes that a peer is sent. It has to take them within 60 seconds and one more for each 16 KiB that went out. A call waits
-/// for 10 seconds at most, and is made again where its time is over before that of the reply, up to 90 seconds in which no byte
-/// passes: the system lets a writer go on only once a good part of its buffer is free, which takes a slow and steady reader
-/// longer than 10.
+/// How many seconds a peer is given to take a reply (profile).
+const REPLY_TIME: u64 = 60;
+
+/// For how many bytes that went out it is given one more (profile).
+const BYTES_A_SECOND: u64 = 16_384;
+
+/// The bytes that a peer is sent. It has to take them within 60 seconds and one more for each 16
+/// KiB that went out. A call waits for 10 seconds at most, and is made again if its time is over
+/// before that of the reply, up to 90 seconds in which no byte passes: the system lets a writer go
+/// on only once a good part of its buffer is free, which takes a slow and steady reader longer than
+/// 10.
 #[derive(Drop)]
-pub struct Reply<'a> {
+pub struct PeerWriter<'a> {
     rt: &'a HostRuntime,
     socket: TcpStream,
     deadline: Deadline,
     written: u64,
 }
 
-impl<'a> Reply<'a> {
+impl<'a> PeerWriter<'a> {
     /// The bytes that go over a socket.
-    pub fn new(rt: &'a HostRuntime, socket: TcpStream) -> Reply<'a> {
-        Reply {
+    pub fn new(rt: &'a HostRuntime, socket: TcpStream) -> PeerWriter<'a> {
+        PeerWriter {
             rt,
             socket,
             deadline: Deadline::new(),
@@ -37,7 +44,7 @@ impl<'a> Reply<'a> {
     }
 
     /// Whether some of its bytes went out.
-    pub fn is_begun(&self) -> bool {
+    pub fn has_written(&self) -> bool {
         self.written > 0
     }
 
@@ -46,7 +53,7 @@ impl<'a> Reply<'a> {
         self.socket.shutdown(Shutdown::Write)
     }
 
-    /// Sends some of the bytes by one call. The error is the system's, or that the time of the reply is over.
+    /// Sends some of the bytes by one call. The error is the system's, or that the time is over.
     fn send(&mut self, buf: &[u8]) -> io::Result<usize>
         ensures { WritesAtMost result buf.now }
     {
@@ -54,9 +61,9 @@ impl<'a> Reply<'a> {
         if let Some(timeout) = self.deadline.next_timeout(seconds)? {
             self.socket.set_write_timeout(Some(timeout))?;
         }
-        let begun = Instant::now(self.rt)?;
+        let start = Instant::now(self.rt)?;
         let answer = self.socket.write(buf);
-        let waited = begun.elapsed(self.rt)?;
+        let waited = start.elapsed(self.rt)?;
         self.deadline.take(waited);
         let count = answer?;
         self.written = self.written.saturating_add(count as u64);
@@ -64,7 +71,7 @@ impl<'a> Reply<'a> {
     }
 }
 
-impl Write for Reply<'_> {
+impl Write for PeerWriter<'_> {
     fn write(&mut self, buf: &[u8]) -> io::Result<usize> {
         for _ in 1..MOST_CALLS {
             let answer = self.send(buf);
@@ -80,8 +87,9 @@ impl Write for Reply<'_> {
     }
 }
 
-/// Whether a call waited for the peer until its time was over, or was broken off by the system, as where the process is held
-/// still and goes on: in both cases it is to be made again.
+/// Whether a call waited for the peer until its time was over, or was interrupted by the system, as
+/// when the process is held still and goes on: in both cases no byte passed, and it is to be made
+/// again. So a peer never sees that the program was stopped for a while, and no fault is counted.
 fn is_made_again(answer: &io::Result<usize>) -> bool {
     match answer {
         Ok(_) => false,
@@ -93,5 +101,5 @@ fn is_made_again(answer: &io::Result<usize>) -> bool {
 fn reply_time(written: u64) -> u64
     ensures { result ≡ reply_time written }
 {
-    60 + written / 16_384
+    REPLY_TIME + written / BYTES_A_SECOND
 }

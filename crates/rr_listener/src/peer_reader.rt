@@ -12,36 +12,37 @@ use std::time::Instant;
 /// How many seconds a peer is given for all that it asks (profile).
 const REQUEST_TIME: u64 = 60;
 
-/// How many calls a read makes at most, where the system breaks calls off before a byte came, as it does where the process is
-/// held still and goes on (profile).
+/// How many calls a read makes at most, if the system interrupts them before a byte came, as it
+/// does when the process is held still and goes on (profile).
 const MOST_CALLS: u32 = 9;
 
-/// How many seconds what it sends behind that is taken in, at most (profile).
+/// How many seconds what it sends after that is taken in, at most (profile).
 const DRAIN_TIME: u64 = 1;
 
 /// How many reads of that there are, at most (profile).
 const DRAIN_READS: u32 = 512;
 
-/// The bytes that a peer sends. All that it asks has to come within 60 seconds, and a read waits for 10 at most (profile).
+/// The bytes that a peer sends. All that it asks has to come within 60 seconds, and a read waits
+/// for 10 at most (profile).
 #[derive(Drop)]
-pub struct Request<'a> {
+pub struct PeerReader<'a> {
     rt: &'a HostRuntime,
     socket: TcpStream,
     deadline: Deadline,
 }
 
-impl<'a> Request<'a> {
+impl<'a> PeerReader<'a> {
     /// The bytes that come over a socket.
-    pub fn new(rt: &'a HostRuntime, socket: TcpStream) -> Request<'a> {
-        Request {
+    pub fn new(rt: &'a HostRuntime, socket: TcpStream) -> PeerReader<'a> {
+        PeerReader {
             rt,
             socket,
             deadline: Deadline::new(),
         }
     }
 
-    /// Takes in what the peer still sends, to its end, but at most for a second, and at most 2 MiB of it. The error is that of a
-    /// read.
+    /// Takes in what the peer still sends, to its end, but at most for a second, and at most 2 MiB
+    /// of it. The error is that of a read.
     pub fn drain(mut self) -> io::Result<()> {
         self.deadline = Deadline::new();
         let mut block = [0u8; READ_SIZE];
@@ -53,26 +54,26 @@ impl<'a> Request<'a> {
         Ok(())
     }
 
-    /// Reads some bytes by one call, where the peer is given so many seconds in all.
+    /// Reads some bytes by one call, if the peer is given so many seconds in all.
     fn receive(&mut self, buf: &mut [u8], seconds: u64) -> io::Result<usize>
         ensures { ReadsAtMost result buf.new }
     {
         if let Some(timeout) = self.deadline.next_timeout(seconds)? {
             self.socket.set_read_timeout(Some(timeout))?;
         }
-        let begun = Instant::now(self.rt)?;
+        let start = Instant::now(self.rt)?;
         let answer = self.socket.read(buf);
-        let waited = begun.elapsed(self.rt)?;
+        let waited = start.elapsed(self.rt)?;
         self.deadline.take(waited);
         answer
     }
 }
 
-impl Read for Request<'_> {
+impl Read for PeerReader<'_> {
     fn read(&mut self, buf: &mut [u8]) -> io::Result<usize> {
         for _ in 1..MOST_CALLS {
             let answer = self.receive(buf, REQUEST_TIME);
-            if !is_broken_off(&answer) {
+            if !is_interrupted(&answer) {
                 return answer;
             }
         }
@@ -80,8 +81,8 @@ impl Read for Request<'_> {
     }
 }
 
-/// Whether the system broke a call off, and it is to be made again.
-fn is_broken_off(answer: &io::Result<usize>) -> bool {
+/// Whether the system interrupted a call, so that it is to be made again.
+fn is_interrupted(answer: &io::Result<usize>) -> bool {
     match answer {
         Ok(_) => false,
         Err(error) => error.kind() == ErrorKind::Interrupted,

@@ -1,0 +1,38 @@
+-- What the probe of a command does, and what it prints (profile).
+use Rattle.std.specs.Prelude.{◌≡◌, ◌⊎◌, ℕ, List, Ok, Err, codes, nat_eq, if◌then◌else◌}
+use Rattle.std.specs.List.{starts_with}
+use Rattle.sqlite_trees.specs.declared.store.Store.{Ghosts}
+use Rattle.rr_io.specs.Sending.{Takes, TakesFront}
+use Rattle.rr_io.specs.Told.{Told}
+use Rattle.rr_commands.specs.Commands.{Answer, AtDesk, Commands, DeskAction, Ending, Gives}
+use Rattle.rr_commands.specs.declared.trouble.Trouble.{Trouble}
+use Rattle.rr_commands.specs.declared.trouble.Trouble.TheVariants.{Unwritten}
+
+-- the status of a probe: 1 if the reply is an error, and else 0 (profile)
+abbrev pub reply_status : List ℕ → ℕ
+reply_status reply = if starts_with nat_eq reply (codes "% error ") then 1 else 0
+
+-- a reply was printed, and the status says whether it is an error; or it could not be printed whole
+-- (profile)
+abbrev pub PrintsReply : List ℕ → Told → Told → Answer → Type 0
+PrintsReply reply old new (Ok status) = (status ≡ reply_status reply) × Takes old new reply
+PrintsReply reply old new (Err trouble) = (trouble ≡ Unwritten) × TakesFront old new reply
+
+-- there is no reply, and nothing was printed (profile)
+pub record HasNoReply (old new : Told) (answer : Answer) : Type 0 where
+  pub trouble : Trouble
+  pub told : answer ≡ Err trouble
+  pub silent : new ≡ old
+
+-- a reply was read and printed (profile)
+pub record HasReply (old new : Told) (answer : Answer) : Type 0 where
+  pub reply : List ℕ
+  pub prints : PrintsReply reply old new answer
+
+-- what the command does at a desk (profile)
+abbrev pub ProbesDesk : {S : Type 0} → Told → Told → DeskAction S
+ProbesDesk old new before after answer = HasNoReply old new answer ⊎ HasReply old new answer
+
+-- what the command does (profile)
+abbrev pub ProbesBy : {S : Type 0} → Ghosts S → Gives S → Told → Told → Ending → Type 0
+ProbesBy g gives old new = Commands (AtDesk g gives (ProbesDesk old new) old new) old new

@@ -1,0 +1,10 @@
+use Rattle.std.proofs.Common.{inr}
+use Rattle.rr_commands.proofs.dumping.dump_at.Goals as goal
+
+pub returns : goal.returns
+returns g c = inr (record {
+  before = c.in_ok-desk.desk;
+  after = c.in_ok-desk.desk;
+  opens = c.in_ok-desk.ensures.opens;
+  did = rw (← c.show.ensures.told, c.show-2.ensures.told) c.dump_to-answer.ensures.dumped;
+})

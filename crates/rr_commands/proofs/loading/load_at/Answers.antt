@@ -1,0 +1,10 @@
+use Rattle.std.proofs.Common.{inr}
+use Rattle.rr_commands.proofs.loading.load_at.Goals as goal
+
+pub returns-in-Ok : goal.returns-in-Ok
+returns-in-Ok g c = inr (record {
+  before = c.in-Ok.conn;
+  after = c.load_file-conn.result.0;
+  given = c.in-Ok.ensures.gives;
+  did = c.load_file-conn.ensures;
+})

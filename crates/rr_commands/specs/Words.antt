@@ -1,0 +1,219 @@
+-- What went wrong in words: those before the cause and the number, and those after (profile).
+use Rattle.std.specs.Prelude.{ℕ, ◌==◌, nat_lt, List, [], ◌++◌, codes, if◌then◌else◌}
+use Rattle.sqlite.specs.declared.error.Error.{Error}
+use Rattle.rr_object.specs.declared.code.Code.{Code}
+use Rattle.rr_object.specs.declared.code.Code.TheVariants.{E02, E03, E04, E05, E06}
+use Rattle.rr_store.specs.declared.fault.CreateFault.{CreateFault}
+use Rattle.rr_store.specs.declared.fault.CreateFault.TheVariants as creating
+use Rattle.rr_store.specs.declared.fault.MigrateFault.{MigrateFault}
+use Rattle.rr_store.specs.declared.fault.MigrateFault.TheVariants as migrating
+use Rattle.rr_store.specs.declared.fault.OpenFault.{OpenFault}
+use Rattle.rr_store.specs.declared.fault.OpenFault.TheVariants as opening
+use Rattle.rr_submission.specs.declared.submission.DeskFault.{DeskFault}
+use Rattle.rr_submission.specs.declared.submission.DeskFault.TheVariants as desk
+use Rattle.rr_desk.specs.declared.dumping.DeskDumpFault.{DeskDumpFault}
+use Rattle.rr_desk.specs.declared.dumping.DeskDumpFault.TheVariants as dumping
+use Rattle.rr_desk.specs.declared.loading.DeskLoadFault.{DeskLoadFault}
+use Rattle.rr_desk.specs.declared.loading.DeskLoadFault.TheVariants as loading
+use Rattle.rr_commands.specs.Causes.{database_cause, database_text, text_or}
+use Rattle.rr_commands.specs.declared.settings_file.SettingKey.{SettingKey}
+use Rattle.rr_commands.specs.declared.settings_file.SettingKey.TheVariants as key
+use Rattle.rr_commands.specs.declared.trouble.Trouble.{Trouble}
+use Rattle.rr_commands.specs.declared.trouble.Trouble.TheVariants as trouble
+
+abbrev pub out_of_memory : List ℕ
+out_of_memory = codes "out of memory: give the program more"
+
+abbrev pub not_empty : List ℕ
+not_empty = codes "the database has a registry already: take a new one"
+
+abbrev pub no_tables_made : List ℕ
+no_tables_made =
+    codes "the database refuses the tables of a registry: take a new one, on a disk with room"
+
+abbrev pub of_version : List ℕ
+of_version = codes "the tables of the database are of version "
+
+abbrev pub stopped : List ℕ
+stopped = codes "the database failed before: run the command again"
+
+-- of settings, by the key that is missing or bad (profile)
+abbrev pub setting_words : SettingKey → List ℕ
+setting_words key.Source =
+    codes "`source` is missing or bad: it names the registry, as \"TEST\""
+setting_words key.Root =
+    codes "`root` is missing or bad: it names a maintainer, as \"ROOT-MNT\""
+setting_words key.Auth =
+    codes "`auth` is missing or bad: it is \"SHA256-PW salt:digest\", with 64 hexadecimal digits"
+setting_words key.Limit =
+    codes "`limit` is missing or bad: it is a whole number from 1 to 1000000"
+setting_words key.Store =
+    codes "`store` is missing or bad: it is the path of the database"
+
+-- why the database refused: its cause if that tells more than these words do, and else these
+-- (profile)
+abbrev pub refused_words : Error → List ℕ → List ℕ
+refused_words error words = text_or (database_cause error) words
+
+-- of making a registry (profile)
+abbrev pub creating_words : CreateFault → List ℕ
+creating_words creating.NotEmpty = not_empty
+creating_words (creating.Store error) = refused_words error no_tables_made
+creating_words creating.Memory = out_of_memory
+
+-- of opening a registry (profile)
+abbrev pub opening_words : OpenFault → List ℕ
+opening_words (opening.WrongVersion version) = of_version
+opening_words opening.BadRow =
+    codes "the rows of the database are not a registry of the settings' source: correct `source`, "
+    ++ codes "or restore a backup"
+opening_words (opening.Store error) = refused_words error
+    (codes "the database has no registry that can be read: restore a backup, or make one by "
+    ++ codes "`irrdesk init` or `irrdesk load`")
+opening_words opening.Memory = out_of_memory
+
+-- of a submission (profile)
+abbrev pub submission_words : DeskFault → List ℕ
+submission_words (desk.ReadFault items) =
+    codes "the submission could not be read to its end: submit all of it again; items decided "
+    ++ codes "before that: "
+submission_words (desk.WriteFault items) =
+    codes "the report could not be written, so submit the whole text again: "
+submission_words (desk.StoreFault items) =
+    codes "the database failed, so submit the whole text again: "
+submission_words desk.Memory = out_of_memory
+submission_words desk.Stopped = stopped
+
+-- of a dump (profile)
+abbrev pub dumping_words : DeskDumpFault → List ℕ
+dumping_words dumping.Write = codes "the dump is not whole, so dump again: "
+dumping_words dumping.Memory =
+    codes "out of memory, and the dump is not whole: give the program more, and dump again"
+dumping_words dumping.Stopped = stopped
+
+-- of a load (profile)
+abbrev pub loading_words : DeskLoadFault → List ℕ
+loading_words loading.NotEmpty = not_empty
+loading_words loading.Read =
+    codes "the dump could not be read to its end, and nothing is loaded: look at its file"
+loading_words loading.Endless =
+    codes "the dump has no end within 16777216 reads: name a whole dump"
+loading_words (loading.Text number) = codes "nothing is loaded, because paragraph "
+loading_words (loading.Object number code) = codes "nothing is loaded, because paragraph "
+loading_words (loading.Duplicate number) = codes "nothing is loaded, because paragraph "
+loading_words (loading.Overlap number) = codes "nothing is loaded, because paragraph "
+loading_words (loading.Unnamed number) = codes "nothing is loaded, because paragraph "
+loading_words (loading.Store error) = refused_words error no_tables_made
+loading_words loading.Memory = out_of_memory
+
+-- of a migration (profile)
+abbrev pub migrating_words : MigrateFault → List ℕ
+migrating_words (migrating.WrongVersion version) = of_version
+migrating_words migrating.BadRow =
+    codes "the rows of the database are not a registry of version 1 of the settings' source: "
+    ++ codes "correct `source`, or restore a backup"
+migrating_words migrating.NoRoot =
+    codes "the root of the settings is not a maintainer of the registry: let `root` name one that "
+    ++ codes "is"
+migrating_words (migrating.Store error) = refused_words error
+    (codes "the database has no tables of version 1: look at `store`")
+migrating_words migrating.Memory = out_of_memory
+
+-- the words before the cause and the number, or all of them (profile)
+abbrev pub before : Trouble → List ℕ
+before trouble.BadWords = codes "`irrdesk help` lists the commands"
+before trouble.BadPort = codes "a port is a number from 1 to 65535"
+before trouble.BadCount = codes "a count is a number from 1 to 1000000"
+before trouble.WordsNotText = codes "an argument is not UTF-8 text: write it as such"
+before (trouble.SettingsUnread cause) = codes "the settings cannot be read: "
+before trouble.SettingsNotText = codes "the settings are not UTF-8 text: save them as such"
+before trouble.SettingsTooLong = codes "the settings are longer than 1048576 bytes: shorten them"
+before (trouble.SettingsNotToml line) = codes "the settings are not TOML: see line "
+before (trouble.SettingBad key) = setting_words key
+before (trouble.Database cause) = database_text cause
+before (trouble.Creating fault) = creating_words fault
+before (trouble.Opening fault) = opening_words fault
+before trouble.OtherSource =
+    codes "the rows of the database are of a registry of another source: correct `source`"
+before trouble.BadObject =
+    codes "the row is not that of an object of the settings' source: restore a backup, or take "
+    ++ codes "the row out"
+before trouble.Unsound =
+    codes "the object of the row names a maintainer who is not there, or its range overlaps one "
+    ++ codes "before it: restore a backup, or mend the rows"
+before trouble.OtherOrder =
+    codes "the tables of the registry are not first and in order: `sqlite3 OLD '.dump meta' "
+    ++ codes "'.dump object' '.dump named' | sqlite3 NEW` makes a database that is read"
+before (trouble.FileUnopened cause) = codes "the file cannot be opened: "
+before (trouble.Submission fault cause) = submission_words fault
+before (trouble.Dumping fault) = dumping_words fault
+before (trouble.Loading fault) = loading_words fault
+before (trouble.Migrating fault) = migrating_words fault
+before (trouble.ListenerUnopened cause) = codes "it cannot listen: "
+before (trouble.ProbeFailed cause) = codes "the program's own listener cannot be asked: "
+before (trouble.ServedInVain cause) =
+    codes "the database failed, and each request is refused until the server is started again: "
+before trouble.Unwritten = codes "the write failed: "
+before trouble.Memory = out_of_memory
+
+-- the words between the cause and the number (profile)
+abbrev pub before_number : Trouble → List ℕ
+before_number (trouble.Submission (desk.WriteFault items) cause) =
+    codes "; items decided before that: "
+before_number (trouble.Submission (desk.StoreFault items) cause) =
+    codes "; items decided before that: "
+before_number _ = []
+
+-- what to do with tables of another version than 2: those of version 1 are migrated, and a later
+-- irrdesk reads those of a later one (profile)
+abbrev pub after_opened : ℕ → List ℕ
+after_opened version =
+    if version == 1
+    then codes ", and this program reads version 2: `irrdesk migrate SETTINGS` turns them into that"
+    else if nat_lt 2 version
+    then codes ", and this program reads version 2: take a newer irrdesk, which wrote them"
+    else codes ", and this program reads version 2: no irrdesk wrote them, so correct `store`"
+
+-- what to do with tables of another version than 1 that are to be migrated: nothing if they are of
+-- version 2 (profile)
+abbrev pub after_migrated : ℕ → List ℕ
+after_migrated version =
+    if version == 2
+    then codes ", as this program reads them: there is nothing to migrate"
+    else if nat_lt 2 version
+    then codes ", and what is migrated is version 1: take a newer irrdesk, which wrote them"
+    else codes ", and what is migrated is version 1: no irrdesk wrote them, so correct `store`"
+
+-- why a paragraph of a dump is not an object: the code of its refusal, with what an object alone
+-- can have (profile)
+abbrev pub reason : Code → List ℕ
+reason E02 = codes " is not an object: E02, its class is unknown: take it out"
+reason E03 = codes " is not an object: E03, its key is bad: mend it"
+reason E04 =
+    codes " is not an object: E04, an attribute that it needs is missing, empty or repeated: "
+    ++ codes "mend it"
+reason E05 =
+    codes " is not an object: E05, an attribute has a bad value, as `auth` in a dump that is not "
+    ++ codes "full: load a full one, or mend it"
+reason E06 =
+    codes " is not an object: E06, its `source` is not that of the settings: let both be the same"
+reason _ = codes " is not an object: mend it"
+
+-- what is the matter with a paragraph of a dump, after its number (profile)
+abbrev pub after_paragraph : DeskLoadFault → List ℕ
+after_paragraph (loading.Text number) = codes " is not RPSL, or over 65536 bytes: mend it"
+after_paragraph (loading.Object number code) = reason code
+after_paragraph (loading.Duplicate number) =
+    codes " has the key of one before it: take one of the two out"
+after_paragraph (loading.Overlap number) =
+    codes " has a range that overlaps one before it: mend one of the two"
+after_paragraph (loading.Unnamed number) =
+    codes " names a maintainer who is not in the dump: add its mntner, or take the name out"
+after_paragraph _ = []
+
+-- the words after the number (profile)
+abbrev pub after_number : Trouble → List ℕ
+after_number (trouble.Opening (opening.WrongVersion version)) = after_opened version
+after_number (trouble.Migrating (migrating.WrongVersion version)) = after_migrated version
+after_number (trouble.Loading fault) = after_paragraph fault
+after_number _ = []

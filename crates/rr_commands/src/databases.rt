@@ -1,0 +1,214 @@
+//! Where the databases of registries are, and the desks that they open.
+
+ghost use Rattle.std.specs.Prelude.{◌≡◌, ℕ, List, IfErr, IfOk, IsTrue, false, string_bytes};
+ghost use Rattle.sqlite.specs.Held.{Held};
+ghost use Rattle.rr_commands.specs.Commands.{OpensDesk, is_of_database};
+
+use crate::cause::{Cause, DatabaseCause};
+use crate::diagnosis::trouble_with;
+use crate::progress::Opening;
+use crate::trouble::Trouble;
+use rr_desk::{Desk, Settings};
+use sqlite::{Alter, Connection};
+use sqlite_std_file::File;
+use sqlite_store::FileStore;
+use std::alloc::Global;
+use std::fs;
+use std::fs::OpenOptions;
+use std::io::ErrorKind;
+use std::os::unix::fs::OpenOptionsExt;
+
+/// What is done if a path leads to no database.
+#[derive(Clone, Copy)]
+pub enum Absent {
+    /// It is refused.
+    Refused,
+    /// It is made.
+    Made,
+}
+
+/// Where databases are, by their paths: in files, or in whatever else keeps them.
+pub trait Databases {
+    /// What keeps a database.
+    type Disk: Alter + Drop;
+
+    // The database at a path may be opened as this connection.
+    ghost gives: { Self → List ℕ → Held Self.Disk → Type 0 };
+
+    /// Opens the database at a path.
+    fn open(&self, path: &str, absent: Absent) -> Result<Connection<Self::Disk>, DatabaseCause>
+        ensures gives { IfOk result (λ conn. gives self.now path.now conn) }
+        ensures autocommit { IfOk result (λ conn. conn.in_transaction ≡ false) };
+
+    /// How many bytes the database at a path has, or 0 if that is not to be had.
+    fn size(&self, path: &str) -> u64;
+
+    /// Closes a database, if there is one here: `close` of this module, for one that is given by
+    /// value. It is lent, since no proof is made that an impl keeps to a trait of which a method is
+    /// given a connection of a named store.
+    fn close(&self, conn: &mut Option<Connection<Self::Disk>>);
+}
+
+/// The databases in files. A file that is made is readable by its owner alone, and so is the log
+/// beside it.
+#[derive(Clone, Copy)]
+pub struct DatabaseFiles<'a> {
+    rt: &'a HostRuntime,
+}
+
+impl<'a> DatabaseFiles<'a> {
+    /// The databases in the files of this machine.
+    pub fn new(rt: &'a HostRuntime) -> DatabaseFiles<'a> {
+        DatabaseFiles { rt }
+    }
+}
+
+impl Databases for DatabaseFiles<'_> {
+    type Disk = FileStore<File>;
+
+    // No contract can say what a file has.
+    ghost gives = { λ _ _ _. Unit {0} };
+
+    fn open(
+        &self,
+        path: &str,
+        absent: Absent,
+    ) -> Result<Connection<FileStore<File>>, DatabaseCause> {
+        match make_ready(self.rt, path, absent) {
+            Ok(()) => match Connection::open(self.rt, path) {
+                Ok(conn) => Ok(conn),
+                Err(error) => Err(DatabaseCause::of(error)),
+            },
+            Err(cause) => Err(cause),
+        }
+    }
+
+    fn size(&self, path: &str) -> u64 {
+        match fs::metadata(self.rt, path) {
+            Ok(found) => found.len(),
+            Err(_) => 0,
+        }
+    }
+
+    fn close(&self, conn: &mut Option<Connection<FileStore<File>>>) {
+        if let Some(conn) = conn.take() {
+            let _ = conn.close();
+        }
+    }
+}
+
+/// Closes a database. What the commits left in its log goes into its file; if that fails it stays
+/// in the log, from which the next opening takes it.
+pub fn close<D: Databases>(databases: &D, conn: Connection<D::Disk>) {
+    databases.close(&mut Some(conn));
+}
+
+/// Sees that a file may be read and written, and makes it if it is missing and that is asked for:
+/// readable by its owner alone, whatever the umask, since the digests of all secrets stand in it.
+/// Its log gets the permissions of the file.
+fn make_ready(rt: &HostRuntime, path: &str, absent: Absent) -> Result<(), DatabaseCause> {
+    if path == ":memory:" || path.starts_with("file:") {
+        return Err(DatabaseCause::Unopened);
+    }
+    match fs::metadata(rt, path) {
+        Ok(found) if found.is_file() => try_file(rt, path),
+        // What stands there is no file: the opening refuses it.
+        Ok(_) => Ok(()),
+        Err(error) if error.kind() == ErrorKind::NotFound => match absent {
+            Absent::Refused => Err(DatabaseCause::Missing),
+            Absent::Made => make_file(rt, path),
+        },
+        Err(error) => Err(DatabaseCause::Refused(Cause::of(&error))),
+    }
+}
+
+/// Sees that a file may be read and written.
+fn try_file(rt: &HostRuntime, path: &str) -> Result<(), DatabaseCause> {
+    match OpenOptions::new().read(true).write(true).open(rt, path) {
+        Ok(_) => Ok(()),
+        Err(error) => Err(DatabaseCause::Refused(Cause::of(&error))),
+    }
+}
+
+/// Makes a file that its owner alone may read and write.
+fn make_file(rt: &HostRuntime, path: &str) -> Result<(), DatabaseCause> {
+    match OpenOptions::new()
+        .write(true)
+        .create_new(true)
+        .mode(0o600)
+        .open(rt, path)
+    {
+        Ok(_) => Ok(()),
+        Err(error) => match error.kind() {
+            // A link that leads nowhere, which the opening refuses, or a file that was made
+            // meanwhile.
+            ErrorKind::AlreadyExists => Ok(()),
+            ErrorKind::NotFound => Err(DatabaseCause::NoFolder),
+            _ => Err(DatabaseCause::Refused(Cause::of(&error))),
+        },
+    }
+}
+
+/// Opens the desk of the registry in the database of this name, its path. While a large one is
+/// opened, a line on a terminal says so. If a row is the matter, its class and key are added to the
+/// name, for the message.
+pub fn open_desk<D: Databases>(
+    rt: &HostRuntime,
+    databases: &D,
+    settings: Settings,
+    name: &mut String,
+) -> Result<Desk<D::Disk>, Trouble>
+    ensures opens { IfOk result (OpensDesk D.Disk.Store
+        (D.gives databases.now (string_bytes name.old)) settings) }
+    ensures fails { IfErr result (λ trouble. IsTrue (is_of_database trouble)) }
+{
+    let mut opening = Opening::begin(rt, databases.size(name.as_str()));
+    let opened = open_quietly(rt.alloc(), databases, settings, name);
+    opening.end();
+    opened
+}
+
+/// Opens the desk, without a line on a terminal.
+fn open_quietly<D: Databases>(
+    alloc: Global,
+    databases: &D,
+    settings: Settings,
+    name: &mut String,
+) -> Result<Desk<D::Disk>, Trouble>
+    ensures opens { IfOk result (OpensDesk D.Disk.Store
+        (D.gives databases.now (string_bytes name.old)) settings) }
+    ensures fails { IfErr result (λ trouble. IsTrue (is_of_database trouble)) }
+{
+    match databases.open(name.as_str(), Absent::Refused) {
+        Ok(conn) => open_over(alloc, databases, conn, settings, name),
+        Err(cause) => Err(Trouble::Database(cause)),
+    }
+}
+
+/// Opens the desk over a database, which is closed if it has no registry of these settings.
+fn open_over<D: Databases>(
+    alloc: Global,
+    databases: &D,
+    conn: Connection<D::Disk>,
+    settings: Settings,
+    name: &mut String,
+) -> Result<Desk<D::Disk>, Trouble>
+    requires autocommit { conn.in_transaction ≡ false }
+    requires given { D.gives databases.now (string_bytes name.old) conn }
+    ensures opens { IfOk result (OpensDesk D.Disk.Store
+        (D.gives databases.now (string_bytes name.old)) settings) }
+    ensures fails { IfErr result (λ trouble. IsTrue (is_of_database trouble)) }
+{
+    let source = settings.source().copy(alloc);
+    match Desk::open(alloc, conn, settings) {
+        Ok(desk) => Ok(desk),
+        Err((fault, mut conn)) => {
+            let trouble = match source {
+                Ok(source) => trouble_with(alloc, &mut conn, &source, fault, name),
+                Err(_) => Trouble::Opening(fault),
+            };
+            close(databases, conn);
+            Err(trouble)
+        }
+    }
+}

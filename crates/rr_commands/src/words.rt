@@ -1,0 +1,278 @@
+//! What went wrong in words: those before the cause and the number, and those after.
+
+ghost use Rattle.std.specs.Prelude.{◌≡◌};
+ghost use Rattle.rr_commands.specs.Words.{after_migrated, after_number, after_opened};
+ghost use Rattle.rr_commands.specs.Words.{after_paragraph, before, before_number, creating_words};
+ghost use Rattle.rr_commands.specs.Words.{dumping_words, loading_words, migrating_words};
+ghost use Rattle.rr_commands.specs.Words.{opening_words, reason, refused_words, setting_words};
+ghost use Rattle.rr_commands.specs.Words.{submission_words};
+
+use crate::cause::DatabaseCause;
+use crate::settings_file::SettingKey;
+use crate::trouble::Trouble;
+use rr_desk::{CreateFault, DeskDumpFault, DeskFault, DeskLoadFault, MigrateFault, OpenFault};
+use rr_object::Code;
+use sqlite::Error;
+
+/// The version of the tables that is read.
+const VERSION: u32 = 2;
+
+/// The version of the tables that is migrated.
+const OLD_VERSION: u32 = 1;
+
+const OUT_OF_MEMORY: &str = "out of memory: give the program more";
+
+const NOT_EMPTY: &str = "the database has a registry already: take a new one";
+
+const NO_TABLES_MADE: &str =
+    "the database refuses the tables of a registry: take a new one, on a disk with room";
+
+const OF_VERSION: &str = "the tables of the database are of version ";
+
+const STOPPED: &str = "the database failed before: run the command again";
+
+/// The words before the cause and the number, or all of them.
+pub fn before(trouble: Trouble) -> &'static str
+    ensures { result.now ≡ before trouble }
+{
+    match trouble {
+        Trouble::BadWords => "`irrdesk help` lists the commands",
+        Trouble::BadPort => "a port is a number from 1 to 65535",
+        Trouble::BadCount => "a count is a number from 1 to 1000000",
+        Trouble::WordsNotText => "an argument is not UTF-8 text: write it as such",
+        Trouble::SettingsUnread(_) => "the settings cannot be read: ",
+        Trouble::SettingsNotText => "the settings are not UTF-8 text: save them as such",
+        Trouble::SettingsTooLong => "the settings are longer than 1048576 bytes: shorten them",
+        Trouble::SettingsNotToml(_) => "the settings are not TOML: see line ",
+        Trouble::SettingBad(key) => setting_words(key),
+        Trouble::Database(cause) => cause.text(),
+        Trouble::Creating(fault) => creating_words(fault),
+        Trouble::Opening(fault) => opening_words(fault),
+        Trouble::OtherSource =>
+            "the rows of the database are of a registry of another source: correct `source`",
+        Trouble::BadObject =>
+            "the row is not that of an object of the settings' source: restore a backup, or take \
+            the row out",
+        Trouble::Unsound =>
+            "the object of the row names a maintainer who is not there, or its range overlaps one \
+            before it: restore a backup, or mend the rows",
+        Trouble::OtherOrder =>
+            "the tables of the registry are not first and in order: `sqlite3 OLD '.dump meta' \
+            '.dump object' '.dump named' | sqlite3 NEW` makes a database that is read",
+        Trouble::FileUnopened(_) => "the file cannot be opened: ",
+        Trouble::Submission(fault, _) => submission_words(fault),
+        Trouble::Dumping(fault) => dumping_words(fault),
+        Trouble::Loading(fault) => loading_words(fault),
+        Trouble::Migrating(fault) => migrating_words(fault),
+        Trouble::ListenerUnopened(_) => "it cannot listen: ",
+        Trouble::ProbeFailed(_) => "the program's own listener cannot be asked: ",
+        Trouble::ServedInVain(_) =>
+            "the database failed, and each request is refused until the server is started again: ",
+        Trouble::Unwritten => "the write failed: ",
+        Trouble::Memory => OUT_OF_MEMORY,
+    }
+}
+
+/// The words between the cause and the number.
+pub fn before_number(trouble: Trouble) -> &'static str
+    ensures { result.now ≡ before_number trouble }
+{
+    match trouble {
+        Trouble::Submission(DeskFault::WriteFault { .. } | DeskFault::StoreFault { .. }, _) => {
+            "; items decided before that: "
+        }
+        _ => "",
+    }
+}
+
+/// The words after the number.
+pub fn after_number(trouble: Trouble) -> &'static str
+    ensures { result.now ≡ after_number trouble }
+{
+    match trouble {
+        Trouble::Opening(OpenFault::WrongVersion(version)) => after_opened(version),
+        Trouble::Migrating(MigrateFault::WrongVersion(version)) => after_migrated(version),
+        Trouble::Loading(fault) => after_paragraph(fault),
+        _ => "",
+    }
+}
+
+fn setting_words(key: SettingKey) -> &'static str
+    ensures { result.now ≡ setting_words key }
+{
+    match key {
+        SettingKey::Source => "`source` is missing or bad: it names the registry, as \"TEST\"",
+        SettingKey::Root => "`root` is missing or bad: it names a maintainer, as \"ROOT-MNT\"",
+        SettingKey::Auth => {
+            "`auth` is missing or bad: it is \"SHA256-PW salt:digest\", with 64 hexadecimal digits"
+        }
+        SettingKey::Limit => "`limit` is missing or bad: it is a whole number from 1 to 1000000",
+        SettingKey::Store => "`store` is missing or bad: it is the path of the database",
+    }
+}
+
+/// Why the database refused: its cause if that tells more than these words do, and else these.
+fn refused_words(error: Error, words: &'static str) -> &'static str
+    ensures { result.now ≡ refused_words error words.now }
+{
+    DatabaseCause::of(error).text_or(words)
+}
+
+fn creating_words(fault: CreateFault) -> &'static str
+    ensures { result.now ≡ creating_words fault }
+{
+    match fault {
+        CreateFault::NotEmpty => NOT_EMPTY,
+        CreateFault::Store(error) => refused_words(error, NO_TABLES_MADE),
+        CreateFault::Memory => OUT_OF_MEMORY,
+    }
+}
+
+fn opening_words(fault: OpenFault) -> &'static str
+    ensures { result.now ≡ opening_words fault }
+{
+    match fault {
+        OpenFault::WrongVersion(_) => OF_VERSION,
+        OpenFault::BadRow =>
+            "the rows of the database are not a registry of the settings' source: correct \
+            `source`, or restore a backup",
+        OpenFault::Store(error) => refused_words(
+            error,
+            "the database has no registry that can be read: restore a backup, or make one by \
+            `irrdesk init` or `irrdesk load`",
+        ),
+        OpenFault::Memory => OUT_OF_MEMORY,
+    }
+}
+
+fn submission_words(fault: DeskFault) -> &'static str
+    ensures { result.now ≡ submission_words fault }
+{
+    match fault {
+        DeskFault::ReadFault { .. } =>
+            "the submission could not be read to its end: submit all of it again; items decided \
+            before that: ",
+        DeskFault::WriteFault { .. } => {
+            "the report could not be written, so submit the whole text again: "
+        }
+        DeskFault::StoreFault { .. } => "the database failed, so submit the whole text again: ",
+        DeskFault::Memory => OUT_OF_MEMORY,
+        DeskFault::Stopped => STOPPED,
+    }
+}
+
+fn dumping_words(fault: DeskDumpFault) -> &'static str
+    ensures { result.now ≡ dumping_words fault }
+{
+    match fault {
+        DeskDumpFault::Write => "the dump is not whole, so dump again: ",
+        DeskDumpFault::Memory =>
+            "out of memory, and the dump is not whole: give the program more, and dump again",
+        DeskDumpFault::Stopped => STOPPED,
+    }
+}
+
+fn loading_words(fault: DeskLoadFault) -> &'static str
+    ensures { result.now ≡ loading_words fault }
+{
+    match fault {
+        DeskLoadFault::NotEmpty => NOT_EMPTY,
+        DeskLoadFault::Read =>
+            "the dump could not be read to its end, and nothing is loaded: look at its file",
+        DeskLoadFault::Endless => "the dump has no end within 16777216 reads: name a whole dump",
+        DeskLoadFault::Text(_)
+        | DeskLoadFault::Object(_, _)
+        | DeskLoadFault::Duplicate(_)
+        | DeskLoadFault::Overlap(_)
+        | DeskLoadFault::Unnamed(_) => "nothing is loaded, because paragraph ",
+        DeskLoadFault::Store(error) => refused_words(error, NO_TABLES_MADE),
+        DeskLoadFault::Memory => OUT_OF_MEMORY,
+    }
+}
+
+fn migrating_words(fault: MigrateFault) -> &'static str
+    ensures { result.now ≡ migrating_words fault }
+{
+    match fault {
+        MigrateFault::WrongVersion(_) => OF_VERSION,
+        MigrateFault::BadRow =>
+            "the rows of the database are not a registry of version 1 of the settings' source: \
+            correct `source`, or restore a backup",
+        MigrateFault::NoRoot =>
+            "the root of the settings is not a maintainer of the registry: let `root` name one \
+            that is",
+        MigrateFault::Store(error) => refused_words(
+            error,
+            "the database has no tables of version 1: look at `store`",
+        ),
+        MigrateFault::Memory => OUT_OF_MEMORY,
+    }
+}
+
+/// What to do with tables of this version, which is not the one that is read.
+fn after_opened(version: u32) -> &'static str
+    ensures { result.now ≡ after_opened version }
+{
+    if version == OLD_VERSION {
+        ", and this program reads version 2: `irrdesk migrate SETTINGS` turns them into that"
+    } else if version > VERSION {
+        ", and this program reads version 2: take a newer irrdesk, which wrote them"
+    } else {
+        ", and this program reads version 2: no irrdesk wrote them, so correct `store`"
+    }
+}
+
+/// What to do with tables of this version, which is not the one that is migrated.
+fn after_migrated(version: u32) -> &'static str
+    ensures { result.now ≡ after_migrated version }
+{
+    if version == VERSION {
+        ", as this program reads them: there is nothing to migrate"
+    } else if version > VERSION {
+        ", and what is migrated is version 1: take a newer irrdesk, which wrote them"
+    } else {
+        ", and what is migrated is version 1: no irrdesk wrote them, so correct `store`"
+    }
+}
+
+/// What is the matter with a paragraph of a dump, after its number.
+fn after_paragraph(fault: DeskLoadFault) -> &'static str
+    ensures { result.now ≡ after_paragraph fault }
+{
+    match fault {
+        DeskLoadFault::Text(_) => " is not RPSL, or over 65536 bytes: mend it",
+        DeskLoadFault::Object(_, code) => reason(code),
+        DeskLoadFault::Duplicate(_) => " has the key of one before it: take one of the two out",
+        DeskLoadFault::Overlap(_) => {
+            " has a range that overlaps one before it: mend one of the two"
+        }
+        DeskLoadFault::Unnamed(_) =>
+            " names a maintainer who is not in the dump: add its mntner, or take the name out",
+        DeskLoadFault::NotEmpty
+        | DeskLoadFault::Read
+        | DeskLoadFault::Endless
+        | DeskLoadFault::Store(_)
+        | DeskLoadFault::Memory => "",
+    }
+}
+
+/// Why a paragraph of a dump is not an object: the code of its refusal, with what an object alone
+/// can have.
+fn reason(code: Code) -> &'static str
+    ensures { result.now ≡ reason code }
+{
+    match code {
+        Code::E02 => " is not an object: E02, its class is unknown: take it out",
+        Code::E03 => " is not an object: E03, its key is bad: mend it",
+        Code::E04 =>
+            " is not an object: E04, an attribute that it needs is missing, empty or repeated: \
+            mend it",
+        Code::E05 =>
+            " is not an object: E05, an attribute has a bad value, as `auth` in a dump that is not \
+            full: load a full one, or mend it",
+        Code::E06 =>
+            " is not an object: E06, its `source` is not that of the settings: let both be the \
+            same",
+        _ => " is not an object: mend it",
+    }
+}

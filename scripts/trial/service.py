@@ -248,7 +248,7 @@ class Service:
         guest.done(f"systemd-run --quiet --unit=other --uid=irrdesk irrdesk serve {SETTINGS} --port 4999 --count 1000")
         guest.until("journalctl --quiet --output=cat --unit=other | grep -q listening", "the other process")
         guest.done("systemctl start irrdesk; true")
-        guest.until("journalctl --quiet --output=cat --unit=irrdesk | grep -q 'another process has it open'", "what the journal says")
+        guest.until("journalctl --quiet --output=cat --unit=irrdesk | grep -q 'in use, most likely by the running server'", "what the journal says")
         guest.until("test $(systemctl show --property=NRestarts --value irrdesk) -ge 2", "that it goes on trying")
         guest.done("systemctl stop other")
         self.serves("once the database is free")

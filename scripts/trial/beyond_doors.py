@@ -349,9 +349,11 @@ def replaced_readers(script, kind):
             for turn in range(4):
                 for name in names:
                     query = f"AS-{name.upper()}"
-                    text = door.whois(query, 20 + turn) if ask else door.get(f"/query/{query}", 20 + turn)[2]
-                    if text.startswith(b"as-set:"):
-                        found.add(name)
+                    # a whois client whose server has just gone is reset
+                    with contextlib.suppress(ConnectionResetError):
+                        text = door.whois(query, 20 + turn) if ask else door.get(f"/query/{query}", 20 + turn)[2]
+                        if text.startswith(b"as-set:"):
+                            found.add(name)
             return found
 
         def comes_to(wanted, what):
@@ -359,6 +361,8 @@ def replaced_readers(script, kind):
             while (found := (seen(), seen(True))) != (wanted, wanted):
                 if time.monotonic() > end:
                     raise Failure(f"{what}: answered by {found} and not {wanted}")
+                # or these questions meet the door's own rates
+                time.sleep(1)
 
         comes_to({"one", "two"}, "with both readers")
         if kind is Haproxy:

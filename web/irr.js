@@ -954,9 +954,9 @@ function submit() {
 }
 
 async function showSubmit() {
-    const unsafe = $('unsafe');
-    unsafe.hidden = isSafe;
-    if (!isSafe) unsafe.textContent = 'This page came without TLS from another machine, so anyone on the way could read your passwords, and could have changed this page. Nothing can be submitted from here: use the address with https.';
+    const warning = $('without-tls');
+    warning.hidden = isSafe;
+    if (!isSafe) warning.textContent = 'This page came without TLS from another machine, so anyone on the way could read your passwords, and could have changed this page. Nothing can be submitted from here: use the address with https.';
     $('send').disabled = !isSafe;
     if (fields.source.input.value) return;
     // The registry's name is that of the inetnum of all addresses.

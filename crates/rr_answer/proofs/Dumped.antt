@@ -33,10 +33,10 @@ cut_between start middle end xs ys zs Memory p q = record {
 }
 
 -- what was taken, and then something that was cut short
-pub cut_behind : (start middle end : Told) (xs ys : List ℕ) (fault : DumpFault) → Takes start middle xs → IsCut ys middle end fault
+pub cut_after : (start middle end : Told) (xs ys : List ℕ) (fault : DumpFault) → Takes start middle xs → IsCut ys middle end fault
     → IsCut (xs ++ ys) start end fault
-cut_behind start middle end xs ys Write p q = TakesFront-then xs ys p q
-cut_behind start middle end xs ys Memory p q = record {
+cut_after start middle end xs ys Write p q = TakesFront-then xs ys p q
+cut_after start middle end xs ys Memory p q = record {
   front = xs ++ q.front;
   rest = q.rest;
   whole = ap (λ l. xs ++ l) q.whole ∙ sym (append_assoc xs q.front q.rest);
@@ -48,7 +48,7 @@ cut_behind start middle end xs ys Memory p q = record {
 pub line_has_bytes : (line : List ℕ) → 0 < length (ended line)
 line_has_bytes line = rw length-append (omega arith)
 
--- an object in a dump has the empty line behind it
+-- an object in a dump has the empty line after it
 pub object_has_bytes : (full : Bool) (o : Obj) → 0 < length (dumped full o)
 object_has_bytes true o = line_has_bytes _
 object_has_bytes false o = line_has_bytes _
@@ -73,7 +73,7 @@ pub next_lent : (full : Bool) (objects : List (Bor Obj)) (i : ℕ) (object : Bor
     → flat_map (dumped full) (lent objects) ≡ taken ++ (dumped full object.now ++ flat_map (λ o. dumped full o.now) (drop (i + 1) objects))
 next_lent full objects i object taken inside is before = texts_lent (dumped full) objects ∙ next_of full objects i object taken inside is before
 
--- behind the last object all is taken
+-- after the last object all is taken
 pub all_taken : (full : Bool) (objects : List (Bor Obj)) (i : ℕ) (taken : List ℕ) → length objects ≤ i
     → flat_map (λ o. dumped full o.now) objects ≡ taken ++ flat_map (λ o. dumped full o.now) (drop i objects)
     → flat_map (dumped full) (lent objects) ≡ taken

@@ -126,8 +126,8 @@ one_more o all routes found a false false is apart none rest = ap (λ b. cond b 
 nothing : (x : Obj) → None ≡ Some x → ⊥
 nothing x e = cc
 
-behind : (e : Key × Obj) (es : List (Key × Obj)) (k : Key) (o : Obj) → T (below_all key_cmp e.0 es) → find_entry key_cmp k es ≡ Some o → find_entry key_cmp k (e ∷ es) ≡ Some o
-behind e es k o below there =
+after : (e : Key × Obj) (es : List (Key × Obj)) (k : Key) (o : Obj) → T (below_all key_cmp e.0 es) → find_entry key_cmp k es ≡ Some o → find_entry key_cmp k (e ∷ es) ≡ Some o
+after e es k o below there =
     elim (eq_by_cmp key_cmp k e.0) as (λ b. eq_by_cmp key_cmp k e.0 ≡ b → cond b (Some e.1) (find_entry key_cmp k es) ≡ Some o) [
       | true ↦ λ tied. absurd (nothing o (sym (missed e.0 e.0 (never_below e.0) es below) ∙ ap (λ l. find_entry key_cmp l es) (sym (same_key k e.0 tied)) ∙ there))
       | false ↦ λ tied. there
@@ -139,7 +139,7 @@ among p masked [] sorted good = refl
 among p masked (e ∷ es) sorted good =
     let below = first_of (below_all key_cmp e.0 es) (is_sorted key_cmp es) sorted in
     let own = good e.0 e.1 (ap (λ b. cond b (Some e.1) (find_entry key_cmp e.0 es)) (tied_key e.0)) in
-    let rest = among p masked es (second_of (below_all key_cmp e.0 es) (is_sorted key_cmp es) sorted) (λ k o there. good k o (behind e es k o below there)) in
+    let rest = among p masked es (second_of (below_all key_cmp e.0 es) (is_sorted key_cmp es) sorted) (λ k o there. good k o (after e es k o below there)) in
     let i = eq_by_cmp key_cmp (Inetnum (span_of p)) e.0 in
     let t = is_some (origin_at p e.0) in
     ap (λ k. cond (at_key (span_of p) k) (e.1 ∷ filter (is_at (span_of p)) (map (λ x. x.1) es)) (filter (is_at (span_of p)) (map (λ x. x.1) es))) own.0

@@ -18,9 +18,9 @@ filtered test (object ∷ objects) =
     ]
 
 -- one object, or none, before others
-pub lent_behind : (o : Option Obj) (found routes : List (Bor Obj)) → lent found ≡ cons_option o [] → lent (found ++ routes) ≡ cons_option o (lent routes)
-lent_behind None found routes e = map-append (λ object. object.now) found routes ∙ ap (λ os. os ++ lent routes) e
-lent_behind (Some o) found routes e = map-append (λ object. object.now) found routes ∙ ap (λ os. os ++ lent routes) e
+pub lent_after : (o : Option Obj) (found routes : List (Bor Obj)) → lent found ≡ cons_option o [] → lent (found ++ routes) ≡ cons_option o (lent routes)
+lent_after None found routes e = map-append (λ object. object.now) found routes ∙ ap (λ os. os ++ lent routes) e
+lent_after (Some o) found routes e = map-append (λ object. object.now) found routes ∙ ap (λ os. os ++ lent routes) e
 
 -- the texts of what is lent
 pub texts_lent : (text : Obj → List ℕ) (objects : List (Bor Obj)) → flat_map text (lent objects) ≡ flat_map (λ object. text object.now) objects

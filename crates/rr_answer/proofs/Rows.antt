@@ -25,7 +25,7 @@ use Rattle.rr_answer.specs.Faults.{error_line}
 use Rattle.rr_answer.specs.Queries.{query_of, query_of_more}
 use Rattle.rr_answer.specs.Texts.{members_text, objects_text}
 
--- a key in any letter case, with a CR behind it
+-- a key in any letter case, with a CR after it
 object_read : query_of (codes "object mntner a-mnt" ++ 13 ∷ []) ≡ Ok (Object (Mntner (codes "A-MNT")))
 unfolding query_of query_of_more words is_keyword key_of_text is_name is_reserved
 object_read = refl
@@ -77,7 +77,7 @@ dot_refused : query_of (codes ".") ≡ Err Bad
 unfolding query_of words key_of_text as_number_of prefix_of cut_at address_of joined_of number_of is_set_name is_name is_reserved
 dot_refused = refl
 
--- an LF, even behind a good query
+-- an LF, even after a good query
 line_feed_refused : query_of (codes "a-mnt" ++ 10 ∷ []) ≡ Err Bad
 unfolding query_of
 line_feed_refused = refl
@@ -114,7 +114,7 @@ none_shown : objects_text [] ≡ ended (codes "% no entries")
 unfolding objects_text
 none_shown = refl
 
--- a missing name behind what is found
+-- a missing name after what is found
 numbers_shown : members_text (λ (name : List ℕ). name) (codes "AS1" ∷ codes "AS2" ∷ []) (codes "AS-GONE" ∷ []) ≡
     ended (codes "AS1") ++ ended (codes "AS2") ++ ended (codes "% missing AS-GONE")
 unfolding members_text

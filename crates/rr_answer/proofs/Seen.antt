@@ -37,10 +37,10 @@ seen o = record {
 abbrev pub hide : Field → Field
 hide field = with_value (kind_name Auth) hidden field
 
--- values that are equal stay so behind one more attribute
-values_behind : (name : List ℕ) (field : Field) (xs ys : List Field) → values_of name xs ≡ values_of name ys
+-- values that are equal stay so after one more attribute
+values_after : (name : List ℕ) (field : Field) (xs ys : List Field) → values_of name xs ≡ values_of name ys
     → values_of name (field ∷ xs) ≡ values_of name (field ∷ ys)
-values_behind name field xs ys rest =
+values_after name field xs ys rest =
     elim (has_name name field) as (λ b.
     map (λ f. value_meaning f.lines) (cond b (field ∷ filter (has_name name) xs) (filter (has_name name) xs))
     ≡ map (λ f. value_meaning f.lines) (cond b (field ∷ filter (has_name name) ys) (filter (has_name name) ys))) [
@@ -48,7 +48,7 @@ values_behind name field xs ys rest =
       | false ↦ rest
     ]
 
--- the values behind one more attribute, of which it is known whether it is one that is hidden
+-- the values after one more attribute, of which it is known whether it is one that is hidden
 values_step : (name : List ℕ) (field : Field) (xs ys : List Field) (b : Bool) → has_name (kind_name Auth) field ≡ b
     → bytes_eq (kind_name Auth) name ≡ false → values_of name xs ≡ values_of name ys
     → values_of name ((if b then record { name = field.name; lines = hidden ∷ [] } else field) ∷ xs) ≡ values_of name (field ∷ ys)
@@ -56,7 +56,7 @@ values_step name field xs ys true e apart rest =
     let same : field.name ≡ kind_name Auth = (bytes_eq-Decides field.name (kind_name Auth)).0 e in
     let other : bytes_eq field.name name ≡ false = ap (λ n. bytes_eq n name) same ∙ apart in
     rw other rest
-values_step name field xs ys false e apart rest = values_behind name field xs ys rest
+values_step name field xs ys false e apart rest = values_after name field xs ys rest
 
 -- what is not named `auth` is seen as it is
 seen_values : (name : List ℕ) (fields : List Field) → bytes_eq (kind_name Auth) name ≡ false

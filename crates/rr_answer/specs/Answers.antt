@@ -10,7 +10,8 @@ use Rattle.rr_number.specs.declared.set_kind.SetKind.{SetKind}
 use Rattle.rr_number.specs.declared.set_kind.SetKind.TheVariants as kinds
 use Rattle.rr_answer.specs.declared.fault.QueryFault.{QueryFault}
 use Rattle.rr_answer.specs.declared.query.Query.{Query}
-use Rattle.rr_answer.specs.declared.query.Query.TheVariants.{Object, Exact, Closest, Less, More, Naming, Originated, Expand, Prefixes}
+use Rattle.rr_answer.specs.declared.query.Query.TheVariants.{Object, Exact, Closest, Less, More}
+use Rattle.rr_answer.specs.declared.query.Query.TheVariants.{Naming, Originated, Expand, Prefixes}
 use Rattle.rr_answer.specs.Expansions.{IsExpansion, as_set_at, route_set_at}
 use Rattle.rr_answer.specs.Faults.{error_line}
 use Rattle.rr_answer.specs.Queries.{query_of}
@@ -19,19 +20,22 @@ use Rattle.rr_answer.specs.Texts.{objects_text}
 
 -- The AS numbers of an as-set are listed in ascending order, one a line (profile).
 abbrev pub IsNumberAnswer : Reg → ℕ → List ℕ → Result (List ℕ) QueryFault → Type 0
-IsNumberAnswer r limit name answer = IsExpansion nat_cmp as_number_text (as_set_at r limit name) answer
+IsNumberAnswer r limit name answer =
+    IsExpansion nat_cmp as_number_text (as_set_at r limit name) answer
 
 -- The ranges of a set are listed in ascending order, one a line (profile).
 abbrev pub IsRangeAnswer : Reg → ℕ → List ℕ → Result (List ℕ) QueryFault → Type 0
-IsRangeAnswer r limit name answer = IsExpansion range_cmp range_text (route_set_at r limit name) answer
+IsRangeAnswer r limit name answer =
+    IsExpansion range_cmp range_text (route_set_at r limit name) answer
 
 -- A set is expanded by its kind: an as-set into AS numbers, a route-set into ranges (RFC 2622, 5).
-abbrev pub IsExpanded : SetKind → Reg → ℕ → List ℕ → Result (List ℕ) QueryFault → Type 0
+abbrev pub IsExpanded : SetKind → Reg → ℕ → List ℕ → Result (List ℕ) QueryFault
+    → Type 0
 IsExpanded kinds.AsSet r limit name answer = IsNumberAnswer r limit name answer
 IsExpanded kinds.RouteSet r limit name answer = IsRangeAnswer r limit name answer
 
--- The answer is the text of the objects that a query asks for, or of an expansion, or the error of one over the limit
--- (profile).
+-- The answer is the text of the objects that a query asks for, or of an expansion, or the error of
+-- one over the limit (profile).
 abbrev pub IsAnswer : Reg → ℕ → Query → Result (List ℕ) QueryFault → Type 0
 IsAnswer r limit (Expand name) answer = IsExpanded (kind_of name) r limit name answer
 IsAnswer r limit (Prefixes name) answer = IsRangeAnswer r limit name answer
@@ -41,10 +45,12 @@ IsAnswer r limit (Closest prefix) answer = answer ≡ Ok (objects_text (asked (C
 IsAnswer r limit (Less prefix) answer = answer ≡ Ok (objects_text (asked (Less prefix) r))
 IsAnswer r limit (More prefix) answer = answer ≡ Ok (objects_text (asked (More prefix) r))
 IsAnswer r limit (Naming name) answer = answer ≡ Ok (objects_text (asked (Naming name) r))
-IsAnswer r limit (Originated number) answer = answer ≡ Ok (objects_text (asked (Originated number) r))
+IsAnswer r limit (Originated number) answer =
+    answer ≡ Ok (objects_text (asked (Originated number) r))
 
 -- The answer to what a text was read as: the query's, or the error that it is none (profile).
-abbrev pub IsAnswerOf : Reg → ℕ → Result Query QueryFault → Result (List ℕ) QueryFault → Type 0
+abbrev pub IsAnswerOf : Reg → ℕ → Result Query QueryFault → Result (List ℕ) QueryFault
+    → Type 0
 IsAnswerOf r limit (Ok query) answer = IsAnswer r limit query answer
 IsAnswerOf r limit (Err fault) answer = answer ≡ Err fault
 

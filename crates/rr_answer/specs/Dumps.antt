@@ -1,5 +1,6 @@
 -- What a dump writes.
-use Rattle.std.specs.Prelude.{◌≡◌, ◌<◌, ℕ, Bool, true, false, List, ◌++◌, codes, decimal, length, Result, Ok, Err}
+use Rattle.std.specs.Prelude.{◌≡◌, ◌<◌, ℕ, Bool, true, false, List, ◌++◌, codes}
+use Rattle.std.specs.Prelude.{decimal, length, Result, Ok, Err}
 use Rattle.std.specs.FinMap.{values}
 use Rattle.std.specs.List.{flat_map}
 use Rattle.rr_io.specs.Sending.{Takes, TakesFront}
@@ -11,8 +12,8 @@ use Rattle.rr_answer.specs.declared.dumping.DumpFault.{DumpFault}
 use Rattle.rr_answer.specs.declared.dumping.DumpFault.TheVariants.{Write, Memory}
 use Rattle.rr_answer.specs.Texts.{public_text}
 
--- An object in a dump: in a full one its whole canonical text, in a public one its public text, and an empty line
--- (profile).
+-- An object in a dump: in a full one its whole canonical text, in a public one its public text, and
+-- an empty line (profile).
 abbrev pub dumped : Bool → Obj → List ℕ
 dumped true o = ended (canonical o.paragraph)
 dumped false o = public_text o
@@ -33,12 +34,13 @@ pub record TakesPart (old new : Told) (bytes : List ℕ) : Type 0 where
   pub some_left : 0 < length rest
   pub takes : Takes old new front
 
--- A dump was cut short: a write failed, or memory was wanting (profile).
+-- A dump was cut short: a write failed, or memory ran out (profile).
 abbrev pub IsCut : List ℕ → Told → Told → DumpFault → Type 0
 IsCut bytes before after Write = TakesFront before after bytes
 IsCut bytes before after Memory = TakesPart before after bytes
 
 -- The bytes of a dump were written, or it was cut short (profile).
-abbrev pub WritesDump : {T : Type 0} → List ℕ → Told → Told → Result T DumpFault → Type 0
+abbrev pub WritesDump : {T : Type 0} → List ℕ → Told → Told → Result T DumpFault
+    → Type 0
 WritesDump bytes before after (Ok done) = Takes before after bytes
 WritesDump bytes before after (Err fault) = IsCut bytes before after fault

@@ -1,5 +1,6 @@
 -- What the expansion of a set answers.
-use Rattle.std.specs.Prelude.{◌≡◌, ◌↔◌, ◌⊎◌, ℕ, Bool, true, false, List, Contains, Result, Ok, Err}
+use Rattle.std.specs.Prelude.{◌≡◌, ◌↔◌, ◌⊎◌, ℕ, Bool, true, false, List}
+use Rattle.std.specs.Prelude.{Contains, Result, Ok, Err}
 use Rattle.std.specs.declared.cmp.Ordering.{Ordering}
 use Rattle.std.specs.Cmp.Lexicographic.{slice_cmp}
 use Rattle.std.specs.List.Sorted.{IsStrictlySortedBy}
@@ -13,17 +14,18 @@ use Rattle.rr_answer.specs.declared.fault.QueryFault.{QueryFault}
 use Rattle.rr_answer.specs.declared.fault.QueryFault.TheVariants.{TooMany}
 use Rattle.rr_answer.specs.Texts.{members_text, no_entries}
 
--- What a set stands for: whether there is such a set, what is in it, which names are missing, and whether it is over
--- the limit (RFC 2622, 5; the limit: profile).
+-- What a set stands for: whether there is such a set, what is in it, which names are missing, and
+-- whether it is over the limit (RFC 2622, 5; the limit: profile).
 pub record Meaning (X : Type 0) : Type 1 where
   pub known : Bool
   pub Has : X → Type 0
   pub Lacks : List ℕ → Type 0
   pub Overflows : Type 0
 
--- The text lists what is in a set that there is and that is within the limit, and the names that are missing, both in
--- ascending order (profile).
-pub record IsListed {X : Type 0} (cmp : X → X → Ordering) (line : X → List ℕ) (set : Meaning X) (text : List ℕ) : Type 0 where
+-- The text lists what is in a set that there is and that is within the limit, and the names that
+-- are missing, both in ascending order (profile).
+pub record IsListed {X : Type 0} (cmp : X → X → Ordering) (line : X → List ℕ)
+    (set : Meaning X) (text : List ℕ) : Type 0 where
   pub known : set.known ≡ true
   pub few : ¬ set.Overflows
   pub found : List X
@@ -46,7 +48,8 @@ pub record IsOver {X : Type 0} (set : Meaning X) (fault : QueryFault) : Type 0 w
   pub fault_is : fault ≡ TooMany
 
 -- The answer to what a set stands for (profile).
-abbrev pub IsExpansion : {X : Type 0} → (X → X → Ordering) → (X → List ℕ) → Meaning X → Result (List ℕ) QueryFault → Type 0
+abbrev pub IsExpansion : {X : Type 0} → (X → X → Ordering) → (X → List ℕ) → Meaning X
+    → Result (List ℕ) QueryFault → Type 0
 IsExpansion cmp line set (Ok text) = IsListed cmp line set text ⊎ IsUnknown set text
 IsExpansion cmp line set (Err fault) = IsOver set fault
 

@@ -2,7 +2,8 @@
 use Rattle.std.specs.Prelude.{ℕ, ◌+◌, List, [], ◌∷◌, ◌++◌, codes}
 use Rattle.rr_text.specs.CanonicalText.{ended}
 use Rattle.rr_answer.specs.declared.fault.QueryFault.{QueryFault}
-use Rattle.rr_answer.specs.declared.fault.QueryFault.TheVariants.{Bad, TooLong, TooMany, Memory, Store, Stopped}
+use Rattle.rr_answer.specs.declared.fault.QueryFault.TheVariants.{Bad, TooLong, TooMany, Memory}
+use Rattle.rr_answer.specs.declared.fault.QueryFault.TheVariants.{Store, Stopped}
 
 -- The number of an error (profile).
 abbrev pub error_number : QueryFault → ℕ

@@ -1,5 +1,6 @@
 -- What a query asks for.
-use Rattle.std.specs.Prelude.{ℕ, Bool, ◌||◌, List, [], ◌∷◌, length, nat_lt, codes, Option, None, Some, Result, Ok, Err, if◌then◌else◌}
+use Rattle.std.specs.Prelude.{ℕ, Bool, ◌||◌, List, [], ◌∷◌, length, nat_lt, codes}
+use Rattle.std.specs.Prelude.{Option, None, Some, Result, Ok, Err, if◌then◌else◌}
 use Rattle.std.specs.List.{list_any}
 use Rattle.std.specs.Option.{option_and_then, option_map, option_or}
 use Rattle.rr_bytes.specs.Blanks.{is_line_feed}
@@ -19,7 +20,8 @@ use Rattle.rr_object.specs.KeySpellings.{key_of_text}
 use Rattle.rr_answer.specs.declared.fault.QueryFault.{QueryFault}
 use Rattle.rr_answer.specs.declared.fault.QueryFault.TheVariants.{Bad, TooLong}
 use Rattle.rr_answer.specs.declared.query.Query.{Query}
-use Rattle.rr_answer.specs.declared.query.Query.TheVariants.{Object, Exact, Closest, Less, More, Naming, Originated, Expand, Prefixes}
+use Rattle.rr_answer.specs.declared.query.Query.TheVariants.{Object, Exact, Closest, Less, More}
+use Rattle.rr_answer.specs.declared.query.Query.TheVariants.{Naming, Originated, Expand, Prefixes}
 
 -- A query of more than 1,024 bytes is too long (profile).
 abbrev pub is_too_long : List ℕ → Bool
@@ -31,23 +33,27 @@ is_unreadable b = is_line_feed b || is_refused b
 
 -- A prefix, or an address, which stands for the prefix of it alone (profile).
 abbrev pub prefix_spelled : List ℕ → Option PrefixParts
-prefix_spelled word = option_or (prefix_of word) (option_map (λ address. masked address 32) (address_of word))
+prefix_spelled word =
+    option_or (prefix_of word) (option_map (λ address. masked address 32) (address_of word))
 
--- The words of a key, joined by one space, spell it as a text does; letter case is ignored in the class too (profile).
+-- The words of a key, joined by one space, spell it as a text does; letter case is ignored in the
+-- class too (profile).
 abbrev pub key_of_words : List ℕ → List (List ℕ) → Option Key
-key_of_words class others = option_and_then (λ found. key_of_text found (joined_by_space others)) (class_named (lowered class))
+key_of_words class others = option_and_then (λ found. key_of_text found (joined_by_space others))
+    (class_named (lowered class))
 
 -- The key of a set of either kind (RFC 2622, 5).
 abbrev pub set_key_of : List ℕ → Option Key
 set_key_of word = option_or (key_of_text class.AsSet word) (key_of_text class.RouteSet word)
 
--- One word is tried as an AS number, as a prefix or an address, as a set's name and as a maintainer's, in this order
--- (profile).
+-- One word is tried as an AS number, as a prefix or an address, as a set's name and as a
+-- maintainer's, in this order (profile).
 abbrev pub query_of_word : List ℕ → Option Query
 query_of_word word =
     option_or (option_map Object (key_of_text class.AutNum word))
     (option_or (option_map Closest (prefix_spelled word))
-    (option_or (option_map Object (set_key_of word)) (option_map Object (key_of_text class.Mntner word))))
+    (option_or (option_map Object (set_key_of word))
+    (option_map Object (key_of_text class.Mntner word))))
 
 -- Two words: what is asked, and of which prefix or set (profile).
 abbrev pub query_of_two : List ℕ → List ℕ → Option Query
@@ -67,7 +73,8 @@ inverse_of attribute word =
     else if is_keyword (codes "origin") attribute then option_map Originated (as_number_of word)
     else None
 
--- Three words and more: an object by its class and key, or what names a maintainer or an AS (profile).
+-- Three words and more: an object by its class and key, or what names a maintainer or an AS
+-- (profile).
 unfoldable pub query_of_more : List ℕ → List ℕ → List (List ℕ) → Option Query
 query_of_more verb second others =
     if is_keyword (codes "object") verb then option_map Object (key_of_words second others)
@@ -79,7 +86,8 @@ abbrev pub query_of_words : List (List ℕ) → Option Query
 query_of_words [] = None
 query_of_words (word ∷ []) = query_of_word word
 query_of_words (verb ∷ (word ∷ [])) = query_of_two verb word
-query_of_words (verb ∷ (second ∷ (third ∷ others))) = query_of_more verb second (third ∷ others)
+query_of_words (verb ∷ (second ∷ (third ∷ others))) =
+    query_of_more verb second (third ∷ others)
 
 -- A query, or the error that there is none (profile).
 abbrev pub or_bad_query : Option Query → Result Query QueryFault

@@ -11,7 +11,8 @@ use Rattle.rr_answer.specs.declared.fault.QueryFault.{QueryFault}
 use Rattle.rr_answer.specs.Answers.{IsAnswerTo}
 use Rattle.rr_answer.specs.Dumps.{dump}
 
--- Each object of a registry stands under its own key, and is what its paragraph reads as (RFC 2622, 2 to 6).
+-- Each object of a registry stands under its own key, and is what its paragraph reads as
+-- (RFC 2622, 2 to 6).
 pub record IsRead (r : Reg) : Type 0 where
   pub keyed : (k : Key) (o : Obj) → get r k ≡ Some o → o.key ≡ k
   pub read : (k : Key) (o : Obj) → get r k ≡ Some o → obj_of o.paragraph ≡ Ok o
@@ -20,11 +21,13 @@ pub record IsRead (r : Reg) : Type 0 where
 abbrev pub SourcesAreRead : Type 0
 SourcesAreRead = (source : List ℕ) (r : Reg) → IsRegistryOf source r → IsRead r
 
--- Two registries look alike where they have objects of the same keys, which are equal in public (profile).
+-- Two registries look alike where they have objects of the same keys, which are equal in public
+-- (profile).
 abbrev pub LookAlike : Reg → Reg → Type 0
 LookAlike r s = (k : Key) → option_map public_of (get r k) ≡ option_map public_of (get s k)
 
--- Registries that look alike answer each query alike, under the same limit (profile). So an answer is one.
+-- Registries that look alike answer each query alike, under the same limit (profile). So an answer
+-- is one.
 abbrev pub AnswersKeepSecrets : Type 0
 AnswersKeepSecrets =
     (r s : Reg) → IsRead r → IsRead s → LookAlike r s
@@ -33,4 +36,5 @@ AnswersKeepSecrets =
 
 -- Registries that look alike have the same public dump (profile).
 abbrev pub DumpsKeepSecrets : Type 0
-DumpsKeepSecrets = (r s : Reg) → IsRead r → IsRead s → LookAlike r s → dump false r ≡ dump false s
+DumpsKeepSecrets =
+    (r s : Reg) → IsRead r → IsRead s → LookAlike r s → dump false r ≡ dump false s

@@ -11,7 +11,8 @@ use Rattle.rr_auth.specs.Registries.{Reg}
 use Rattle.rr_book.specs.Listings.{covering, covers_span, inside, lies_in}
 use Rattle.rr_sets.specs.Lists.{is_originated}
 use Rattle.rr_answer.specs.declared.query.Query.{Query}
-use Rattle.rr_answer.specs.declared.query.Query.TheVariants.{Object, Exact, Closest, Less, More, Naming, Originated, Expand, Prefixes}
+use Rattle.rr_answer.specs.declared.query.Query.TheVariants.{Object, Exact, Closest, Less, More}
+use Rattle.rr_answer.specs.declared.query.Query.TheVariants.{Naming, Originated, Expand, Prefixes}
 
 -- The object is an inetnum or a route of exactly this span (profile).
 abbrev pub is_at : Ends → Obj → Bool
@@ -23,11 +24,12 @@ is_route_of p o = is_some (origin_at p o.key)
 
 -- The routes of the closest prefix to this one (RFC 2725, 9).
 abbrev pub routes_closest : Reg → PrefixParts → List Obj
-routes_closest r p = option_map_or (λ closest. filter (is_route_of closest) (values r)) (closest_routes r p) []
+routes_closest r p =
+    option_map_or (λ closest. filter (is_route_of closest) (values r)) (closest_routes r p) []
 
--- The objects that a query asks for, by class and key: the object of a key; inetnums and routes of exactly a prefix,
--- the closest to it, all that cover it, or all inside it; the objects that name a maintainer; the routes of an origin.
--- An expansion asks for none (profile; closest: RFC 2725, 9).
+-- The objects that a query asks for, by class and key: the object of a key; inetnums and routes of
+-- exactly a prefix, the closest to it, all that cover it, or all inside it; the objects that name a
+-- maintainer; the routes of an origin. An expansion asks for none (profile; closest: RFC 2725, 9).
 abbrev pub asked : Query → Reg → List Obj
 asked (Object k) r = cons_option (get r k) []
 asked (Exact p) r = filter (is_at (span_of p)) (values r)

@@ -26,7 +26,10 @@ objects_text os = or_else no_entries (flat_map public_text os)
 abbrev pub missing_line : List ℕ → List ℕ
 missing_line name = ended (codes "% missing " ++ name)
 
--- An expansion as it is answered: a line for each AS number or range, then one for each missing name (profile).
-unfoldable pub members_text : {X : Type 0} → (X → List ℕ) → List X → List (List ℕ) → List ℕ
+-- An expansion as it is answered: a line for each AS number or range, then one for each missing
+-- name (profile).
+unfoldable pub members_text : {X : Type 0} → (X → List ℕ) → List X → List (List ℕ)
+    → List ℕ
 members_text line found missing =
-    or_else (ended (codes "% empty")) (flat_map (λ x. ended (line x)) found ++ flat_map missing_line missing)
+    or_else (ended (codes "% empty"))
+    (flat_map (λ x. ended (line x)) found ++ flat_map missing_line missing)

@@ -17,8 +17,8 @@ use rr_registry::Registry;
 use rr_sets::SetBook;
 use std::alloc::Global;
 
-/// The answer to a query: the objects that it asks for, or the members of a set, `limit` bounding its expansion. The
-/// fault is `TooMany` for an expansion over the limit, or want of memory.
+/// The answer to a query: the objects that it asks for, or the members of a set, `limit` bounding
+/// its expansion. The fault is `TooMany` for an expansion over the limit, or that memory ran out.
 pub fn answer<B: Keeper>(
     alloc: Global,
     registry: &Registry<B>,
@@ -26,7 +26,8 @@ pub fn answer<B: Keeper>(
     query: &Query,
 ) -> Result<Vec<u8>, QueryFault>
     ensures ok { IfOk result (λ text. IsAnswer registry.now limit query.now (Ok text.items)) }
-    ensures fault { IfErr result (λ fault. fault ≢ Memory → IsAnswer registry.now limit query.now (Err fault)) }
+    ensures fault { IfErr result
+        (λ fault. fault ≢ Memory → IsAnswer registry.now limit query.now (Err fault)) }
 {
     match query {
         Query::Expand(name) => expanded(alloc, registry.book(), name, limit),
@@ -45,8 +46,10 @@ fn expanded<B: SetBook>(
     name: &SetName,
     limit: usize,
 ) -> Result<Vec<u8>, QueryFault>
-    ensures ok { IfOk result (λ text. IsExpanded (kind_of name.now) (B.contents book.now) limit name.now (Ok text.items)) }
-    ensures fault { IfErr result (λ fault. fault ≢ Memory → IsExpanded (kind_of name.now) (B.contents book.now) limit name.now (Err fault)) }
+    ensures ok { IfOk result (λ text. IsExpanded (kind_of name.now)
+        (B.contents book.now) limit name.now (Ok text.items)) }
+    ensures fault { IfErr result (λ fault. fault ≢ Memory
+        → IsExpanded (kind_of name.now) (B.contents book.now) limit name.now (Err fault)) }
 {
     match name.kind() {
         SetKind::AsSet => numbers(alloc, book, name, limit),
@@ -54,16 +57,18 @@ fn expanded<B: SetBook>(
     }
 }
 
-/// The answer to the text of a query. The fault is the first of `TooLong`, `Bad` and `TooMany` that fits, or want of
-/// memory.
+/// The answer to the text of a query. The fault is the first of `TooLong`, `Bad` and `TooMany` that
+/// fits, or that memory ran out.
 pub fn answer_to<B: Keeper>(
     alloc: Global,
     registry: &Registry<B>,
     limit: usize,
     text: &[u8],
 ) -> Result<Vec<u8>, QueryFault>
-    ensures ok { IfOk result (λ answered. IsAnswerTo registry.now limit text.now (Ok answered.items)) }
-    ensures fault { IfErr result (λ fault. fault ≢ Memory → IsAnswerTo registry.now limit text.now (Err fault)) }
+    ensures ok { IfOk result
+        (λ answered. IsAnswerTo registry.now limit text.now (Ok answered.items)) }
+    ensures fault { IfErr result
+        (λ fault. fault ≢ Memory → IsAnswerTo registry.now limit text.now (Err fault)) }
 {
     let query = read_query(alloc, text)?;
     answer(alloc, registry, limit, &query)

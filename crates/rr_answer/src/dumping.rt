@@ -21,7 +21,7 @@ pub enum DumpFault {
     /// A write failed.
     #[error("write failed")]
     Write,
-    /// Memory was refused.
+    /// Memory ran out.
     #[error("out of memory")]
     Memory,
 }
@@ -48,9 +48,10 @@ impl From<AllocError> for DumpFault {
     }
 }
 
-/// Writes the objects by class and key, each with an empty line, and a last line that counts them; `full` says whether
-/// with all their text, or as they are answered (profile). It answers their number. Each object is written by itself:
-/// after a fault the writer has taken a front of these bytes, and not all of them.
+/// Writes the objects by class and key, each with an empty line, and a last line that counts them;
+/// `full` says whether with all their text, or as they are answered (profile). It answers their
+/// number. Each object is written by itself: after a fault the writer has taken a front of these
+/// bytes, and not all of them.
 #[tactic(auto, using(crate::proofs::Dumped::dump_has_bytes))]
 pub fn dump<B: Keeper, W: Sink>(
     alloc: Global,
@@ -58,7 +59,8 @@ pub fn dump<B: Keeper, W: Sink>(
     writer: &mut W,
     full: bool,
 ) -> Result<usize, DumpFault>
-    ensures writes { WritesDump (dump full registry.now) (W.told writer.old) (W.told writer.new) result }
+    ensures writes { WritesDump (dump full registry.now) (W.told writer.old)
+        (W.told writer.new) result }
     ensures count { IfOk result (λ count. count ≡ length (values registry.now)) }
     ensures aside { W.aside writer.new ≡ W.aside writer.old }
 {
@@ -73,7 +75,8 @@ fn dump_listed<W: Sink>(
     writer: &mut W,
     full: bool,
 ) -> Result<usize, DumpFault>
-    ensures writes { WritesDump (flat_map (dumped full) (lent objects.now) ++ end_line (length objects.now)) (W.told writer.old) (W.told writer.new) result }
+    ensures writes { WritesDump (flat_map (dumped full) (lent objects.now)
+        ++ end_line (length objects.now)) (W.told writer.old) (W.told writer.new) result }
     ensures count { IfOk result (λ count. count ≡ length objects.now) }
     ensures aside { W.aside writer.new ≡ W.aside writer.old }
 {
@@ -89,7 +92,8 @@ fn dump_objects<W: Sink>(
     writer: &mut W,
     full: bool,
 ) -> Result<(), DumpFault>
-    ensures writes { WritesDump (flat_map (dumped full) (lent objects.now)) (W.told writer.old) (W.told writer.new) result }
+    ensures writes { WritesDump (flat_map (dumped full) (lent objects.now)) (W.told writer.old)
+        (W.told writer.new) result }
     ensures aside { W.aside writer.new ≡ W.aside writer.old }
 {
     let mut text = Vec::new(alloc);
@@ -107,7 +111,8 @@ fn dump_object<W: Sink>(
     writer: &mut W,
     full: bool,
 ) -> Result<(), DumpFault>
-    ensures writes { WritesDump (dumped full object.now) (W.told writer.old) (W.told writer.new) result }
+    ensures writes { WritesDump (dumped full object.now) (W.told writer.old)
+        (W.told writer.new) result }
     ensures aside { W.aside writer.new ≡ W.aside writer.old }
 {
     text.clear();

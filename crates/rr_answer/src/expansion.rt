@@ -17,8 +17,10 @@ pub(crate) fn numbers<B: SetBook>(
     name: &SetName,
     limit: usize,
 ) -> Result<Vec<u8>, QueryFault>
-    ensures ok { IfOk result (λ text. IsNumberAnswer (B.contents book.now) limit name.now (Ok text.items)) }
-    ensures fault { IfErr result (λ fault. fault ≢ Memory → IsNumberAnswer (B.contents book.now) limit name.now (Err fault)) }
+    ensures ok { IfOk result
+        (λ text. IsNumberAnswer (B.contents book.now) limit name.now (Ok text.items)) }
+    ensures fault { IfErr result (λ fault. fault ≢ Memory
+        → IsNumberAnswer (B.contents book.now) limit name.now (Err fault)) }
 {
     match expand_as_set(alloc, book, name, limit) {
         Ok(members) => Ok(numbers_text(alloc, &members.found, &members.missing)?),
@@ -35,8 +37,10 @@ pub(crate) fn ranges<B: SetBook>(
     name: &SetName,
     limit: usize,
 ) -> Result<Vec<u8>, QueryFault>
-    ensures ok { IfOk result (λ text. IsRangeAnswer (B.contents book.now) limit name.now (Ok text.items)) }
-    ensures fault { IfErr result (λ fault. fault ≢ Memory → IsRangeAnswer (B.contents book.now) limit name.now (Err fault)) }
+    ensures ok { IfOk result
+        (λ text. IsRangeAnswer (B.contents book.now) limit name.now (Ok text.items)) }
+    ensures fault { IfErr result (λ fault. fault ≢ Memory
+        → IsRangeAnswer (B.contents book.now) limit name.now (Err fault)) }
 {
     match expand_route_set(alloc, book, name, limit) {
         Ok(members) => Ok(ranges_text(alloc, &members.found, &members.missing)?),

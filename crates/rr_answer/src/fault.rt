@@ -9,7 +9,7 @@ use thiserror::Error;
 /// An error of a query, which is answered as the one line `% error n` (profile).
 #[derive(Clone, Copy, Debug, PartialEq, Eq, Error)]
 pub enum QueryFault {
-    /// 1: the text is no query.
+    /// 1: the text is not a query.
     #[error("bad query")]
     Bad,
     /// 2: the text has more than 1,024 bytes.
@@ -18,7 +18,7 @@ pub enum QueryFault {
     /// 3: the expansion would go over the limit.
     #[error("too many members")]
     TooMany,
-    /// 4: memory was refused.
+    /// 4: memory ran out.
     #[error("out of memory")]
     Memory,
     /// 5: the store refused.

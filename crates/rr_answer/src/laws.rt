@@ -1,4 +1,5 @@
-//! Laws of answers and dumps, for readers and for the proofs of other crates. Nothing calls these functions.
+//! Laws of answers and dumps, for readers and for the proofs of other crates. Nothing calls these
+//! functions.
 
 ghost use Rattle.rr_answer.specs.Secrecy.{AnswersKeepSecrets, DumpsKeepSecrets, SourcesAreRead};
 
@@ -7,8 +8,8 @@ pub fn registries_of_a_source_are_read()
     ensures { SourcesAreRead }
 {}
 
-/// Registries whose public objects are equal answer each query alike, under the same limit: what is hidden can't be
-/// asked for.
+/// Registries whose public objects are equal answer each query alike, under the same limit: what is
+/// hidden can't be asked for.
 pub fn answers_keep_secrets()
     ensures { AnswersKeepSecrets }
 {}

@@ -20,7 +20,8 @@ pub enum Query {
     Naming(Name),
     /// The routes of an origin.
     Originated(AsNumber),
-    /// The members of a set, by its kind: AS numbers of an as-set, ranges of a route-set (RFC 2622, 5).
+    /// The members of a set, by its kind: AS numbers of an as-set, ranges of a route-set
+    /// (RFC 2622, 5).
     Expand(SetName),
     /// The ranges of a set of either kind (RFC 2622, 5).
     Prefixes(SetName),

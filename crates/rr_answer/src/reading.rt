@@ -26,11 +26,13 @@ pub fn is_too_long(text: &[u8]) -> bool
     text.len() > MOST_BYTES
 }
 
-/// The query that a text is; letter case is ignored (profile). The fault is `TooLong`, `Bad`, or want of memory.
+/// The query that a text is; letter case is ignored (profile). The fault is `TooLong`, `Bad`, or
+/// that memory ran out.
 #[tactic(auto, unfolding(crate::specs::Queries::query_of))]
 pub fn read_query(alloc: Global, text: &[u8]) -> Result<Query, QueryFault>
     ensures ok { IfOk result (λ query. queries.query_of text.now ≡ Ok query) }
-    ensures fault { IfErr result (λ fault. fault ≢ Memory → queries.query_of text.now ≡ Err fault) }
+    ensures fault { IfErr result
+        (λ fault. fault ≢ Memory → queries.query_of text.now ≡ Err fault) }
 {
     if is_too_long(text) {
         return Err(QueryFault::TooLong);
@@ -67,7 +69,8 @@ fn query_of_text(alloc: Global, text: &[u8]) -> Result<Option<Query>, AllocError
 
 /// The query that the words are, if they are one.
 fn query_of_words(alloc: Global, words: &[&[u8]]) -> Result<Option<Query>, AllocError>
-    ensures { IfOk result (λ query. query ≡ queries.query_of_words (map (λ word. word.now) words.now)) }
+    ensures { IfOk result
+        (λ query. query ≡ queries.query_of_words (map (λ word. word.now) words.now)) }
 {
     match words {
         [] => Ok(None),
@@ -143,7 +146,8 @@ fn query_of_more(
     second: &[u8],
     others: &[&[u8]],
 ) -> Result<Option<Query>, AllocError>
-    ensures { IfOk result (λ query. query ≡ queries.query_of_more verb.now second.now (map (λ word. word.now) others.now)) }
+    ensures { IfOk result (λ query. query
+        ≡ queries.query_of_more verb.now second.now (map (λ word. word.now) others.now)) }
 {
     if is_keyword(verb, b"object") {
         Ok(key_of_words(alloc, second, others)?.map(Query::Object))
@@ -156,7 +160,8 @@ fn query_of_more(
 
 /// The key of the class that the words spell.
 fn key_of_words(alloc: Global, class: &[u8], others: &[&[u8]]) -> Result<Option<Key>, AllocError>
-    ensures { IfOk result (λ key. key ≡ queries.key_of_words class.now (map (λ word. word.now) others.now)) }
+    ensures { IfOk result
+        (λ key. key ≡ queries.key_of_words class.now (map (λ word. word.now) others.now)) }
 {
     let lowered = to_lower(alloc, class)?;
     match Class::named(&lowered) {
@@ -187,7 +192,8 @@ fn inverse_of_words(
     attribute: &[u8],
     others: &[&[u8]],
 ) -> Result<Option<Query>, AllocError>
-    ensures { IfOk result (λ query. query ≡ option_and_then (queries.inverse_of attribute.now) (only (map (λ word. word.now) others.now))) }
+    ensures { IfOk result (λ query. query ≡ option_and_then (queries.inverse_of attribute.now)
+        (only (map (λ word. word.now) others.now))) }
 {
     match others {
         [word] => inverse_of(alloc, attribute, word),

@@ -41,7 +41,8 @@ pub(crate) fn asked<'a, B: Keeper>(
 
 /// The object, if there is one, as a list.
 fn listed(alloc: Global, object: Option<&Object>) -> Result<Vec<&Object>, AllocError>
-    ensures { IfOk result (λ found. lent found.items ≡ cons_option (option_copied object.entry) []) }
+    ensures { IfOk result
+        (λ found. lent found.items ≡ cons_option (option_copied object.entry) []) }
 {
     let mut found = Vec::new(alloc);
     if let Some(object) = object {
@@ -53,7 +54,8 @@ fn listed(alloc: Global, object: Option<&Object>) -> Result<Vec<&Object>, AllocE
 /// The inetnum and the routes of exactly the prefix, each looked up by its key.
 #[tactic(auto, using(crate::proofs::Exact::inetnum_before_routes))]
 fn exact<B: Book>(alloc: Global, book: &B, prefix: Prefix) -> Result<Vec<&Object>, AllocError>
-    ensures { IfOk result (λ found. lent found.items ≡ select.asked (query.Exact prefix) (B.contents book.now)) }
+    ensures { IfOk result
+        (λ found. lent found.items ≡ select.asked (query.Exact prefix) (B.contents book.now)) }
 {
     book.sound();
     prefix.length();
@@ -70,13 +72,14 @@ fn inetnum_of<B: Book>(book: &B, prefix: Prefix) -> Option<&Object>
 }
 
 /// The inetnum, if there is one, before the routes.
-#[tactic(auto, using(crate::proofs::Lists::lent_behind))]
+#[tactic(auto, using(crate::proofs::Lists::lent_after))]
 fn before<'a>(
     alloc: Global,
     inetnum: Option<&'a Object>,
     routes: &[&'a Object],
 ) -> Result<Vec<&'a Object>, AllocError>
-    ensures { IfOk result (λ found. lent found.items ≡ cons_option (option_copied inetnum.entry) (lent routes.now)) }
+    ensures { IfOk result (λ found. lent found.items
+        ≡ cons_option (option_copied inetnum.entry) (lent routes.now)) }
 {
     let mut found = listed(alloc, inetnum)?;
     found.extend_from_slice(routes)?;
@@ -89,7 +92,8 @@ fn naming<'a, B: Keeper>(
     registry: &'a Registry<B>,
     name: &Name,
 ) -> Result<Vec<&'a Object>, AllocError>
-    ensures { IfOk result (λ found. lent found.items ≡ filter (object_names name.now) (values registry.now)) }
+    ensures { IfOk result
+        (λ found. lent found.items ≡ filter (object_names name.now) (values registry.now)) }
 {
     let objects = registry.objects(alloc)?;
     those_naming(alloc, &objects, name)
@@ -101,7 +105,8 @@ fn those_naming<'a>(
     objects: &[&'a Object],
     name: &Name,
 ) -> Result<Vec<&'a Object>, AllocError>
-    ensures { IfOk result (λ found. found.items ≡ filter (λ object. object_names name.now object.now) objects.now) }
+    ensures { IfOk result (λ found. found.items
+        ≡ filter (λ object. object_names name.now object.now) objects.now) }
 {
     objects
         .iter()
@@ -112,7 +117,8 @@ fn those_naming<'a>(
 
 /// The closest inetnum to the prefix, and the closest routes.
 fn closest<B: Book>(alloc: Global, book: &B, prefix: Prefix) -> Result<Vec<&Object>, AllocError>
-    ensures { IfOk result (λ found. lent found.items ≡ select.asked (query.Closest prefix) (B.contents book.now)) }
+    ensures { IfOk result
+        (λ found. lent found.items ≡ select.asked (query.Closest prefix) (B.contents book.now)) }
 {
     let routes = routes_closest(alloc, book, prefix)?;
     before(alloc, book.closest_inetnum(prefix.span()), &routes)
@@ -124,7 +130,8 @@ fn routes_closest<B: Book>(
     book: &B,
     prefix: Prefix,
 ) -> Result<Vec<&Object>, AllocError>
-    ensures { IfOk result (λ found. lent found.items ≡ select.routes_closest (B.contents book.now) prefix) }
+    ensures { IfOk result
+        (λ found. lent found.items ≡ select.routes_closest (B.contents book.now) prefix) }
 {
     match book.closest_routes(prefix) {
         Some(closest) => routes_of(alloc, book, closest),
@@ -135,7 +142,8 @@ fn routes_closest<B: Book>(
 /// The routes of the prefix.
 #[tactic(auto, using(crate::proofs::Routes::routes_of_origins))]
 fn routes_of<B: Book>(alloc: Global, book: &B, prefix: Prefix) -> Result<Vec<&Object>, AllocError>
-    ensures { IfOk result (λ found. lent found.items ≡ filter (select.is_route_of prefix) (values (B.contents book.now))) }
+    ensures { IfOk result (λ found. lent found.items
+        ≡ filter (select.is_route_of prefix) (values (B.contents book.now))) }
 {
     book.sound();
     let origins = book.origins(alloc, prefix)?;
@@ -149,7 +157,8 @@ fn routes_from<'a, B: Book>(
     prefix: Prefix,
     origins: &[AsNumber],
 ) -> Result<Vec<&'a Object>, AllocError>
-    ensures { IfOk result (λ found. lent found.items ≡ filter_map (λ n. get (B.contents book.now) (key.Route prefix n)) origins.now) }
+    ensures { IfOk result (λ found. lent found.items
+        ≡ filter_map (λ n. get (B.contents book.now) (key.Route prefix n)) origins.now) }
 {
     let mut found = Vec::new(alloc);
     for origin in origins {

@@ -19,8 +19,8 @@ const NUMBER_LINE: usize = 13;
 /// The bytes of the longest line with a range, as `192.168.128.128/25^26-30`.
 const RANGE_LINE: usize = 25;
 
-/// The objects as they are answered: the public canonical text of each and an empty line, or `% no entries` where there
-/// is none (profile). The error is want of memory.
+/// The objects as they are answered: the public canonical text of each and an empty line, or `% no
+/// entries` where there is none (profile). The error is that memory ran out.
 #[tactic(auto, unfolding(crate::specs::Texts::objects_text))]
 pub fn objects_text(alloc: Global, objects: &[&Object]) -> Result<Vec<u8>, AllocError>
     ensures { IfOk result (λ text. text.items ≡ texts.objects_text (lent objects.now)) }
@@ -93,7 +93,8 @@ pub(crate) fn numbers_text(
     found: &[AsNumber],
     missing: &[SetName],
 ) -> Result<Vec<u8>, AllocError>
-    ensures { IfOk result (λ text. text.items ≡ texts.members_text as_number_text found.now missing.now) }
+    ensures { IfOk result
+        (λ text. text.items ≡ texts.members_text as_number_text found.now missing.now) }
 {
     let mut text = number_lines(alloc, found)?;
     push_missing(&mut text, missing)?;
@@ -101,7 +102,8 @@ pub(crate) fn numbers_text(
 }
 
 fn number_lines(alloc: Global, found: &[AsNumber]) -> Result<Vec<u8>, AllocError>
-    ensures { IfOk result (λ text. text.items ≡ flat_map (λ n. ended (as_number_text n)) found.now) }
+    ensures { IfOk result
+        (λ text. text.items ≡ flat_map (λ n. ended (as_number_text n)) found.now) }
 {
     let mut text = Vec::with_capacity(alloc, found.len().saturating_mul(NUMBER_LINE))?;
     for number in found {
@@ -117,7 +119,8 @@ pub(crate) fn ranges_text(
     found: &[Range],
     missing: &[SetName],
 ) -> Result<Vec<u8>, AllocError>
-    ensures { IfOk result (λ text. text.items ≡ texts.members_text range_text found.now missing.now) }
+    ensures { IfOk result
+        (λ text. text.items ≡ texts.members_text range_text found.now missing.now) }
 {
     let mut text = range_lines(alloc, found)?;
     push_missing(&mut text, missing)?;
@@ -125,7 +128,8 @@ pub(crate) fn ranges_text(
 }
 
 fn range_lines(alloc: Global, found: &[Range]) -> Result<Vec<u8>, AllocError>
-    ensures { IfOk result (λ text. text.items ≡ flat_map (λ range. ended (range_text range)) found.now) }
+    ensures { IfOk result
+        (λ text. text.items ≡ flat_map (λ range. ended (range_text range)) found.now) }
 {
     let mut text = Vec::with_capacity(alloc, found.len().saturating_mul(RANGE_LINE))?;
     for range in found {
@@ -136,7 +140,8 @@ fn range_lines(alloc: Global, found: &[Range]) -> Result<Vec<u8>, AllocError>
 
 /// Appends the lines of names that are missing.
 fn push_missing(text: &mut Vec<u8>, missing: &[SetName]) -> Result<(), AllocError>
-    ensures { OnOk result (text.new.items ≡ text.old.items ++ flat_map texts.missing_line missing.now) }
+    ensures { OnOk result
+        (text.new.items ≡ text.old.items ++ flat_map texts.missing_line missing.now) }
 {
     for name in missing {
         text.extend_from_slice(b"% missing ")?;

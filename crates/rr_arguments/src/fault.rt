@@ -9,9 +9,9 @@ pub enum ArgumentsFault<'a> {
     Refused(String),
     /// They are none of a command.
     Unexplained,
-    /// This word is no port, which is a number from 1 to 65,535.
+    /// This word is not a port, which is a number from 1 to 65,535.
     Port(&'a str),
-    /// This word is no count, which is a number from 1 to 1,000,000.
+    /// This word is not a count, which is a number from 1 to 1,000,000.
     Count(&'a str),
     /// Memory ran out.
     Memory,

@@ -20,7 +20,7 @@ the hash of its password, the most names that an expansion of a set may reach,
 and the path of the database:
   source = \"TEST\"
   root = \"ROOT-MNT\"
-  auth = \"SHA256-PW salt:digest\"
+  auth = \"SHA256-PW salt:hash\"
   limit = 10000
   store = \"irr.db\"
 This prints the value of `auth` for the salt `salt` and the password `secret`:
@@ -35,7 +35,7 @@ Status:
   5  a file, a stream, a socket, memory, or a dump that is not loaded";
 
 /// What `init` does.
-pub const INIT: &str = "Makes the database of a registry, with its opening objects";
+pub const INIT: &str = "Makes the database of a registry, with its initial objects";
 
 /// `init` by an example.
 pub const INIT_EXAMPLE: &str = "Example:
@@ -108,7 +108,7 @@ dump that was cut between two objects also loads: if its last line is not
 `% end n`, it is not whole.";
 
 /// What `migrate` does.
-pub const MIGRATE: &str = "Migrates a database of version 1, with AS numbers of two octets";
+pub const MIGRATE: &str = "Migrates a database of version 1, with 16-bit AS numbers";
 
 /// `migrate` by an example.
 pub const MIGRATE_EXAMPLE: &str =
@@ -117,7 +117,7 @@ beside it:
   mkdir kept
   cp irr.db* kept/
   irrdesk migrate irr.toml
-prints `migrated to version 2`, which has AS numbers of four octets.";
+prints `migrated to version 2`, which has 32-bit AS numbers.";
 
 /// What `serve` does.
 pub const SERVE: &str = "Answers whois and HTTP on a port of 127.0.0.1, one client at a time";

@@ -133,10 +133,10 @@ below_missed k (e ∷ es) h =
       | Greater ↦ λ g. absurd g
     ] h
 
--- what is found behind the first entry is found in the whole list
-found_behind : (e : Key × Obj) (es : List (Key × Obj)) (k : Key) (o : Obj) → T (below_all key_cmp e.0 es) → find_entry key_cmp k es ≡ Some o
+-- what is found after the first entry is found in the whole list
+found_after : (e : Key × Obj) (es : List (Key × Obj)) (k : Key) (o : Obj) → T (below_all key_cmp e.0 es) → find_entry key_cmp k es ≡ Some o
     → find_entry key_cmp k (e ∷ es) ≡ Some o
-found_behind e es k o below f =
+found_after e es k o below f =
     elim (eq_by_cmp key_cmp k e.0) as (λ b. eq_by_cmp key_cmp k e.0 ≡ b → cond b (Some e.1) (find_entry key_cmp k es) ≡ Some o) [
       | true ↦ λ t.
           let missed : find_entry key_cmp k es ≡ None = ap (λ l. find_entry key_cmp l es) (same_key k e.0 t) ∙ below_missed e.0 es below in
@@ -150,7 +150,7 @@ entry_of o (e ∷ es) sorted (inl same) =
     (e.0, ap (λ b. cond b (Some e.1) (find_entry key_cmp e.0 es)) (tied_key e.0) ∙ ap (λ x. Some x) (sym same))
 entry_of o (e ∷ es) sorted (inr i) =
     let rest = entry_of o es (and_second (below_all key_cmp e.0 es) _ sorted) i in
-    (rest.0, found_behind e es rest.0 o (and_first (below_all key_cmp e.0 es) _ sorted) rest.1)
+    (rest.0, found_after e es rest.0 o (and_first (below_all key_cmp e.0 es) _ sorted) rest.1)
 
 -- what is among the objects of a sound registry stands under its own key
 pub stands_at : (r : Reg) (o : Obj) → Sound r → IsIn o (values r) → get r o.key ≡ Some o

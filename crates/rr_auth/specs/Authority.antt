@@ -11,7 +11,7 @@ use Rattle.rr_object.specs.Objects.{Obj}
 use Rattle.rr_auth.specs.Passing.{names_pass}
 use Rattle.rr_auth.specs.Registries.{Reg}
 
--- Below an object its mnt-lower decides where it has one, else its mnt-by (RFC 2725, 9).
+-- Below an object its mnt-lower decides where it has one, otherwise its mnt-by (RFC 2725, 9).
 abbrev pub lower_of : Obj → List (List ℕ)
 lower_of o = if length o.lower == 0 then o.maintainers else o.lower
 
@@ -26,8 +26,8 @@ is_aut_num (AutNum n) = true
 is_aut_num _ = false
 
 -- For a route of the prefix the entries of an object's mnt-routes that grant it decide, where it
--- has any entry (RFC 2725, 9); else mnt-by of an aut-num, and of another object what decides below
--- it (profile).
+-- has any entry (RFC 2725, 9); otherwise mnt-by of an aut-num, and of another object what decides
+-- below it (profile).
 abbrev pub routes_of : Obj → PrefixParts → List (List ℕ)
 routes_of o p =
     if length o.routes == 0 then (if is_aut_num o.key then o.maintainers else lower_of o)

@@ -1,5 +1,6 @@
 -- The closest objects of a class to a span (RFC 2725, 9).
-use Rattle.std.specs.Prelude.{ℕ, Bool, true, false, not, ◌==◌, ◌&&◌, ◌||◌, List, Option, None}
+use Rattle.std.specs.Prelude.{ℕ, Bool, true, false, not, ◌==◌, ◌&&◌, ◌||◌, List}
+use Rattle.std.specs.Prelude.{Option, None}
 use Rattle.std.specs.Prelude.{Some, nat_le, if◌then◌else◌}
 use Rattle.std.specs.List.{list_all, find, filter_map}
 use Rattle.std.specs.Option.{option_map_or, option_and_then}
@@ -26,7 +27,7 @@ abbrev pub route_span : Key → Option Ends
 route_span (Route p n) = Some (span_of p)
 route_span _ = None
 
--- The object is not of the class, does not cover s, or is no smaller than t.
+-- The object is not of the class, does not cover s, or is not smaller than t.
 abbrev pub is_no_closer : (Key → Option Ends) → Ends → Ends → Obj → Bool
 is_no_closer class s t x =
     option_map_or (λ u. not (covers u s) || nat_le (size t) (size u)) (class x.key) true
@@ -45,8 +46,8 @@ is_cover class s o = option_map_or (λ t. covers t s) (class o.key) false
 abbrev pub closest_of : (Key → Option Ends) → List Obj → Ends → Option Obj
 closest_of class all s = find (is_closest class all s) all
 
--- The closest inetnum of a registry (RFC 2725, 9). In a sound registry there is one at most, since
--- its inetnums do not cross; in another this is the first by key.
+-- The closest inetnum of a registry (RFC 2725, 9). In a sound registry there is one at most,
+-- because its inetnums do not cross; in another this is the first by key.
 abbrev pub closest_inetnum : Reg → Ends → Option Obj
 closest_inetnum r s = closest_of inetnum_span (values r) s
 

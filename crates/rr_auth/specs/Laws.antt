@@ -1,5 +1,6 @@
 -- What every verdict keeps.
-use Rattle.std.specs.Prelude.{◌≡◌, ◌&&◌, ℕ, true, false, not, List, Some, if◌then◌else◌, is_none}
+use Rattle.std.specs.Prelude.{◌≡◌, ◌&&◌, ℕ, true, false, not, List, Some}
+use Rattle.std.specs.Prelude.{if◌then◌else◌, is_none}
 use Rattle.std.specs.List.{list_any}
 use Rattle.std.specs.FinMap.{get, values}
 use Rattle.std.specs.Option.{option_map_or}
@@ -32,13 +33,15 @@ IsItem (Delete k) = Unit {0}
 -- An item that is refused leaves the registry as it was.
 abbrev pub RefusalLeaves : Type 0
 RefusalLeaves =
-    (r : Reg) (secrets : List (List ℕ)) (i : Item) (code : Code) → verdict r secrets i ≡ Refuse code
+    (r : Reg) (secrets : List (List ℕ)) (i : Item) (code : Code)
+    → verdict r secrets i ≡ Refuse code
     → step r secrets i ≡ r
 
 -- A sound registry stays sound, whatever is submitted.
 abbrev pub StaysSound : Type 0
 StaysSound =
-    (r : Reg) (secrets : List (List ℕ)) (i : Item) → Sound r → IsItem i → Sound (step r secrets i)
+    (r : Reg) (secrets : List (List ℕ)) (i : Item) → Sound r → IsItem i
+    → Sound (step r secrets i)
 
 -- A registry of a source stays one, whatever is submitted that is read in that source.
 abbrev pub StaysOfSource : Type 0
@@ -109,7 +112,8 @@ pub record IsClosestWhereCovered (r : Reg) : Type 0 where
   pub blocks : (s : Ends)
       → is_none (closest_block r s) ≡ not (list_any (is_cover block_span s) (values r))
   pub routes : (p : PrefixParts)
-      → is_none (closest_routes r p) ≡ not (list_any (is_cover route_span (span_of p)) (values r))
+      → is_none (closest_routes r p)
+      ≡ not (list_any (is_cover route_span (span_of p)) (values r))
 
 -- In every registry, sound or not, nothing is closest exactly where nothing covers: so E12 is as
 -- RFC 2725, 9 words it.

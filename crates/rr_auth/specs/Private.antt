@@ -1,7 +1,8 @@
 -- What private functions of src promise each other: the parts of `place` in `Verdicts`, one for
 -- each kind of cover, and what a walk over names stands for. The verdict is made of `place` alone,
 -- and no caller reads these.
-use Rattle.std.specs.Prelude.{ℕ, Bool, false, not, ◌&&◌, is_none, List, [], ◌∷◌, map, filter}
+use Rattle.std.specs.Prelude.{ℕ, Bool, false, not, ◌&&◌, is_none, List, [], ◌∷◌, map}
+use Rattle.std.specs.Prelude.{filter}
 use Rattle.std.specs.Prelude.{Option}
 use Rattle.std.specs.Option.{option_map_or}
 use Rattle.rr_number.specs.Prefixes.{PrefixParts, span_of}

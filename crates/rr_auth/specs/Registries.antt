@@ -1,5 +1,6 @@
 -- A registry: a finite map from keys to objects, and when it is sound.
-use Rattle.std.specs.Prelude.{◌≡◌, ℕ, Bool, false, not, ◌&&◌, List, Option, None, Some, is_none}
+use Rattle.std.specs.Prelude.{◌≡◌, ℕ, Bool, false, not, ◌&&◌, List, Option, None, Some}
+use Rattle.std.specs.Prelude.{is_none}
 use Rattle.std.specs.List.{list_any}
 use Rattle.std.specs.FinMap.{FinMap, get, insert, values}
 use Rattle.rr_number.specs.Spans.{crosses}
@@ -53,4 +54,5 @@ pub record Sound (r : Reg) : Type 0 where
   pub keyed : (k : Key) (o : Obj) → get r k ≡ Some o → o.key ≡ k
   pub formed : (k : Key) (o : Obj) → get r k ≡ Some o → IsKeyValue k
   pub named : (k : Key) (o : Obj) → get r k ≡ Some o → names_nobody r (names_of o) ≡ false
-  pub apart : (k l : Key) (o x : Obj) → get r k ≡ Some o → get r l ≡ Some x → keys_cross k l ≡ false
+  pub apart : (k l : Key) (o x : Obj) → get r k ≡ Some o → get r l ≡ Some x
+      → keys_cross k l ≡ false

@@ -19,7 +19,8 @@ some_line_fits secrets lines = list_any (λ line. list_any (fits_line line) secr
 
 -- So many secrets, from the first on, were tried with the lines, and it says whether one of these
 -- fits one of them.
-pub record IsTrial (secrets : List (List ℕ)) (lines : List AuthParts) (trial : Trial) : Type 0 where
+pub record IsTrial (secrets : List (List ℕ)) (lines : List AuthParts)
+    (trial : Trial) : Type 0 where
   pub within : trial.tried ≤ length secrets
   pub told : trial.fits ≡ some_line_fits (take trial.tried secrets) lines
 
@@ -39,14 +40,16 @@ Recalls answers lines trial =
 
 -- Where the answers were right and so much was tried with the lines, the new answers are right.
 abbrev pub Records
-    : BTreeMap (List ℕ) Answer → List AuthParts → Trial → BTreeMap (List ℕ) Answer → Type 0
+    : BTreeMap (List ℕ) Answer → List AuthParts → Trial → BTreeMap (List ℕ) Answer
+    → Type 0
 Records old lines trial new =
     (secrets : List (List ℕ))
     → AreAnswers secrets old → IsTrial secrets lines trial → AreAnswers secrets new
 
 -- The digests of the secrets with a salt, as far as they are wanted: one of the secrets fits a line
 -- of the salt and a wanted digest where this is among them.
-abbrev pub HasDigests : List ℕ → BTreeSet (List ℕ) → List (List ℕ) → BTreeSet (List ℕ) → Type 0
+abbrev pub HasDigests : List ℕ → BTreeSet (List ℕ) → List (List ℕ) → BTreeSet (List ℕ)
+    → Type 0
 HasDigests salt wanted secrets digests =
     (digest : List ℕ) → contains (slice_cmp nat_cmp) wanted digest ≡ true
     → contains (slice_cmp nat_cmp) digests digest
@@ -58,6 +61,7 @@ salt_cmp a b = slice_cmp nat_cmp a.items b.items
 
 -- The wanted digests of the secrets with each salt.
 abbrev pub AreDigests
-    : BTreeSet (List ℕ) → List (List ℕ) → BTreeMap (Vec ℕ) (BTreeSet (List ℕ)) → Type 0
+    : BTreeSet (List ℕ) → List (List ℕ) → BTreeMap (Vec ℕ) (BTreeSet (List ℕ))
+    → Type 0
 AreDigests wanted secrets digests =
     (salt : Vec ℕ) → IfSome (get salt_cmp digests salt) (HasDigests salt.items wanted secrets)

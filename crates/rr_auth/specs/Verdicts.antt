@@ -23,7 +23,7 @@ pub record Refusal : Type 0 where
   pub holds : Bool
   pub code : Code
 
--- The code of the first condition that holds, else the verdict that follows.
+-- The code of the first condition that holds, otherwise the verdict that follows.
 abbrev pub first_of : List Refusal → Verdict → Verdict
 first_of [] v = v
 first_of (c ∷ cs) v = if c.holds then Refuse c.code else first_of cs v
@@ -54,7 +54,7 @@ change r secrets stored o = first_of (
     record { holds = unauthorised r secrets stored; code = E11 } ∷ []))
     (if fields_eq stored.paragraph o.paragraph then Same else Change)
 
--- An object is an addition where no object is stored under its key, else a change of that one
+-- An object is an addition where no object is stored under its key, otherwise a change of that one
 -- (RFC 2725, 9).
 abbrev pub submission : Option Obj → Reg → List (List ℕ) → Obj → Verdict
 submission None r secrets o = addition r secrets o

@@ -16,7 +16,7 @@ use rr_number::{Name, Prefix, Range};
 use rr_object::{Grant, Key, Object};
 use std::alloc::{AllocError, Global};
 
-/// The names that decide below the object: its mnt-lower where it has one, else its mnt-by
+/// The names that decide below the object: its mnt-lower where it has one, otherwise its mnt-by
 /// (RFC 2725, 9).
 pub fn lower_names(object: &Object) -> &[Name]
     ensures { result.now ≡ lower_of object.now }
@@ -29,8 +29,8 @@ pub fn lower_names(object: &Object) -> &[Name]
 }
 
 /// The names that decide about a route of the prefix below the object: those of its mnt-routes that
-/// grant the prefix, where it has mnt-routes; else the mnt-by of an aut-num, and of another object
-/// `lower_names` (RFC 2725, 9; profile). The error is out of memory.
+/// grant the prefix, where it has mnt-routes; otherwise the mnt-by of an aut-num, and of another
+/// object `lower_names` (RFC 2725, 9; profile). The error is out of memory.
 pub fn route_names(alloc: Global, object: &Object, prefix: Prefix) -> Result<Vec<Name>, AllocError>
     ensures { IfOk result (λ names. names.items ≡ routes_of object.now prefix) }
 {
@@ -48,8 +48,8 @@ enum RouteNames<'a> {
     Named(&'a [Name]),
 }
 
-/// Who decides about routes below the object: its mnt-routes where it has any; else the mnt-by of
-/// an aut-num, and of another object `lower_names` (RFC 2725, 9; profile).
+/// Who decides about routes below the object: its mnt-routes where it has any; otherwise the mnt-by
+/// of an aut-num, and of another object `lower_names` (RFC 2725, 9; profile).
 fn names_for_routes(object: &Object) -> RouteNames<'_>
     ensures { (p : PrefixParts) → names_among p result ≡ routes_of object.now p }
 {
@@ -154,7 +154,8 @@ fn some_entry_passes<B: Book>(
     prefix: Prefix,
 ) -> bool
     ensures answer { result ≡ list_any
-        (λ g. grants prefix g && name_passes (B.contents book.now) secrets.old g.name) entries.now }
+        (λ g. grants prefix g && name_passes (B.contents book.now) secrets.old g.name)
+        entries.now }
     ensures same_secrets { secrets.new ≡ secrets.old }
 {
     'entries: for entry in entries {

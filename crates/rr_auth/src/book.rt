@@ -20,7 +20,7 @@ pub trait Book {
 
     ghost contents: { Self → Reg };
 
-    /// Tells a caller's proof that the registry is sound; it does nothing.
+    /// Tells a caller's proof that the registry is sound.
     fn sound(&self)
         ensures { Sound (contents self.now) };
 

@@ -40,7 +40,7 @@ pub fn judge<B: Book>(
     }
 }
 
-/// The verdict on an object: an addition where its key is new, else a change.
+/// The verdict on an object: an addition where its key is new, otherwise a change.
 fn judge_object<B: Book>(
     alloc: Global,
     book: &B,
@@ -63,7 +63,8 @@ fn judge_addition<B: Book>(
     secrets: &mut Secrets,
     object: &Object,
 ) -> Result<Verdict, AllocError>
-    ensures verdict { IfOk result (λ v. v ≡ addition (B.contents book.now) secrets.old object.now) }
+    ensures verdict { IfOk result
+        (λ v. v ≡ addition (B.contents book.now) secrets.old object.now) }
     ensures same_secrets { secrets.new ≡ secrets.old }
 {
     if object_names_nobody(book, Some(object), object) {
@@ -257,7 +258,8 @@ fn judge_space<B: Book>(
     secrets: &mut Secrets,
     prefix: Prefix,
 ) -> Result<Verdict, AllocError>
-    ensures verdict { IfOk result (λ v. v ≡ below_space (B.contents book.now) secrets.old prefix) }
+    ensures verdict { IfOk result
+        (λ v. v ≡ below_space (B.contents book.now) secrets.old prefix) }
     ensures same_secrets { secrets.new ≡ secrets.old }
 {
     match book.closest_routes(prefix) {
@@ -319,7 +321,8 @@ fn route_passes<B: Book>(
     closest: Prefix,
     origin: AsNumber,
 ) -> bool
-    ensures answer { result ≡ route_passes (B.contents book.now) secrets.old prefix closest origin }
+    ensures answer { result
+        ≡ route_passes (B.contents book.now) secrets.old prefix closest origin }
     ensures same_secrets { secrets.new ≡ secrets.old }
 {
     match book.get(&Key::Route(closest, origin)) {

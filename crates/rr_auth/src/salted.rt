@@ -19,7 +19,7 @@ use std::alloc::{AllocError, Global};
 use std::collections::{BTreeMap, BTreeSet};
 
 /// Whether one of the secrets fits one of the lines. Each secret is hashed with each of their salts
-/// once, unless memory is refused: then it is hashed with each line.
+/// once, unless memory runs out: then it is hashed with each line.
 pub(crate) fn some_line_fits(alloc: Global, secrets: &[Secret], lines: &[Auth]) -> bool
     ensures { result ≡ some_line_fits secrets.now lines.now }
 {

@@ -19,7 +19,7 @@ use std::alloc::{AllocError, Global};
 use std::collections::BTreeMap;
 
 /// The answers by the names of the maintainers. An answer about some secrets holds when others are
-/// added after them. When memory is refused, an answer is forgotten, and its maintainer is tried
+/// added after them. When memory runs out, an answer is forgotten, and its maintainer is tried
 /// again.
 #[derive(Drop)]
 pub(crate) struct Tried {

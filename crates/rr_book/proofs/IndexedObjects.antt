@@ -37,7 +37,7 @@ lent_push : (found : List (Bor Obj)) (o : Bor Obj) (os : List Obj) → lent (fou
 lent_push [] o os = refl
 lent_push (x ∷ found) o os = ap (λ ys. x.now ∷ ys) (lent_push found o os)
 
--- a key has led to an object, which was put behind those found
+-- a key has led to an object, which was put after those found
 pub found_more : {K : Type 0} (f : K → Option Obj) (all : List K) (found more : List (Bor Obj)) (o : Bor Obj) (k : K) (left rest : List K)
     → lent found ++ filter_map f left ≡ filter_map f all → left ≡ k ∷ rest → f k ≡ Some o.now → more ≡ found ++ o ∷ []
     → lent more ++ filter_map f rest ≡ filter_map f all

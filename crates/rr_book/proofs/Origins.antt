@@ -37,7 +37,7 @@ by_origin p q n m address length h =
 Above : ℕ → List ℕ → Type 0
 Above n ms = AllByRecursion (λ m. nat_cmp n m ≡ Less) ms
 
--- an object behind a route of the prefix has a higher origin, if it is of the prefix
+-- an object after a route of the prefix has a higher origin, if it is of the prefix
 above_next : (p q : PrefixParts) (n : ℕ) (k : Key) (ms : List ℕ) → same_prefix q p ≡ true → key_cmp (Route q n) k ≡ Less →
     Above n ms → Above n (cons_option (origin_at p k) ms)
 unfolding Above

@@ -88,7 +88,7 @@ both : (a b : Bool) → a ≡ true → T b → T (a && b)
 both true b e h = h
 both false b e h = cc
 
--- a key is below those of objects in order behind it
+-- a key is below those of objects in order after it
 below : (k : Key) (os : List Obj) → T (below_all key_cmp k (map entry os)) → (i : ℕ) (d : Obj) → i < length os → key_cmp k (get_or os i d).key ≡ Less
 below k [] h i d inside = absurd (omega arith)
 below k (x ∷ xs) h zero d inside = is_Less _ (T_parts (is_lt (key_cmp k x.key)) (below_all key_cmp k (map entry xs)) h).0
@@ -122,12 +122,12 @@ place_of_part k (x ∷ xs) (suc i) inside point =
     let here : cond (not (not (is_gt (key_cmp k x.key)))) (1 + place_of k xs) 0 ≡ 1 + place_of k xs = ap (λ b. cond (not (not b)) (1 + place_of k xs) 0) (point.0 0 x (omega arith) (omega arith)) in
     omega (arith, later, here)
 
--- none of the objects behind a key is of it
-none_behind : (k : Key) (os : List Obj) → T (below_all key_cmp k (map entry os)) → find (λ o. eq_by_cmp key_cmp k o.key) os ≡ None
-none_behind k [] h = refl
-none_behind k (x ∷ xs) h =
+-- none of the objects after a key is of it
+none_after : (k : Key) (os : List Obj) → T (below_all key_cmp k (map entry os)) → find (λ o. eq_by_cmp key_cmp k o.key) os ≡ None
+none_after k [] h = refl
+none_after k (x ∷ xs) h =
     let parts = T_parts (is_lt (key_cmp k x.key)) (below_all key_cmp k (map entry xs)) h in
-    ap (λ r. cond (is_eq r) (Some x) (find (λ o. eq_by_cmp key_cmp k o.key) xs)) (is_Less _ parts.0) ∙ none_behind k xs parts.1
+    ap (λ r. cond (is_eq r) (Some x) (find (λ o. eq_by_cmp key_cmp k o.key) xs)) (is_Less _ parts.0) ∙ none_after k xs parts.1
 
 none_from : (k l : Key) (os : List Obj) → key_cmp k l ≡ Less → T (below_all key_cmp l (map entry os)) → T (below_all key_cmp k (map entry os))
 none_from k l [] low h = tt
@@ -148,7 +148,7 @@ search_place k (x ∷ xs) h =
     let parts = T_parts (below_all key_cmp x.key (map entry xs)) (is_sorted key_cmp (map entry xs)) h in
     elim (key_cmp k x.key) as (λ r. key_cmp k x.key ≡ r → cond (is_eq r) (Some x) (find (λ o. eq_by_cmp key_cmp k o.key) xs)
     ≡ option_and_then (λ o. cond (eq_by_cmp key_cmp k o.key) (Some o) None) (slice_get (x ∷ xs) (cond (not (not (is_gt r))) (1 + place_of k xs) 0))) [
-      | Less ↦ λ e. none_behind k xs (none_from k x.key xs e parts.0) ∙ sym (ap (λ r. cond (is_eq r) (Some x) None) e)
+      | Less ↦ λ e. none_after k xs (none_from k x.key xs e parts.0) ∙ sym (ap (λ r. cond (is_eq r) (Some x) None) e)
       | Equal ↦ λ e. sym (ap (λ r. cond (is_eq r) (Some x) None) e)
       | Greater ↦ λ e. search_place k xs parts.1 ∙ ap (option_and_then (λ o. cond (eq_by_cmp key_cmp k o.key) (Some o) None)) (sym (later_get x xs (place_of k xs)))
     ] refl
@@ -190,13 +190,13 @@ found_not_standing k os i e at stands =
     let there : stands_at k os (place_of k os) ≡ false = subst (λ j. stands_at k os j ≡ false) at stands in
     found_at_place k os e ∙ none_standing k (slice_get os (place_of k os)) there
 
--- objects behind a key are others
-others_behind : (k : Key) (os : List Obj) → T (below_all key_cmp k (map entry os)) → filter (λ o. not (eq_by_cmp key_cmp k o.key)) os ≡ os
-others_behind k [] h = refl
-others_behind k (x ∷ xs) h =
+-- objects after a key are others
+others_after : (k : Key) (os : List Obj) → T (below_all key_cmp k (map entry os)) → filter (λ o. not (eq_by_cmp key_cmp k o.key)) os ≡ os
+others_after k [] h = refl
+others_after k (x ∷ xs) h =
     let parts = T_parts (is_lt (key_cmp k x.key)) (below_all key_cmp k (map entry xs)) h in
     ap (λ r. cond (not (is_eq r)) (x ∷ filter (λ o. not (eq_by_cmp key_cmp k o.key)) xs) (filter (λ o. not (eq_by_cmp key_cmp k o.key)) xs)) (is_Less _ parts.0)
-    ∙ ap (λ ys. x ∷ ys) (others_behind k xs parts.1)
+    ∙ ap (λ ys. x ∷ ys) (others_after k xs parts.1)
 
 later_remove : (x : Obj) (xs : List Obj) (n : ℕ) → remove (x ∷ xs) (1 + n) ≡ x ∷ remove xs n
 later_remove x xs n = rw one-add
@@ -219,8 +219,8 @@ others_taken k (x ∷ xs) h =
     let parts = T_parts (below_all key_cmp x.key (map entry xs)) (is_sorted key_cmp (map entry xs)) h in
     let rest = filter (λ o. not (eq_by_cmp key_cmp k o.key)) xs in
     elim (key_cmp k x.key) as (λ r. key_cmp k x.key ≡ r → cond (not (is_eq r)) (x ∷ rest) rest ≡ taken_at k (x ∷ xs) (cond (not (not (is_gt r))) (1 + place_of k xs) 0)) [
-      | Less ↦ λ e. ap (λ ys. x ∷ ys) (others_behind k xs (none_from k x.key xs e parts.0)) ∙ sym (ap (λ r. cond (is_eq r) xs (x ∷ xs)) e)
-      | Equal ↦ λ e. others_behind k xs (subst (λ (l : Key). T (below_all key_cmp l (map entry xs))) (sym (keys_exact k x.key e)) parts.0) ∙ sym (ap (λ r. cond (is_eq r) xs (x ∷ xs)) e)
+      | Less ↦ λ e. ap (λ ys. x ∷ ys) (others_after k xs (none_from k x.key xs e parts.0)) ∙ sym (ap (λ r. cond (is_eq r) xs (x ∷ xs)) e)
+      | Equal ↦ λ e. others_after k xs (subst (λ (l : Key). T (below_all key_cmp l (map entry xs))) (sym (keys_exact k x.key e)) parts.0) ∙ sym (ap (λ r. cond (is_eq r) xs (x ∷ xs)) e)
       | Greater ↦ λ e. ap (λ ys. x ∷ ys) (others_taken k xs parts.1) ∙ sym (later_taken k x xs (place_of k xs))
     ] refl
 

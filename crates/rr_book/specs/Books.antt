@@ -27,4 +27,5 @@ pub record IsBook (os : List Obj) : Type 0 where
 -- The objects with one put into its place, for one of its key that stood there.
 abbrev pub put_in : Obj → List Obj → List Obj
 put_in o [] = o ∷ []
-put_in o (x ∷ xs) = by_order (key_cmp o.key x.key) (o ∷ (x ∷ xs)) (o ∷ xs) (x ∷ put_in o xs)
+put_in o (x ∷ xs) =
+    by_order (key_cmp o.key x.key) (o ∷ (x ∷ xs)) (o ∷ xs) (x ∷ put_in o xs)

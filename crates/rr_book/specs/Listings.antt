@@ -9,7 +9,8 @@ use Rattle.rr_object.specs.declared.key.Key.TheVariants.{Inetnum, Route}
 use Rattle.rr_object.specs.Objects.{Obj}
 use Rattle.rr_auth.specs.Registries.{Reg}
 
--- The span of an inetnum, and that of a route's prefix; a key of another class has no addresses (profile).
+-- The span of an inetnum, and that of a route's prefix; a key of another class has no addresses
+-- (profile).
 abbrev pub addresses : Key → Option Ends
 addresses (Inetnum s) = Some s
 addresses (Route p n) = Some (span_of p)

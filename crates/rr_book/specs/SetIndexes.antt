@@ -15,18 +15,23 @@ use Rattle.rr_book.specs.SetLists.{names_set}
 
 -- Whether the key stands under the set of the name.
 abbrev pub stands_under : BTreeMap (List ℕ) (BTreeSet Key) → List ℕ → Key → Bool
-stands_under sets name key = option_map_or (λ keys. contains key_cmp keys key) (keys_at (slice_cmp nat_cmp) sets name) false
+stands_under sets name key =
+    option_map_or (λ keys. contains key_cmp keys key) (keys_at (slice_cmp nat_cmp) sets name) false
 
--- Whether the key is the object's, and the object names the set in its `member-of`, which is none that is left out
--- (profile).
+-- Whether the key is the object's, and the object names the set in its `member-of`, which is none
+-- that is left out (profile).
 abbrev pub is_meant : Obj → (List ℕ → Bool) → List ℕ → Key → Bool
-is_meant o is_left_out name key = eq_by_cmp key_cmp o.key key && (names_set name o && not (is_left_out name))
+is_meant o is_left_out name key =
+    eq_by_cmp key_cmp o.key key && (names_set name o && not (is_left_out name))
 
--- Under a set stand the keys of the registered objects that name it in their `member-of`, and no others (RFC 2622, 5).
+-- Under a set stand the keys of the registered objects that name it in their `member-of`, and no
+-- others (RFC 2622, 5).
 abbrev pub HasReferrers : Reg → BTreeMap (List ℕ) (BTreeSet Key) → Type 0
-HasReferrers r sets = (name : List ℕ) (key : Key) → stands_under sets name key ≡ option_map_or (names_set name) (get r key) false
+HasReferrers r sets = (name : List ℕ) (key : Key)
+    → stands_under sets name key ≡ option_map_or (names_set name) (get r key) false
 
--- Objects in order whose registry is sound, and under each set the keys of those that name it (profile).
+-- Objects in order whose registry is sound, and under each set the keys of those that name it
+-- (profile).
 pub record IsIndexed (os : List Obj) (sets : BTreeMap (List ℕ) (BTreeSet Key)) : Type 0 where
   pub book : IsBook os
   pub referrers : HasReferrers (book_of os) sets

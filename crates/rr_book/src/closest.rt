@@ -3,13 +3,15 @@
 ghost use Rattle.std.specs.Prelude.{◌≡◌};
 ghost use Rattle.std.specs.List.{list_all};
 ghost use Rattle.std.specs.Option.{option_copied};
-ghost use Rattle.rr_auth.specs.Closest.{closest_of, is_closest, is_no_closer, block_span, inetnum_span, prefix_of_closest, route_prefix, route_span};
+ghost use Rattle.rr_auth.specs.Closest.{closest_of, is_closest, is_no_closer, block_span};
+ghost use Rattle.rr_auth.specs.Closest.{inetnum_span, prefix_of_closest, route_prefix, route_span};
 ghost use Rattle.rr_book.specs.Private.{span_in};
 
 use rr_number::{Prefix, Span};
 use rr_object::{Class, Key, Object};
 
-/// The closest object of the class to the span. Only objects that cover the span are compared with the others.
+/// The closest object of the class to the span. Only objects that cover the span are compared with
+/// the others.
 pub(crate) fn closest<'a>(objects: &'a [Object], class: Class, span: Span) -> Option<&'a Object>
     ensures { option_copied result ≡ closest_of (span_in class) objects.now span }
 {

@@ -8,7 +8,7 @@ use rr_object::{Key, Object};
 use rr_sets::SetBook;
 use std::alloc::{AllocError, Global};
 
-/// A book that a registry is kept in. The errors are want of memory.
+/// A book that a registry is kept in. The errors are that memory ran out.
 pub trait Keeper: SetBook {
     ghost use Rattle.rr_auth.specs.Registries.{Sound};
     ghost use Rattle.rr_book.specs.Books.{book_of, IsBook};
@@ -24,11 +24,12 @@ pub trait Keeper: SetBook {
         requires { IsBook objects.items }
         ensures { IfOk result (λ book. Self.contents book ≡ book_of objects.items) };
 
-    /// Puts the object under its key, in place of one that stood there. The registry has to stay sound. The error
-    /// leaves the book as it was.
+    /// Puts the object under its key, in place of one that stood there. The registry has to stay
+    /// sound. The error leaves the book as it was.
     fn insert(&mut self, alloc: Global, object: Object) -> Result<(), AllocError>
         requires { Sound (insert (Self.contents self.old) object.key object) }
-        ensures ok { OnOk result (Self.contents self.new ≡ insert (Self.contents self.old) object.key object) }
+        ensures ok { OnOk result
+            (Self.contents self.new ≡ insert (Self.contents self.old) object.key object) }
         ensures err { OnErr result (Self.contents self.new ≡ Self.contents self.old) };
 
     /// Takes the object of the key out, if there is one. The registry has to stay sound.
@@ -38,13 +39,18 @@ pub trait Keeper: SetBook {
 
     /// The objects in the order of class and key.
     fn objects(&self, alloc: Global) -> Result<Vec<&Object>, AllocError>
-        ensures { IfOk result (λ objects. lent objects.items ≡ values (Self.contents self.now)) };
+        ensures { IfOk result
+            (λ objects. lent objects.items ≡ values (Self.contents self.now)) };
 
-    /// The inetnums and routes whose addresses cover the span, in the order of class and key; equal ones count.
+    /// The inetnums and routes whose addresses cover the span, in the order of class and key; equal
+    /// ones count.
     fn covering(&self, alloc: Global, span: Span) -> Result<Vec<&Object>, AllocError>
-        ensures { IfOk result (λ found. lent found.items ≡ covering (Self.contents self.now) span) };
+        ensures { IfOk result
+            (λ found. lent found.items ≡ covering (Self.contents self.now) span) };
 
-    /// The inetnums and routes whose addresses lie inside the span, in the order of class and key; equal ones count.
+    /// The inetnums and routes whose addresses lie inside the span, in the order of class and key;
+    /// equal ones count.
     fn inside(&self, alloc: Global, span: Span) -> Result<Vec<&Object>, AllocError>
-        ensures { IfOk result (λ found. lent found.items ≡ inside (Self.contents self.now) span) };
+        ensures { IfOk result
+            (λ found. lent found.items ≡ inside (Self.contents self.now) span) };
 }

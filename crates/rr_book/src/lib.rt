@@ -1,5 +1,5 @@
-//! The book of a registry in memory: objects in the order of their keys, what an item is judged by, and the lists that
-//! expansions of sets ask for.
+//! The book of a registry in memory: objects in the order of their keys, what an item is judged by,
+//! and the lists that expansions of sets ask for.
 #![tactic(auto)]
 
 mod closest;

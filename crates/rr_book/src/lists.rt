@@ -1,6 +1,7 @@
 //! Scans of lists of objects.
 
-ghost use Rattle.std.specs.Prelude.{◌≡◌, ◌<◌, ◌≤◌, not, true, find, filter, length, OnOk, OnErr, IfOk, IfErr, IsTrue};
+ghost use Rattle.std.specs.Prelude.{◌≡◌, ◌<◌, ◌≤◌, not, true, find, filter, length};
+ghost use Rattle.std.specs.Prelude.{OnOk, OnErr, IfOk, IfErr, IsTrue};
 ghost use Rattle.std.specs.List.{list_any};
 ghost use Rattle.std.specs.Option.{option_copied};
 ghost use Rattle.std.specs.Ordering.{eq_by_cmp, is_gt};
@@ -149,13 +150,15 @@ fn is_same_prefix(prefix: Prefix, other: Prefix) -> bool
     prefix.address().to_bits() == other.address().to_bits() && prefix.length() == other.length()
 }
 
-/// Puts the object into its place among objects in the order of their keys, for one of its key that stood there, which
-/// is given back; the error is want of memory and gives the new one back.
+/// Puts the object into its place among objects in the order of their keys, for one of its key that
+/// stood there, which is given back; the error is that memory ran out, and it gives the new one
+/// back.
 #[tactic(auto, using(crate::proofs::Places::put_in_place))]
 pub fn put(objects: &mut Vec<Object>, object: Object) -> Result<Option<Object>, AllocFailed<Object>>
     requires { is_in_order objects.old.items ≡ true }
     ensures ok { OnOk result (objects.new.items ≡ put_in object objects.old.items) }
-    ensures old { IfOk result (λ old. old ≡ find (λ o. eq_by_cmp key_cmp object.key o.key) objects.old.items) }
+    ensures old { IfOk result
+        (λ old. old ≡ find (λ o. eq_by_cmp key_cmp object.key o.key) objects.old.items) }
     ensures err { OnErr result (objects.new.items ≡ objects.old.items) }
     ensures returned { IfErr result (λ refused. refused.value ≡ object) }
 {
@@ -191,7 +194,8 @@ fn stands_at(objects: &[Object], key: &Key, place: usize) -> bool
 /// Takes the object of the key out, among objects in the order of their keys.
 pub(crate) fn remove(objects: &mut Vec<Object>, key: &Key) -> Option<Object>
     requires { is_in_order objects.old.items ≡ true }
-    ensures rest { objects.new.items ≡ filter (λ o. not (eq_by_cmp key_cmp key.now o.key)) objects.old.items }
+    ensures rest { objects.new.items
+        ≡ filter (λ o. not (eq_by_cmp key_cmp key.now o.key)) objects.old.items }
     ensures old { result ≡ find (λ o. eq_by_cmp key_cmp key.now o.key) objects.old.items }
 {
     let at = place(objects, key);

@@ -14,8 +14,8 @@ use rr_object::{Class, Key, Object};
 use std::alloc::{AllocError, Global};
 use std::marker::Model;
 
-/// Objects in the order of class and key, and their keys under the sets that they name in `member-of`; contracts see
-/// the finite map from keys to objects. It is always sound.
+/// Objects in the order of class and key, and their keys under the sets that they name in
+/// `member-of`; contracts see the finite map from keys to objects. It is always sound.
 #[derive(Drop)]
 pub struct PlainBook {
     objects: Vec<Object>,
@@ -41,8 +41,8 @@ impl Model for PlainBook {
 }
 
 impl PlainBook {
-    /// The objects whose `member-of` names the set, in the order of class and key; the error is want of memory. It
-    /// takes O(k log n) steps for k of n objects.
+    /// The objects whose `member-of` names the set, in the order of class and key; the error is
+    /// that memory ran out. It takes O(k log n) steps for k of n objects.
     pub(crate) fn objects_that_name(
         &self,
         alloc: Global,

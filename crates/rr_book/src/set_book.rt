@@ -1,5 +1,5 @@
-//! The lists that expansions of sets ask for: of a class or an origin by one pass over the objects, of referrers by the
-//! keys under the set.
+//! The lists that expansions of sets ask for: of a class or an origin by one pass over the objects,
+//! of referrers by the keys under the set.
 
 ghost use Rattle.std.specs.Prelude.{◌≡◌, IfOk, filter};
 ghost use Rattle.std.specs.List.{filter_map};
@@ -66,7 +66,8 @@ fn objects_originated(
     objects: &[Object],
     origin: AsNumber,
 ) -> Result<Vec<&Object>, AllocError>
-    ensures { IfOk result (λ found. lent found.items ≡ filter (is_originated origin) objects.now) }
+    ensures { IfOk result
+        (λ found. lent found.items ≡ filter (is_originated origin) objects.now) }
 {
     objects
         .iter()
@@ -90,7 +91,8 @@ fn prefixes_from(
     objects: &[Object],
     origin: AsNumber,
 ) -> Result<Vec<Prefix>, AllocError>
-    ensures { IfOk result (λ found. found.items ≡ filter_map (λ o. prefix_from origin o.key) objects.now) }
+    ensures { IfOk result
+        (λ found. found.items ≡ filter_map (λ o. prefix_from origin o.key) objects.now) }
 {
     objects
         .iter()

@@ -1,6 +1,7 @@
 //! Which objects name which sets in their `member-of`.
 
-ghost use Rattle.std.specs.Prelude.{◌≡◌, ◌&&◌, ◌||◌, ℕ, List, true, false, find, not, IfOk, OnOk, OnErr, IsTrue};
+ghost use Rattle.std.specs.Prelude.{◌≡◌, ◌&&◌, ◌||◌, ℕ, List, true, false, find};
+ghost use Rattle.std.specs.Prelude.{not, IfOk, OnOk, OnErr, IsTrue};
 ghost use Rattle.std.specs.BTreeMap.{get};
 ghost use Rattle.std.specs.BTreeSet.{contains};
 ghost use Rattle.std.specs.Cmp.Lexicographic.{slice_cmp};
@@ -28,7 +29,8 @@ pub struct SetIndex {
     keys: BTreeMap<SetName, BTreeSet<Key>>,
 }
 
-/// The sets that an object names in its `member-of`, and those that the one in whose place it comes named there.
+/// The sets that an object names in its `member-of`, and those that the one in whose place it comes
+/// named there.
 #[derive(Drop)]
 pub(crate) struct NamedSets {
     pub(crate) before: BTreeSet<SetName>,
@@ -47,7 +49,8 @@ impl SetIndex {
 
     /// The keys of the objects, under the sets that these name.
     pub fn of(alloc: Global, objects: &[Object]) -> Result<SetIndex, AllocError>
-        ensures { IfOk result (λ referrers. (name : List ℕ) (key : Key) → stands_under referrers.keys name key ≡
+        ensures { IfOk result (λ referrers. (name : List ℕ) (key : Key)
+            → stands_under referrers.keys name key ≡
             list_any (λ o. names_set name o && eq_by_cmp key_cmp o.key key) objects.now) }
     {
         let mut referrers = SetIndex::new(alloc);
@@ -65,23 +68,29 @@ impl SetIndex {
         self.keys.get(name)
     }
 
-    /// Puts the key of an object that comes in place of another, if there is one, under each set that it names and the
-    /// other does not, where it stands under none of them. It gives the sets that each names; the error is want of memory
-    /// and changes nothing.
+    /// Puts the key of an object that comes in place of another, if there is one, under each set
+    /// that it names and the other does not, where it stands under none of them. It gives the sets
+    /// that each names; the error is that memory ran out, and nothing changes.
     pub(crate) fn enter(
         &mut self,
         alloc: Global,
         object: &Object,
         other: Option<&Object>,
     ) -> Result<NamedSets, AllocError>
-        requires { (name : List ℕ) (key : Key) → IsTrue (is_meant object.now (λ set. option_map_or (names_set set) (option_copied other) false) name key)
+        requires { (name : List ℕ) (key : Key) → IsTrue (is_meant object.now
+            (λ set. option_map_or (names_set set) (option_copied other) false) name key)
             → stands_under self.old.keys name key ≡ false }
-        ensures before { IfOk result (λ sets. (name : List ℕ) → contains (slice_cmp nat_cmp) sets.before name ≡
+        ensures before { IfOk result
+            (λ sets. (name : List ℕ) → contains (slice_cmp nat_cmp) sets.before name ≡
             option_map_or (names_set name) (option_copied other.entry) false) }
-        ensures after { IfOk result (λ sets. (name : List ℕ) → contains (slice_cmp nat_cmp) sets.after name ≡ names_set name object.now) }
-        ensures ok { IfOk result (λ sets. (name : List ℕ) (key : Key) → stands_under self.new.keys name key ≡
-            (stands_under self.old.keys name key || is_meant object.now (contains (slice_cmp nat_cmp) sets.before) name key)) }
-        ensures err { OnErr result ((name : List ℕ) (key : Key) → stands_under self.new.keys name key ≡ stands_under self.old.keys name key) }
+        ensures after { IfOk result (λ sets. (name : List ℕ)
+            → contains (slice_cmp nat_cmp) sets.after name ≡ names_set name object.now) }
+        ensures ok { IfOk result
+            (λ sets. (name : List ℕ) (key : Key) → stands_under self.new.keys name key ≡
+            (stands_under self.old.keys name key
+            || is_meant object.now (contains (slice_cmp nat_cmp) sets.before) name key)) }
+        ensures err { OnErr result ((name : List ℕ) (key : Key)
+            → stands_under self.new.keys name key ≡ stands_under self.old.keys name key) }
     {
         let before = sets_named(alloc, other)?;
         let after = sets_named(alloc, Some(object))?;
@@ -89,18 +98,23 @@ impl SetIndex {
         Ok(NamedSets { before, after })
     }
 
-    /// Puts the object's key, which stands under none of them, under each set that it names, save the others. The error
-    /// is want of memory and changes nothing.
+    /// Puts the object's key, which stands under none of them, under each set that it names, save
+    /// the others. The error is that memory ran out, and nothing changes.
     pub fn add(
         &mut self,
         alloc: Global,
         object: &Object,
         others: &BTreeSet<SetName>,
     ) -> Result<(), AllocError>
-        requires { (name : List ℕ) (key : Key) → IsTrue (is_meant object.now (contains (slice_cmp nat_cmp) others.now) name key) → stands_under self.old.keys name key ≡ false }
-        ensures ok { OnOk result ((name : List ℕ) (key : Key) → stands_under self.new.keys name key ≡
-            (stands_under self.old.keys name key || is_meant object.now (contains (slice_cmp nat_cmp) others.now) name key)) }
-        ensures err { OnErr result ((name : List ℕ) (key : Key) → stands_under self.new.keys name key ≡ stands_under self.old.keys name key) }
+        requires { (name : List ℕ) (key : Key)
+            → IsTrue (is_meant object.now (contains (slice_cmp nat_cmp) others.now) name key)
+            → stands_under self.old.keys name key ≡ false }
+        ensures ok { OnOk result
+            ((name : List ℕ) (key : Key) → stands_under self.new.keys name key ≡
+            (stands_under self.old.keys name key
+            || is_meant object.now (contains (slice_cmp nat_cmp) others.now) name key)) }
+        ensures err { OnErr result ((name : List ℕ) (key : Key)
+            → stands_under self.new.keys name key ≡ stands_under self.old.keys name key) }
     {
         match self.add_each(alloc, object, others) {
             Ok(()) => Ok(()),
@@ -111,19 +125,24 @@ impl SetIndex {
         }
     }
 
-    /// Puts the object's key under each set that it names, save the others. Where memory is wanting it may stand under
-    /// some of them.
+    /// Puts the object's key under each set that it names, save the others. If memory runs out it
+    /// may stand under some of them.
     fn add_each(
         &mut self,
         alloc: Global,
         object: &Object,
         others: &BTreeSet<SetName>,
     ) -> Result<(), AllocError>
-        ensures ok { OnOk result ((name : List ℕ) (key : Key) → stands_under self.new.keys name key ≡
-            (stands_under self.old.keys name key || is_meant object.now (contains (slice_cmp nat_cmp) others.now) name key)) }
-        ensures some { OnErr result ((name : List ℕ) (key : Key) → IsTrue (stands_under self.new.keys name key) →
-            IsTrue (stands_under self.old.keys name key || is_meant object.now (contains (slice_cmp nat_cmp) others.now) name key)) }
-        ensures kept { OnErr result ((name : List ℕ) (key : Key) → IsTrue (stands_under self.old.keys name key) → IsTrue (stands_under self.new.keys name key)) }
+        ensures ok { OnOk result
+            ((name : List ℕ) (key : Key) → stands_under self.new.keys name key ≡
+            (stands_under self.old.keys name key
+            || is_meant object.now (contains (slice_cmp nat_cmp) others.now) name key)) }
+        ensures some { OnErr result
+            ((name : List ℕ) (key : Key) → IsTrue (stands_under self.new.keys name key) →
+            IsTrue (stands_under self.old.keys name key
+            || is_meant object.now (contains (slice_cmp nat_cmp) others.now) name key)) }
+        ensures kept { OnErr result ((name : List ℕ) (key : Key) → IsTrue (stands_under
+            self.old.keys name key) → IsTrue (stands_under self.new.keys name key)) }
     {
         for name in object.member_of() {
             if !others.contains(name) {
@@ -135,9 +154,12 @@ impl SetIndex {
 
     /// Puts the key under the set.
     fn add_under(&mut self, alloc: Global, name: &SetName, key: &Key) -> Result<(), AllocError>
-        ensures ok { OnOk result ((other : List ℕ) (k : Key) → stands_under self.new.keys other k ≡
-            (stands_under self.old.keys other k || (bytes_eq name.now other && eq_by_cmp key_cmp key.now k))) }
-        ensures err { OnErr result ((other : List ℕ) (k : Key) → stands_under self.new.keys other k ≡ stands_under self.old.keys other k) }
+        ensures ok { OnOk result
+            ((other : List ℕ) (k : Key) → stands_under self.new.keys other k ≡
+            (stands_under self.old.keys other k
+            || (bytes_eq name.now other && eq_by_cmp key_cmp key.now k))) }
+        ensures err { OnErr result ((other : List ℕ) (k : Key)
+            → stands_under self.new.keys other k ≡ stands_under self.old.keys other k) }
     {
         let key = key.copy(alloc)?;
         match self.keys.get_mut(name) {
@@ -156,7 +178,8 @@ impl SetIndex {
     /// Takes the object's key from under each set that it names, save the others.
     pub fn take(&mut self, object: &Object, others: &BTreeSet<SetName>)
         ensures { (name : List ℕ) (key : Key) → stands_under self.new.keys name key ≡
-            (stands_under self.old.keys name key && not (is_meant object.now (contains (slice_cmp nat_cmp) others.now) name key)) }
+            (stands_under self.old.keys name key
+            && not (is_meant object.now (contains (slice_cmp nat_cmp) others.now) name key)) }
     {
         for name in object.member_of() {
             if !others.contains(name) {
@@ -165,10 +188,12 @@ impl SetIndex {
         }
     }
 
-    /// Takes the key of an object that is given up from under each set that it names, save the others.
+    /// Takes the key of an object that is given up from under each set that it names, save the
+    /// others.
     pub(crate) fn give_up(&mut self, object: Object, others: &BTreeSet<SetName>)
         ensures { (name : List ℕ) (key : Key) → stands_under self.new.keys name key ≡
-            (stands_under self.old.keys name key && not (is_meant object (contains (slice_cmp nat_cmp) others.now) name key)) }
+            (stands_under self.old.keys name key
+            && not (is_meant object (contains (slice_cmp nat_cmp) others.now) name key)) }
     {
         self.take(&object, others);
     }
@@ -176,7 +201,8 @@ impl SetIndex {
     /// Takes the object's key from under each set that it names.
     pub fn take_all(&mut self, object: &Object)
         ensures { (name : List ℕ) (key : Key) → stands_under self.new.keys name key ≡
-            (stands_under self.old.keys name key && not (is_meant object.now (λ other. false) name key)) }
+            (stands_under self.old.keys name key
+            && not (is_meant object.now (λ other. false) name key)) }
     {
         for name in object.member_of() {
             self.take_from(name, object.key());
@@ -186,7 +212,8 @@ impl SetIndex {
     /// Takes the key from under the set.
     fn take_from(&mut self, name: &SetName, key: &Key)
         ensures { (other : List ℕ) (k : Key) → stands_under self.new.keys other k ≡
-            (stands_under self.old.keys other k && not (bytes_eq name.now other && eq_by_cmp key_cmp key.now k)) }
+            (stands_under self.old.keys other k
+            && not (bytes_eq name.now other && eq_by_cmp key_cmp key.now k)) }
     {
         if self.take_key(name, key) {
             self.keys.remove(name);
@@ -196,8 +223,10 @@ impl SetIndex {
     /// Takes the key from among those of the set, and says whether none is left.
     fn take_key(&mut self, name: &SetName, key: &Key) -> bool
         ensures taken { (other : List ℕ) (k : Key) → stands_under self.new.keys other k ≡
-            (stands_under self.old.keys other k && not (bytes_eq name.now other && eq_by_cmp key_cmp key.now k)) }
-        ensures empty { IsTrue result → (k : Key) → stands_under self.new.keys name.now k ≡ false }
+            (stands_under self.old.keys other k
+            && not (bytes_eq name.now other && eq_by_cmp key_cmp key.now k)) }
+        ensures empty { IsTrue result → (k : Key)
+            → stands_under self.new.keys name.now k ≡ false }
     {
         match self.keys.get_mut(name) {
             Some(keys) => {
@@ -239,7 +268,8 @@ pub(crate) fn objects_of<'a>(
     keys: &BTreeSet<Key>,
 ) -> Result<Vec<&'a Object>, AllocError>
     requires { is_in_order objects.now ≡ true }
-    ensures found { IfOk result (λ found. lent found.items ≡ filter_map (λ key. find (λ o. eq_by_cmp key_cmp key o.key) objects.now) keys.now.keys) }
+    ensures found { IfOk result (λ found. lent found.items ≡ filter_map
+        (λ key. find (λ o. eq_by_cmp key_cmp key o.key) objects.now) keys.now.keys) }
     ensures ordered { IsStrictlySortedBy ⟦<Key as Ord>⟧.cmp keys.now.keys }
 {
     let mut found = Vec::new(alloc);

@@ -13,6 +13,7 @@ is_blank b = (b == 32) || ((b == 9) || (b == 13))
 abbrev pub is_blank_or_line_feed : ℕ → Bool
 is_blank_or_line_feed b = is_blank b || is_line_feed b
 
--- Commas or blanks stand between the items of a list: an LF ends a line and stands in no value (RFC 2622, 2).
+-- Commas or blanks stand between the items of a list: an LF ends a line and stands in no value
+-- (RFC 2622, 2).
 abbrev pub is_blank_or_comma : ℕ → Bool
 is_blank_or_comma b = (b == 44) || is_blank b

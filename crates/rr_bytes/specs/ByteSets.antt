@@ -1,7 +1,8 @@
 -- Sets of bytes, as code names them.
 use Rattle.std.specs.Prelude.{ℕ, Bool}
 use Rattle.rr_bytes.specs.declared.byte_set.ByteSet.{ByteSet}
-use Rattle.rr_bytes.specs.declared.byte_set.ByteSet.TheVariants.{Blanks, BlanksAndLineFeeds, BlanksAndCommas}
+use Rattle.rr_bytes.specs.declared.byte_set.ByteSet.TheVariants.{Blanks, BlanksAndLineFeeds}
+use Rattle.rr_bytes.specs.declared.byte_set.ByteSet.TheVariants.{BlanksAndCommas}
 use Rattle.rr_bytes.specs.Blanks.{is_blank, is_blank_or_comma, is_blank_or_line_feed}
 
 -- A byte is one of a set where it passes the set's test (profile).

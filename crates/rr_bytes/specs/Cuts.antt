@@ -1,5 +1,6 @@
 -- Texts cut at a byte.
-use Rattle.std.specs.Prelude.{ℕ, ◌==◌, List, length, Option, Some, None, nat_lt, if◌then◌else◌, drop}
+use Rattle.std.specs.Prelude.{ℕ, ◌==◌, List, length, Option, Some, None, nat_lt}
+use Rattle.std.specs.Prelude.{if◌then◌else◌, drop}
 use Rattle.std.specs.List.{before_first, after_first, position_or_len}
 
 -- The parts of the text before and after its first separator, if it has one (profile).

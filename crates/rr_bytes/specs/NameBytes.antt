@@ -1,5 +1,6 @@
 -- What names are made of.
-use Rattle.std.specs.Prelude.{ℕ, Bool, false, ◌-◌, ◌==◌, ◌&&◌, ◌||◌, List, [], ◌∷◌, length, nat_le, slice_get}
+use Rattle.std.specs.Prelude.{ℕ, Bool, false, ◌-◌, ◌==◌, ◌&&◌, ◌||◌, List, []}
+use Rattle.std.specs.Prelude.{◌∷◌, length, nat_le, slice_get}
 use Rattle.std.specs.Char.{is_ascii_alphabetic, is_ascii_alphanumeric}
 use Rattle.std.specs.List.{list_all}
 use Rattle.std.specs.Option.{option_map_or}
@@ -19,13 +20,17 @@ begins_with_letter text = begins is_ascii_alphabetic text
 
 -- A text ends with a letter or a digit.
 abbrev pub ends_with_alphanumeric : List ℕ → Bool
-ends_with_alphanumeric text = option_map_or is_ascii_alphanumeric (slice_get text (length text - 1)) false
+ends_with_alphanumeric text =
+    option_map_or is_ascii_alphanumeric (slice_get text (length text - 1)) false
 
 -- An attribute's name has 1 to 64 of these bytes, the first a letter (profile).
 abbrev pub is_attribute_name : List ℕ → Bool
-is_attribute_name text = begins_with_letter text && list_all is_name_byte text && nat_le (length text) 64
+is_attribute_name text =
+    begins_with_letter text && list_all is_name_byte text && nat_le (length text) 64
 
--- A name has 1 to 80 (profile) of these bytes, the first a letter, the last a letter or a digit (RFC 2622, 2).
+-- A name has 1 to 80 (profile) of these bytes, the first a letter, the last a letter or a digit
+-- (RFC 2622, 2).
 unfoldable pub is_name : List ℕ → Bool
 is_name text =
-    nat_le (length text) 80 && (list_all is_name_byte text && (begins_with_letter text && ends_with_alphanumeric text))
+    nat_le (length text) 80
+    && (list_all is_name_byte text && (begins_with_letter text && ends_with_alphanumeric text))

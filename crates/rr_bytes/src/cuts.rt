@@ -28,8 +28,8 @@ pub fn cut_at(text: &[u8], byte: u8) -> Option<(&[u8], &[u8])>
     Some((before, after))
 }
 
-/// What stands before the first such byte of the text, and the rest, which begins with it; all of the text and nothing
-/// where it has none.
+/// What stands before the first such byte of the text, and the rest, which begins with it; all of
+/// the text and nothing where it has none.
 #[inline]
 pub fn cut_before(text: &[u8], byte: u8) -> (&[u8], &[u8])
     ensures front { result.0.now ≡ before_first (λ b. b == byte) text.now }
@@ -38,7 +38,8 @@ pub fn cut_before(text: &[u8], byte: u8) -> (&[u8], &[u8])
     text.split_at(end_of_front(text, byte))
 }
 
-/// What stands before and after the first such byte of the text; all of the text and nothing where it has none.
+/// What stands before and after the first such byte of the text; all of the text and nothing where
+/// it has none.
 #[inline]
 pub fn cut_around(text: &[u8], byte: u8) -> (&[u8], &[u8])
     ensures front { result.0.now ≡ before_first (λ b. b == byte) text.now }

@@ -14,7 +14,7 @@ pub fn is_keyword(text: &[u8], word: &[u8]) -> bool
     text.eq_ignore_ascii_case(word)
 }
 
-/// The text with its letters in upper case; the error is want of memory.
+/// The text with its letters in upper case; the error is that memory ran out.
 pub fn to_upper(alloc: Global, text: &[u8]) -> Result<Vec<u8>, AllocError>
     ensures { IfOk result (λ bytes. bytes.items ≡ upper text.now) }
 {
@@ -23,7 +23,7 @@ pub fn to_upper(alloc: Global, text: &[u8]) -> Result<Vec<u8>, AllocError>
     Ok(bytes)
 }
 
-/// The text with its letters in lower case; the error is want of memory.
+/// The text with its letters in lower case; the error is that memory ran out.
 pub fn to_lower(alloc: Global, text: &[u8]) -> Result<Vec<u8>, AllocError>
     ensures { IfOk result (λ bytes. bytes.items ≡ lowered text.now) }
 {

@@ -2,7 +2,8 @@
 
 ghost use Rattle.std.specs.Prelude.{◌≡◌};
 ghost use Rattle.std.specs.List.{list_all};
-ghost use Rattle.rr_bytes.specs.NameBytes.{begins_with_letter, ends_with_alphanumeric, is_attribute_name, is_name, is_name_byte};
+ghost use Rattle.rr_bytes.specs.NameBytes.{begins_with_letter, ends_with_alphanumeric};
+ghost use Rattle.rr_bytes.specs.NameBytes.{is_attribute_name, is_name, is_name_byte};
 
 /// The most bytes that the name of an attribute has (profile).
 const MOST_ATTRIBUTE_BYTES: usize = 64;
@@ -10,16 +11,16 @@ const MOST_ATTRIBUTE_BYTES: usize = 64;
 /// The most bytes that a name has (profile).
 const MOST_BYTES: usize = 80;
 
-/// Whether the text is the name of an attribute, in any letter case: 1 to 64 letters, digits, `-` and `_`, the first a
-/// letter (profile).
+/// Whether the text is the name of an attribute, in any letter case: 1 to 64 letters, digits, `-`
+/// and `_`, the first a letter (profile).
 pub fn is_attribute_name(text: &[u8]) -> bool
     ensures { result ≡ is_attribute_name text.now }
 {
     begins_with_letter(text) && has_name_bytes(text) && text.len() <= MOST_ATTRIBUTE_BYTES
 }
 
-/// Whether the text is a name, in any letter case: 1 to 80 letters, digits, `-` and `_`, the first a letter, the last a
-/// letter or a digit (RFC 2622, 2; the count: profile).
+/// Whether the text is a name, in any letter case: 1 to 80 letters, digits, `-` and `_`, the first
+/// a letter, the last a letter or a digit (RFC 2622, 2; the count: profile).
 #[tactic(auto, unfolding(crate::specs::NameBytes::is_name))]
 pub fn is_name(text: &[u8]) -> bool
     ensures { result ≡ is_name text.now }

@@ -1,6 +1,7 @@
 //! Texts in parts, and parts as one text.
 
-ghost use Rattle.std.specs.Prelude.{◌≡◌, ◌<◌, ◌∷◌, [], IfNone, IfOk, IfSome, length, map, position};
+ghost use Rattle.std.specs.Prelude.{◌≡◌, ◌<◌, ◌∷◌, [], IfNone, IfOk, IfSome};
+ghost use Rattle.std.specs.Prelude.{length, map, position};
 ghost use Rattle.std.specs.List.{slice_split};
 ghost use Rattle.rr_bytes.specs.ByteSets.{is_in};
 ghost use Rattle.rr_bytes.specs.Parts.{joined_by_space, parts_at, words};
@@ -8,13 +9,15 @@ ghost use Rattle.rr_bytes.specs.Parts.{joined_by_space, parts_at, words};
 use crate::byte_set::ByteSet;
 use std::alloc::{AllocError, Global};
 
-/// The parts of the text between bytes of the set, but for the empty ones; the error is want of memory.
+/// The parts of the text between bytes of the set, but for the empty ones; the error is that memory
+/// ran out.
 pub fn parts_between(
     alloc: Global,
     text: &[u8],
     separators: ByteSet,
 ) -> Result<Vec<&[u8]>, AllocError>
-    ensures { IfOk result (λ found. map (λ part. part.now) found.items ≡ parts_at (is_in separators) text.now) }
+    ensures { IfOk result
+        (λ found. map (λ part. part.now) found.items ≡ parts_at (is_in separators) text.now) }
 {
     let mut found = Vec::new(alloc);
     let mut rest = text;
@@ -30,7 +33,7 @@ pub fn parts_between(
     Ok(found)
 }
 
-/// The words of the text, which blanks separate; the error is want of memory.
+/// The words of the text, which blanks separate; the error is that memory ran out.
 #[tactic(auto, unfolding(crate::specs::Parts::words))]
 pub fn words(alloc: Global, text: &[u8]) -> Result<Vec<&[u8]>, AllocError>
     ensures { IfOk result (λ found. map (λ word. word.now) found.items ≡ words text.now) }
@@ -38,9 +41,10 @@ pub fn words(alloc: Global, text: &[u8]) -> Result<Vec<&[u8]>, AllocError>
     parts_between(alloc, text, ByteSet::Blanks)
 }
 
-/// The texts as one, with a space between each two; the error is want of memory.
+/// The texts as one, with a space between each two; the error is that memory ran out.
 pub fn joined_by_space(alloc: Global, texts: &[&[u8]]) -> Result<Vec<u8>, AllocError>
-    ensures { IfOk result (λ joined. joined.items ≡ joined_by_space (map (λ text. text.now) texts.now)) }
+    ensures { IfOk result
+        (λ joined. joined.items ≡ joined_by_space (map (λ text. text.now) texts.now)) }
 {
     match texts {
         [] => Ok(Vec::new(alloc)),
@@ -51,7 +55,8 @@ pub fn joined_by_space(alloc: Global, texts: &[&[u8]]) -> Result<Vec<u8>, AllocE
 /// The first text and the further ones, with a space before each of these.
 #[tactic(auto, using(crate::proofs::JoinLemmas::joined_first))]
 fn join_further(alloc: Global, first: &[u8], further: &[&[u8]]) -> Result<Vec<u8>, AllocError>
-    ensures { IfOk result (λ joined. joined.items ≡ joined_by_space (first.now ∷ map (λ text. text.now) further.now)) }
+    ensures { IfOk result (λ joined. joined.items
+        ≡ joined_by_space (first.now ∷ map (λ text. text.now) further.now)) }
 {
     let mut joined = Vec::from_slice(alloc, first)?;
     'further: for text in further {
@@ -61,11 +66,12 @@ fn join_further(alloc: Global, first: &[u8], further: &[&[u8]]) -> Result<Vec<u8
     Ok(joined)
 }
 
-/// The first part of the text and what stands behind the byte that ends it, if one does.
+/// The first part of the text and what stands after the byte that ends it, if one does.
 #[tactic(auto, using(crate::proofs::PlaceLemmas::cut_none, crate::proofs::PlaceLemmas::cut_some))]
 fn first_part(text: &[u8], separators: ByteSet) -> Option<(&[u8], &[u8])>
     ensures none { IfNone result (slice_split (is_in separators) text.now ≡ text.now ∷ []) }
-    ensures some { IfSome result (λ cut. slice_split (is_in separators) text.now ≡ cut.0.now ∷ slice_split (is_in separators) cut.1.now) }
+    ensures some { IfSome result (λ cut. slice_split (is_in separators) text.now
+        ≡ cut.0.now ∷ slice_split (is_in separators) cut.1.now) }
     ensures shorter { IfSome result (λ cut. length cut.1.now < length text.now) }
 {
     match first_separator(text, separators) {

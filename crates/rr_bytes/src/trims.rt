@@ -22,7 +22,7 @@ pub fn trim_start(text: &[u8], blanks: ByteSet) -> &[u8]
     rest
 }
 
-/// The text less the bytes of the set behind it.
+/// The text less the bytes of the set after it.
 #[inline(never)]
 #[tactic(auto, using(crate::proofs::TrimLemmas::trim_end_blank, crate::proofs::TrimLemmas::trim_end_kept, crate::proofs::TrimLemmas::trim_end_none))]
 pub fn trim_end(text: &[u8], blanks: ByteSet) -> &[u8]

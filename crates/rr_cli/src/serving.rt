@@ -32,7 +32,8 @@ pub fn serve<'a, D: Databases, W: Output>(
     count: u64,
     output: &mut W,
 ) -> Result<u8, ProgramFault<'a>>
-    ensures { ServesBy D.Disk.Store (D.gives databases.now) ⟦<Both as Service>⟧.serves port count
+    ensures { ServesBy D.Disk.Store
+        (D.gives databases.now) ⟦<Both as Service>⟧.serves port count
         (W.told output.old) (W.told output.new) result }
 {
     let (read, mut path) = read_settings_file(rt, settings)?;

@@ -1,5 +1,6 @@
 -- What the query of a command does (profile).
-use Rattle.std.specs.Prelude.{◌≡◌, ℕ, ◌==◌, List, Result, Ok, Err, IfErr, IfOk, if◌then◌else◌}
+use Rattle.std.specs.Prelude.{◌≡◌, ℕ, ◌==◌, List, Result, Ok, Err, IfErr, IfOk}
+use Rattle.std.specs.Prelude.{if◌then◌else◌}
 use Rattle.sqlite_trees.specs.declared.store.Store.{Ghosts}
 use Rattle.rr_io.specs.Sending.{Writes}
 use Rattle.rr_io.specs.Told.{Told}
@@ -30,5 +31,6 @@ pub record HasAsked {S : Type 0} (g : Ghosts S) (text : List ℕ) (unprinted pri
   pub trouble : IfErr answer (λ trouble. trouble ≡ Unwritten)
 
 -- what the command does (profile)
-abbrev pub AsksBy : {S : Type 0} → Ghosts S → Gives S → List ℕ → Told → Told → Ending → Type 0
+abbrev pub AsksBy : {S : Type 0} → Ghosts S → Gives S → List ℕ → Told → Told → Ending
+    → Type 0
 AsksBy g gives text old new = Commands (AtDesk g gives (HasAsked g text old new) old new) old new

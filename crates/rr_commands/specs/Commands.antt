@@ -1,6 +1,7 @@
 -- What commands do that read settings from a file and use the database that these name, by how they
 -- end (profile).
-use Rattle.std.specs.Prelude.{◌≡◌, ℕ, ◌⊎◌, Bool, true, false, List, Result, Ok, Err, IsTrue}
+use Rattle.std.specs.Prelude.{◌≡◌, ℕ, ◌⊎◌, Bool, true, false, List, Result, Ok, Err}
+use Rattle.std.specs.Prelude.{IsTrue}
 use Rattle.sqlite_trees.specs.declared.store.Store.{Ghosts}
 use Rattle.sqlite.specs.Held.{Held}
 use Rattle.rr_io.specs.Told.{Told}
@@ -113,7 +114,8 @@ pub record OpensDesk {S : Type 0} (g : Ghosts S) (gives : Held S → Type 0)
   pub runs : Runs g parts desk
 
 -- a desk was opened, and this was done at it (profile)
-pub record IsDoneAtDesk {S : Type 0} (g : Ghosts S) (gives : Held S → Type 0) (does : DeskAction S)
+pub record IsDoneAtDesk {S : Type 0} (g : Ghosts S) (gives : Held S → Type 0)
+    (does : DeskAction S)
     (parts : SettingsParts) (answer : Answer) : Type 0 where
   pub before : Desk S
   pub after : Desk S
@@ -121,7 +123,8 @@ pub record IsDoneAtDesk {S : Type 0} (g : Ghosts S) (gives : Held S → Type 0) 
   pub did : does before after answer
 
 -- what a command does at the desk that its settings open (profile)
-abbrev pub AtDesk : {S : Type 0} → Ghosts S → Gives S → DeskAction S → Told → Told → Action
+abbrev pub AtDesk : {S : Type 0} → Ghosts S → Gives S → DeskAction S → Told → Told
+    → Action
 AtDesk g gives does old new parts path answer =
     IsUnopened old new answer ⊎ IsDoneAtDesk g (gives path) does parts answer
 

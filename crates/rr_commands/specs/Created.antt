@@ -38,7 +38,8 @@ module _ {S : Type 0} (g : Ghosts S) (settings : SettingsParts) (unprinted print
     pub tells : Tells created_line unprinted printed answer
 
 -- what the command does in a database (profile)
-abbrev pub CreatesIn : {S : Type 0} → Ghosts S → SettingsParts → Told → Told → ConnectionAction S
+abbrev pub CreatesIn : {S : Type 0} → Ghosts S → SettingsParts → Told → Told
+    → ConnectionAction S
 CreatesIn g settings old new before after answer =
     IsUncreated g settings old new before after answer
     ⊎ IsCreated g settings old new before after answer

@@ -21,6 +21,7 @@ DumpsDesk full old new before after answer =
     HasDumped (dump full before.stored.registry) old new answer
 
 -- what the command does (profile)
-abbrev pub DumpsBy : {S : Type 0} → Ghosts S → Gives S → Bool → Told → Told → Ending → Type 0
+abbrev pub DumpsBy : {S : Type 0} → Ghosts S → Gives S → Bool → Told → Told → Ending
+    → Type 0
 DumpsBy g gives full old new =
     Commands (AtDesk g gives (DumpsDesk full old new) old new) old new

@@ -1,5 +1,6 @@
 -- The line that says a fault on standard error (profile).
-use Rattle.std.specs.Prelude.{ℕ, ◌==◌, ◌||◌, nat_lt, List, [], ◌++◌, map, Option, None, Some, codes}
+use Rattle.std.specs.Prelude.{ℕ, ◌==◌, ◌||◌, nat_lt, List, [], ◌++◌, map, Option}
+use Rattle.std.specs.Prelude.{None, Some, codes}
 use Rattle.std.specs.Prelude.{decimal, string_bytes, if◌then◌else◌}
 use Rattle.std.specs.Option.{option_and_then}
 use Rattle.rr_commands.specs.Causes.{number_of}

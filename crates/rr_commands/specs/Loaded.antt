@@ -1,5 +1,6 @@
 -- What the load of a command does, by how it ends (profile).
-use Rattle.std.specs.Prelude.{◌≡◌, ℕ, ◌⊎◌, List, ◌++◌, length, Err, codes, decimal}
+use Rattle.std.specs.Prelude.{◌≡◌, ℕ, ◌⊎◌, List, ◌++◌, length, Err, codes}
+use Rattle.std.specs.Prelude.{decimal}
 use Rattle.std.specs.FinMap.{values}
 use Rattle.sqlite_trees.specs.declared.store.Store.{Ghosts}
 use Rattle.sqlite.specs.Held.{Held}
@@ -51,7 +52,8 @@ module _ {S : Type 0} (g : Ghosts S) (settings : SettingsParts) (start end : Tol
 
 -- what the load of a dump does in a database: the reader of the dump told this at its start and at
 -- its end (profile)
-abbrev pub Loads : {S : Type 0} → Ghosts S → SettingsParts → Told → Told → Told → Told →
+abbrev pub Loads : {S : Type 0} → Ghosts S → SettingsParts → Told → Told → Told → Told
+    →
     ConnectionAction S
 Loads g settings start end old new before after answer =
     IsUnloaded g settings start end old new before after answer
@@ -67,7 +69,8 @@ pub record LoadsFile {S : Type 0} (g : Ghosts S) (settings : SettingsParts) (old
 
 -- what the command does in a database: its file is not opened and the database as it was, or what
 -- is read is loaded (profile)
-abbrev pub LoadsIn : {S : Type 0} → Ghosts S → SettingsParts → Told → Told → ConnectionAction S
+abbrev pub LoadsIn : {S : Type 0} → Ghosts S → SettingsParts → Told → Told
+    → ConnectionAction S
 LoadsIn g settings old new before after answer =
     (HasNoFile old new answer × (after ≡ before))
     ⊎ LoadsFile g settings old new before after answer

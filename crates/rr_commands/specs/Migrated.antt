@@ -44,6 +44,7 @@ MigratesIn g settings old new before after answer =
     ⊎ IsMigrated g settings old new before after answer
 
 -- what the command does (profile)
-abbrev pub MigratesBy : {S : Type 0} → Ghosts S → Gives S → Told → Told → Ending → Type 0
+abbrev pub MigratesBy : {S : Type 0} → Ghosts S → Gives S → Told → Told → Ending
+    → Type 0
 MigratesBy g gives old new =
     Commands (λ settings. InDatabase gives (MigratesIn g settings old new) old new) old new

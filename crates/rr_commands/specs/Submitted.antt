@@ -1,5 +1,6 @@
 -- What the submission of a command does, by how it ends (profile).
-use Rattle.std.specs.Prelude.{◌≡◌, ℕ, ◌==◌, ◌⊎◌, false, List, Result, Ok, Err, if◌then◌else◌}
+use Rattle.std.specs.Prelude.{◌≡◌, ℕ, ◌==◌, ◌⊎◌, false, Result, Ok, Err}
+use Rattle.std.specs.Prelude.{if◌then◌else◌}
 use Rattle.sqlite_trees.specs.declared.store.Store.{Ghosts}
 use Rattle.rr_io.specs.Told.{Told}
 use Rattle.rr_submission.specs.declared.submission.Done.{Done}
@@ -54,7 +55,8 @@ pub record HasSubmittedPlain {S : Type 0} (g : Ghosts S) (unread read unprinted 
   pub submitted : HasSubmitted g before after unread read unprinted printed answer
 
 -- what the program does without words (profile)
-abbrev pub RunsPlain : {S : Type 0} → Ghosts S → Told → Told → Told → Told → Answer → Type 0
+abbrev pub RunsPlain : {S : Type 0} → Ghosts S → Told → Told → Told → Told → Answer
+    → Type 0
 RunsPlain g unread read unprinted printed answer =
     HasNoDesk unread read unprinted printed answer
     ⊎ HasSubmittedPlain g unread read unprinted printed answer

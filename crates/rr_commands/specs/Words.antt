@@ -44,7 +44,7 @@ setting_words key.Source =
 setting_words key.Root =
     codes "`root` is missing or bad: it names a maintainer, as \"ROOT-MNT\""
 setting_words key.Auth =
-    codes "`auth` is missing or bad: it is \"SHA256-PW salt:digest\", with 64 hexadecimal digits"
+    codes "`auth` is missing or bad: it is \"SHA256-PW salt:hash\", with 64 hexadecimal digits"
 setting_words key.Limit =
     codes "`limit` is missing or bad: it is a whole number from 1 to 1000000"
 setting_words key.Store =

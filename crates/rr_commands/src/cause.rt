@@ -138,7 +138,7 @@ pub enum DatabaseCause {
     Unopened,
     /// Another process has it open.
     Busy,
-    /// The file is no database, or has other tables than a registry.
+    /// The file is not a database, or has other tables than a registry.
     Other,
     /// The file is damaged.
     Damaged,

@@ -40,12 +40,12 @@ pub trait Databases {
         ensures gives { IfOk result (λ conn. gives self.now path.now conn) }
         ensures autocommit { IfOk result (λ conn. conn.in_transaction ≡ false) };
 
-    /// How many bytes the database at a path has, or 0 if that is not to be had.
+    /// How many bytes the database at a path has, or 0 if that is not available.
     fn size(&self, path: &str) -> u64;
 
     /// Closes a database, if there is one here: `close` of this module, for one that is given by
-    /// value. It is lent, since no proof is made that an impl keeps to a trait of which a method is
-    /// given a connection of a named store.
+    /// value. It is lent, because no proof is made that an impl keeps to a trait of which a method
+    /// is given a connection of a named store.
     fn close(&self, conn: &mut Option<Connection<Self::Disk>>);
 }
 
@@ -104,7 +104,7 @@ pub fn close<D: Databases>(databases: &D, conn: Connection<D::Disk>) {
 }
 
 /// Sees that a file may be read and written, and makes it if it is missing and that is asked for:
-/// readable by its owner alone, whatever the umask, since the digests of all secrets stand in it.
+/// readable by its owner alone, whatever the umask, because the digests of all secrets stand in it.
 /// Its log gets the permissions of the file.
 fn make_ready(rt: &HostRuntime, path: &str, absent: Absent) -> Result<(), DatabaseCause> {
     if path == ":memory:" || path.starts_with("file:") {

@@ -1,6 +1,6 @@
 //! What is the matter with a database whose registry is not opened, for messages alone: no contract
 //! speaks of it. The store says only that there is something; the rows are looked at once more,
-//! since a person needs to know where. If memory runs out meanwhile, what the store said is told.
+//! because a person needs to know where. If memory runs out meanwhile, what the store said is told.
 
 ghost use Rattle.std.specs.Prelude.{IsTrue};
 ghost use Rattle.rr_commands.specs.Commands.{is_of_database};
@@ -100,7 +100,7 @@ fn trouble_with_rows<S: Alter>(
     }
 }
 
-/// What is the matter with these rows of objects: if all are of another source, that; else the
+/// What is the matter with these rows of objects: if all are of another source, that; otherwise the
 /// first that is bad by itself, and else the first that is bad beside the others.
 fn judge_rows(alloc: Global, rows: &[Row], source: &Name, name: &mut String) -> Trouble
     ensures { IsTrue (is_of_database result) }

@@ -1,6 +1,7 @@
 //! Settings as TOML: what a registry opens with, and where its database stands.
 
-ghost use Rattle.std.specs.Prelude.{◌≡◌, ◌≢◌, Err, IfErr, IfOk, None, Ok, Some, string_bytes};
+ghost use Rattle.std.specs.Prelude.{◌≡◌, ◌≢◌, Err, IfErr, IfOk, None, Ok, Some};
+ghost use Rattle.std.specs.Prelude.{string_bytes};
 ghost use Rattle.std.specs.Option.{option_copied};
 ghost use Rattle.toml.specs.Parse.{parse_document};
 ghost use Rattle.toml.specs.View.{table_view};
@@ -42,10 +43,10 @@ impl SettingKey {
     }
 }
 
-/// Why a text is no settings.
+/// Why a text is not settings.
 #[derive(Clone, Copy)]
 pub enum SettingsFault {
-    /// The text is no TOML.
+    /// The text is not TOML.
     BadToml,
     /// This key, the first in the order of `SettingKey`, is missing or bad.
     BadKey(SettingKey),
@@ -66,8 +67,10 @@ impl From<AllocError> for SettingsFault {
 /// the order `source`, `root`, `auth`, `limit`, `store`; and that memory ran out. Other keys are
 /// ignored (profile).
 pub fn read_settings(alloc: Global, text: &str) -> Result<(Settings, String), SettingsFault>
-    ensures ok { IfOk result (λ read. settings_text text.now ≡ Ok (read.0, string_bytes read.1)) }
-    ensures fault { IfErr result (λ fault. fault ≢ Memory → settings_text text.now ≡ Err fault) }
+    ensures ok { IfOk result
+        (λ read. settings_text text.now ≡ Ok (read.0, string_bytes read.1)) }
+    ensures fault { IfErr result
+        (λ fault. fault ≢ Memory → settings_text text.now ≡ Err fault) }
 {
     let table = read_table(alloc, text)?;
     let settings = read_parts(alloc, &table)?;
@@ -112,7 +115,8 @@ fn read_parts(alloc: Global, table: &Table) -> Result<Settings, SettingsFault>
 
 /// The path of the database.
 fn read_store(alloc: Global, table: &Table) -> Result<String, SettingsFault>
-    ensures ok { IfOk result (λ store. store_of (table_view table.now) ≡ Ok (string_bytes store)) }
+    ensures ok { IfOk result
+        (λ store. store_of (table_view table.now) ≡ Ok (string_bytes store)) }
     ensures fault { IfErr result (λ fault. fault ≢ Memory
         → store_of (table_view table.now) ≡ Err fault) }
 {

@@ -70,7 +70,7 @@ fn read_text(alloc: Global, bytes: &[u8]) -> Result<(Settings, String), Trouble>
     }
 }
 
-/// The line, from 1, at which it shows that a text is no TOML.
+/// The line, from 1, at which it shows that a text is not TOML.
 fn bad_line(alloc: Global, text: &str) -> u64 {
     let place = match toml::table_from_str(alloc, text) {
         Ok(_) => 0,

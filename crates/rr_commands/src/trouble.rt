@@ -18,8 +18,8 @@ const WRONG_SETTINGS: u8 = 3;
 /// The status at a fault of the database, or if the desk is stopped.
 const STORE_FAILED: u8 = 4;
 
-/// The status at a fault of a file, a socket, or standard output, at a dump that is no registry, or
-/// if memory ran out.
+/// The status at a fault of a file, a socket, or standard output, at a dump that is not a registry,
+/// or if memory ran out.
 const FAILED: u8 = 5;
 
 /// What went wrong.
@@ -27,19 +27,19 @@ const FAILED: u8 = 5;
 pub enum Trouble {
     /// The arguments are none of a command.
     BadWords,
-    /// A port is no number, or out of its bounds.
+    /// A port is not a number, or out of its bounds.
     BadPort,
-    /// A count is no number, or out of its bounds.
+    /// A count is not a number, or out of its bounds.
     BadCount,
-    /// An argument is no text.
+    /// An argument is not text.
     WordsNotText,
     /// The settings file cannot be read.
     SettingsUnread(Cause),
-    /// The settings file is no text.
+    /// The settings file is not text.
     SettingsNotText,
     /// The settings file is too long.
     SettingsTooLong,
-    /// The settings are no TOML: the line where that shows, from 1.
+    /// The settings are not TOML: the line where that shows, from 1.
     SettingsNotToml(u64),
     /// A setting is missing or bad.
     SettingBad(SettingKey),

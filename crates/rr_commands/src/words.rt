@@ -104,7 +104,7 @@ fn setting_words(key: SettingKey) -> &'static str
         SettingKey::Source => "`source` is missing or bad: it names the registry, as \"TEST\"",
         SettingKey::Root => "`root` is missing or bad: it names a maintainer, as \"ROOT-MNT\"",
         SettingKey::Auth => {
-            "`auth` is missing or bad: it is \"SHA256-PW salt:digest\", with 64 hexadecimal digits"
+            "`auth` is missing or bad: it is \"SHA256-PW salt:hash\", with 64 hexadecimal digits"
         }
         SettingKey::Limit => "`limit` is missing or bad: it is a whole number from 1 to 1000000",
         SettingKey::Store => "`store` is missing or bad: it is the path of the database",

@@ -1,5 +1,5 @@
--- The worked example: A-MNT holds 10.1.0.0/16 with AS1 in a registry of its neighbours. Only what authority speaks of
--- is written down: the texts of the objects are left out.
+-- The worked example: A-MNT holds 10.1.0.0/16 with AS1 in a registry of its neighbours. Only what
+-- authority speaks of is written down: the texts of the objects are left out.
 use Rattle.std.specs.Prelude.{ℕ, false, List, [], ◌∷◌, codes, map}
 use Rattle.std.specs.FinMap.{from_entries}
 use Rattle.rr_number.specs.Spans.{Ends}
@@ -24,8 +24,10 @@ b_mnt = codes "B-MNT"
 -- The SHA-256 digest of `abc` (FIPS 180-4).
 abbrev pub digest_of_abc : List ℕ
 digest_of_abc =
-    186 ∷ (120 ∷ (22 ∷ (191 ∷ (143 ∷ (1 ∷ (207 ∷ (234 ∷ (65 ∷ (65 ∷ (64 ∷ (222 ∷ (93 ∷ (174 ∷ (34 ∷ (35 ∷ (
-    176 ∷ (3 ∷ (97 ∷ (163 ∷ (150 ∷ (23 ∷ (122 ∷ (156 ∷ (180 ∷ (16 ∷ (255 ∷ (97 ∷ (242 ∷ (0 ∷ (21 ∷ (173 ∷ [])))))))))))))))))))))))))))))))
+    186 ∷ (120 ∷ (22 ∷ (191 ∷ (143
+    ∷ (1 ∷ (207 ∷ (234 ∷ (65 ∷ (65 ∷ (64 ∷ (222 ∷ (93 ∷ (174 ∷ (34 ∷ (35 ∷ (
+    176 ∷ (3 ∷ (97 ∷ (163 ∷ (150 ∷ (23 ∷ (122 ∷ (156 ∷ (180
+    ∷ (16 ∷ (255 ∷ (97 ∷ (242 ∷ (0 ∷ (21 ∷ (173 ∷ [])))))))))))))))))))))))))))))))
 
 -- An object of this key, these lines of `auth` and this one name in mnt-by.
 abbrev pub object_of_maintainer : Key → List AuthParts → List ℕ → Obj
@@ -53,14 +55,17 @@ object_by name key = object_of_maintainer key [] name
 abbrev pub ends : ℕ → ℕ → Ends
 ends first last = record { first = first; last = last }
 
--- The three maintainers; all AS numbers and all addresses of ROOT-MNT; AS1 of A-MNT and AS2 of B-MNT; 10.0.0.0/8 of
--- B-MNT, and in it 10.1.0.0/16 of A-MNT, as an inetnum and as a route of AS1.
+-- The three maintainers; all AS numbers and all addresses of ROOT-MNT; AS1 of A-MNT and AS2 of
+-- B-MNT; 10.0.0.0/8 of B-MNT, and in it 10.1.0.0/16 of A-MNT, as an inetnum and as a route of AS1.
 abbrev pub example_objects : List Obj
 example_objects =
-    maintainer_with a_mnt (codes "ab") ∷ (maintainer_with b_mnt [] ∷ (maintainer_with root_mnt (codes "a") ∷ (
-    object_by root_mnt (AsBlock (ends 0 65535)) ∷ (object_by root_mnt (AsBlock (ends 65536 4294967295)) ∷ (
+    maintainer_with a_mnt (codes "ab")
+    ∷ (maintainer_with b_mnt [] ∷ (maintainer_with root_mnt (codes "a") ∷ (
+    object_by root_mnt (AsBlock (ends 0 65535))
+    ∷ (object_by root_mnt (AsBlock (ends 65536 4294967295)) ∷ (
     object_by a_mnt (AutNum 1) ∷ (object_by b_mnt (AutNum 2) ∷ (
-    object_by root_mnt (Inetnum (ends 0 4294967295)) ∷ (object_by b_mnt (Inetnum (ends 167772160 184549375)) ∷ (
+    object_by root_mnt (Inetnum (ends 0 4294967295))
+    ∷ (object_by b_mnt (Inetnum (ends 167772160 184549375)) ∷ (
     object_by a_mnt (Inetnum (ends 167837696 167903231)) ∷ (
     object_by a_mnt (Route (record { address = 167837696; length = 16 }) 1) ∷ []))))))))))
 
@@ -71,4 +76,9 @@ example_registry = from_entries (map (λ o. (o.key, o)) example_objects)
 -- A-MNT holds 10.1.0.0/16, with AS1.
 abbrev pub example_holding : Holding
 example_holding =
-    record { prefix = record { address = 167837696; length = 16 }; holders = a_mnt ∷ []; numbers = 1 ∷ [] }
+    record {
+      prefix = record { address = 167837696; length = 16 };
+      holders = a_mnt ∷ [];
+      numbers =
+          1 ∷ [];
+    }

@@ -1,5 +1,7 @@
--- Who holds a prefix, and what is theirs in a registry (profile, from RFC 2725, 9: who is asked for what lies below).
-use Rattle.std.specs.Prelude.{◌≡◌, ℕ, Bool, true, false, not, ◌==◌, ◌&&◌, ◌||◌, List, [], ◌∷◌, Some, is_some}
+-- Who holds a prefix, and what is theirs in a registry (profile, from RFC 2725, 9: who is asked for
+-- what lies below).
+use Rattle.std.specs.Prelude.{◌≡◌, ℕ, Bool, true, false, not, ◌==◌, ◌&&◌, ◌||◌}
+use Rattle.std.specs.Prelude.{List, [], ◌∷◌, Some, is_some}
 use Rattle.std.specs.List.{list_any, list_all}
 use Rattle.std.specs.Option.{option_map_or}
 use Rattle.std.specs.Str.{bytes_eq}
@@ -9,7 +11,8 @@ use Rattle.rr_number.specs.Prefixes.{PrefixParts, span_of}
 use Rattle.rr_number.specs.SetNames.{components}
 use Rattle.rr_number.specs.Spans.{Ends, covers}
 use Rattle.rr_object.specs.declared.key.Key.{Key}
-use Rattle.rr_object.specs.declared.key.Key.TheVariants.{Mntner, AsBlock, AutNum, Inetnum, Route, AsSet, RouteSet}
+use Rattle.rr_object.specs.declared.key.Key.TheVariants.{Mntner, AsBlock, AutNum, Inetnum, Route}
+use Rattle.rr_object.specs.declared.key.Key.TheVariants.{AsSet, RouteSet}
 use Rattle.rr_object.specs.Objects.{Obj, names_of}
 use Rattle.rr_auth.specs.declared.item.Item.{Item}
 use Rattle.rr_auth.specs.declared.item.Item.TheVariants.{Submit, Delete}
@@ -41,12 +44,13 @@ begins_with_number h [] = false
 begins_with_number h (c ∷ []) = false
 begins_with_number h (c ∷ d ∷ ds) = option_map_or (has_number h) (as_number_of c) false
 
--- A set stands under an AS of the holders where its name has several components, of which the first is that AS number.
+-- A set stands under an AS of the holders where its name has several components, of which the first
+-- is that AS number.
 abbrev pub is_under : Holding → List ℕ → Bool
 is_under h name = begins_with_number h (components name)
 
--- What is held: the mntners of the holders, their aut-nums, the inetnums and routes inside the prefix, and the sets
--- under their ASes.
+-- What is held: the mntners of the holders, their aut-nums, the inetnums and routes inside the
+-- prefix, and the sets under their ASes.
 abbrev pub is_held : Holding → Key → Bool
 is_held h (Mntner name) = is_holder h name
 is_held h (AsBlock s) = false
@@ -61,21 +65,26 @@ abbrev pub is_mntner : Key → Bool
 is_mntner (Mntner name) = true
 is_mntner _ = false
 
--- An object names holders alone in mnt-by, and, where it is no mntner, in mnt-lower and mnt-routes.
+-- An object names holders alone in mnt-by, and, where it is not a mntner, in mnt-lower and
+-- mnt-routes.
 abbrev pub names_holders : Holding → Key → Obj → Bool
 names_holders h k o =
     list_all (is_holder h) o.maintainers
-    && (is_mntner k || (list_all (is_holder h) o.lower && list_all (λ g. is_holder h g.name) o.routes))
+    && (is_mntner k
+    || (list_all (is_holder h) o.lower && list_all (λ g. is_holder h g.name) o.routes))
 
--- The prefix is held in a registry: the holders are registered, and so are an inetnum and a route of exactly the prefix
--- and the aut-nums of the holders' AS numbers; and all that is held names holders alone.
+-- The prefix is held in a registry: the holders are registered, and so are an inetnum and a route
+-- of exactly the prefix and the aut-nums of the holders' AS numbers; and all that is held names
+-- holders alone.
 pub record IsHeld (h : Holding) (r : Reg) : Type 0 where
-  pub registered : (name : List ℕ) → is_holder h name ≡ true → is_some (get r (Mntner name)) ≡ true
+  pub registered : (name : List ℕ) → is_holder h name ≡ true
+      → is_some (get r (Mntner name)) ≡ true
   pub space : is_some (get r (Inetnum (space_of h))) ≡ true
   pub origin : ℕ
   pub routed : is_some (get r (Route h.prefix origin)) ≡ true
   pub numbered : (n : ℕ) → has_number h n ≡ true → is_some (get r (AutNum n)) ≡ true
-  pub theirs : (k : Key) (o : Obj) → is_held h k ≡ true → get r k ≡ Some o → names_holders h k o ≡ true
+  pub theirs : (k : Key) (o : Obj) → is_held h k ≡ true → get r k ≡ Some o
+      → names_holders h k o ≡ true
 
 -- Two registries agree on what is held.
 abbrev pub Agree : Holding → Reg → Reg → Type 0
@@ -85,8 +94,8 @@ Agree h r q = (k : Key) → is_held h k ≡ true → get r k ≡ get q k
 abbrev pub is_foreign : Holding → Reg → List (List ℕ) → Bool
 is_foreign h r secrets = not (names_pass r secrets h.holders)
 
--- A key of an inetnum inside the prefix, of a route inside it with an origin of the holders, or of a set under their
--- ASes.
+-- A key of an inetnum inside the prefix, of a route inside it with an origin of the holders, or of
+-- a set under their ASes.
 abbrev pub is_within : Holding → Key → Bool
 is_within h (Inetnum s) = covers (space_of h) s
 is_within h (Route p n) = covers (space_of h) (span_of p) && has_number h n
@@ -104,9 +113,9 @@ is_whole h (Inetnum s) = same_ends s (space_of h)
 is_whole h (Route p n) = same_prefix p h.prefix
 is_whole h _ = false
 
--- An item is the holders' own where it is about an inetnum or route inside the prefix, the route's origin being one of
--- theirs, or a set under their ASes, where its object names holders alone, and where it does not delete an inetnum or a
--- route of exactly the prefix.
+-- An item is the holders' own where it is about an inetnum or route inside the prefix, the route's
+-- origin being one of theirs, or a set under their ASes, where its object names holders alone, and
+-- where it does not delete an inetnum or a route of exactly the prefix.
 abbrev pub is_own : Holding → Item → Bool
 is_own h (Submit o) = is_within h o.key && list_all (is_holder h) (names_of o)
 is_own h (Delete k) = is_within h k && not (is_whole h k)

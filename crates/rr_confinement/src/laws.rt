@@ -10,13 +10,14 @@ pub fn foreign_items_leave_what_is_held()
     ensures { ForeignItemsLeave }
 {}
 
-/// An item of the holders' own has the same verdict in two registries that agree on what is held, whatever else is in
-/// them, and leaves them agreeing.
+/// An item of the holders' own has the same verdict in two registries that agree on what is held,
+/// whatever else is in them, and leaves them agreeing.
 pub fn own_items_are_judged_alike()
     ensures { OwnItemsAreAlike }
 {}
 
-/// There are registries of which the laws speak: that of the worked example is sound, and 10.1.0.0/16 is held in it.
+/// There are registries of which the laws speak: that of the worked example is sound, and
+/// 10.1.0.0/16 is held in it.
 pub fn the_example_is_held()
     ensures sound { Sound example_registry }
     ensures held { IsHeld example_holding example_registry }

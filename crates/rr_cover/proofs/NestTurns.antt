@@ -61,8 +61,8 @@ module _ {T : Type 0} where
         ];
   }
 
-  pub behind_chain : (s t : Ends) (nest : Nest T) → is_ahead s t ≡ true → Only (λ u. is_ahead t u) nest → Only (λ u. is_ahead s u) nest
-  behind_chain s t nest first only = record { each = λ u held. ahead_chain s t u first (only.each u held) }
+  pub after_chain : (s t : Ends) (nest : Nest T) → is_ahead s t ≡ true → Only (λ u. is_ahead t u) nest → Only (λ u. is_ahead s u) nest
+  after_chain s t nest first only = record { each = λ u held. ahead_chain s t u first (only.each u held) }
 
   pub ahead_chained : (s t : Ends) (nest : Nest T) → Only (λ u. is_ahead u s) nest → is_ahead s t ≡ true → Only (λ u. is_ahead u t) nest
   ahead_chained s t nest only last = record { each = λ u held. ahead_chain u s t (only.each u held) last }
@@ -190,7 +190,7 @@ module _ {T : Type 0} where
       record {
         ordered = opened.fits.ordered;
         ahead = opened.fits.ahead;
-        behind = only_made (λ u. is_ahead front u) back span value rest after made only first (behind_chain front span after first fits.behind);
+        behind = only_made (λ u. is_ahead front u) back span value rest after made only first (after_chain front span after first fits.behind);
       }
 
   -- the root of the back side, over the old root in front and what it had behind it
@@ -211,7 +211,7 @@ module _ {T : Type 0} where
       record {
         ordered = opened.fits.ordered;
         ahead = only_made (λ u. is_ahead u top) front left left_value outer low made_front (ahead_chained left top outer ahead from) from opened.fits.ahead;
-        behind = only_made (λ u. is_ahead top u) back right right_value high last made_back opened.fits.behind to (behind_chain top right last to behind);
+        behind = only_made (λ u. is_ahead top u) back right right_value high last made_back opened.fits.behind to (after_chain top right last to behind);
       }
 
   -- a span that a tree does not hold is not its root's

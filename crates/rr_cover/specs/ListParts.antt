@@ -1,5 +1,7 @@
 -- What the parts of a list of spans answer and leave. No public contract cites these.
-use Rattle.std.specs.Prelude.{◌≡◌, ℕ, ◌<◌, ◌≤◌, not, ◌&&◌, if◌then◌else◌, nat_lt, List, Option, None, Some, length, slice_set}
+use Rattle.std.specs.Prelude.{◌≡◌, ℕ, ◌<◌, ◌≤◌, not, ◌&&◌}
+use Rattle.std.specs.Prelude.{if◌then◌else◌, nat_lt, List, Option, None, Some, length}
+use Rattle.std.specs.Prelude.{slice_set}
 use Rattle.std.specs.List.{insert, remove, slice_get}
 use Rattle.std.specs.Option.{option_map}
 use Rattle.std.specs.FinMap.{find, put}
@@ -20,7 +22,9 @@ pub record BelongsAt {T : Type 0} (es : List (Ends × T)) (s : Ends) (at : ℕ) 
   pub missing : find span_cmp s es ≡ None
   pub placed : (value : T) → put span_cmp s value es ≡ insert es at (s, value)
 
--- The nearer of two entries to s: the new one, where it covers s and no smaller one was found before.
-abbrev pub nearer : {T : Type 0} → Ends → Option (Ends × T) → Ends × T → Option (Ends × T)
+-- The nearer of two entries to s: the new one, where it covers s and no smaller one was found
+-- before.
+abbrev pub nearer : {T : Type 0} → Ends → Option (Ends × T) → Ends × T
+    → Option (Ends × T)
 nearer s None e = if covers e.0 s then Some e else None
 nearer s (Some x) e = if covers e.0 s && nat_lt (size e.0) (size x.0) then Some e else Some x

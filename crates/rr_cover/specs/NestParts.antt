@@ -1,5 +1,6 @@
 -- What the parts of a search tree of spans answer and leave. No public contract cites these.
-use Rattle.std.specs.Prelude.{◌≡◌, ℕ, ◌+◌, ◌<◌, ◌≤◌, min, max, Bool, true, false, ◌&&◌, nat_lt, nat_le, Some, is_some}
+use Rattle.std.specs.Prelude.{◌≡◌, ℕ, ◌+◌, ◌<◌, ◌≤◌, min, max, Bool, true}
+use Rattle.std.specs.Prelude.{false, ◌&&◌, nat_lt, nat_le, Some, is_some}
 use Rattle.std.specs.Option.{option_or}
 use Rattle.rr_number.specs.Spans.{Ends, crosses}
 use Rattle.rr_cover.specs.SpanNests.{is_ahead, at_span, standing, Fits, IsNest}
@@ -14,14 +15,16 @@ count (Fork' p span value height bounds before after) = count before + count aft
 
 -- A node's bounds that let in a last number of the front side.
 abbrev pub with_front : Bounds → ℕ → Bounds
-with_front bounds last = record bounds { least = min bounds.least last; front = max bounds.front last }
+with_front bounds last =
+    record bounds { least = min bounds.least last; front = max bounds.front last }
 
 -- A node's bounds that let in a last number of the back side.
 abbrev pub with_back : Bounds → ℕ → Bounds
 with_back bounds last = record bounds { least = min bounds.least last; back = max bounds.back last }
 
 -- The last span in order of those that begin below a number and reach another one, with its value.
-pub record IsLastReaching {T : Type 0} (nest : Nest T) (below to : ℕ) (t : Ends) (value : T) : Type 0 where
+pub record IsLastReaching {T : Type 0} (nest : Nest T) (below to : ℕ) (t : Ends)
+    (value : T) : Type 0 where
   pub held : standing nest t ≡ Some value
   pub begins : t.first < below
   pub reaches : to ≤ t.last
@@ -37,7 +40,7 @@ pub record NoneReaches {T : Type 0} (nest : Nest T) (below to : ℕ) : Type 0 wh
 abbrev pub ends_in : Ends → Ends → Bool
 ends_in t s = nat_lt t.first s.first && (nat_le s.first t.last && nat_lt t.last s.last)
 
--- A span begins within another and ends behind it.
+-- A span begins within another and ends after it.
 abbrev pub begins_in : Ends → Ends → Bool
 begins_in t s = nat_lt s.first t.first && (nat_le t.first s.last && nat_lt s.last t.last)
 
@@ -52,7 +55,8 @@ pub record NoneCrosses {T : Type 0} (nest : Nest T) (s : Ends) : Type 0 where
   pub none : (t : Ends) → is_some (standing nest t) ≡ true → crosses t s ≡ false
 
 -- A tree taken apart at its root.
-pub record IsTakenApart {T : Type 0} (nest : Nest T) (span : Ends) (value : T) (before after : Nest T) : Type 0 where
+pub record IsTakenApart {T : Type 0} (nest : Nest T) (span : Ends) (value : T)
+    (before after : Nest T) : Type 0 where
   pub fits : Fits span before after
   pub low : IsNest before
   pub high : IsNest after

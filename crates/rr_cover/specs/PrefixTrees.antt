@@ -1,5 +1,7 @@
 -- A tree of prefixes with their values, as the map of spans that it holds.
-use Rattle.std.specs.Prelude.{◌≡◌, ℕ, Bool, true, false, ◌&&◌, ◌+◌, ◌-◌, ◌/◌, nat_lt, nat_le, List, [], ◌∷◌, ◌++◌, Option, Some, None}
+use Rattle.std.specs.Prelude.{◌≡◌, ℕ, Bool, true, false, ◌&&◌, ◌+◌, ◌-◌}
+use Rattle.std.specs.Prelude.{◌/◌, nat_lt, nat_le, List, [], ◌∷◌, ◌++◌, Option, Some}
+use Rattle.std.specs.Prelude.{None}
 use Rattle.std.specs.FinMap.{from_entries}
 use Rattle.rr_number.specs.Prefixes.{PrefixParts, IsMasked, count_of, span_of}
 use Rattle.rr_number.specs.Spans.{Ends, span_cmp}
@@ -15,7 +17,8 @@ own_entry prefix (Some value) = (span_of prefix, value) ∷ []
 -- The spans of a tree with their values: its own, those of the lower half, those of the upper half.
 abbrev pub entries_of : {T : Type 0} → Tree T → List (Ends × T)
 entries_of Empty = []
-entries_of (Fork' p prefix value lower upper) = own_entry prefix value ++ (entries_of lower ++ entries_of upper)
+entries_of (Fork' p prefix value lower upper) =
+    own_entry prefix value ++ (entries_of lower ++ entries_of upper)
 
 -- The map that a tree holds.
 abbrev pub held_by : {T : Type 0} → Tree T → SpanMap T
@@ -32,7 +35,8 @@ in_lower p s = nat_le p.address s.first && nat_lt s.last (p.address + half p)
 -- A span lies in the upper half of a prefix.
 abbrev pub in_upper : PrefixParts → Ends → Bool
 in_upper p s =
-    nat_le (p.address + (count_of p.length - half p)) s.first && nat_lt s.last (p.address + count_of p.length)
+    nat_le (p.address + (count_of p.length - half p)) s.first
+    && nat_lt s.last (p.address + count_of p.length)
 
 -- A span lies in a half of a prefix: in the lower, or in the upper one.
 abbrev pub lies_on : PrefixParts → Bool → Ends → Bool
@@ -44,7 +48,8 @@ abbrev pub IsRootedOn : {T : Type 0} → PrefixParts → Bool → Tree T → Typ
 IsRootedOn p side Empty = Unit {0}
 IsRootedOn p side (Fork' a prefix value lower upper) = lies_on p side (span_of prefix) ≡ true
 
--- The prefixes below a node lie in the halves of its own: so each is longer, and a tree has 33 levels at most.
+-- The prefixes below a node lie in the halves of its own: so each is longer, and a tree has 33
+-- levels at most.
 pub record IsFork {T : Type 0} (prefix : PrefixParts) (lower upper : Tree T) : Type 0 where
   pub masked : IsMasked prefix
   pub low : IsRootedOn prefix false lower
@@ -53,4 +58,5 @@ pub record IsFork {T : Type 0} (prefix : PrefixParts) (lower upper : Tree T) : T
 -- Each node of a tree has its sides in the halves of its prefix.
 abbrev pub IsTree : {T : Type 0} → Tree T → Type 0
 IsTree Empty = Unit {0}
-IsTree (Fork' p prefix value lower upper) = IsFork prefix lower upper × (IsTree lower × IsTree upper)
+IsTree (Fork' p prefix value lower upper) =
+    IsFork prefix lower upper × (IsTree lower × IsTree upper)

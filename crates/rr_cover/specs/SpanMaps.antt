@@ -1,4 +1,5 @@
--- Maps from spans to values: which spans of a map cross, cover or lie inside a span, and which is closest to it.
+-- Maps from spans to values: which spans of a map cross, cover or lie inside a span, and which is
+-- closest to it.
 use Rattle.std.specs.Prelude.{◌≡◌, Bool, true, false, ◌≤◌, List, filter, Some}
 use Rattle.std.specs.List.{list_any}
 use Rattle.std.specs.FinMap.{FinMap, get, contains_key, keys}
@@ -15,10 +16,11 @@ crosses_some m s = list_any (λ t. crosses t s) (keys m)
 -- No two spans of a map cross (profile).
 pub record NoneCross {T : Type 0} (m : SpanMap T) : Type 0 where
   pub apart :
-      (s t : Ends) → contains_key m s ≡ true → contains_key m t ≡ true → crosses s t ≡ false
+      (s t : Ends) → contains_key m s ≡ true → contains_key m t ≡ true
+      → crosses s t ≡ false
 
--- The closest span t to s, with its value: it covers s, and no other that covers s is smaller. An equal span counts
--- (RFC 2725, 9).
+-- The closest span t to s, with its value: it covers s, and no other that covers s is smaller. An
+-- equal span counts (RFC 2725, 9).
 pub record IsClosest {T : Type 0} (m : SpanMap T) (s t : Ends) (value : T) : Type 0 where
   pub held : get m t ≡ Some value
   pub above : covers t s ≡ true

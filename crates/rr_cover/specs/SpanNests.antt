@@ -1,5 +1,7 @@
 -- A search tree of spans with their values, as the map that it holds.
-use Rattle.std.specs.Prelude.{◌≡◌, ◌≤◌, Bool, true, false, ◌&&◌, ◌||◌, nat_lt, nat_le, nat_eq, if◌then◌else◌, List, [], ◌∷◌, ◌++◌, Option, Some, None, is_some}
+use Rattle.std.specs.Prelude.{◌≡◌, ◌≤◌, Bool, true, false, ◌&&◌, ◌||◌, nat_lt}
+use Rattle.std.specs.Prelude.{nat_le, nat_eq, if◌then◌else◌, List, [], ◌∷◌, ◌++◌}
+use Rattle.std.specs.Prelude.{Option, Some, None, is_some}
 use Rattle.std.specs.FinMap.{from_entries}
 use Rattle.std.specs.Option.{option_or}
 use Rattle.std.specs.Ordering.{eq_by_cmp}
@@ -9,15 +11,16 @@ use Rattle.rr_cover.specs.declared.span_nest.bounds.Bounds.{Bounds}
 use Rattle.rr_cover.specs.declared.span_nest.Nest.{Nest}
 use Rattle.rr_cover.specs.declared.span_nest.Nest.TheVariants.{Empty, Fork'}
 
--- A span stands ahead of another where it begins before it, or begins with it and ends behind it: a span stands ahead
--- of those inside it.
+-- A span stands ahead of another where it begins before it, or begins with it and ends after it: a
+-- span stands ahead of those inside it.
 abbrev pub is_ahead : Ends → Ends → Bool
 is_ahead s t = nat_lt s.first t.first || (nat_eq s.first t.first && nat_lt t.last s.last)
 
 -- The spans of a tree with their values: those of the front side, its own, those of the back side.
 abbrev pub entries_of : {T : Type 0} → Nest T → List (Ends × T)
 entries_of Empty = []
-entries_of (Fork' p span value height bounds before after) = entries_of before ++ ((span, value) ∷ entries_of after)
+entries_of (Fork' p span value height bounds before after) =
+    entries_of before ++ ((span, value) ∷ entries_of after)
 
 -- The map that a tree holds.
 abbrev pub nested : {T : Type 0} → Nest T → SpanMap T
@@ -37,15 +40,17 @@ standing (Fork' p span value height bounds before after) s =
 pub record Only {T : Type 0} (p : Ends → Bool) (nest : Nest T) : Type 0 where
   pub each : (s : Ends) → is_some (standing nest s) ≡ true → p s ≡ true
 
--- A span fits between two sides: those in front stand ahead of it, and it stands ahead of those behind.
+-- A span fits between two sides: those in front stand ahead of it, and it stands ahead of those
+-- after.
 pub record Fits {T : Type 0} (span : Ends) (before after : Nest T) : Type 0 where
   pub ordered : IsSpan span
   pub ahead : Only (λ s. is_ahead s span) before
   pub behind : Only (λ s. is_ahead span s) after
 
--- What a node knows of last numbers: none from it on is below the least one, none of its own and of the front side is
--- above one greatest number, and none of the back side above another.
-pub record IsBound {T : Type 0} (bounds : Bounds) (span : Ends) (before after : Nest T) : Type 0 where
+-- What a node knows of last numbers: none from it on is below the least one, none of its own and of
+-- the front side is above one greatest number, and none of the back side above another.
+pub record IsBound {T : Type 0} (bounds : Bounds) (span : Ends)
+    (before after : Nest T) : Type 0 where
   pub least_own : bounds.least ≤ span.last
   pub least_low : Only (λ s. nat_le bounds.least s.last) before
   pub least_high : Only (λ s. nat_le bounds.least s.last) after

@@ -1,5 +1,6 @@
 -- What the parts of a tree of prefixes answer and leave. No public contract cites these.
-use Rattle.std.specs.Prelude.{◌≡◌, ℕ, ◌-◌, ◌≤◌, Bool, true, false, not, ◌&&◌, ◌||◌, if◌then◌else◌, List, Option, None, Some, is_some}
+use Rattle.std.specs.Prelude.{◌≡◌, ℕ, ◌-◌, ◌≤◌, Bool, true, false, not, ◌&&◌}
+use Rattle.std.specs.Prelude.{◌||◌, if◌then◌else◌, List, Option, None, Some, is_some}
 use Rattle.std.specs.List.{list_any}
 use Rattle.std.specs.Option.{option_or}
 use Rattle.std.specs.Ordering.{eq_by_cmp}
@@ -27,7 +28,8 @@ side_of prefix lower upper s = if in_upper prefix s then upper else lower
 pub record IsSmallestCover {T : Type 0} (tree : Tree T) (s t : Ends) (value : T) : Type 0 where
   pub held : standing tree t ≡ Some value
   pub above : covers t s ≡ true
-  pub least : (u : Ends) → is_some (standing tree u) ≡ true → covers u s ≡ true → size t ≤ size u
+  pub least : (u : Ends) → is_some (standing tree u) ≡ true → covers u s ≡ true
+      → size t ≤ size u
 
 -- No span of a tree covers s.
 pub record NoCover {T : Type 0} (tree : Tree T) (s : Ends) : Type 0 where
@@ -68,7 +70,8 @@ root_of (Fork' p prefix value lower upper) = Some prefix
 abbrev pub is_listed : List PrefixParts → Ends → Bool
 is_listed prefixes u = list_any (λ p. eq_by_cmp span_cmp u (span_of p)) prefixes
 
--- For how many levels there is room from the root of a tree on: one for each length from the root's up to 32.
+-- For how many levels there is room from the root of a tree on: one for each length from the root's
+-- up to 32.
 abbrev pub room : {T : Type 0} → Tree T → ℕ
 room Empty = 0
 room (Fork' p prefix value lower upper) = 33 - prefix.length

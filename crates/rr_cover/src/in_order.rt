@@ -12,7 +12,8 @@ use std::alloc::AllocError;
 /// Puts the span at the end of the list, where it is wanted.
 pub(crate) fn push_if(wanted: bool, span: Span, out: &mut Vec<Span>) -> Result<(), AllocError>
     ensures ok { OnOk result ((u : Ends) → list_any (eq_by_cmp span_cmp u) out.new.items
-        ≡ (list_any (eq_by_cmp span_cmp u) out.old.items || (eq_by_cmp span_cmp u span && wanted))) }
+        ≡ (list_any (eq_by_cmp span_cmp u) out.old.items
+        || (eq_by_cmp span_cmp u span && wanted))) }
 {
     if wanted {
         out.push(span)?;

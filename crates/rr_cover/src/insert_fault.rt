@@ -12,7 +12,7 @@ pub enum InsertFault<T> {
     /// The span crosses one that is held.
     #[error("the span crosses one that is held")]
     Overlap(T),
-    /// Memory was refused.
+    /// Memory ran out.
     #[error("out of memory")]
     Memory(T),
 }

@@ -1,6 +1,8 @@
-//! Laws of maps of spans, for readers and for the proofs of other crates. Nothing calls these functions.
+//! Laws of maps of spans, for readers and for the proofs of other crates. Nothing calls these
+//! functions.
 
-ghost use Rattle.rr_cover.specs.SpanMapLaws.{ClosestIsOne, CoveringIsWhole, InsideIsWhole, ListsRise};
+ghost use Rattle.rr_cover.specs.SpanMapLaws.{ClosestIsOne, CoveringIsWhole, InsideIsWhole};
+ghost use Rattle.rr_cover.specs.SpanMapLaws.{ListsRise};
 
 /// Where no two spans held cross, at most one is closest to a span.
 pub fn closest_is_one<T>()

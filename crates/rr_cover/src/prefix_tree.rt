@@ -1,6 +1,7 @@
 //! Prefixes in a binary tree.
 
-ghost use Rattle.std.specs.Prelude.{◌≡◌, ◌≤◌, map, IfOk, IfErr, IfSome, IfNone, OnOk, OnErr};
+ghost use Rattle.std.specs.Prelude.{◌≡◌, ◌≤◌, map, IfOk, IfErr, IfSome, IfNone, OnOk};
+ghost use Rattle.std.specs.Prelude.{OnErr};
 ghost use Rattle.std.specs.Option.{option_copied};
 ghost use Rattle.std.specs.FinMap as span_map;
 ghost use Rattle.rr_number.specs.Prefixes.{span_of};
@@ -22,9 +23,10 @@ use rr_number::{Prefix, Span};
 use std::alloc::{AllocError, Global};
 use std::marker::Model;
 
-/// Values kept by prefix: a binary tree in which each prefix has those of its lower half on one side and those of its
-/// upper half on the other. It has a node for each prefix held and for each at which two of them part, and at most 33
-/// levels.
+/// Values kept by prefix: a binary tree in which each prefix has those of its lower half on one
+/// side and those of its upper half on the other. It has a node for each prefix held and for each
+/// at which two of them part, and at most 33 levels. The bits of an address are the way down, so
+/// it needs no balancing, and a prefix of any length is found in as many steps as it has bits.
 #[derive(Drop)]
 pub struct PrefixTree<T> {
     root: Tree<T>,
@@ -39,7 +41,8 @@ enum Tree<T> {
     Fork(Box<Node<T>>),
 }
 
-/// A prefix with its value, or one at which two others part, and the trees of the prefixes in its halves.
+/// A prefix with its value, or one at which two others part, and the trees of the prefixes in its
+/// halves.
 #[derive(Drop)]
 #[cycle(tree)]
 struct Node<T> {
@@ -76,13 +79,6 @@ impl<T> PrefixTree<T> {
         }
     }
 
-    /// Tells a caller's proof that no two spans of the tree cross.
-    pub fn apart(&self)
-        ensures { NoneCross self.now }
-    {
-        let _root = &self.root;
-    }
-
     /// The value that stands at the prefix.
     pub fn get(&self, prefix: Prefix) -> Option<&T>
         ensures { option_copied result ≡ span_map.get self.now (span_of prefix) }
@@ -90,9 +86,11 @@ impl<T> PrefixTree<T> {
         find(&self.root, prefix)
     }
 
-    /// The longest prefix held that covers the prefix, with its value; an equal one counts (RFC 2725, 9).
+    /// The longest prefix held that covers the prefix, with its value; an equal one counts
+    /// (RFC 2725, 9).
     pub fn closest(&self, prefix: Prefix) -> Option<(Prefix, &T)>
-        ensures found { IfSome result (λ p. IsClosest self.now (span_of prefix) (span_of p.0) p.1.now) }
+        ensures found { IfSome result
+            (λ p. IsClosest self.now (span_of prefix) (span_of p.0) p.1.now) }
         ensures none { IfNone result (NoneCovers self.now (span_of prefix)) }
     {
         smallest_cover(&self.root, prefix)
@@ -127,8 +125,8 @@ impl<T> PrefixTree<T> {
 }
 
 impl<T: Drop> PrefixTree<T> {
-    /// Puts the value at the prefix, and gives back the value that stood there. Where memory is refused, nothing
-    /// changes and the value comes back.
+    /// Puts the value at the prefix, and gives back the value that stood there. If memory runs out,
+    /// nothing changes and the value comes back.
     pub fn insert(&mut self, prefix: Prefix, value: T) -> Result<Option<T>, InsertFault<T>>
         ensures stood { IfOk result (λ old. old ≡ span_map.get self.old (span_of prefix)) }
         ensures ok { OnOk result (self.new ≡ span_map.insert self.old (span_of prefix) value) }

@@ -1,6 +1,7 @@
 //! A list of spans in order.
 
-ghost use Rattle.std.specs.Prelude.{◌≡◌, ◌↔◌, fold, None, true, filter, map, IsTrue, IfOk, IfErr, IfSome, IfNone, OnOk, OnErr};
+ghost use Rattle.std.specs.Prelude.{◌≡◌, ◌↔◌, fold, None, true, filter, map, IsTrue};
+ghost use Rattle.std.specs.Prelude.{IfOk, IfErr, IfSome, IfNone, OnOk, OnErr};
 ghost use Rattle.std.specs.List.{list_any};
 ghost use Rattle.std.specs.Option.{option_copied};
 ghost use Rattle.std.specs.FinMap as span_map;
@@ -8,7 +9,8 @@ ghost use Rattle.std.specs.FinMap.{is_sorted};
 ghost use Rattle.rr_number.specs.Spans.{covers, crosses, span_cmp};
 ghost use Rattle.rr_cover.specs.InsertFaults.{value_of};
 ghost use Rattle.rr_cover.specs.ListParts.{nearer, StandsAt, BelongsAt};
-ghost use Rattle.rr_cover.specs.SpanMaps.{crosses_some, covering, inside, NoneCross, IsClosest, NoneCovers};
+ghost use Rattle.rr_cover.specs.SpanMaps.{crosses_some, covering, inside, NoneCross, IsClosest};
+ghost use Rattle.rr_cover.specs.SpanMaps.{NoneCovers};
 ghost use Rattle.rr_cover.specs.declared.insert_fault.InsertFault.TheVariants.{Overlap};
 
 use crate::insert_fault::InsertFault;
@@ -49,13 +51,6 @@ impl<T> SpanList<T> {
         }
     }
 
-    /// Tells a caller's proof that no two spans of the list cross.
-    pub fn apart(&self)
-        ensures { NoneCross self.now }
-    {
-        let _entries = &self.entries;
-    }
-
     /// The value that stands at the span.
     pub fn get(&self, span: Span) -> Option<&T>
         ensures { option_copied result ≡ span_map.get self.now span }
@@ -73,12 +68,14 @@ impl<T> SpanList<T> {
         crosses_any(&self.entries, span)
     }
 
-    /// Puts the value at the span, and gives back the value that stood there. A span that crosses one that is
-    /// held is refused, and so is any where memory is; then nothing changes and the value comes back.
+    /// Puts the value at the span, and gives back the value that stood there. A span that crosses
+    /// one that is held is refused, and so is any where memory is; then nothing changes and the
+    /// value comes back.
     pub fn insert(&mut self, span: Span, value: T) -> Result<Option<T>, InsertFault<T>>
         ensures stood { IfOk result (λ old. old ≡ span_map.get self.old span) }
         ensures ok { OnOk result (self.new ≡ span_map.insert self.old span value) }
-        ensures overlap { (result ≡ Err (Overlap value)) ↔ (crosses_some self.old span ≡ true) }
+        ensures overlap { (result ≡ Err (Overlap value))
+            ↔ (crosses_some self.old span ≡ true) }
         ensures err { OnErr result (self.new ≡ self.old) }
         ensures back { IfErr result (λ fault. value_of fault ≡ value) }
     {
@@ -114,8 +111,8 @@ impl<T> SpanList<T> {
         }
     }
 
-    /// The smallest span held that covers the span, with its value; an equal one counts (RFC 2725, 9).
-    /// Each entry is looked at once.
+    /// The smallest span held that covers the span, with its value; an equal one counts
+    /// (RFC 2725, 9). Each entry is looked at once.
     pub fn closest(&self, span: Span) -> Option<(Span, &T)>
         ensures found { IfSome result (λ p. IsClosest self.now span p.0 p.1.now) }
         ensures none { IfNone result (NoneCovers self.now span) }
@@ -194,7 +191,8 @@ fn spans_covering<T>(
     entries: &[(Span, T)],
     span: Span,
 ) -> Result<Vec<Span>, AllocError>
-    ensures { IfOk result (λ spans. spans.items ≡ filter (λ t. covers t span) (map (λ e. e.0) entries.now)) }
+    ensures { IfOk result
+        (λ spans. spans.items ≡ filter (λ t. covers t span) (map (λ e. e.0) entries.now)) }
 {
     entries
         .iter()
@@ -208,7 +206,8 @@ fn spans_inside<T>(
     entries: &[(Span, T)],
     span: Span,
 ) -> Result<Vec<Span>, AllocError>
-    ensures { IfOk result (λ spans. spans.items ≡ filter (λ t. covers span t) (map (λ e. e.0) entries.now)) }
+    ensures { IfOk result
+        (λ spans. spans.items ≡ filter (λ t. covers span t) (map (λ e. e.0) entries.now)) }
 {
     entries
         .iter()

@@ -1,10 +1,12 @@
 //! Spans that nest or lie apart, in a balanced search tree.
 
-ghost use Rattle.std.specs.Prelude.{◌≡◌, ◌↔◌, false, true, IfOk, IfErr, IfSome, IfNone, OnOk, OnErr};
+ghost use Rattle.std.specs.Prelude.{◌≡◌, ◌↔◌, false, true, IfOk, IfErr, IfSome, IfNone};
+ghost use Rattle.std.specs.Prelude.{OnOk, OnErr};
 ghost use Rattle.std.specs.Option.{option_copied};
 ghost use Rattle.std.specs.FinMap as span_map;
 ghost use Rattle.rr_cover.specs.InsertFaults.{value_of};
-ghost use Rattle.rr_cover.specs.SpanMaps.{crosses_some, covering, inside, NoneCross, IsClosest, NoneCovers};
+ghost use Rattle.rr_cover.specs.SpanMaps.{crosses_some, covering, inside, NoneCross, IsClosest};
+ghost use Rattle.rr_cover.specs.SpanMaps.{NoneCovers};
 ghost use Rattle.rr_cover.specs.declared.insert_fault.InsertFault.TheVariants.{Overlap};
 
 mod bounds;
@@ -22,9 +24,12 @@ use rr_number::Span;
 use std::alloc::{AllocError, AllocFailed, Global};
 use std::marker::Model;
 
-/// Values kept by span, no two spans crossing: a height-balanced search tree of all spans, in order of first number
-/// ascending, then last number descending. Each call goes down some of its levels, at most 28 for a million spans,
-/// however they nest.
+/// Values kept by span, no two spans crossing: a height-balanced search tree (AVL) of all spans, in
+/// order of first number ascending, then last number descending. Each node knows the least last
+/// number below it and the greatest of each side, so that a search passes by the sides in which no
+/// span reaches far enough. A tree in which spans hang below those that cover them would be a chain
+/// where they lie side by side. Each call goes down some of the levels, at most 28 for a million
+/// spans, however they nest.
 #[derive(Drop)]
 pub struct SpanNest<T> {
     root: Nest<T>,
@@ -39,7 +44,7 @@ enum Nest<T> {
     Fork(Box<Node<T>>),
 }
 
-/// A span with its value, and the trees of the spans that stand ahead of it and behind it.
+/// A span with its value, and the trees of the spans that stand ahead of it and after it.
 #[derive(Drop)]
 #[cycle(nest)]
 struct Node<T> {
@@ -79,13 +84,6 @@ impl<T> SpanNest<T> {
         }
     }
 
-    /// Tells a caller's proof that no two spans of the nest cross.
-    pub fn apart(&self)
-        ensures { NoneCross self.now }
-    {
-        let _root = &self.root;
-    }
-
     /// The value that stands at the span.
     pub fn get(&self, span: Span) -> Option<&T>
         ensures { option_copied result ≡ span_map.get self.now span }
@@ -100,7 +98,8 @@ impl<T> SpanNest<T> {
         crosses_any(&self.root, span)
     }
 
-    /// The smallest span held that covers the span, with its value; an equal one counts (RFC 2725, 9).
+    /// The smallest span held that covers the span, with its value; an equal one counts
+    /// (RFC 2725, 9).
     pub fn closest(&self, span: Span) -> Option<(Span, &T)>
         ensures found { IfSome result (λ p. IsClosest self.now span p.0 p.1.now) }
         ensures none { IfNone result (NoneCovers self.now span) }
@@ -129,20 +128,22 @@ impl<T> SpanNest<T> {
         Ok(spans)
     }
 
-    /// How many levels the tree has: no call goes down more. The sides of each node differ by one level at most, so a
-    /// million spans have at most 28.
+    /// How many levels the tree has: no call goes down more. The sides of each node differ by one
+    /// level at most, so a million spans have at most 28.
     pub fn levels(&self) -> u32 {
         levels(&self.root)
     }
 }
 
 impl<T: Drop> SpanNest<T> {
-    /// Puts the value at the span, and gives back the value that stood there. A span that crosses one that is
-    /// held is refused, and so is any where memory is; then nothing changes and the value comes back.
+    /// Puts the value at the span, and gives back the value that stood there. A span that crosses
+    /// one that is held is refused, and so is any where memory is; then nothing changes and the
+    /// value comes back.
     pub fn insert(&mut self, span: Span, value: T) -> Result<Option<T>, InsertFault<T>>
         ensures stood { IfOk result (λ old. old ≡ span_map.get self.old span) }
         ensures ok { OnOk result (self.new ≡ span_map.insert self.old span value) }
-        ensures overlap { (result ≡ Err (Overlap value)) ↔ (crosses_some self.old span ≡ true) }
+        ensures overlap { (result ≡ Err (Overlap value))
+            ↔ (crosses_some self.old span ≡ true) }
         ensures err { OnErr result (self.new ≡ self.old) }
         ensures back { IfErr result (λ fault. value_of fault ≡ value) }
     {
@@ -155,9 +156,9 @@ impl<T: Drop> SpanNest<T> {
         }
     }
 
-    /// Puts the value at the span, which crosses none that is held, and gives back the value that stood there: `insert`
-    /// for a caller that knows of no crossing, which it does not look for. The error is want of memory, changes nothing,
-    /// and gives the value back.
+    /// Puts the value at the span, which crosses none that is held, and gives back the value that
+    /// stood there: `insert` for a caller that knows of no crossing, which it does not look for.
+    /// The error is that memory ran out; nothing changes, and it gives the value back.
     pub fn insert_uncrossed(&mut self, span: Span, value: T) -> Result<Option<T>, AllocFailed<T>>
         requires { crosses_some self.old span ≡ false }
         ensures stood { IfOk result (λ old. old ≡ span_map.get self.old span) }

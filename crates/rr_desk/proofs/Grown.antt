@@ -66,9 +66,9 @@ old_uncrossed (Route p n) formed = refl
 old_uncrossed (AsSet n) formed = refl
 old_uncrossed (RouteSet n) formed = refl
 
-put_behind : (r : Reg) (os : List Obj) (b : Obj) → put_all r (os ++ b ∷ []) ≡ insert (put_all r os) b.key b
-put_behind r [] b = refl
-put_behind r (o ∷ os) b = put_behind (insert r o.key o) os b
+put_after : (r : Reg) (os : List Obj) (b : Obj) → put_all r (os ++ b ∷ []) ≡ insert (put_all r os) b.key b
+put_after r [] b = refl
+put_after r (o ∷ os) b = put_after (insert r o.key o) os b
 
 -- a mntner of the list stands in its registry
 mntner_key : (root : List ℕ) (k : Key) → is_mntner_of root k ≡ true → k ≡ Mntner root
@@ -109,7 +109,7 @@ module _ (s : SettingsParts) (is : IsSettings s) (os : List Obj) (r : Reg) (take
   whole = sym (taken.whole ∙ gathered_is empty os)
 
   joined : put_all empty (os ++ b ∷ []) ≡ insert r b.key b
-  joined = put_behind empty os b ∙ ap (λ m. insert m b.key b) whole
+  joined = put_after empty os b ∙ ap (λ m. insert m b.key b) whole
 
   apart : AreApart (os ++ b ∷ [])
   apart = ascending-append (λ x y. x.key ≢ y.key) os (b ∷ []) (taken_apart os r taken) (tt, tt)

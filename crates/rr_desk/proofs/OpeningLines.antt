@@ -23,7 +23,7 @@ use Rattle.rr_object.specs.Items.{items}
 use Rattle.rr_object.specs.Parts.{AuthParts}
 use Rattle.rr_desk.specs.Settings.{IsDigest}
 use Rattle.rr_desk.specs.Opening.{auth_line}
-use Rattle.rr_desk.proofs.PlainTexts.{IsShown, all_follow, both_true, is_plain, plain_blank, plain_item, shown_between, shown_plain, split_behind, split_whole}
+use Rattle.rr_desk.proofs.PlainTexts.{IsShown, all_follow, both_true, is_plain, plain_blank, plain_item, shown_between, shown_plain, split_after, split_whole}
 
 -- names are plain
 name_byte_plain : (b : ℕ) → is_name_byte b ≡ true → is_plain b ≡ true
@@ -60,7 +60,7 @@ filled (b ∷ bs) some = grind (arith, nat_tests)
 pub one_item : (text : List ℕ) → IsPlainLine text → items ((text ++ 44 ∷ []) ++ []) ≡ text ∷ []
 unfolding items
 one_item text plain =
-    rw (append-nil (text ++ 44 ∷ []), split_behind is_plain is_blank_or_comma plain_item text 44 [] plain.all refl, filled text plain.some) refl
+    rw (append-nil (text ++ 44 ∷ []), split_after is_plain is_blank_or_comma plain_item text 44 [] plain.all refl, filled text plain.some) refl
 
 -- a maintainer's name that is kept in upper case is read as itself
 pub maintainer_read : (name : List ℕ) → IsUpperName name → is_maintainer_name name ≡ true → maintainer_name_of name ≡ Some name
@@ -124,9 +124,9 @@ colon_place (b ∷ bs) digits all =
     let rest = colon_place bs digits parts.1 in
     grind (arith, nat_tests)
 
-drop_behind : (xs : List ℕ) (s : ℕ) (ys : List ℕ) → drop (length xs + 1) (xs ++ (s ∷ ys)) ≡ ys
-drop_behind [] s ys = refl
-drop_behind (x ∷ xs) s ys = grind (arith, common_steps, drop_behind xs s ys)
+drop_after : (xs : List ℕ) (s : ℕ) (ys : List ℕ) → drop (length xs + 1) (xs ++ (s ∷ ys)) ≡ ys
+drop_after [] s ys = refl
+drop_after (x ∷ xs) s ys = grind (arith, common_steps, drop_after xs s ys)
 
 salted_read : (auth : AuthParts) → IsDigest auth → salted_digest_of (salted_digits auth) ≡ Some auth
 unfolding salted_digest_of
@@ -134,7 +134,7 @@ salted_read auth is =
     let letters = (both_true (nat_le (length auth.salt) 16) (list_all is_ascii_alphanumeric auth.salt) is.salted).1 in
     let place = colon_place auth.salt (encode_lower auth.digest) letters in
     let front : before_first is_colon (salted_digits auth) ≡ auth.salt = take_at auth.salt (58 ∷ encode_lower auth.digest) _ (sym place) in
-    let back : after_first is_colon (salted_digits auth) ≡ encode_lower auth.digest = rw place (drop_behind auth.salt 58 (encode_lower auth.digest)) in
+    let back : after_first is_colon (salted_digits auth) ≡ encode_lower auth.digest = rw place (drop_after auth.salt 58 (encode_lower auth.digest)) in
     rw (front, back, is.salted, decode_sized-encode_lower auth.digest 32 is.sized is.bytes) refl
 
 auth_words : (auth : AuthParts) → IsDigest auth → words (auth_line auth) ≡ codes "SHA256-PW" ∷ (salted_digits auth ∷ [])

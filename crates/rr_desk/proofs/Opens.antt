@@ -19,7 +19,7 @@ use Rattle.rr_number.specs.SpanTexts.{spelled_span}
 use Rattle.rr_number.proofs.NameLemmas.{name_of-upper_name}
 use Rattle.rr_text.specs.Fields.{AreFields, Field, IsField, IsLine, one_line}
 use Rattle.rr_text.specs.Meanings.{value_meaning}
-use Rattle.rr_object.specs.Grants.{grants_behind}
+use Rattle.rr_object.specs.Grants.{grants_after}
 use Rattle.rr_object.specs.Items.{items}
 use Rattle.rr_object.specs.Keys.{class_of}
 use Rattle.rr_object.specs.KeySpellings.{key_at, key_of, key_of_text}
@@ -85,7 +85,7 @@ unfolding has_bad_text
 root_texts s is = rw (root_source s is) refl
 
 root_authority : (s : SettingsParts) → IsSettings s → has_bad_authority class.Mntner (root_fields s) ≡ false
-unfolding has_bad_authority items_read occurs grants_behind
+unfolding has_bad_authority items_read occurs grants_after
 root_authority s is =
     rw (root_maintained s is, root_auths s is, maintainer_read s.root is.root is.maintainer, auth_read s.auth is.auth) refl
 
@@ -108,7 +108,7 @@ pub root_read : (s : SettingsParts) → IsSettings s → object_of (root_fields 
 root_read s is = read_as (root_fields s) s.source (Mntner s.root) (root_key s is) (root_counted s is) (root_spelled s is) (root_own s is)
 
 pub root_named : (s : SettingsParts) → IsSettings s → names_of (root_object s) ≡ s.root ∷ []
-unfolding obj_at items_read occurs grants_behind
+unfolding obj_at items_read occurs grants_after
 root_named s is = rw (root_maintained s is, maintainer_read s.root is.root is.maintainer) refl
 
 -- the items of an opening object of another class
@@ -143,7 +143,7 @@ unfolding has_bad_text
 block_texts line s is = rw (span_source (codes "as-block") line s is refl) refl
 
 block_authority : (line : List ℕ) (s : SettingsParts) → IsSettings s → has_bad_authority class.AsBlock (block_fields line s) ≡ false
-unfolding has_bad_authority items_read occurs grants_behind
+unfolding has_bad_authority items_read occurs grants_after
 block_authority line s is =
     rw (block_maintained line s is, block_lower line s, maintainer_read s.root is.root is.maintainer) refl
 
@@ -168,7 +168,7 @@ block_read block line s is key =
     read_as (block_fields line s) s.source (AsBlock block) key (block_counted line s is) (block_spelled line s is) (block_own line s is)
 
 pub block_named : (block : Ends) (line : List ℕ) (s : SettingsParts) → IsSettings s → names_of (block_object block line s) ≡ s.root ∷ []
-unfolding obj_at items_read occurs grants_behind
+unfolding obj_at items_read occurs grants_after
 block_named block line s is =
     rw (block_maintained line s is, block_lower line s, maintainer_read s.root is.root is.maintainer) refl
 
@@ -218,7 +218,7 @@ unfolding has_bad_text
 addresses_texts s is = rw (addresses_source s is) refl
 
 addresses_authority : (s : SettingsParts) → IsSettings s → has_bad_authority class.Inetnum (addresses_fields s) ≡ false
-unfolding has_bad_authority items_read occurs grants_behind
+unfolding has_bad_authority items_read occurs grants_after
 addresses_authority s is =
     rw (addresses_maintained s is, addresses_lower s, addresses_routes s, maintainer_read s.root is.root is.maintainer) refl
 
@@ -248,7 +248,7 @@ addresses_read s is =
     read_as (addresses_fields s) s.source (Inetnum addresses) (addresses_key s) (addresses_counted s is) (addresses_spelled s is) (addresses_own s is)
 
 pub addresses_named : (s : SettingsParts) → IsSettings s → names_of (addresses_object s) ≡ s.root ∷ []
-unfolding obj_at items_read occurs grants_behind
+unfolding obj_at items_read occurs grants_after
 addresses_named s is =
     rw (addresses_maintained s is, addresses_lower s, addresses_routes s, maintainer_read s.root is.root is.maintainer) refl
 
@@ -293,13 +293,13 @@ addresses_line = good_line (codes "inetnum") (codes "0.0.0.0 - 255.255.255.255")
 pub named_line : (name line : List ℕ) → is_attribute_name name ≡ true → lowered name ≡ name → IsShown line → IsField (one_line name line)
 named_line name line named lower shown = good_line name line named lower (shown_line line shown)
 
-behind_fields : (front back : List Field) → AreFields front → AreFields back → AreFields (front ++ back)
-behind_fields [] back front_good back_good = back_good
-behind_fields (f ∷ front) back front_good back_good = (front_good.0, behind_fields front back front_good.1 back_good)
+after_fields : (front back : List Field) → AreFields front → AreFields back → AreFields (front ++ back)
+after_fields [] back front_good back_good = back_good
+after_fields (f ∷ front) back front_good back_good = (front_good.0, after_fields front back front_good.1 back_good)
 
 pub owned_good : (front : List Field) (s : SettingsParts) → AreFields front → IsSettings s → AreFields (front ++ owned s)
 owned_good front s good is =
-    behind_fields front (owned s) good (
+    after_fields front (owned s) good (
       named_line (codes "mnt-by") s.root refl refl (shown_name s.root is.root.spelled),
       (named_line (codes "source") s.source refl refl (shown_name s.source is.source.spelled), tt),
     )

@@ -46,12 +46,12 @@ split_whole p q apart (b ∷ bs) all =
     rw (apart b parts.0, split_whole p q apart bs parts.1) refl
 
 -- and the first part of one that goes on behind a separator
-pub split_behind : (p q : ℕ → Bool) → ((b : ℕ) → p b ≡ true → q b ≡ false) → (bs : List ℕ) (s : ℕ) (further : List ℕ) → list_all p bs ≡ true → q s ≡ true
+pub split_after : (p q : ℕ → Bool) → ((b : ℕ) → p b ≡ true → q b ≡ false) → (bs : List ℕ) (s : ℕ) (further : List ℕ) → list_all p bs ≡ true → q s ≡ true
     → slice_split q (bs ++ (s ∷ further)) ≡ bs ∷ slice_split q further
-split_behind p q apart [] s further all is = rw is refl
-split_behind p q apart (b ∷ bs) s further all is =
+split_after p q apart [] s further all is = rw is refl
+split_after p q apart (b ∷ bs) s further all is =
     let parts = both_true (p b) (list_all p bs) all in
-    rw (apart b parts.0, split_behind p q apart bs s further parts.1 is) refl
+    rw (apart b parts.0, split_after p q apart bs s further parts.1 is) refl
 
 -- no byte of it passes the test, so the whole stands before the first that does
 place_none : (p q : ℕ → Bool) → ((b : ℕ) → p b ≡ true → q b ≡ false) → (bs : List ℕ) → list_all p bs ≡ true → position_or_len q bs ≡ length bs
@@ -84,16 +84,16 @@ before_some : (q : ℕ → Bool) (b : ℕ) (bs : List ℕ) → 0 < length bs →
 before_some q b [] some = absurd (omega arith)
 before_some q b (c ∷ cs) some = refl
 
-some_behind : (bs further : List ℕ) → 0 < length further → 0 < length (bs ++ further)
-some_behind [] further some = some
-some_behind (b ∷ bs) further some = omega arith
+some_after : (bs further : List ℕ) → 0 < length further → 0 < length (bs ++ further)
+some_after [] further some = some
+some_after (b ∷ bs) further some = omega arith
 
-pub behind_kept : (p q : ℕ → Bool) → ((b : ℕ) → p b ≡ true → q b ≡ false) → (front bs : List ℕ) → list_all p bs ≡ true → 0 < length bs
+pub after_kept : (p q : ℕ → Bool) → ((b : ℕ) → p b ≡ true → q b ≡ false) → (front bs : List ℕ) → list_all p bs ≡ true → 0 < length bs
     → trim_end q (front ++ bs) ≡ front ++ bs
 unfolding trim_end
-behind_kept p q apart [] bs all some = end_kept p q apart bs all
-behind_kept p q apart (f ∷ front) bs all some =
-    ap (before_trimmed q f) (behind_kept p q apart front bs all some) ∙ before_some q f (front ++ bs) (some_behind front bs some)
+after_kept p q apart [] bs all some = end_kept p q apart bs all
+after_kept p q apart (f ∷ front) bs all some =
+    ap (before_trimmed q f) (after_kept p q apart front bs all some) ∙ before_some q f (front ++ bs) (some_after front bs some)
 
 -- what plain and printed bytes are apart from
 plain_unblank : (b : ℕ) → is_plain b ≡ true → is_blank_or_line_feed b ≡ false
@@ -143,7 +143,7 @@ shown_between front middle back front_plain front_some middle_shown back_plain b
     let front_shown = all_follow is_plain is_shown plain_shown front front_plain in
     let back_shown = all_follow is_plain is_shown plain_shown back back_plain in
     let started = start_kept is_plain is_blank_or_line_feed plain_unblank front (middle ++ back) front_plain front_some in
-    let ended = behind_kept is_plain is_blank_or_line_feed plain_unblank (front ++ middle) back back_plain back_some in
+    let ended = after_kept is_plain is_blank_or_line_feed plain_unblank (front ++ middle) back back_plain back_some in
     record {
       all = rw (list_all-append is_shown front (middle ++ back), front_shown, list_all-append is_shown middle back, middle_shown, back_shown) refl;
       trimmed = ap (trim_end is_blank_or_line_feed) started ∙ (rw (← append_assoc front middle back) ended);

@@ -1,5 +1,6 @@
 -- What a desk answers to queries.
-use Rattle.std.specs.Prelude.{◌≡◌, ◌⊎◌, ◌||◌, ℕ, Bool, true, false, List, Result, Ok, Err, IfOk}
+use Rattle.std.specs.Prelude.{◌≡◌, ◌⊎◌, ◌||◌, ℕ, Bool, true, false, List, Result}
+use Rattle.std.specs.Prelude.{Ok, Err, IfOk}
 use Rattle.std.specs.List.{AllByRecursion}
 use Rattle.rr_io.specs.Sending.{Writes}
 use Rattle.rr_io.specs.Told.{Told}
@@ -65,14 +66,16 @@ pub record IsLookup (clean : Type 0) (registry : Reg) (text : List ℕ)
 
 -- a desk that runs gives the answer of its registry, or what the tables have, or tells that there
 -- is no memory for it (profile)
-abbrev pub IsRunningAnswer : Type 0 → Reg → ℕ → List ℕ → Result (List ℕ) QueryFault → Type 0
+abbrev pub IsRunningAnswer : Type 0 → Reg → ℕ → List ℕ → Result (List ℕ) QueryFault
+    → Type 0
 IsRunningAnswer clean registry limit text answer =
     IsAnswerTo registry limit text answer
     ⊎ (IsLookup clean registry text answer ⊎ (answer ≡ Err Memory))
 
 -- that a query is too long comes before that the desk is stopped, and this before all else
 -- (profile)
-abbrev pub IsAnswerWhere : Bool → Bool → Type 0 → Reg → ℕ → List ℕ → Result (List ℕ) QueryFault
+abbrev pub IsAnswerWhere : Bool → Bool → Type 0 → Reg → ℕ → List ℕ
+    → Result (List ℕ) QueryFault
     → Type 0
 IsAnswerWhere true stopped clean registry limit text answer = answer ≡ Err TooLong
 IsAnswerWhere false true clean registry limit text answer = answer ≡ Err Stopped

@@ -20,7 +20,8 @@ abbrev pub IsOfItsSource : {S : Type 0} → Desk S → Type 0
 IsOfItsSource desk = IsRegistryOf desk.settings.source desk.stored.registry
 
 -- what a submission does to a desk that runs, and to its reader and its writer, by its answer
-abbrev pub SubmitsTo : {S : Type 0} → Ghosts S → Desk S → Desk S → Told → Told → Told → Told
+abbrev pub SubmitsTo : {S : Type 0} → Ghosts S → Desk S → Desk S → Told → Told → Told
+    → Told
     → Result Done DeskFault → Type 0
 SubmitsTo g old new reader_old reader_new writer_old writer_new result =
     Submits (stock_ledger g) old.settings.source (record {
@@ -40,7 +41,8 @@ GivesAnswer g old new text answer =
     old.stored.stopped new.stored.stopped answer
 
 -- one such answer is made whole, and then written
-abbrev pub WritesAnswer : {S : Type 0} → Ghosts S → Desk S → Desk S → List ℕ → Told → Told
+abbrev pub WritesAnswer : {S : Type 0} → Ghosts S → Desk S → Desk S → List ℕ → Told
+    → Told
     → Result Answered WriteFault → Type 0
 WritesAnswer g old new text writer_old writer_new result =
     Answers (HasCleanDisk (state g new.stored.store)) old.stored.registry old.settings.limit text

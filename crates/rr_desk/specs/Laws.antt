@@ -1,5 +1,6 @@
 -- What is true of dumps that desks load, and of what they answer.
-use Rattle.std.specs.Prelude.{◌≡◌, ◌≢◌, ℕ, ◌<◌, ◌≤◌, Bool, true, List, Option, Some, Result, Err}
+use Rattle.std.specs.Prelude.{◌≡◌, ◌≢◌, ℕ, ◌<◌, ◌≤◌, Bool, true, List}
+use Rattle.std.specs.Prelude.{Option, Some, Result, Err}
 use Rattle.std.specs.Prelude.{length, slice_get}
 use Rattle.std.specs.FinMap.{get}
 use Rattle.sqlite.specs.Effect.{Database}
@@ -57,7 +58,8 @@ abbrev pub RowsAreDumpable : Type 0
 RowsAreDumpable =
     (source : List ℕ) (registry : Reg) (db : Database)
     → IsRegistryOf source registry → HasRows registry db
-    → ((k : Key) (o : Obj) → get registry k ≡ Some o → length (canonical o.paragraph) ≤ size_limit)
+    → ((k : Key) (o : Obj) → get registry k ≡ Some o
+    → length (canonical o.paragraph) ≤ size_limit)
     → IsDumpable source registry
 
 -- neither that memory ran out nor a fault of the store kept the answer back (profile)
@@ -87,5 +89,6 @@ abbrev pub TurnsAreInOrder : Type 0
 TurnsAreInOrder =
     (visits : List (Option Visit)) (waiting : List (List ℕ)) (after : Option (List (List ℕ)))
     → InOrder visits (Some waiting) after
-    → (place : ℕ) (bytes : List ℕ) → place < length visits → slice_get waiting place ≡ Some bytes
+    → (place : ℕ) (bytes : List ℕ) → place < length visits
+    → slice_get waiting place ≡ Some bytes
     → IsAskedAt visits place bytes

@@ -35,8 +35,8 @@ pub record HasLoadedRows (source : List ℕ) (start now : Told) (db : Database) 
   pub is_loaded : IsLoaded source start now registry
   pub rows : HasRows registry db
 
--- a dump was read to its end, and its objects, all of the source, are no registry for this reason
--- (profile)
+-- a dump was read to its end, and its objects, all of the source, are not a registry for this
+-- reason (profile)
 pub record IsUntaken (source : List ℕ) (start now : Told) (fault : LoadFault) : Type 0 where
   pub text : List ℕ
   pub objects : List Obj
@@ -45,8 +45,8 @@ pub record IsUntaken (source : List ℕ) (start now : Told) (fault : LoadFault) 
   pub is_fault : load_fault objects ≡ Some fault
 
 -- why a dump was not loaded, by the fault: those of the reading come first, then the first entry
--- that is no object of the source, then what is the matter with the list of objects; only of a dump
--- of a registry is it told that the tables have a row, or that the store failed (profile)
+-- that is not an object of the source, then what is the matter with the list of objects; only of a
+-- dump of a registry is it told that the tables have a row, or that the store failed (profile)
 abbrev pub FailsToLoad : List ℕ → Told → Told → DeskLoadFault → Type 0
 FailsToLoad source start now NotEmpty = HasReadDump source start now
 FailsToLoad source start now Read = FailsToRead source start now dump.Read

@@ -1,6 +1,7 @@
 -- What private functions that look for names in the tables promise each other. No public clause
 -- cites these.
-use Rattle.std.specs.Prelude.{◌≡◌, ℕ, Bool, true, false, List, None, Option, Some, Result, Ok, Err}
+use Rattle.std.specs.Prelude.{◌≡◌, ℕ, Bool, true, false, List, None, Option, Some, Result}
+use Rattle.std.specs.Prelude.{Ok, Err}
 use Rattle.sqlite.specs.declared.error.Error.{Error}
 use Rattle.sqlite.specs.declared.error.Error.TheVariants.{SqliteFailure}
 use Rattle.sqlite.specs.declared.error.ErrorCode.TheVariants as code
@@ -33,7 +34,8 @@ IsUnfound Store stopped = stopped ≡ true
 IsUnfound Stopped stopped = ⊥
 
 -- what names a maintainer was found, or not, and whether the desk is stopped
-abbrev pub LooksUp : Type 0 → Reg → List ℕ → Bool → Result (List ℕ) QueryFault → Type 0
+abbrev pub LooksUp : Type 0 → Reg → List ℕ → Bool → Result (List ℕ) QueryFault
+    → Type 0
 LooksUp clean registry name stopped (Ok text) =
     (stopped ≡ false) × IsNamingFound clean registry name (Ok text)
 LooksUp clean registry name stopped (Err fault) = IsUnfound fault stopped

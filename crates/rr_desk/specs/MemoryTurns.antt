@@ -1,5 +1,6 @@
 -- What connections over memory tell (profile).
-use Rattle.std.specs.Prelude.{◌≡◌, ℕ, ◌+◌, Bool, List, ◌∷◌, ◌++◌, Option, Some, is_some}
+use Rattle.std.specs.Prelude.{◌≡◌, ℕ, ◌+◌, Bool, List, ◌∷◌, ◌++◌, Option}
+use Rattle.std.specs.Prelude.{Some, is_some}
 use Rattle.std.specs.Prelude.{drop, length, map, max, replicate}
 use Rattle.std.specs.Option.{option_map}
 use Rattle.rr_io.specs.declared.cutting.Cut.{Cut}

@@ -46,9 +46,10 @@ pub record IsGrown (settings : SettingsParts) (old : Database) (registry : Reg) 
 -- tables of version 1 hold the rows of no registry of the source (profile)
 abbrev pub HasNoOldRegistry : List ℕ → Database → Type 0
 HasNoOldRegistry source db =
-    (registry : Reg) → IsRegistryOf source registry → AreOldStored source (values registry) db → ⊥
+    (registry : Reg) → IsRegistryOf source registry → AreOldStored source (values registry) db
+    → ⊥
 
--- the objects of tables of version 1 are a sound registry, in which the root is no maintainer
+-- the objects of tables of version 1 are a sound registry, in which the root is not a maintainer
 -- (profile)
 pub record IsRootless (settings : SettingsParts) (old : Database) : Type 0 where
   pub objects : List Obj
@@ -57,8 +58,8 @@ pub record IsRootless (settings : SettingsParts) (old : Database) : Type 0 where
   pub missing : has_mntner settings.root objects ≡ false
 
 -- why tables are not migrated: they are of another version, which comes first; no registry of the
--- source has their rows; or the root is no maintainer in theirs; each is told of the three tables
--- alone (profile)
+-- source has their rows; or the root is not a maintainer in theirs; each is told of the three
+-- tables alone (profile)
 pub record RefusesOldRegistry (settings : SettingsParts) (db : Database) (fault : MigrateFault)
     : Type 0 where
   pub wrong_version : (number : ℕ) → fault ≡ WrongVersion number → IsNotOld number db

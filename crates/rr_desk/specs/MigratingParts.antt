@@ -35,6 +35,7 @@ told_as Memory told = migrate.Memory
 abbrev pub IsGrowthFault : SettingsParts → List Obj → MigrateFault → Type 0
 IsGrowthFault settings objects (migrate.WrongVersion number) = ⊥
 IsGrowthFault settings objects migrate.BadRow = HasLoadFault objects
-IsGrowthFault settings objects migrate.NoRoot = AreRegistry objects × HasBlockFault settings objects
+IsGrowthFault settings objects migrate.NoRoot =
+    AreRegistry objects × HasBlockFault settings objects
 IsGrowthFault settings objects (migrate.Store error) = ⊥
 IsGrowthFault settings objects migrate.Memory = Unit {0}

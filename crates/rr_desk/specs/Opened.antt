@@ -8,7 +8,7 @@ use Rattle.sqlite.specs.State.{Survives}
 use Rattle.rr_auth.specs.Registries.{Reg}
 use Rattle.rr_auth.specs.Sources.{IsRegistryOf}
 use Rattle.rr_rows.specs.Entries.{TreesOf}
-use Rattle.rr_rows.specs.Made.{HasRow, IsVacant}
+use Rattle.rr_rows.specs.Made.{HasItsTables, HasRow, IsVacant}
 use Rattle.rr_rows.specs.Maps.{HasRows}
 use Rattle.rr_rows.specs.Tables.{HasTables}
 use Rattle.rr_store.specs.Calls.{OnCleanDisk, WhileOpen, database}
@@ -23,7 +23,8 @@ use Rattle.rr_desk.specs.Stocks.{IsHeld, Stock}
 
 -- the tables hold the rows of no registry of the source (profile)
 abbrev pub HasNoRegistry : List ℕ → Database → Type 0
-HasNoRegistry source db = (registry : Reg) → IsRegistryOf source registry → HasRows registry db → ⊥
+HasNoRegistry source db =
+    (registry : Reg) → IsRegistryOf source registry → HasRows registry db → ⊥
 
 -- the tables hold the rows of the registry that opens with these settings (profile)
 pub record HasOpeningRows (settings : SettingsParts) (db : Database) : Type 0 where
@@ -62,6 +63,7 @@ module _ {S : Type 0} (g : Ghosts S) where
   -- tables with these rows (profile)
   pub record MakesTables (rows : Database → Type 0) (conn made : Held S) : Type 0 where
     pub vacant : OnCleanDisk g made (IsVacant (database g conn))
+    pub tables : OnCleanDisk g made (HasItsTables (database g conn) (database g made))
     pub crash : Survives (state g conn) (state g made) (TreesOf rows)
 
   -- a connection is given back: it is in no transaction, what there was stands, and a stop leaves

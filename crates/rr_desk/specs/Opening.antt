@@ -26,12 +26,12 @@ root_fields settings =
     one_line (codes "mntner") settings.root
     ∷ (one_line (codes "auth") (auth_line settings.auth) ∷ owned settings)
 
--- the block of all AS numbers of two octets (profile)
+-- the block of all 16-bit AS numbers (profile)
 abbrev pub numbers_fields : SettingsParts → List Field
 numbers_fields settings = one_line (codes "as-block") (codes "AS0 - AS65535") ∷ owned settings
 
--- the block of the other AS numbers of four octets, which is also the one that migration adds (RFC
--- 6793; profile)
+-- the block of the other 32-bit AS numbers, which is also the one that migration adds (RFC 6793;
+-- profile)
 abbrev pub four_octets_fields : SettingsParts → List Field
 four_octets_fields settings = upper_block settings.root settings.source
 
@@ -45,7 +45,8 @@ addresses_fields settings =
 abbrev pub opening_paragraphs : SettingsParts → List (List Field)
 opening_paragraphs settings =
     root_fields settings
-    ∷ (numbers_fields settings ∷ (four_octets_fields settings ∷ (addresses_fields settings ∷ [])))
+    ∷ (numbers_fields settings
+    ∷ (four_octets_fields settings ∷ (addresses_fields settings ∷ [])))
 
 -- the objects that these paragraphs are in the registry of the settings' source, in this order
 -- (profile)

@@ -78,7 +78,8 @@ pub record FollowsIn {S X E : Type 0} (g : Ghosts S) (Change : Database → Data
   pub kept : WhileOpen g new (OnErr result (database g new ≡ database g old))
   pub crash : Survives (state g old) (state g new) (TreesOf (Change (database g old)))
 
--- rows of objects that are no registry are bad rows; that memory ran out is told as such (profile)
+-- rows of objects that are not a registry are bad rows; that memory ran out is told as such
+-- (profile)
 abbrev pub opening_fault : LoadFault → OpenFault
 opening_fault (Duplicate n) = opened.BadRow
 opening_fault (Overlap n) = opened.BadRow
@@ -94,7 +95,7 @@ pub record HasObject (source : List ℕ) (fields : List Field) : Type 0 where
   pub object : Obj
   pub read : object_of fields source ≡ Ok object
 
--- the tables hold the rows of objects of the source which are no sound registry: one crosses
+-- the tables hold the rows of objects of the source which are not a sound registry: one crosses
 -- another, or names a maintainer who is not among them (profile)
 pub record IsUnsound (source : List ℕ) (db : Database) : Type 0 where
   pub objects : List Obj

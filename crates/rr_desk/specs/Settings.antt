@@ -1,5 +1,6 @@
 -- Settings: what a registry opens with, and how far expansions of sets go (profile).
-use Rattle.std.specs.Prelude.{◌≡◌, ℕ, ◌≤◌, true, ◌&&◌, nat_le, List, [], ◌∷◌, length, codes}
+use Rattle.std.specs.Prelude.{◌≡◌, ℕ, ◌≤◌, true, ◌&&◌, nat_le, List, []}
+use Rattle.std.specs.Prelude.{◌∷◌, length, codes}
 use Rattle.std.specs.Prelude.{Option, Some, None, Result, Ok, Err, if◌then◌else◌}
 use Rattle.std.specs.Option.{option_and_then}
 use Rattle.hex.specs.Hex.{IsBytes}
@@ -43,7 +44,7 @@ pub record IsSettings (settings : SettingsParts) : Type 0 where
   pub bounded : settings.limit ≤ GREATEST_LIMIT
 
 -- the digest that a well-formed value of `auth` of the scheme `SHA256-PW` stands for; it has no
--- comment, and an LF is no blank in it (profile)
+-- comment, and an LF is not a blank in it (profile)
 abbrev pub digest_of : List ℕ → Option AuthParts
 digest_of value = meant_by (auth_item value)
 
@@ -58,7 +59,8 @@ or_bad setting (Some value) = Ok value
 or_bad setting None = Err (Bad setting)
 
 -- the value of a setting; it is a fault that it is missing or bad (profile)
-abbrev pub needed : {X Y : Type 0} → Setting → (X → Option Y) → Option X → Result Y ValueFault
+abbrev pub needed : {X Y : Type 0} → Setting → (X → Option Y) → Option X
+    → Result Y ValueFault
 needed setting read given = or_bad setting (option_and_then read given)
 
 -- a fault goes before what comes after it (profile)
@@ -69,7 +71,8 @@ and_then (Err fault) next = Err fault
 
 -- the settings that these values are, `None` being a missing one, or the first in this order that
 -- is missing or bad (profile)
-unfoldable pub settings_of : Option (List ℕ) → Option (List ℕ) → Option (List ℕ) → Option ℕ
+unfoldable pub settings_of : Option (List ℕ) → Option (List ℕ) → Option (List ℕ)
+    → Option ℕ
     → Result SettingsParts ValueFault
 settings_of source root auth limit =
     and_then (needed Source name_of source) (λ s.
@@ -81,8 +84,10 @@ settings_of source root auth limit =
 -- the digest of the secret `bc` with the salt `a`: that of `abc` (FIPS 180-4)
 abbrev pub built_in_digest : List ℕ
 built_in_digest =
-    186 ∷ (120 ∷ (22 ∷ (191 ∷ (143 ∷ (1 ∷ (207 ∷ (234 ∷ (65 ∷ (65 ∷ (64 ∷ (222 ∷ (93 ∷ (174 ∷ (
-    34 ∷ (35 ∷ (176 ∷ (3 ∷ (97 ∷ (163 ∷ (150 ∷ (23 ∷ (122 ∷ (156 ∷ (180 ∷ (16 ∷ (255 ∷ (97 ∷ (
+    186 ∷ (120 ∷ (22 ∷ (191
+    ∷ (143 ∷ (1 ∷ (207 ∷ (234 ∷ (65 ∷ (65 ∷ (64 ∷ (222 ∷ (93 ∷ (174 ∷ (
+    34 ∷ (35 ∷ (176 ∷ (3
+    ∷ (97 ∷ (163 ∷ (150 ∷ (23 ∷ (122 ∷ (156 ∷ (180 ∷ (16 ∷ (255 ∷ (97 ∷ (
     242 ∷ (0 ∷ (21 ∷ (173 ∷ [])))))))))))))))))))))))))))))))
 
 -- the settings of the program without words: the source `TEST`, and the root `ROOT-MNT`, whose

@@ -1,5 +1,6 @@
 -- The turns of a listener, and what serving the connections of them does (profile).
-use Rattle.std.specs.Prelude.{◌≡◌, ℕ, ◌+◌, Bool, false, not, is_ok, Result, length, map, count_by}
+use Rattle.std.specs.Prelude.{◌≡◌, ℕ, ◌+◌, Bool, false, not, is_ok, Result, length, map}
+use Rattle.std.specs.Prelude.{count_by}
 use Rattle.std.specs.Prelude.{List, [], ◌∷◌, ◌++◌, Option, None, Some, slice_get}
 use Rattle.std.specs.Option.{option_map}
 use Rattle.sqlite_trees.specs.declared.store.Store.{Ghosts}
@@ -32,8 +33,9 @@ abbrev pub with_turn : Option (List Turn) → Turn → Option (List Turn)
 with_turn told turn = option_map (λ turns. turns ++ turn ∷ []) told
 
 -- where the bytes of connections that are to come are told, the first of them is accepted, if there
--- is one, and the others are still to come; else none can be accepted
-abbrev pub IsNext : Option (Option (List ℕ)) → Option (List (List ℕ)) → Option (List (List ℕ))
+-- is one, and the others are still to come; otherwise none can be accepted
+abbrev pub IsNext : Option (Option (List ℕ)) → Option (List (List ℕ))
+    → Option (List (List ℕ))
     → Type 0
 IsNext accepted None after = after ≡ None
 IsNext None (Some []) after = after ≡ Some []
@@ -73,7 +75,8 @@ Answer = Result (Unit {0}) ConnFault
 -- the connection told before and after and what its writer did, and of the answer; for desks over
 -- tables of any kind
 abbrev pub Serving : Type 1
-Serving = (S : Type 0) → Ghosts S → Desk S → Desk S → Told → Told → Told → Told → Answer → Type 0
+Serving = (S : Type 0) → Ghosts S → Desk S → Desk S → Told → Told → Told → Told
+    → Answer → Type 0
 
 -- a connection while it was served: what its reader and its writer told when it was accepted and
 -- when it was closed, and the answer
@@ -94,9 +97,10 @@ abbrev pub is_served : Option Visit → Bool
 is_served None = false
 is_served (Some visit) = is_ok visit.answer
 
--- what a turn did: nothing where no connection could be accepted, else what serving it does, from
--- when it was accepted
-abbrev pub Does : (S : Type 0) → Ghosts S → Serving → Option Visit → Desk S → Desk S → Type 0
+-- what a turn did: nothing where no connection could be accepted, otherwise what serving it does,
+-- from when it was accepted
+abbrev pub Does : (S : Type 0) → Ghosts S → Serving → Option Visit → Desk S → Desk S
+    → Type 0
 Does S g serves None before after = after ≡ before
 Does S g serves (Some visit) before after =
     IsFresh visit.reader_before visit.writer_before
@@ -104,7 +108,8 @@ Does S g serves (Some visit) before after =
     visit.writer_before visit.writer_after visit.answer
 
 -- the turns were taken one after the other, in this order
-abbrev pub DoesAll : (S : Type 0) → Ghosts S → Serving → List (Option Visit) → Desk S → Desk S
+abbrev pub DoesAll : (S : Type 0) → Ghosts S → Serving → List (Option Visit) → Desk S
+    → Desk S
     → Type 0
 DoesAll S g serves [] before after = after ≡ before
 DoesAll S g serves (visit ∷ visits) before after =
@@ -116,7 +121,8 @@ abbrev pub asked_in : Option Visit → Option (Option (List ℕ))
 asked_in = option_map (λ visit. visit.reader_before.bytes)
 
 -- the connections to come were accepted in their order
-abbrev pub InOrder : List (Option Visit) → Option (List (List ℕ)) → Option (List (List ℕ)) → Type 0
+abbrev pub InOrder : List (Option Visit) → Option (List (List ℕ)) → Option (List (List ℕ))
+    → Type 0
 InOrder [] before after = after ≡ before
 InOrder (visit ∷ visits) before after =
     (between : Option (List (List ℕ))) × IsNext (asked_in visit) before between
@@ -138,10 +144,12 @@ pub record TakesTurns {S : Type 0} (g : Ghosts S) (serves : Serving) (count : �
   pub all : DoesAll S g serves visits before after
   pub in_order : InOrder visits tally_before.waiting tally_after.waiting
   pub counted : tally_after.turns ≡ tally_before.turns + count
-  pub told : tally_after.told ≡ option_map (λ turns. turns ++ map turn_of visits) tally_before.told
+  pub told : tally_after.told
+      ≡ option_map (λ turns. turns ++ map turn_of visits) tally_before.told
   pub are_served : served ≡ count_by is_served visits
   pub are_failed : failed ≡ count_by (λ visit. not (is_served visit)) visits
 
 -- a listener that tells no turns tells none that are not counted
-pub none_told : (counted : ℕ) (turns : List Turn) → None ≡ Some turns → length turns ≡ counted
+pub none_told : (counted : ℕ) (turns : List Turn) → None ≡ Some turns
+    → length turns ≡ counted
 none_told counted turns is = cc

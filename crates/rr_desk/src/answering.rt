@@ -1,6 +1,7 @@
 //! What a desk answers to queries.
 
-ghost use Rattle.std.specs.Prelude.{◌≡◌, ◌≢◌, Err, Ok, false, true, IfErr, IfOk, MatchResult};
+ghost use Rattle.std.specs.Prelude.{◌≡◌, ◌≢◌, Err, Ok, false, true, IfErr, IfOk};
+ghost use Rattle.std.specs.Prelude.{MatchResult};
 ghost use Rattle.sqlite.specs.Held.{state};
 ghost use Rattle.sqlite.specs.State.{HasCleanDisk};
 ghost use Rattle.rr_io.specs.Sending.{Writes};
@@ -38,11 +39,11 @@ pub struct WriteFault;
 impl<S: Alter> Desk<S> {
     /// Answers a query, the text without the LF that ended it. The answer is made whole and then
     /// written: that of the registry, under the limit of the settings, or one line `% error n`. Its
-    /// number is 1 if the text is no query, 2 if it has more than 1,024 bytes, 3 for an expansion
-    /// over the limit, 4 if memory ran out, 5 if the store failed, and 6 if the desk is stopped; of
-    /// several the order is 2, 6, 1 and then the others (profile). What names a maintainer is
-    /// looked for in the tables: a fault of the store is met there alone, and stops the desk. After
-    /// a write fault the writer has taken the beginning of the answer.
+    /// number is 1 if the text is not a query, 2 if it has more than 1,024 bytes, 3 for an
+    /// expansion over the limit, 4 if memory ran out, 5 if the store failed, and 6 if the desk is
+    /// stopped; of several the order is 2, 6, 1 and then the others (profile). What names a
+    /// maintainer is looked for in the tables: a fault of the store is met there alone, and stops
+    /// the desk. After a write fault the writer has taken the beginning of the answer.
     pub fn answer<W: Sink>(
         &mut self,
         alloc: Global,

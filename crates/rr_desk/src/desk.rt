@@ -104,7 +104,8 @@ impl<S: Alter> Desk<S> {
         writer: &mut W,
     ) -> Result<Done, DeskFault>
         ensures stopped { self.old.stored.stopped ≡ true → (result ≡ Err Stopped)
-            × (self.new ≡ self.old) × (reader.new ≡ reader.old) × (writer.new ≡ writer.old) }
+            × (self.new ≡ self.old) × (reader.new ≡ reader.old)
+            × (writer.new ≡ writer.old) }
         ensures submits { self.old.stored.stopped ≡ false → SubmitsTo S.Store self.old self.new
             (R.told reader.old) (R.told reader.new) (W.told writer.old) (W.told writer.new) result }
         ensures runs { self.old.stored.stopped ≡ false

@@ -18,7 +18,7 @@ pub enum DeskDumpFault {
     /// A write failed.
     #[error("write failed")]
     Write,
-    /// Memory was refused.
+    /// Memory ran out.
     #[error("out of memory")]
     Memory,
     /// The desk is stopped.

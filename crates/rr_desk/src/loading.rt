@@ -22,8 +22,8 @@ use std::alloc::Global;
 use thiserror::Error;
 
 /// Why no desk was made from a dump. Entries and objects are counted from 1. A failed read and too
-/// many of them come first, then the first entry that is no object of the source, then the first
-/// key that stands twice or span that crosses, then the first name of a maintainer who is not
+/// many of them come first, then the first entry that is not an object of the source, then the
+/// first key that stands twice or span that crosses, then the first name of a maintainer who is not
 /// there; the store is asked last. No row was changed.
 #[derive(Clone, Copy, Debug, PartialEq, Eq, Error)]
 pub enum DeskLoadFault {
@@ -39,8 +39,8 @@ pub enum DeskLoadFault {
     /// The text of this entry has a fault, and those before it are objects of the source.
     #[error("entry {0} is no paragraph")]
     Text(u64),
-    /// This entry is no object of the source, with the code of a submission of it, and those before
-    /// it are.
+    /// This entry is not an object of the source, with the code of a submission of it, and those
+    /// before it are.
     #[error("entry {0} is no object: {1}")]
     Object(u64, Code),
     /// The key of this object is that of one before it.

@@ -1,6 +1,7 @@
 //! Connections over memory.
 
-ghost use Rattle.std.specs.Prelude.{◌≡◌, ◌+◌, ◌-◌, ◌<◌, ◌≤◌, ◌^◌, false, is_some, if◌then◌else◌};
+ghost use Rattle.std.specs.Prelude.{◌≡◌, ◌+◌, ◌-◌, ◌<◌, ◌≤◌, ◌^◌};
+ghost use Rattle.std.specs.Prelude.{false, is_some, if◌then◌else◌};
 ghost use Rattle.std.specs.Prelude.{length, vec_len, vec_capacity};
 ghost use Rattle.rr_desk.specs.Turns.{IsAccepted, IsFresh, IsUnaccepted};
 
@@ -141,7 +142,8 @@ impl<'a> Peers for MemoryPeers<'a> {
         ensures next { IfOk result (λ conn. AcceptsNext
             (inputs_left self.old) (inputs_left self.new) conn
             (⟦<MemoryConnection<'static> as Source>⟧.told conn)) }
-        ensures past { OnErr result ((inputs_left self.old ≡ []) × (inputs_left self.new ≡ [])) }
+        ensures past { OnErr result
+            ((inputs_left self.old ≡ []) × (inputs_left self.new ≡ [])) }
     {
         if self.next < self.inputs.len() {
             let input = self.inputs[self.next];

@@ -47,7 +47,7 @@ pub(crate) fn open_stored<S: Alter>(
     }
 }
 
-/// Why tables whose objects are no registry are not opened.
+/// Why tables whose objects are not a registry are not opened.
 fn refused(fault: LoadFault) -> OpenFault
     ensures { result ≡ opening_fault fault }
 {

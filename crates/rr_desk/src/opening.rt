@@ -17,7 +17,7 @@ use rr_text::{LineAttribute, Paragraph};
 use std::alloc::{AllocError, Global};
 
 /// The objects that a registry of these settings opens with: the root maintainer, the blocks of AS
-/// numbers of two and of four octets, and the span of all addresses, each maintained by the root
+/// numbers of 16 and of 32 bits, and the span of all addresses, each maintained by the root
 /// (profile). The error is that memory ran out.
 pub fn opening_objects(alloc: Global, settings: &Settings) -> Result<Vec<Object>, AllocError>
     ensures { IfOk result (λ objects. AreOpening settings.now objects.items) }
@@ -76,7 +76,7 @@ fn root_object(alloc: Global, settings: &Settings) -> Result<Object, AllocError>
     read_object(alloc, paragraph, settings.source())
 }
 
-/// The block of all AS numbers of two octets.
+/// The block of all 16-bit AS numbers.
 #[tactic(auto, using(crate::proofs::Opens::numbers_readable, crate::proofs::Opens::read_back))]
 fn numbers_object(alloc: Global, settings: &Settings) -> Result<Object, AllocError>
     ensures { IfOk result (IsParagraphOf settings.now.source (numbers_fields settings.now)) }
@@ -85,7 +85,7 @@ fn numbers_object(alloc: Global, settings: &Settings) -> Result<Object, AllocErr
     read_object(alloc, paragraph, settings.source())
 }
 
-/// The block of the other AS numbers of four octets, which migration adds too (RFC 6793).
+/// The block of the other 32-bit AS numbers, which migration adds too (RFC 6793).
 pub(crate) fn four_octets_object(alloc: Global, settings: &Settings) -> Result<Object, AllocError>
     ensures { IfOk result (IsParagraphOf settings.now.source (four_octets_fields settings.now)) }
 {

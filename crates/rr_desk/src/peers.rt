@@ -1,6 +1,7 @@
 //! Where connections come from, one after the other.
 
-ghost use Rattle.std.specs.Prelude.{◌≡◌, ◌+◌, ◌<◌, ◌^◌, ℕ, List, Option, Some, length, IfOk, OnErr};
+ghost use Rattle.std.specs.Prelude.{◌≡◌, ◌+◌, ◌<◌, ◌^◌, ℕ, List, Option, Some};
+ghost use Rattle.std.specs.Prelude.{length, IfOk, OnErr};
 ghost use Rattle.rr_desk.specs.Turns.{IsAccepted, IsClosed, IsUnaccepted, Tally, Turn};
 
 use rr_io::Connection;

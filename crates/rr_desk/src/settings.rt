@@ -31,7 +31,7 @@ pub enum Setting {
     Limit,
 }
 
-/// Why values are no settings.
+/// Why values are not settings.
 #[derive(Clone, Copy, Debug, PartialEq, Eq, Error)]
 pub enum ValueFault {
     /// This setting, the first in the order of `Setting`, is missing or bad.

@@ -159,7 +159,7 @@ impl<S: Alter> Stored<S> {
 }
 
 /// The registry is changed first, then the rows. A fault of the store stops both for good, also
-/// where memory runs out, since the rows then lack what the registry has.
+/// where memory runs out, because the rows then lack what the registry has.
 impl<S: Alter> Ledger for Stored<S> {
     ghost registry = { λ s. s.registry };
 

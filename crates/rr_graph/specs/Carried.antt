@@ -1,11 +1,13 @@
--- Values that labelled edges carry back. What is found at the node to which an edge leads is found at the node that
--- it leaves too, once the edge's label has passed it.
-use Rattle.std.specs.Prelude.{◌≡◌, ℕ, ◌⊎◌, List, [], ◌∷◌, Option, Some, option_and_then}
+-- Values that labelled edges carry back. What is found at the node to which an edge leads is found
+-- at the node that it leaves too, once the edge's label has passed it.
+use Rattle.std.specs.Prelude.{◌≡◌, ℕ, ◌⊎◌, List, [], ◌∷◌, Option, Some}
+use Rattle.std.specs.Prelude.{option_and_then}
 use Rattle.rr_graph.specs.Chain.{IsReached, MoreThan}
 use Rattle.rr_graph.specs.declared.labels.Edge.{Edge}
 
 module _ {N L : Type 0} (edge : N → N → L → Type 0) where
-  -- Labelled edges lead from `a` through the node of each in turn, the last of which is `b`. (profile)
+  -- Labelled edges lead from `a` through the node of each in turn, the last of which is `b`.
+  -- (profile)
   abbrev pub IsLabelledChain : N → List (Edge N L) → N → Type 0
   IsLabelledChain a [] b = a ≡ b
   IsLabelledChain a (e ∷ es) b = edge a e.to e.label × IsLabelledChain e.to es b
@@ -18,20 +20,27 @@ module _ {N L : Type 0} (edge : N → N → L → Type 0) where
   abbrev pub IsNamed : N → N → Type 0
   IsNamed start node = IsReached Leads (start ∷ []) node
 
--- What becomes of a value that is put through the labels of a chain, the last first, unless a label drops it. (profile)
-abbrev pub put_through : {N L V : Type 0} → (L → V → Option V) → List (Edge N L) → V → Option V
+-- What becomes of a value that is put through the labels of a chain, the last first, unless a label
+-- drops it. (profile)
+abbrev pub put_through : {N L V : Type 0} → (L → V → Option V) → List (Edge N L) → V
+    → Option V
 put_through passed [] value = Some value
 put_through passed (e ∷ es) value = option_and_then (passed e.label) (put_through passed es value)
 
-module _ {N L V : Type 0} (edge : N → N → L → Type 0) (own : N → V → Type 0) (passed : L → V → Option V) where
-  -- A chain from the node ends where a value is own, which its labels, the last first, make into this value. (profile)
+module _ {N L V : Type 0} (edge : N → N → L → Type 0) (own : N → V → Type 0)
+    (passed : L → V → Option V) where
+  -- A chain from the node ends where a value is own, which its labels, the last first, make into
+  -- this value. (profile)
   abbrev pub IsFound : N → V → Type 0
-  IsFound a value = (chain : List (Edge N L)) × (b : N) × (begun : V) × IsLabelledChain edge a chain b × own b begun × (put_through passed chain begun ≡ Some value)
+  IsFound a value =
+      (chain : List (Edge N L)) × (b : N) × (begun : V) × IsLabelledChain edge a chain b
+      × own b begun × (put_through passed chain begun ≡ Some value)
 
   -- A node that is reached from the start, with a value that is found at it.
   abbrev pub IsFoundPair : N → N × V → Type 0
   IsFoundPair start p = IsNamed edge start p.0 × IsFound p.0 p.1
 
-  -- More than `limit` nodes are reached, or more than `limit` pairs of a reached node and a value found at it. (profile)
+  -- More than `limit` nodes are reached, or more than `limit` pairs of a reached node and a value
+  -- found at it. (profile)
   abbrev pub IsTooMany : ℕ → N → Type 0
   IsTooMany limit start = MoreThan limit (IsNamed edge start) ⊎ MoreThan limit (IsFoundPair start)

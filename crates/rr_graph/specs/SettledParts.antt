@@ -1,6 +1,7 @@
--- Nodes whose values are all known, each list of values under its node, and how many pairs these are. Private functions
--- promise these; what a caller reads is in `Carried`.
-use Rattle.std.specs.Prelude.{◌≡◌, ℕ, ◌≤◌, ◌⊎◌, ◌↔◌, List, length, Contains, Option, Some}
+-- Nodes whose values are all known, each list of values under its node, and how many pairs these
+-- are. Private functions promise these; what a caller reads is in `Carried`.
+use Rattle.std.specs.Prelude.{◌≡◌, ℕ, ◌≤◌, ◌⊎◌, ◌↔◌, List, length}
+use Rattle.std.specs.Prelude.{Contains, Option, Some}
 use Rattle.std.specs.declared.cmp.Ordering.{Ordering}
 use Rattle.std.specs.Option.{option_map}
 use Rattle.std.specs.Global.{Vec}
@@ -12,8 +13,10 @@ use Rattle.rr_graph.specs.EffectParts.{Makes}
 use Rattle.rr_graph.specs.declared.labels.Edge.{Edge}
 
 -- The edges are those that leave the node.
-abbrev pub HasEdges : {N L : Type 0} → (N → N → L → Type 0) → N → List (Edge N L) → Type 0
-HasEdges {N} {L} edge node edges = (to : N) (label : L) → Contains edges (record { to = to; label = label }) ↔ edge node to label
+abbrev pub HasEdges : {N L : Type 0} → (N → N → L → Type 0) → N → List (Edge N L)
+    → Type 0
+HasEdges {N} {L} edge node edges = (to : N) (label : L)
+    → Contains edges (record { to = to; label = label }) ↔ edge node to label
 
 module _ {N V : Type 0} where
   -- the values that a map of lists has for the node
@@ -37,13 +40,18 @@ pub record IsTallied {N V : Type 0} (at : N → Option (List V)) (limit count : 
   pub same : (p : N × V) → Contains pairs p ↔ IsHeld at p
 
 -- An edge leads to a known node, of whose values the label makes this one.
-abbrev pub IsPassed : {N L V : Type 0} → (L → V → Option V) → (N → Option (List V)) → List (Edge N L) → V → Type 0
-IsPassed {N} {L} {V} passed at edges v = (e : Edge N L) × Contains edges e × ((w : V) × IsHeld at (e.to, w) × (passed e.label w ≡ Some v))
+abbrev pub IsPassed : {N L V : Type 0} → (L → V → Option V) → (N → Option (List V))
+    → List (Edge N L) → V → Type 0
+IsPassed {N} {L} {V} passed at edges v = (e : Edge N L) × Contains edges e
+    × ((w : V) × IsHeld at (e.to, w) × (passed e.label w ≡ Some v))
 
-module _ {N L V : Type 0} (edge : N → N → L → Type 0) (own : N → V → Type 0) (passed : L → V → Option V) where
+module _ {N L V : Type 0} (edge : N → N → L → Type 0) (own : N → V → Type 0)
+    (passed : L → V → Option V) where
   -- A known node has exactly the values that are found at it, in order.
   abbrev pub IsSettled : (V → V → Ordering) → (N → Option (List V)) → Type 0
-  IsSettled cmp at = (node : N) (values : List V) → at node ≡ Some values → ((v : V) → Contains values v ↔ IsFound edge own passed node v) × IsStrictlySortedBy cmp values
+  IsSettled cmp at = (node : N) (values : List V) → at node ≡ Some values
+      → ((v : V) → Contains values v ↔ IsFound edge own passed node v)
+      × IsStrictlySortedBy cmp values
 
   -- The pair of one of the nodes and a value that is found at it.
   abbrev pub IsFoundAmong : List N → N × V → Type 0
@@ -54,9 +62,12 @@ abbrev pub IsRun : {N L : Type 0} → N → List (Edge N L) → Type 0
 IsRun {N} {L} node edges = (e : Edge N L) → Contains edges e → e.to ≡ node
 
 -- Some of the edges lead to the node and make the value of one of these.
-abbrev pub IsMade : {N L V : Type 0} → (L → V → Option V) → N → List (Edge N L) → List V → V → Type 0
-IsMade {V = V} passed node edges begun v = (w : V) × Contains begun w × Makes passed w edges node v
+abbrev pub IsMade : {N L V : Type 0} → (L → V → Option V) → N → List (Edge N L) → List V
+    → V → Type 0
+IsMade {V = V} passed node edges begun v =
+    (w : V) × Contains begun w × Makes passed w edges node v
 
 -- Only nodes of the list are known.
 abbrev pub IsAmong : {N V : Type 0} → List N → (N → Option (List V)) → Type 0
-IsAmong {N} {V} nodes at = (node : N) (values : List V) → at node ≡ Some values → Contains nodes node
+IsAmong {N} {V} nodes at =
+    (node : N) (values : List V) → at node ≡ Some values → Contains nodes node

@@ -1,6 +1,7 @@
 //! The edges of a labelled graph by the node to which they lead.
 
-ghost use Rattle.std.specs.Prelude.{◌≡◌, [], ◌∷◌, ◌++◌, OnOk, IfOk, if◌then◌else◌};
+ghost use Rattle.std.specs.Prelude.{◌≡◌, [], ◌∷◌, ◌++◌, OnOk, IfOk};
+ghost use Rattle.std.specs.Prelude.{if◌then◌else◌};
 ghost use Rattle.std.specs.BTreeMap.{is_at};
 ghost use Rattle.rr_graph.specs.ReversedParts.{edges_at, AddsBackward, IsBackward};
 
@@ -8,7 +9,8 @@ use crate::labels::{Edge, Labelled};
 use std::alloc::{AllocError, Global};
 use std::collections::BTreeMap;
 
-/// Each edge under the node to which it leads, as that node sees it: `to` is the node that it leaves.
+/// Each edge under the node to which it leads, as that node sees it: `to` is the node that it
+/// leaves.
 #[derive(Drop)]
 pub struct Backward<N: Ord + Drop, L: Copy + Drop> {
     map: BTreeMap<N, Vec<Edge<N, L>>>,
@@ -36,7 +38,9 @@ impl<N: Ord + Drop, L: Copy + Drop> Backward<N, L> {
 
     /// Adds an edge that leads to `head`. After a refusal edges may be gone.
     fn add(&mut self, alloc: Global, head: N, edge: Edge<N, L>) -> Result<(), AllocError>
-        ensures { OnOk result ((node : N) → edges_at N.cmp self.new.map node ≡ (if is_at (N.cmp head) node then edges_at N.cmp self.old.map head ++ edge ∷ [] else edges_at N.cmp self.old.map node)) }
+        ensures { OnOk result ((node : N) → edges_at N.cmp self.new.map node
+            ≡ (if is_at (N.cmp head) node then edges_at N.cmp self.old.map head ++ edge ∷ []
+            else edges_at N.cmp self.old.map node)) }
     {
         let mut edges = self.map.remove(&head).unwrap_or(Vec::new(alloc));
         edges.push(edge)?;
@@ -52,7 +56,8 @@ impl<N: Ord + Drop, L: Copy + Drop> Backward<N, L> {
         tail: &N,
         edges: Vec<Edge<N, L>>,
     ) -> Result<(), AllocError>
-        ensures { OnOk result (AddsBackward (edges_at N.cmp self.old.map) tail.now edges.items (edges_at N.cmp self.new.map)) }
+        ensures { OnOk result (AddsBackward (edges_at N.cmp self.old.map) tail.now edges.items
+            (edges_at N.cmp self.new.map)) }
     {
         let mut edges = edges;
         while let Some(edge) = edges.pop() {
@@ -70,7 +75,8 @@ pub fn reversed<G: Labelled>(
     graph: &G,
     nodes: &[G::Node],
 ) -> Result<Backward<G::Node, G::Label>, AllocError>
-    ensures { IfOk result (λ backward. IsBackward (G.edge graph.now) nodes.now (edges_at G.Node.cmp backward.map)) }
+    ensures { IfOk result
+        (λ backward. IsBackward (G.edge graph.now) nodes.now (edges_at G.Node.cmp backward.map)) }
 {
     let mut backward = Backward::new(alloc);
     for tail in nodes {

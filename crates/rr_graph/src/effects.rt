@@ -1,6 +1,7 @@
 //! Edges whose labels make different things of values of one kind.
 
-ghost use Rattle.std.specs.Prelude.{◌≡◌, [], ◌∷◌, ◌++◌, List, None, Some, Contains, IfOk, OnOk};
+ghost use Rattle.std.specs.Prelude.{◌≡◌, [], ◌∷◌, ◌++◌, List, None, Some, Contains};
+ghost use Rattle.std.specs.Prelude.{IfOk, OnOk};
 ghost use Rattle.rr_graph.specs.declared.labels.Edge.{Edge};
 ghost use Rattle.rr_graph.specs.EffectParts.{IsDistinct, IsEnough, IsKnown};
 ghost use Rattle.rr_graph.specs.SettledParts.{values_at};
@@ -9,9 +10,9 @@ use crate::labels::{Edge, Labelled};
 use std::alloc::{AllocError, Global};
 use std::collections::{BTreeMap, BTreeSet};
 
-/// For each node and each kind of values those of some edges that are enough for values of that kind. Many references
-/// between two sets do the same to most values: 35 operators make one range of a /32. So a value is put through each
-/// effect once, however many edges have it.
+/// For each node and each kind of values those of some edges that are enough for values of that
+/// kind. Many references between two sets do the same to most values: 35 operators make one range
+/// of a /32. So a value is put through each effect once, however many edges have it.
 #[derive(Drop)]
 pub struct Effects<G: Labelled> {
     map: BTreeMap<(G::Node, G::Kind), Vec<Edge<G::Node, G::Label>>>,
@@ -20,14 +21,16 @@ pub struct Effects<G: Labelled> {
 impl<G: Labelled> Effects<G> {
     /// None yet.
     pub fn new(alloc: Global) -> Self
-        ensures { (key : G.Node × G.Kind) → values_at ⟦<(G::Node, G::Kind) as Ord>⟧.cmp result.map key ≡ None }
+        ensures { (key : G.Node × G.Kind)
+            → values_at ⟦<(G::Node, G::Kind) as Ord>⟧.cmp result.map key ≡ None }
     {
         Effects {
             map: BTreeMap::new(alloc),
         }
     }
 
-    /// Finds which of the edges are enough for values of this one's kind, unless that is known of the node.
+    /// Finds which of the edges are enough for values of this one's kind, unless that is known of
+    /// the node.
     pub fn note(
         &mut self,
         alloc: Global,
@@ -36,7 +39,10 @@ impl<G: Labelled> Effects<G> {
         edges: &[Edge<G::Node, G::Label>],
         value: G::Value,
     ) -> Result<(), AllocError>
-        ensures { (all : G.Node → List (Edge G.Node G.Label)) → all node.now ≡ edges.now → IsKnown G.passed G.kind_of all (values_at ⟦<(G::Node, G::Kind) as Ord>⟧.cmp self.old.map) → OnOk result (IsKnown G.passed G.kind_of all (values_at ⟦<(G::Node, G::Kind) as Ord>⟧.cmp self.new.map)) }
+        ensures { (all : G.Node → List (Edge G.Node G.Label)) → all node.now ≡ edges.now
+            → IsKnown G.passed G.kind_of all
+            (values_at ⟦<(G::Node, G::Kind) as Ord>⟧.cmp self.old.map) → OnOk result (IsKnown
+            G.passed G.kind_of all (values_at ⟦<(G::Node, G::Kind) as Ord>⟧.cmp self.new.map)) }
     {
         let key = (graph.copy(alloc, node)?, graph.kind(value));
         if self.map.contains_key(&key) {
@@ -55,7 +61,9 @@ impl<G: Labelled> Effects<G> {
         edges: &'a [Edge<G::Node, G::Label>],
         value: G::Value,
     ) -> Result<&'a [Edge<G::Node, G::Label>], AllocError>
-        ensures { (all : G.Node → List (Edge G.Node G.Label)) → all node.now ≡ edges.now → IsKnown G.passed G.kind_of all (values_at ⟦<(G::Node, G::Kind) as Ord>⟧.cmp self.now.map) → IfOk result (λ kept. IsEnough G.passed edges.now value kept.now) }
+        ensures { (all : G.Node → List (Edge G.Node G.Label)) → all node.now ≡ edges.now
+            → IsKnown G.passed G.kind_of all (values_at ⟦<(G::Node, G::Kind) as Ord>⟧.cmp
+            self.now.map) → IfOk result (λ kept. IsEnough G.passed edges.now value kept.now) }
     {
         let key = (graph.copy(alloc, node)?, graph.kind(value));
         match self.map.get(&key) {
@@ -108,7 +116,10 @@ impl<G: Labelled> Kept<G> {
         edge: &Edge<G::Node, G::Label>,
         value: G::Value,
     ) -> Result<(), AllocError>
-        ensures { (edges : List (Edge G.Node G.Label)) → IsDistinct ⟦<(G::Node, G::Value) as Ord>⟧.cmp G.passed value edges self.old.edges.items self.old.made → OnOk result (IsDistinct ⟦<(G::Node, G::Value) as Ord>⟧.cmp G.passed value (edges ++ edge.now ∷ []) self.new.edges.items self.new.made) }
+        ensures { (edges : List (Edge G.Node G.Label)) → IsDistinct
+            ⟦<(G::Node, G::Value) as Ord>⟧.cmp G.passed value edges self.old.edges.items
+            self.old.made → OnOk result (IsDistinct ⟦<(G::Node, G::Value) as Ord>⟧.cmp
+            G.passed value (edges ++ edge.now ∷ []) self.new.edges.items self.new.made) }
     {
         let Some(passed) = graph.pass(edge.label, value) else {
             return Ok(());

@@ -52,10 +52,12 @@ fn named<G: Labelled>(
     start: &G::Node,
     limit: usize,
 ) -> Result<Vec<G::Node>, ReachFault>
-    ensures found { IfOk result (λ nodes. (node : G.Node) → Contains nodes.items node ↔ IsNamed (G.edge graph.now) start.now node) }
+    ensures found { IfOk result (λ nodes. (node : G.Node)
+        → Contains nodes.items node ↔ IsNamed (G.edge graph.now) start.now node) }
     ensures once { IfOk result (λ nodes. HasNoRepeats nodes.items) }
     ensures few { OnOk result (¬ MoreThan limit (IsNamed (G.edge graph.now) start.now)) }
-    ensures many { result ≡ Err ReachFault.TooMany → MoreThan limit (IsNamed (G.edge graph.now) start.now) }
+    ensures many { result ≡ Err ReachFault.TooMany
+        → MoreThan limit (IsNamed (G.edge graph.now) start.now) }
 {
     let mut starts = Vec::new(alloc);
     starts.push(graph.copy(alloc, start)?)?;
@@ -71,35 +73,42 @@ pub struct Gathered<N, V> {
     pub values: Vec<V>,
 }
 
-/// Lists what is found at `start`: the nodes that chains of edges lead to from it, itself included, and each value
-/// that a node at the end of such a chain has by itself and that the labels of the chain, from the last to the first,
-/// make into this value, none dropping it.
+/// Lists what is found at `start`: the nodes that chains of edges lead to from it, itself included,
+/// and each value that a node at the end of such a chain has by itself and that the labels of the
+/// chain, from the last to the first, make into this value, none dropping it.
 ///
-/// The edges of each node are listed twice. The steps are O((KE + F) log F): E counts the edges that are listed, K the
-/// kinds of values that are found at one node, and F, for each pair of a reached node and a value found at it, the pairs
-/// that edges to the node make of it, each once, however many edges do.
+/// The edges of each node are listed twice. The steps are O((KE + F) log F): E counts the edges
+/// that are listed, K the kinds of values that are found at one node, and F, for each pair of a
+/// reached node and a value found at it, the pairs that edges to the node make of it, each once,
+/// however many edges do.
 ///
-/// The fault is `TooMany` exactly if more than `limit` nodes are reached, or more than `limit` such pairs, unless memory
-/// is refused.
+/// The fault is `TooMany` exactly if more than `limit` nodes are reached, or more than `limit` such
+/// pairs, unless memory runs out.
 pub fn gather<G: Labelled>(
     alloc: Global,
     graph: &G,
     start: &G::Node,
     limit: usize,
 ) -> Result<Gathered<G::Node, G::Value>, ReachFault>
-    ensures nodes { IfOk result (λ gathered. (node : G.Node) → Contains gathered.nodes.items node ↔ IsNamed (G.edge graph.now) start.now node) }
+    ensures nodes { IfOk result (λ gathered. (node : G.Node)
+        → Contains gathered.nodes.items node ↔ IsNamed (G.edge graph.now) start.now node) }
     ensures once { IfOk result (λ gathered. HasNoRepeats gathered.nodes.items) }
-    ensures values { IfOk result (λ gathered. (value : G.Value) → Contains gathered.values.items value ↔ IsFound (G.edge graph.now) (G.own graph.now) G.passed start.now value) }
-    ensures sorted { IfOk result (λ gathered. IsStrictlySortedBy G.Value.cmp gathered.values.items) }
-    ensures few { OnOk result (¬ IsTooMany (G.edge graph.now) (G.own graph.now) G.passed limit start.now) }
-    ensures many { result ≡ Err ReachFault.TooMany → IsTooMany (G.edge graph.now) (G.own graph.now) G.passed limit start.now }
+    ensures values { IfOk result (λ gathered. (value : G.Value) → Contains gathered.values.items
+        value ↔ IsFound (G.edge graph.now) (G.own graph.now) G.passed start.now value) }
+    ensures sorted { IfOk result
+        (λ gathered. IsStrictlySortedBy G.Value.cmp gathered.values.items) }
+    ensures few { OnOk result
+        (¬ IsTooMany (G.edge graph.now) (G.own graph.now) G.passed limit start.now) }
+    ensures many { result ≡ Err ReachFault.TooMany
+        → IsTooMany (G.edge graph.now) (G.own graph.now) G.passed limit start.now }
 {
     let nodes = named(alloc, graph, start, limit)?;
     let values = found_among(alloc, graph, &nodes, start, limit)?;
     Ok(Gathered { nodes, values })
 }
 
-/// The values that are found at the start, in ascending order, by the places of the nodes that are reached from it.
+/// The values that are found at the start, in ascending order, by the places of the nodes that are
+/// reached from it.
 fn found_among<G: Labelled>(
     alloc: Global,
     graph: &G,
@@ -107,12 +116,16 @@ fn found_among<G: Labelled>(
     start: &G::Node,
     limit: usize,
 ) -> Result<Vec<G::Value>, ReachFault>
-    requires named { (node : G.Node) → Contains nodes.now node ↔ IsNamed (G.edge graph.now) start.now node }
+    requires named { (node : G.Node)
+        → Contains nodes.now node ↔ IsNamed (G.edge graph.now) start.now node }
     requires once { HasNoRepeats nodes.now }
-    ensures found { IfOk result (λ values. (value : G.Value) → Contains values.items value ↔ IsFound (G.edge graph.now) (G.own graph.now) G.passed start.now value) }
+    ensures found { IfOk result (λ values. (value : G.Value) → Contains values.items value
+        ↔ IsFound (G.edge graph.now) (G.own graph.now) G.passed start.now value) }
     ensures sorted { IfOk result (λ values. IsStrictlySortedBy G.Value.cmp values.items) }
-    ensures few { OnOk result (¬ MoreThan limit (IsFoundPair (G.edge graph.now) (G.own graph.now) G.passed start.now)) }
-    ensures many { result ≡ Err ReachFault.TooMany → MoreThan limit (IsFoundPair (G.edge graph.now) (G.own graph.now) G.passed start.now) }
+    ensures few { OnOk result
+        (¬ MoreThan limit (IsFoundPair (G.edge graph.now) (G.own graph.now) G.passed start.now)) }
+    ensures many { result ≡ Err ReachFault.TooMany
+        → MoreThan limit (IsFoundPair (G.edge graph.now) (G.own graph.now) G.passed start.now) }
 {
     let numbered = Numbered::new(alloc, graph, nodes)?;
     let places = numbered.all(alloc)?;
@@ -122,7 +135,8 @@ fn found_among<G: Labelled>(
     }
 }
 
-/// The values that are found at the start, in ascending order, where the nodes are those that are reached from it.
+/// The values that are found at the start, in ascending order, where the nodes are those that are
+/// reached from it.
 fn found_at<G: Labelled>(
     alloc: Global,
     graph: &G,
@@ -130,11 +144,15 @@ fn found_at<G: Labelled>(
     start: &G::Node,
     limit: usize,
 ) -> Result<Vec<G::Value>, ReachFault>
-    requires { (node : G.Node) → Contains nodes.now node ↔ IsNamed (G.edge graph.now) start.now node }
-    ensures found { IfOk result (λ values. (value : G.Value) → Contains values.items value ↔ IsFound (G.edge graph.now) (G.own graph.now) G.passed start.now value) }
+    requires { (node : G.Node)
+        → Contains nodes.now node ↔ IsNamed (G.edge graph.now) start.now node }
+    ensures found { IfOk result (λ values. (value : G.Value) → Contains values.items value
+        ↔ IsFound (G.edge graph.now) (G.own graph.now) G.passed start.now value) }
     ensures sorted { IfOk result (λ values. IsStrictlySortedBy G.Value.cmp values.items) }
-    ensures few { OnOk result (¬ MoreThan limit (IsFoundPair (G.edge graph.now) (G.own graph.now) G.passed start.now)) }
-    ensures many { result ≡ Err ReachFault.TooMany → MoreThan limit (IsFoundPair (G.edge graph.now) (G.own graph.now) G.passed start.now) }
+    ensures few { OnOk result
+        (¬ MoreThan limit (IsFoundPair (G.edge graph.now) (G.own graph.now) G.passed start.now)) }
+    ensures many { result ≡ Err ReachFault.TooMany
+        → MoreThan limit (IsFoundPair (G.edge graph.now) (G.own graph.now) G.passed start.now) }
 {
     let settled = settled(alloc, graph, nodes, limit)?;
     match settled.into_values(nodes, start) {
@@ -151,27 +169,35 @@ fn walked<G: Labelled>(
     start: &G::Node,
     limit: usize,
 ) -> Result<Vec<G::Value>, ReachFault>
-    requires { (node : G.Node) → Contains nodes.now node ↔ IsNamed (G.edge graph.now) start.now node }
-    ensures found { IfOk result (λ values. (value : G.Value) → Contains values.items value ↔ IsFound (G.edge graph.now) (G.own graph.now) G.passed start.now value) }
+    requires { (node : G.Node)
+        → Contains nodes.now node ↔ IsNamed (G.edge graph.now) start.now node }
+    ensures found { IfOk result (λ values. (value : G.Value) → Contains values.items value
+        ↔ IsFound (G.edge graph.now) (G.own graph.now) G.passed start.now value) }
     ensures sorted { IfOk result (λ values. IsStrictlySortedBy G.Value.cmp values.items) }
-    ensures few { OnOk result (¬ MoreThan limit (IsFoundPair (G.edge graph.now) (G.own graph.now) G.passed start.now)) }
-    ensures many { result ≡ Err ReachFault.TooMany → MoreThan limit (IsFoundPair (G.edge graph.now) (G.own graph.now) G.passed start.now) }
+    ensures few { OnOk result
+        (¬ MoreThan limit (IsFoundPair (G.edge graph.now) (G.own graph.now) G.passed start.now)) }
+    ensures many { result ≡ Err ReachFault.TooMany
+        → MoreThan limit (IsFoundPair (G.edge graph.now) (G.own graph.now) G.passed start.now) }
 {
     let pairs = found_pairs(alloc, graph, nodes, limit)?;
     let values = values_at::<G>(alloc, &pairs, start)?;
     Ok(values)
 }
 
-/// The pairs of one of the nodes and a value that is carried back to it from one of them over edges between them.
+/// The pairs of one of the nodes and a value that is carried back to it from one of them over edges
+/// between them.
 fn found_pairs<G: Labelled>(
     alloc: Global,
     graph: &G,
     nodes: &[G::Node],
     limit: usize,
 ) -> Result<Vec<(G::Node, G::Value)>, ReachFault>
-    ensures found { IfOk result (λ pairs. (p : _) → Contains pairs.items p ↔ IsCarriedPair (G.edge graph.now) (G.own graph.now) G.passed nodes.now p) }
-    ensures few { OnOk result (¬ MoreThan limit (IsCarriedPair (G.edge graph.now) (G.own graph.now) G.passed nodes.now)) }
-    ensures many { result ≡ Err ReachFault.TooMany → MoreThan limit (IsCarriedPair (G.edge graph.now) (G.own graph.now) G.passed nodes.now) }
+    ensures found { IfOk result (λ pairs. (p : _) → Contains pairs.items p
+        ↔ IsCarriedPair (G.edge graph.now) (G.own graph.now) G.passed nodes.now p) }
+    ensures few { OnOk result (¬ MoreThan limit
+        (IsCarriedPair (G.edge graph.now) (G.own graph.now) G.passed nodes.now)) }
+    ensures many { result ≡ Err ReachFault.TooMany
+        → MoreThan limit (IsCarriedPair (G.edge graph.now) (G.own graph.now) G.passed nodes.now) }
 {
     let starts = own_pairs(alloc, graph, nodes)?;
     let backward = reversed(alloc, graph, nodes)?;
@@ -188,7 +214,8 @@ fn values_at<G: Labelled>(
     pairs: &[(G::Node, G::Value)],
     node: &G::Node,
 ) -> Result<Vec<G::Value>, AllocError>
-    ensures found { IfOk result (λ values. (value : G.Value) → Contains values.items value ↔ Contains pairs.now (node.now, value)) }
+    ensures found { IfOk result (λ values. (value : G.Value)
+        → Contains values.items value ↔ Contains pairs.now (node.now, value)) }
     ensures sorted { IfOk result (λ values. IsStrictlySortedBy G.Value.cmp values.items) }
 {
     let mut values = BTreeSet::new(alloc);

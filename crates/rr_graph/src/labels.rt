@@ -14,8 +14,8 @@ pub struct Edge<N, L> {
     pub label: L,
 }
 
-/// A directed graph whose edges carry labels. Nodes have values of their own, and a label makes a value into
-/// another or drops it.
+/// A directed graph whose edges carry labels. Nodes have values of their own, and a label makes a
+/// value into another or drops it.
 pub trait Labelled {
     /// A node. Two nodes compare `Equal` only where they are the same.
     type Node: Ord + Drop;
@@ -26,7 +26,8 @@ pub trait Labelled {
     /// A value. Two values compare `Equal` only where they are the same.
     type Value: Ord + Copy + Drop;
 
-    /// What a label looks at in a value, as a range's lengths. Two kinds compare `Equal` only where they are the same.
+    /// What a label looks at in a value, as a range's lengths. Two kinds compare `Equal` only where
+    /// they are the same.
     type Kind: Ord + Copy + Drop;
 
     /// An edge with this label leads from the first node to the second.
@@ -47,11 +48,13 @@ pub trait Labelled {
         alloc: Global,
         node: &Self::Node,
     ) -> Result<Vec<Edge<Self::Node, Self::Label>>, AllocError>
-        ensures { IfOk result (λ edges. (to : Self.Node) (label : Self.Label) → Contains edges.items (record { to = to; label = label }) ↔ edge self.now node.now to label) };
+        ensures { IfOk result (λ edges. (to : Self.Node) (label : Self.Label) → Contains
+            edges.items (record { to = to; label = label }) ↔ edge self.now node.now to label) };
 
     /// Lists the values that the node has by itself, in any order, where one may come twice.
     fn values(&self, alloc: Global, node: &Self::Node) -> Result<Vec<Self::Value>, AllocError>
-        ensures { IfOk result (λ values. (value : Self.Value) → Contains values.items value ↔ own self.now node.now value) };
+        ensures { IfOk result (λ values. (value : Self.Value)
+            → Contains values.items value ↔ own self.now node.now value) };
 
     /// What the label makes of the value; nothing where it drops it.
     fn pass(&self, label: Self::Label, value: Self::Value) -> Option<Self::Value>
@@ -75,8 +78,10 @@ pub trait Labelled {
     ghost exact_kinds: { CmpEqualImpliesEq Self.Kind.cmp };
 
     /// Labels that make the same of a value make the same of each value of its kind.
-    ghost alike: { (l m : Self.Label) (v w : Self.Value) → kind_of v ≡ kind_of w → passed l v ≡ passed m v → passed l w ≡ passed m w };
+    ghost alike: { (l m : Self.Label) (v w : Self.Value) → kind_of v ≡ kind_of w
+        → passed l v ≡ passed m v → passed l w ≡ passed m w };
 
     /// A label that drops a value drops each value of its kind.
-    ghost dropped: { (l : Self.Label) (v w : Self.Value) → kind_of v ≡ kind_of w → passed l v ≡ None → passed l w ≡ None };
+    ghost dropped: { (l : Self.Label) (v w : Self.Value) → kind_of v ≡ kind_of w
+        → passed l v ≡ None → passed l w ≡ None };
 }

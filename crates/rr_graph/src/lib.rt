@@ -1,4 +1,5 @@
-//! Which nodes of a directed graph are reached from given nodes, over any graph whose successors can be listed.
+//! Which nodes of a directed graph are reached from given nodes, over any graph whose successors
+//! can be listed.
 #![tactic(auto)]
 
 ghost use Rattle.std.specs.Prelude.{◌≡◌, ◌↔◌, Contains, IfOk, OnOk};
@@ -33,9 +34,11 @@ pub trait Graph {
     /// An edge leads from the first node to the second.
     ghost edge: { Self → Self.Node → Self.Node → Type 0 };
 
-    /// Lists the nodes to which an edge leads from `node`, in any order, where a node may come twice.
+    /// Lists the nodes to which an edge leads from `node`, in any order, where a node may come
+    /// twice.
     fn successors(&self, alloc: Global, node: &Self::Node) -> Result<Vec<Self::Node>, AllocError>
-        ensures { IfOk result (λ nodes. (next : Self.Node) → Contains nodes.items next ↔ edge self.now node.now next) };
+        ensures { IfOk result (λ nodes. (next : Self.Node)
+            → Contains nodes.items next ↔ edge self.now node.now next) };
 
     /// Makes an equal node.
     fn copy(&self, alloc: Global, node: &Self::Node) -> Result<Self::Node, AllocError>
@@ -51,7 +54,7 @@ pub enum ReachFault {
     /// More nodes are reached than the limit.
     #[error("too many nodes are reached")]
     TooMany,
-    /// Memory was refused.
+    /// Memory ran out.
     #[error("out of memory")]
     Memory,
 }
@@ -78,20 +81,24 @@ impl<T: Drop> From<AllocFailed<T>> for ReachFault {
     }
 }
 
-/// Lists each node that a chain of edges leads to from one of `starts`, the starts themselves included, once and in
-/// no promised order. It takes O((V + E) log V) steps for V nodes reached and E edges between them.
+/// Lists each node that a chain of edges leads to from one of `starts`, the starts themselves
+/// included, once and in no promised order. It takes O((V + E) log V) steps for V nodes reached and
+/// E edges between them.
 ///
-/// The fault is `TooMany` exactly where more than `limit` nodes are reached, want of memory aside.
+/// The fault is `TooMany` exactly where more than `limit` nodes are reached, unless memory runs
+/// out.
 pub fn reach<G: Graph>(
     alloc: Global,
     graph: &G,
     starts: Vec<G::Node>,
     limit: usize,
 ) -> Result<Vec<G::Node>, ReachFault>
-    ensures found { IfOk result (λ nodes. (node : G.Node) → Contains nodes.items node ↔ IsReached (G.edge graph.now) starts.items node) }
+    ensures found { IfOk result (λ nodes. (node : G.Node)
+        → Contains nodes.items node ↔ IsReached (G.edge graph.now) starts.items node) }
     ensures once { IfOk result (λ nodes. HasNoRepeats nodes.items) }
     ensures few { OnOk result (¬ MoreThan limit (IsReached (G.edge graph.now) starts.items)) }
-    ensures many { result ≡ Err ReachFault.TooMany → MoreThan limit (IsReached (G.edge graph.now) starts.items) }
+    ensures many { result ≡ Err ReachFault.TooMany
+        → MoreThan limit (IsReached (G.edge graph.now) starts.items) }
 {
     let mut found = Found::new(alloc);
     found.add_all(alloc, graph, starts, limit)?;

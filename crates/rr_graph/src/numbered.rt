@@ -12,8 +12,9 @@ use crate::labels::{Edge, Labelled};
 use std::alloc::{AllocError, Global};
 use std::collections::BTreeMap;
 
-/// A labelled graph by the places of its nodes in a list. The edges of each node are listed once, and from then on
-/// nodes are compared and copied as numbers, which is what most of a walk consists of.
+/// A labelled graph by the places of its nodes in a list. The edges of each node are listed once,
+/// and from then on nodes are compared and copied as numbers, which is what most of a walk consists
+/// of.
 #[derive(Drop)]
 pub struct Numbered<'a, G: Labelled> {
     graph: &'a G,
@@ -37,9 +38,11 @@ impl<G: Labelled> Labelled for Numbered<'_, G> {
 
     type Kind = G::Kind;
 
-    ghost edge = { λ s from to label. Contains (edges_at nat_cmp s.edges from) (record { to = to; label = label }) };
+    ghost edge = { λ s from to label. Contains (edges_at nat_cmp s.edges from)
+        (record { to = to; label = label }) };
 
-    ghost own = { λ s place value. (node : G.Node) × IsAt s.nodes.now place node × G.own s.graph.now node value };
+    ghost own = { λ s place value. (node : G.Node) × IsAt s.nodes.now place node
+        × G.own s.graph.now node value };
 
     ghost passed = { G.passed };
 
@@ -92,8 +95,10 @@ impl<'a, G: Labelled> Numbered<'a, G> {
         requires { HasNoRepeats nodes.now }
         ensures graph { IfOk result (λ numbered. numbered.graph.now ≡ graph.now) }
         ensures nodes { IfOk result (λ numbered. numbered.nodes.now ≡ nodes.now) }
-        ensures places { IfOk result (λ numbered. IsPlaced nodes.now (get G.Node.cmp numbered.places)) }
-        ensures edges { IfOk result (λ numbered. IsNumbered (G.edge graph.now) nodes.now (edges_at nat_cmp numbered.edges)) }
+        ensures places { IfOk result
+            (λ numbered. IsPlaced nodes.now (get G.Node.cmp numbered.places)) }
+        ensures edges { IfOk result (λ numbered. IsNumbered (G.edge graph.now) nodes.now
+            (edges_at nat_cmp numbered.edges)) }
     {
         let places = places(alloc, graph, nodes)?;
         let edges = edges(alloc, graph, nodes, &places)?;
@@ -114,7 +119,8 @@ impl<'a, G: Labelled> Numbered<'a, G> {
 
     /// All places.
     pub fn all(&self, alloc: Global) -> Result<Vec<usize>, AllocError>
-        ensures { IfOk result (λ places. (place : ℕ) → Contains places.items place ↔ (place < length self.now.nodes.now)) }
+        ensures { IfOk result (λ places. (place : ℕ)
+            → Contains places.items place ↔ (place < length self.now.nodes.now)) }
     {
         let mut places = Vec::new(alloc);
         for place in 0..self.nodes.len() {
@@ -148,7 +154,8 @@ fn edges<G: Labelled>(
     places: &BTreeMap<G::Node, usize>,
 ) -> Result<BTreeMap<usize, Vec<Edge<usize, G::Label>>>, AllocError>
     requires { IsPlaced nodes.now (get G.Node.cmp places.now) }
-    ensures { IfOk result (λ edges. IsNumbered (G.edge graph.now) nodes.now (edges_at nat_cmp edges)) }
+    ensures { IfOk result
+        (λ edges. IsNumbered (G.edge graph.now) nodes.now (edges_at nat_cmp edges)) }
 {
     let mut all = BTreeMap::new(alloc);
     for (place, node) in nodes.iter().enumerate() {
@@ -164,7 +171,8 @@ fn placed<N: Ord + Drop, L: Copy + Drop>(
     edges: &[Edge<N, L>],
     places: &BTreeMap<N, usize>,
 ) -> Result<Vec<Edge<usize, L>>, AllocError>
-    ensures { IfOk result (λ placed. placed.items ≡ filter_map (placed_edge (get N.cmp places.now)) edges.now) }
+    ensures { IfOk result
+        (λ placed. placed.items ≡ filter_map (placed_edge (get N.cmp places.now)) edges.now) }
 {
     let mut placed = Vec::new(alloc);
     for edge in edges {

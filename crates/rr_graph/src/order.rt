@@ -7,7 +7,7 @@ ghost use Rattle.std.proofs.lemmas.Map.Lookups.{CmpEqualImpliesEq};
 use std::alloc::{AllocError, Global};
 use std::collections::BTreeSet;
 
-/// Lists what the set has, in ascending order; the error is want of memory.
+/// Lists what the set has, in ascending order; the error is that memory ran out.
 pub fn ascending<T: Ord + Drop>(alloc: Global, set: BTreeSet<T>) -> Result<Vec<T>, AllocError>
     ensures same { IfOk result (λ list. list.items ≡ set.keys) }
     ensures sorted { IfOk result (λ list. IsStrictlySortedBy T.cmp list.items) }
@@ -18,7 +18,8 @@ pub fn ascending<T: Ord + Drop>(alloc: Global, set: BTreeSet<T>) -> Result<Vec<T
 /// Puts the list in ascending order, without repeats.
 pub fn put_in_order<T: Ord + Drop>(list: &mut Vec<T>)
     ensures sorted { IsStrictlySortedBy T.cmp list.new.items }
-    ensures same { CmpEqualImpliesEq T.cmp → (x : T) → Contains list.new.items x ↔ Contains list.old.items x }
+    ensures same { CmpEqualImpliesEq T.cmp → (x : T)
+        → Contains list.new.items x ↔ Contains list.old.items x }
 {
     list.sort_unstable();
     list.dedup();

@@ -16,7 +16,8 @@ use crate::walk::Found;
 use crate::{Graph, ReachFault};
 use std::alloc::{AllocError, Global};
 
-/// The pairs of a node and a value. An edge leads from a pair to that of a node from which the value is carried back.
+/// The pairs of a node and a value. An edge leads from a pair to that of a node from which the
+/// value is carried back.
 #[derive(Drop)]
 pub struct Pairs<'a, G: Labelled> {
     pub graph: &'a G,
@@ -47,7 +48,8 @@ impl<G: Labelled> Graph for Pairs<'_, G> {
     }
 }
 
-/// So many edges are gone over for each value, and of more those alone that are enough for its kind.
+/// So many edges are gone over for each value, and of more those alone that are enough for its
+/// kind.
 const FEW: usize = 4;
 
 /// The pairs to which the value of the pair is carried back.
@@ -57,9 +59,13 @@ fn carried_back<G: Labelled>(
     effects: &mut Effects<G>,
     pair: &(G::Node, G::Value),
 ) -> Result<Vec<(G::Node, G::Value)>, AllocError>
-    requires { IsKnown G.passed G.kind_of (edges_at G.Node.cmp pairs.now.backward.now.map) (values_at ⟦<(G::Node, G::Kind) as Ord>⟧.cmp effects.old.map) }
-    ensures known { OnOk result (IsKnown G.passed G.kind_of (edges_at G.Node.cmp pairs.now.backward.now.map) (values_at ⟦<(G::Node, G::Kind) as Ord>⟧.cmp effects.new.map)) }
-    ensures carried { IfOk result (λ carried. (q : G.Node × G.Value) → Contains carried.items q ↔ LeadsBack G.passed (edges_at G.Node.cmp pairs.now.backward.now.map) pair.now q) }
+    requires { IsKnown G.passed G.kind_of (edges_at G.Node.cmp pairs.now.backward.now.map)
+        (values_at ⟦<(G::Node, G::Kind) as Ord>⟧.cmp effects.old.map) }
+    ensures known { OnOk result
+        (IsKnown G.passed G.kind_of (edges_at G.Node.cmp pairs.now.backward.now.map)
+        (values_at ⟦<(G::Node, G::Kind) as Ord>⟧.cmp effects.new.map)) }
+    ensures carried { IfOk result (λ carried. (q : G.Node × G.Value) → Contains carried.items q
+        ↔ LeadsBack G.passed (edges_at G.Node.cmp pairs.now.backward.now.map) pair.now q) }
 {
     let edges = pairs.backward.at(&pair.0);
     if edges.len() <= FEW {
@@ -70,16 +76,20 @@ fn carried_back<G: Labelled>(
     carried(alloc, pairs.graph, kept, pair.1)
 }
 
-/// Lists what `reach` does: each pair to which values are carried back from one of `starts`, each effect once.
+/// Lists what `reach` does: each pair to which values are carried back from one of `starts`, each
+/// effect once.
 pub fn reach_back<G: Labelled>(
     alloc: Global,
     pairs: &Pairs<'_, G>,
     starts: Vec<(G::Node, G::Value)>,
     limit: usize,
 ) -> Result<Vec<(G::Node, G::Value)>, ReachFault>
-    ensures found { IfOk result (λ found. (p : _) → Contains found.items p ↔ IsReached (LeadsBack G.passed (edges_at G.Node.cmp pairs.now.backward.now.map)) starts.items p) }
-    ensures few { OnOk result (¬ MoreThan limit (IsReached (LeadsBack G.passed (edges_at G.Node.cmp pairs.now.backward.now.map)) starts.items)) }
-    ensures many { result ≡ Err ReachFault.TooMany → MoreThan limit (IsReached (LeadsBack G.passed (edges_at G.Node.cmp pairs.now.backward.now.map)) starts.items) }
+    ensures found { IfOk result (λ found. (p : _) → Contains found.items p ↔ IsReached
+        (LeadsBack G.passed (edges_at G.Node.cmp pairs.now.backward.now.map)) starts.items p) }
+    ensures few { OnOk result (¬ MoreThan limit (IsReached
+        (LeadsBack G.passed (edges_at G.Node.cmp pairs.now.backward.now.map)) starts.items)) }
+    ensures many { result ≡ Err ReachFault.TooMany → MoreThan limit (IsReached
+        (LeadsBack G.passed (edges_at G.Node.cmp pairs.now.backward.now.map)) starts.items) }
 {
     let mut effects = Effects::<G>::new(alloc);
     let mut found = Found::new(alloc);
@@ -100,7 +110,8 @@ fn carried<G: Labelled>(
     edges: &[Edge<G::Node, G::Label>],
     value: G::Value,
 ) -> Result<Vec<(G::Node, G::Value)>, AllocError>
-    ensures { IfOk result (λ pairs. pairs.items ≡ filter_map (λ edge. option_map (λ carried. (edge.to, carried)) (G.passed edge.label value)) edges.now) }
+    ensures { IfOk result (λ pairs. pairs.items ≡ filter_map (λ edge. option_map
+        (λ carried. (edge.to, carried)) (G.passed edge.label value)) edges.now) }
 {
     let mut pairs = Vec::new(alloc);
     for edge in edges {
@@ -117,7 +128,8 @@ pub fn own_pairs<G: Labelled>(
     graph: &G,
     nodes: &[G::Node],
 ) -> Result<Vec<(G::Node, G::Value)>, AllocError>
-    ensures { IfOk result (λ pairs. (p : _) → Contains pairs.items p ↔ IsOwnPair (G.own graph.now) nodes.now p) }
+    ensures { IfOk result
+        (λ pairs. (p : _) → Contains pairs.items p ↔ IsOwnPair (G.own graph.now) nodes.now p) }
 {
     let mut pairs = Vec::new(alloc);
     for node in nodes {
@@ -135,7 +147,8 @@ fn add_own<G: Labelled>(
     node: &G::Node,
     values: &[G::Value],
 ) -> Result<(), AllocError>
-    ensures { OnOk result (pairs.new.items ≡ pairs.old.items ++ map (λ value. (node.now, value)) values.now) }
+    ensures { OnOk result
+        (pairs.new.items ≡ pairs.old.items ++ map (λ value. (node.now, value)) values.now) }
 {
     for value in values {
         pairs.push((graph.copy(alloc, node)?, *value))?;

@@ -1,6 +1,7 @@
 //! Nodes at which all that is found is known.
 
-ghost use Rattle.std.specs.Prelude.{◌≡◌, None, Some, Contains, OnOk, IfSome, if◌then◌else◌, is_some, true};
+ghost use Rattle.std.specs.Prelude.{◌≡◌, None, Some, Contains, OnOk, IfSome};
+ghost use Rattle.std.specs.Prelude.{if◌then◌else◌, is_some, true};
 ghost use Rattle.std.specs.BTreeMap.{is_at};
 ghost use Rattle.std.specs.List.Sorted.{IsStrictlySortedBy};
 ghost use Rattle.std.specs.Option.{option_copied};
@@ -12,7 +13,8 @@ use crate::labels::Labelled;
 use std::alloc::Global;
 use std::collections::BTreeMap;
 
-/// Nodes, each with the values that are found at it, in ascending order, and how many pairs of both there are.
+/// Nodes, each with the values that are found at it, in ascending order, and how many pairs of both
+/// there are.
 #[derive(Drop)]
 pub struct Settled<G: Labelled> {
     values: BTreeMap<G::Node, Vec<G::Value>>,
@@ -41,7 +43,8 @@ impl<G: Labelled> Settled<G> {
         }
     }
 
-    /// Enters the values under the node, which has none yet. After a refusal of memory nodes may be gone.
+    /// Enters the values under the node, which has none yet. After a refusal of memory nodes may be
+    /// gone.
     pub fn enter(
         &mut self,
         node: G::Node,
@@ -51,9 +54,13 @@ impl<G: Labelled> Settled<G> {
         requires tallied { IsTallied (values_at G.Node.cmp self.old.values) limit self.old.pairs }
         requires absent { values_at G.Node.cmp self.old.values node ≡ None }
         requires sorted { IsStrictlySortedBy G.Value.cmp values.items }
-        ensures tallied { OnOk result (IsTallied (values_at G.Node.cmp self.new.values) limit self.new.pairs) }
-        ensures entered { OnOk result ((other : G.Node) → values_at G.Node.cmp self.new.values other ≡ (if is_at (G.Node.cmp node) other then Some values.items else values_at G.Node.cmp self.old.values other)) }
-        ensures many { result ≡ Err ReachFault.TooMany → MoreThan limit (IsHeldOr (values_at G.Node.cmp self.old.values) node (Contains values.items)) }
+        ensures tallied { OnOk result
+            (IsTallied (values_at G.Node.cmp self.new.values) limit self.new.pairs) }
+        ensures entered { OnOk result ((other : G.Node)
+            → values_at G.Node.cmp self.new.values other ≡ (if is_at (G.Node.cmp node) other
+            then Some values.items else values_at G.Node.cmp self.old.values other)) }
+        ensures many { result ≡ Err ReachFault.TooMany → MoreThan limit
+            (IsHeldOr (values_at G.Node.cmp self.old.values) node (Contains values.items)) }
     {
         let room = limit.saturating_sub(self.pairs);
         if values.len() > room {
@@ -66,8 +73,10 @@ impl<G: Labelled> Settled<G> {
 
     /// The values of the node, where those of all nodes of the list are known.
     pub fn into_values(self, nodes: &[G::Node], node: &G::Node) -> Option<Vec<G::Value>>
-        ensures at { IfSome result (λ values. values_at G.Node.cmp self.values node.now ≡ Some values.items) }
-        ensures all { IfSome result (λ _. (other : G.Node) → Contains nodes.now other → is_some (values_at G.Node.cmp self.values other) ≡ true) }
+        ensures at { IfSome result
+            (λ values. values_at G.Node.cmp self.values node.now ≡ Some values.items) }
+        ensures all { IfSome result (λ _. (other : G.Node) → Contains nodes.now other
+            → is_some (values_at G.Node.cmp self.values other) ≡ true) }
     {
         let Settled {
             mut values,

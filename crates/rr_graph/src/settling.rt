@@ -1,12 +1,15 @@
-//! Settles the nodes of a labelled graph from the ends of its chains back to their start, as far as there are no rings.
+//! Settles the nodes of a labelled graph from the ends of its chains back to their start, as far as
+//! there are no rings.
 
-ghost use Rattle.std.specs.Prelude.{◌≡◌, ◌≤◌, ◌↔◌, ◌⊎◌, ◌++◌, true, Contains, IfOk, IfSome, OnOk, is_some, length, take};
+ghost use Rattle.std.specs.Prelude.{◌≡◌, ◌≤◌, ◌↔◌, ◌⊎◌, ◌++◌, true};
+ghost use Rattle.std.specs.Prelude.{Contains, IfOk, IfSome, OnOk, is_some, length, take};
 ghost use Rattle.std.specs.List.{filter_map};
 ghost use Rattle.std.specs.List.Sorted.{IsStrictlySortedBy};
 ghost use Rattle.std.proofs.lemmas.Map.Lookups.{CmpEqualImpliesEq};
 ghost use Rattle.rr_graph.specs.Carried.{IsFound};
 ghost use Rattle.rr_graph.specs.Chain.{MoreThan};
-ghost use Rattle.rr_graph.specs.SettledParts.{HasEdges, IsAmong, IsFoundAmong, IsHeldOr, IsMade, IsPassed, IsRun, IsSettled, IsTallied, values_at};
+ghost use Rattle.rr_graph.specs.SettledParts.{HasEdges, IsAmong, IsFoundAmong, IsHeldOr, IsMade};
+ghost use Rattle.rr_graph.specs.SettledParts.{IsPassed, IsRun, IsSettled, IsTallied, values_at};
 
 use crate::ReachFault;
 use crate::effects::Effects;
@@ -17,17 +20,22 @@ use crate::tails::{Tail, tails};
 use crate::waiting::Waiting;
 use std::alloc::{AllocError, Global};
 
-/// Those of the nodes that no ring of edges is reached from, each with the values that are found at it.
+/// Those of the nodes that no ring of edges is reached from, each with the values that are found at
+/// it.
 pub fn settled<G: Labelled>(
     alloc: Global,
     graph: &G,
     nodes: &[G::Node],
     limit: usize,
 ) -> Result<Settled<G>, ReachFault>
-    ensures settled { IfOk result (λ settled. IsSettled (G.edge graph.now) (G.own graph.now) G.passed G.Value.cmp (values_at G.Node.cmp settled.values)) }
-    ensures among { IfOk result (λ settled. IsAmong nodes.now (values_at G.Node.cmp settled.values)) }
-    ensures tallied { IfOk result (λ settled. IsTallied (values_at G.Node.cmp settled.values) limit settled.pairs) }
-    ensures many { result ≡ Err ReachFault.TooMany → MoreThan limit (IsFoundAmong (G.edge graph.now) (G.own graph.now) G.passed nodes.now) }
+    ensures settled { IfOk result (λ settled. IsSettled (G.edge graph.now)
+        (G.own graph.now) G.passed G.Value.cmp (values_at G.Node.cmp settled.values)) }
+    ensures among { IfOk result
+        (λ settled. IsAmong nodes.now (values_at G.Node.cmp settled.values)) }
+    ensures tallied { IfOk result
+        (λ settled. IsTallied (values_at G.Node.cmp settled.values) limit settled.pairs) }
+    ensures many { result ≡ Err ReachFault.TooMany
+        → MoreThan limit (IsFoundAmong (G.edge graph.now) (G.own graph.now) G.passed nodes.now) }
 {
     let tails = tails(alloc, graph, nodes)?;
     let mut waiting = Waiting::new(alloc, graph, &tails)?;
@@ -51,12 +59,19 @@ fn settle<G: Labelled>(
     limit: usize,
 ) -> Result<(), ReachFault>
     requires edges { HasEdges (G.edge graph.now) tail.now.node.now tail.now.edges.items }
-    requires settled { IsSettled (G.edge graph.now) (G.own graph.now) G.passed G.Value.cmp (values_at G.Node.cmp settled.old.values) }
+    requires settled { IsSettled (G.edge graph.now) (G.own graph.now) G.passed G.Value.cmp
+        (values_at G.Node.cmp settled.old.values) }
     requires tallied { IsTallied (values_at G.Node.cmp settled.old.values) limit settled.old.pairs }
-    ensures settled { OnOk result (IsSettled (G.edge graph.now) (G.own graph.now) G.passed G.Value.cmp (values_at G.Node.cmp settled.new.values)) }
-    ensures tallied { OnOk result (IsTallied (values_at G.Node.cmp settled.new.values) limit settled.new.pairs) }
-    ensures only { OnOk result ((node : G.Node) → is_some (values_at G.Node.cmp settled.new.values node) ≡ true → (is_some (values_at G.Node.cmp settled.old.values node) ≡ true) ⊎ (tail.now.node.now ≡ node)) }
-    ensures many { result ≡ Err ReachFault.TooMany → MoreThan limit (IsHeldOr (values_at G.Node.cmp settled.old.values) tail.now.node.now (IsFound (G.edge graph.now) (G.own graph.now) G.passed tail.now.node.now)) }
+    ensures settled { OnOk result (IsSettled (G.edge graph.now)
+        (G.own graph.now) G.passed G.Value.cmp (values_at G.Node.cmp settled.new.values)) }
+    ensures tallied { OnOk result
+        (IsTallied (values_at G.Node.cmp settled.new.values) limit settled.new.pairs) }
+    ensures only { OnOk result ((node : G.Node)
+        → is_some (values_at G.Node.cmp settled.new.values node) ≡ true → (is_some
+        (values_at G.Node.cmp settled.old.values node) ≡ true) ⊎ (tail.now.node.now ≡ node)) }
+    ensures many { result ≡ Err ReachFault.TooMany
+        → MoreThan limit (IsHeldOr (values_at G.Node.cmp settled.old.values) tail.now.node.now
+        (IsFound (G.edge graph.now) (G.own graph.now) G.passed tail.now.node.now)) }
 {
     if settled.at(tail.node).is_some() {
         return Ok(());
@@ -67,7 +82,8 @@ fn settle<G: Labelled>(
     Ok(())
 }
 
-/// The values that are found at the node, in ascending order, where those to which its edges lead are settled.
+/// The values that are found at the node, in ascending order, where those to which its edges lead
+/// are settled.
 fn found_at<G: Labelled>(
     alloc: Global,
     graph: &G,
@@ -75,9 +91,13 @@ fn found_at<G: Labelled>(
     tail: &Tail<'_, G::Node, G::Label>,
 ) -> Result<Option<Vec<G::Value>>, AllocError>
     requires edges { HasEdges (G.edge graph.now) tail.now.node.now tail.now.edges.items }
-    requires settled { IsSettled (G.edge graph.now) (G.own graph.now) G.passed G.Value.cmp (values_at G.Node.cmp settled.now.values) }
-    ensures found { IfOk result (λ found. IfSome found (λ values. (v : G.Value) → Contains values.items v ↔ IsFound (G.edge graph.now) (G.own graph.now) G.passed tail.now.node.now v)) }
-    ensures sorted { IfOk result (λ found. IfSome found (λ values. IsStrictlySortedBy G.Value.cmp values.items)) }
+    requires settled { IsSettled (G.edge graph.now) (G.own graph.now) G.passed G.Value.cmp
+        (values_at G.Node.cmp settled.now.values) }
+    ensures found { IfOk result
+        (λ found. IfSome found (λ values. (v : G.Value) → Contains values.items v
+        ↔ IsFound (G.edge graph.now) (G.own graph.now) G.passed tail.now.node.now v)) }
+    ensures sorted { IfOk result
+        (λ found. IfSome found (λ values. IsStrictlySortedBy G.Value.cmp values.items)) }
 {
     let edges = tail.edges.as_slice();
     if !are_settled(settled, edges) {
@@ -91,12 +111,14 @@ fn found_at<G: Labelled>(
 
 /// Whether the nodes are settled to which the edges lead.
 fn are_settled<G: Labelled>(settled: &Settled<G>, edges: &[Edge<G::Node, G::Label>]) -> bool
-    ensures { result ≡ true → (e : Edge G.Node G.Label) → Contains edges.now e → is_some (values_at G.Node.cmp settled.now.values e.to) ≡ true }
+    ensures { result ≡ true → (e : Edge G.Node G.Label) → Contains edges.now e
+        → is_some (values_at G.Node.cmp settled.now.values e.to) ≡ true }
 {
     edges.iter().all(|edge| settled.at(&edge.to).is_some())
 }
 
-/// Adds what the labels of the edges make of the values of settled nodes, a run of edges to one node at a time.
+/// Adds what the labels of the edges make of the values of settled nodes, a run of edges to one
+/// node at a time.
 fn add_passed<G: Labelled>(
     alloc: Global,
     graph: &G,
@@ -104,7 +126,9 @@ fn add_passed<G: Labelled>(
     edges: &[Edge<G::Node, G::Label>],
     values: &mut Vec<G::Value>,
 ) -> Result<(), AllocError>
-    ensures { OnOk result ((v : G.Value) → Contains values.new.items v ↔ (Contains values.old.items v ⊎ IsPassed G.passed (values_at G.Node.cmp settled.now.values) edges.now v)) }
+    ensures { OnOk result
+        ((v : G.Value) → Contains values.new.items v ↔ (Contains values.old.items v
+        ⊎ IsPassed G.passed (values_at G.Node.cmp settled.now.values) edges.now v)) }
 {
     let mut last = values.len();
     let mut done = 0;
@@ -149,7 +173,9 @@ fn add_run<G: Labelled>(
     last: usize,
 ) -> Result<usize, AllocError>
     requires { IsRun node.now run.now }
-    ensures { OnOk result ((v : G.Value) → Contains values.new.items v ↔ (Contains values.old.items v ⊎ IsPassed G.passed (values_at G.Node.cmp settled.now.values) run.now v)) }
+    ensures { OnOk result
+        ((v : G.Value) → Contains values.new.items v ↔ (Contains values.old.items v
+        ⊎ IsPassed G.passed (values_at G.Node.cmp settled.now.values) run.now v)) }
 {
     match settled.at(node) {
         Some(begun) => pass_run(alloc, graph, node, run, begun, values, last),
@@ -168,7 +194,8 @@ fn pass_run<G: Labelled>(
     last: usize,
 ) -> Result<usize, AllocError>
     requires { IsRun node.now run.now }
-    ensures { OnOk result ((v : G.Value) → Contains values.new.items v ↔ (Contains values.old.items v ⊎ IsMade G.passed node.now run.now begun.now v)) }
+    ensures { OnOk result ((v : G.Value) → Contains values.new.items v
+        ↔ (Contains values.old.items v ⊎ IsMade G.passed node.now run.now begun.now v)) }
 {
     if let [edge] = run {
         pass_all(graph, edge.label, begun, values)?;
@@ -188,7 +215,8 @@ fn pass_effects<G: Labelled>(
     last: usize,
 ) -> Result<usize, AllocError>
     requires { IsRun node.now run.now }
-    ensures { OnOk result ((v : G.Value) → Contains values.new.items v ↔ (Contains values.old.items v ⊎ IsMade G.passed node.now run.now begun.now v)) }
+    ensures { OnOk result ((v : G.Value) → Contains values.new.items v
+        ↔ (Contains values.old.items v ⊎ IsMade G.passed node.now run.now begun.now v)) }
 {
     let mut effects = Effects::<G>::new(alloc);
     let mut last = last;
@@ -208,7 +236,8 @@ fn pass_each<G: Labelled>(
     value: G::Value,
     values: &mut Vec<G::Value>,
 ) -> Result<(), AllocError>
-    ensures { OnOk result (values.new.items ≡ values.old.items ++ filter_map (λ edge. G.passed edge.label value) edges.now) }
+    ensures { OnOk result (values.new.items
+        ≡ values.old.items ++ filter_map (λ edge. G.passed edge.label value) edges.now) }
 {
     for edge in edges {
         if let Some(passed) = graph.pass(edge.label, value) {
@@ -225,7 +254,8 @@ fn pass_all<G: Labelled>(
     begun: &[G::Value],
     values: &mut Vec<G::Value>,
 ) -> Result<(), AllocError>
-    ensures { OnOk result (values.new.items ≡ values.old.items ++ filter_map (G.passed label) begun.now) }
+    ensures { OnOk result
+        (values.new.items ≡ values.old.items ++ filter_map (G.passed label) begun.now) }
 {
     for value in begun {
         if let Some(passed) = graph.pass(label, *value) {
@@ -235,10 +265,12 @@ fn pass_all<G: Labelled>(
     Ok(())
 }
 
-/// Frees the list of repeats where it has more than twice as many values as when it last was, and gives how many it then had. So
-/// edges that carry the same values, as often as they come, never take more than three times the memory of what is found.
+/// Frees the list of repeats where it has more than twice as many values as when it last was, and
+/// gives how many it then had. So edges that carry the same values, as often as they come, never
+/// take more than three times the memory of what is found.
 fn freed_of_repeats<T: Ord + Drop>(list: &mut Vec<T>, last: usize) -> usize
-    ensures { CmpEqualImpliesEq T.cmp → (x : T) → Contains list.new.items x ↔ Contains list.old.items x }
+    ensures { CmpEqualImpliesEq T.cmp → (x : T)
+        → Contains list.new.items x ↔ Contains list.old.items x }
 {
     if list.len() / 2 <= last {
         return last;

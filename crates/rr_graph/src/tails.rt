@@ -19,8 +19,10 @@ pub fn tails<'a, G: Labelled>(
     graph: &G,
     nodes: &'a [G::Node],
 ) -> Result<Vec<Tail<'a, G::Node, G::Label>>, AllocError>
-    ensures among { IfOk result (λ tails. All (λ tail. Contains nodes.now tail.node.now) tails.items) }
-    ensures edges { IfOk result (λ tails. All (λ tail. HasEdges (G.edge graph.now) tail.node.now tail.edges.items) tails.items) }
+    ensures among { IfOk result
+        (λ tails. All (λ tail. Contains nodes.now tail.node.now) tails.items) }
+    ensures edges { IfOk result (λ tails. All
+        (λ tail. HasEdges (G.edge graph.now) tail.node.now tail.edges.items) tails.items) }
 {
     let mut tails = Vec::new(alloc);
     for node in nodes {

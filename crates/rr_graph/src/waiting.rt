@@ -1,18 +1,19 @@
-//! In which order the nodes of a labelled graph are looked at. Only the time that this takes depends on it.
+//! In which order the nodes of a labelled graph are looked at. Only the time that this takes
+//! depends on it.
 
 use crate::labels::{Edge, Labelled};
 use crate::tails::Tail;
 use std::alloc::{AllocError, Global};
 use std::collections::BTreeMap;
 
-/// Nodes by their places in a list, each waiting for those to which its edges lead. Each is given out at most once, and
-/// one that no ring of edges is reached from after those that it waits for.
+/// Nodes by their places in a list, each waiting for those to which its edges lead. Each is given
+/// out at most once, and one that no ring of edges is reached from after those that it waits for.
 #[derive(Drop)]
 pub struct Waiting {
     /// How many edges of each node lead to nodes that are not done.
     edges: Vec<usize>,
     /// The nodes that wait for each node, once for each edge.
-    behind: Vec<Vec<usize>>,
+    after: Vec<Vec<usize>>,
     /// The nodes that wait for none, and were not given out.
     ready: Vec<usize>,
 }
@@ -26,7 +27,7 @@ impl Waiting {
     ) -> Result<Waiting, AllocError> {
         let mut waiting = Waiting {
             edges: Vec::new(alloc),
-            behind: behind(alloc, graph, tails)?,
+            after: after(alloc, graph, tails)?,
             ready: Vec::new(alloc),
         };
         for tail in tails {
@@ -55,8 +56,8 @@ impl Waiting {
 
     /// Lets those go on that wait for the node.
     fn pass(&mut self, place: usize) -> Result<(), AllocError> {
-        if let Some(behind) = self.behind.get(place) {
-            for tail in behind {
+        if let Some(after) = self.after.get(place) {
+            for tail in after {
                 count_down(&mut self.edges, &mut self.ready, *tail)?;
             }
         }
@@ -80,32 +81,32 @@ fn count_down(
 }
 
 /// The places of the nodes whose edges lead to each node.
-fn behind<G: Labelled>(
+fn after<G: Labelled>(
     alloc: Global,
     graph: &G,
     tails: &[Tail<'_, G::Node, G::Label>],
 ) -> Result<Vec<Vec<usize>>, AllocError> {
     let places = places(alloc, graph, tails)?;
-    let mut behind = Vec::new(alloc);
+    let mut after = Vec::new(alloc);
     for _ in tails {
-        behind.push(Vec::new(alloc))?;
+        after.push(Vec::new(alloc))?;
     }
     for (place, tail) in tails.iter().enumerate() {
-        add_behind::<G>(&mut behind, &places, place, &tail.edges)?;
+        add_after::<G>(&mut after, &places, place, &tail.edges)?;
     }
-    Ok(behind)
+    Ok(after)
 }
 
 /// Enters the place of a node under each node to which its edges lead.
-fn add_behind<G: Labelled>(
-    behind: &mut Vec<Vec<usize>>,
+fn add_after<G: Labelled>(
+    after: &mut Vec<Vec<usize>>,
     places: &BTreeMap<G::Node, usize>,
     place: usize,
     edges: &[Edge<G::Node, G::Label>],
 ) -> Result<(), AllocError> {
     for edge in edges {
         if let Some(head) = places.get(&edge.to) {
-            if let Some(list) = behind.get_mut(*head) {
+            if let Some(list) = after.get_mut(*head) {
                 list.push(place)?;
             }
         }

@@ -38,7 +38,8 @@ impl<N: Ord + Drop> Found<N> {
         requires { IsListing N.cmp limit self.old.list.items self.old.index }
         ensures listing { OnOk result (IsListing N.cmp limit self.new.list.items self.new.index) }
         ensures added { OnOk result (Lists self.old.list.items nodes.items self.new.list.items) }
-        ensures many { result ≡ Err ReachFault.TooMany → MoreThan limit (λ node. Contains self.old.list.items node ⊎ Contains nodes.items node) }
+        ensures many { result ≡ Err ReachFault.TooMany → MoreThan limit
+            (λ node. Contains self.old.list.items node ⊎ Contains nodes.items node) }
     {
         let mut nodes = nodes;
         while let Some(node) = nodes.pop() {
@@ -58,7 +59,8 @@ impl<N: Ord + Drop> Found<N> {
         requires { IsListing N.cmp limit self.old.list.items self.old.index }
         ensures listing { OnOk result (IsListing N.cmp limit self.new.list.items self.new.index) }
         ensures added { OnOk result (Lists self.old.list.items (node ∷ []) self.new.list.items) }
-        ensures many { result ≡ Err ReachFault.TooMany → MoreThan limit (λ other. Contains self.old.list.items other ⊎ (other ≡ node)) }
+        ensures many { result ≡ Err ReachFault.TooMany
+            → MoreThan limit (λ other. Contains self.old.list.items other ⊎ (other ≡ node)) }
     {
         if self.index.contains(&node) {
             return Ok(());

@@ -47,8 +47,8 @@ head_none text [] place so_far none = sym so_far
 head_none text (b ∷ bs) place so_far none = absurd (omega arith)
 
 -- what was written to the part of a list behind its first `a` is what follows them
-pub put_behind : (a n k : ℕ) (xs ys : List ℕ) → a ≤ length xs → n ≤ length ys → take (a + n) (put_mid a k xs ys) ≡ take a xs ++ take n ys
-put_behind a n k xs ys h m =
+pub put_after : (a n k : ℕ) (xs ys : List ℕ) → a ≤ length xs → n ≤ length ys → take (a + n) (put_mid a k xs ys) ≡ take a xs ++ take n ys
+put_after a n k xs ys h m =
     let whole : take (a + n) (put_mid a k xs ys) ≡ take (a + n) (take (a + length ys) (put_mid a k xs ys)) = sym (take-take (a + n) (a + length ys) _ (omega arith)) in
     let cut : take (length (take a xs) + n) (take a xs ++ ys) ≡ take a xs ++ take n ys = take-append-add (take a xs) ys n in
     let long : length (take a xs) ≡ a = length-take-le a xs h in
@@ -57,4 +57,4 @@ put_behind a n k xs ys h m =
 -- and so it follows what was written before
 pub put_more : (a n k : ℕ) (xs ys first more : List ℕ) → take a xs ≡ first ++ more → a ≤ length xs → n ≤ length ys →
     take (a + n) (put_mid a k xs ys) ≡ first ++ (more ++ take n ys)
-put_more a n k xs ys first more e h m = put_behind a n k xs ys h m ∙ (ap (λ zs. zs ++ take n ys) e ∙ append_assoc first more (take n ys))
+put_more a n k xs ys first more e h m = put_after a n k xs ys h m ∙ (ap (λ zs. zs ++ take n ys) e ∙ append_assoc first more (take n ys))

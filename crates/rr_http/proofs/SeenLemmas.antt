@@ -8,7 +8,7 @@ use Rattle.rr_bytes.specs.Blanks.{is_line_feed}
 use Rattle.rr_http.specs.declared.heads.Goal.{Goal}
 use Rattle.rr_http.specs.declared.heads.Goal.TheVariants.{Line, EmptyLine}
 use Rattle.rr_http.specs.Heads.{goal_place, head_length, line_end}
-use Rattle.rr_http.proofs.WantLemmas.{head_at, head_behind, head_within}
+use Rattle.rr_http.proofs.WantLemmas.{head_at, head_after, head_within}
 
 -- a text of no bytes has nothing that it is read for
 pub none_reached : (goal : Goal) → goal_place goal [] ≡ None
@@ -76,7 +76,7 @@ line_end_seen (suc (suc m)) (b ∷ c ∷ cs) two = refl
 head_apart : (b : ℕ) (bs : List ℕ) (t : Bool) → (is_line_feed b && nat_lt 0 (line_end bs)) ≡ t → head_length (b ∷ bs) ≡ None →
     ((is_line_feed b && nat_lt 0 (line_end bs)) ≡ false) × (head_length bs ≡ None)
 head_apart b bs true e h = let here = head_at b bs e in cc
-head_apart b bs false e h = (e, unmapped 1 _ (sym (head_behind b bs e) ∙ h))
+head_apart b bs false e h = (e, unmapped 1 _ (sym (head_after b bs e) ∙ h))
 
 head_seen : (k m : ℕ) (text : List ℕ) → k ≡ m - 2 → head_length (take m text) ≡ None → head_length text ≡ option_map (λ n. k + n) (head_length (drop k text))
 head_seen zero m text e h = mapped_zero (head_length text)
@@ -87,7 +87,7 @@ head_seen (suc k) (suc m) (b ∷ bs) e h =
     let same : line_end (take m bs) ≡ line_end bs = line_end_seen m bs (let two : 2 ≤ m = omega arith in two) in
     let passed : (is_line_feed b && nat_lt 0 (line_end bs)) ≡ false = ap (λ n. is_line_feed b && nat_lt 0 n) (sym same) ∙ apart.0 in
     let fewer : k ≡ m - 2 = omega arith in
-    head_behind b bs passed ∙ (ap (λ found. option_map (λ n. 1 + n) found) (head_seen k m bs fewer apart.1) ∙ mapped_twice k (head_length (drop k bs)))
+    head_after b bs passed ∙ (ap (λ found. option_map (λ n. 1 + n) found) (head_seen k m bs fewer apart.1) ∙ mapped_twice k (head_length (drop k bs)))
 
 -- what a text is read for stands in it where it stands after what was seen less two bytes
 pub place_after_seen : (goal : Goal) (text : List ℕ) (seen from : ℕ) → from ≡ seen - 2 → goal_place goal (take seen text) ≡ None →

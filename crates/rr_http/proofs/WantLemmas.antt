@@ -22,14 +22,14 @@ one_more b bs n = ap (λ k. take k (b ∷ bs)) (let more : 1 + n ≡ suc n = ome
 pub line_of_on : (b : ℕ) (bs : List ℕ) → (b == 10) ≡ false → line_of (b ∷ bs) ≡ b ∷ line_of bs
 line_of_on b bs e = rw e (one_more b bs _)
 
-feed_behind : (b : ℕ) (bs : List ℕ) → (b == 10) ≡ false → has_line_feed (b ∷ bs) ≡ true → has_line_feed bs ≡ true
-feed_behind b bs e h = rw e at h
+feed_after : (b : ℕ) (bs : List ℕ) → (b == 10) ≡ false → has_line_feed (b ∷ bs) ≡ true → has_line_feed bs ≡ true
+feed_after b bs e h = rw e at h
 
 line_of_step : (b : ℕ) (bs more : List ℕ) (t : Bool) → (b == 10) ≡ t → (has_line_feed bs ≡ true → line_of (bs ++ more) ≡ line_of bs) →
     has_line_feed (b ∷ bs) ≡ true → line_of (b ∷ (bs ++ more)) ≡ line_of (b ∷ bs)
 line_of_step b bs more true e rec h = line_of_feed b (bs ++ more) e ∙ sym (line_of_feed b bs e)
 line_of_step b bs more false e rec h =
-    line_of_on b (bs ++ more) e ∙ (ap (λ line. b ∷ line) (rec (feed_behind b bs e h)) ∙ sym (line_of_on b bs e))
+    line_of_on b (bs ++ more) e ∙ (ap (λ line. b ∷ line) (rec (feed_after b bs e h)) ∙ sym (line_of_on b bs e))
 
 -- the first line ends at the first LF, whatever follows
 pub line_of-append : (text more : List ℕ) → has_line_feed text ≡ true → line_of (text ++ more) ≡ line_of text
@@ -82,9 +82,9 @@ pub head_at : (b : ℕ) (bs : List ℕ) → (is_line_feed b && nat_lt 0 (line_en
 unfolding head_length
 head_at b bs e = rw e refl
 
-pub head_behind : (b : ℕ) (bs : List ℕ) → (is_line_feed b && nat_lt 0 (line_end bs)) ≡ false → head_length (b ∷ bs) ≡ option_map (λ n. 1 + n) (head_length bs)
+pub head_after : (b : ℕ) (bs : List ℕ) → (is_line_feed b && nat_lt 0 (line_end bs)) ≡ false → head_length (b ∷ bs) ≡ option_map (λ n. 1 + n) (head_length bs)
 unfolding head_length
-head_behind b bs e = rw e refl
+head_after b bs e = rw e refl
 
 mapped_some : (found : Option ℕ) → is_some (option_map (λ n. 1 + n) found) ≡ true → is_some found ≡ true
 mapped_some None h = h
@@ -98,9 +98,9 @@ head_step b bs more true e rec h =
     let there : (is_line_feed b && nat_lt 0 (line_end (bs ++ more))) ≡ true = ap (λ n. is_line_feed b && nat_lt 0 n) kept ∙ e in
     head_at b (bs ++ more) there ∙ (ap (λ n. Some (1 + n)) kept ∙ sym (head_at b bs e))
 head_step b bs more false e rec h =
-    let rest = mapped_some (head_length bs) (rw (head_behind b bs e) at h) in
+    let rest = mapped_some (head_length bs) (rw (head_after b bs e) at h) in
     let there : (is_line_feed b && nat_lt 0 (line_end (bs ++ more))) ≡ false = ap (λ n. is_line_feed b && nat_lt 0 n) (long_enough bs more rest) ∙ e in
-    head_behind b (bs ++ more) there ∙ (ap (λ found. option_map (λ n. 1 + n) found) (rec rest) ∙ sym (head_behind b bs e))
+    head_after b (bs ++ more) there ∙ (ap (λ found. option_map (λ n. 1 + n) found) (rec rest) ∙ sym (head_after b bs e))
 
 -- a head that is whole ends where it does, whatever follows
 pub head_length-append : (text more : List ℕ) → is_some (head_length text) ≡ true → head_length (text ++ more) ≡ head_length text
@@ -111,7 +111,7 @@ head_length-append (b ∷ bs) more h = head_step b bs more (is_line_feed b && na
 feed_step : (b : ℕ) (bs : List ℕ) (t : Bool) → (is_line_feed b && nat_lt 0 (line_end bs)) ≡ t → (is_some (head_length bs) ≡ true → has_line_feed bs ≡ true) →
     is_some (head_length (b ∷ bs)) ≡ true → has_line_feed (b ∷ bs) ≡ true
 feed_step b bs true e rec h = or_left (is_line_feed b) (has_line_feed bs) (and_parts (is_line_feed b) (nat_lt 0 (line_end bs)) e).0
-feed_step b bs false e rec h = or_right (is_line_feed b) (has_line_feed bs) (rec (mapped_some (head_length bs) (rw (head_behind b bs e) at h)))
+feed_step b bs false e rec h = or_right (is_line_feed b) (has_line_feed bs) (rec (mapped_some (head_length bs) (rw (head_after b bs e) at h)))
 
 pub head_has_feed : (text : List ℕ) → is_some (head_length text) ≡ true → has_line_feed text ≡ true
 head_has_feed [] h = let g = none_at_all in cc
@@ -130,7 +130,7 @@ head_within (b ∷ bs) = within_step b bs (is_line_feed b && nat_lt 0 (line_end 
     within_step : (b : ℕ) (bs : List ℕ) (t : Bool) → (is_line_feed b && nat_lt 0 (line_end bs)) ≡ t → IfSome (head_length bs) (λ place. place ≤ length bs) →
         IfSome (head_length (b ∷ bs)) (λ place. place ≤ length (b ∷ bs))
     within_step b bs true e rec = rw (head_at b bs e) (omega (arith, line_end_within bs))
-    within_step b bs false e rec = rw (head_behind b bs e) (mapped_within (length bs) (head_length bs) rec)
+    within_step b bs false e rec = rw (head_after b bs e) (mapped_within (length bs) (head_length bs) rec)
 
 -- what a whole head asks does not depend on what follows
 head_kept : (found : Option ℕ) (front more : List ℕ) (full wide : Bool) (wants : Wants) → is_some found ≡ true → IfSome found (λ place. place ≤ length front) →

@@ -1,5 +1,6 @@
 -- What a connection is answered, and what of it is written.
-use Rattle.std.specs.Prelude.{◌≡◌, ◌≢◌, ℕ, Bool, false, ◌⊎◌, List, [], ◌++◌, Result, Ok, Err, Some}
+use Rattle.std.specs.Prelude.{◌≡◌, ◌≢◌, ℕ, Bool, false, ◌⊎◌, List, [], ◌++◌}
+use Rattle.std.specs.Prelude.{Result, Ok, Err, Some}
 use Rattle.std.proofs.Common.{inl, inr}
 use Rattle.rr_io.specs.Told.{Told}
 use Rattle.rr_io.specs.Sending.{Takes, TakesFront, Writes}
@@ -45,7 +46,8 @@ pub record IsAnswered {D : Type 0} (Answers : D → List ℕ → List ℕ → D 
 
 -- a desk that runs is asked a query by HTTP: the head of the reply cannot be written and the desk
 -- is not asked, or its answer follows the head
-abbrev pub AnswersRunning : {D : Type 0} → (D → List ℕ → List ℕ → D → Type 0) → List ℕ → D → D
+abbrev pub AnswersRunning : {D : Type 0} → (D → List ℕ → List ℕ → D → Type 0)
+    → List ℕ → D → D
     → Told → Told → Answer → Type 0
 AnswersRunning Answers query before after old new result =
     (IsHeadCut old new result × (after ≡ before))
@@ -53,7 +55,8 @@ AnswersRunning Answers query before after old new result =
 
 -- the answer to a query by HTTP: of a desk that is stopped, or where memory runs out, that it is
 -- not served now
-abbrev pub AnswersQuery : {D : Type 0} → (D → List ℕ → List ℕ → D → Type 0) → Bool → List ℕ → D → D
+abbrev pub AnswersQuery : {D : Type 0} → (D → List ℕ → List ℕ → D → Type 0) → Bool
+    → List ℕ → D → D
     → Told → Told → Answer → Type 0
 AnswersQuery Answers stopped query before after old new result =
     IsUnavailable before after old new result
@@ -86,7 +89,8 @@ abbrev pub in_memory : List ℕ → ℕ → ℕ → Told
 in_memory bytes faults reads = record { bytes = Some bytes; faults = faults; reads = reads }
 
 -- the two sides of a submission of a body: a reader of its bytes, and the writer of the reply
-abbrev pub body_sides : {D : Type 0} → ledger.Ghosts D → List ℕ → List ℕ → ℕ → ℕ → D → D
+abbrev pub body_sides : {D : Type 0} → ledger.Ghosts D → List ℕ → List ℕ → ℕ → ℕ
+    → D → D
     → Told → Told → Sides
 body_sides g body rest faults reads before after old new = record {
   reader_before = in_memory body 0 0;

@@ -1,5 +1,6 @@
 -- The body of a request: how it is read, and how it is given on.
-use Rattle.std.specs.Prelude.{◌≡◌, ℕ, ◌-◌, ◌<◌, ◌≤◌, List, ◌++◌, length, take}
+use Rattle.std.specs.Prelude.{◌≡◌, ℕ, ◌-◌, ◌<◌, ◌≤◌, List, ◌++◌, length}
+use Rattle.std.specs.Prelude.{take}
 use Rattle.rr_io.specs.Told.{Told}
 use Rattle.rr_io.specs.Receiving.{BreaksOff, Gives, IsSpent}
 use Rattle.rr_http.specs.declared.body_reading.BodyEnd.{BodyEnd}
@@ -16,7 +17,8 @@ ReadsBody old new buffered size body Short =
     (more : List ℕ) × Gives old new more × IsSpent new × (body ≡ buffered ++ more)
     × (length body < size)
 ReadsBody old new buffered size body Broken =
-    (more : List ℕ) × BreaksOff old new more × (body ≡ buffered ++ more) × (length body < size)
+    (more : List ℕ) × BreaksOff old new more × (body ≡ buffered ++ more)
+    × (length body < size)
 
 -- no more than so many bytes were read, and no read failed
 abbrev pub GivesWithin : Told → Told → ℕ → Type 0

@@ -13,4 +13,5 @@ ReadsRest old new before size after Short =
     (more : List ℕ) × Gives old new more × IsSpent new × (after ≡ before ++ more)
     × (length after < size)
 ReadsRest old new before size after Broken =
-    (more : List ℕ) × BreaksOff old new more × (after ≡ before ++ more) × (length after < size)
+    (more : List ℕ) × BreaksOff old new more × (after ≡ before ++ more)
+    × (length after < size)

@@ -6,8 +6,8 @@ use Rattle.rr_desk.specs.Turns.{Answer, Visit}
 use Rattle.rr_http.specs.declared.registrar.Registrar.{Ghosts}
 use Rattle.rr_http.specs.Serving.{Serves}
 
--- a connection was served where no call of it failed; else its fault is the read's where a read
--- failed, and where only writes failed the write's (profile)
+-- a connection was served where no call of it failed; otherwise its fault is the read's where a
+-- read failed, and where only writes failed the write's (profile)
 abbrev pub TellsCalls : Told → Told → Told → Told → Answer → Type 0
 TellsCalls from_old from_new old new (Ok done) =
     (from_new.faults ≡ from_old.faults) × (new.faults ≤ old.faults)

@@ -1,5 +1,6 @@
 -- The first line of a connection: which protocol it speaks, and what it asks by whois.
-use Rattle.std.specs.Prelude.{ℕ, ◌-◌, Bool, ◌==◌, ◌||◌, List, [], ◌∷◌, length, take, codes, nat_eq}
+use Rattle.std.specs.Prelude.{ℕ, ◌-◌, Bool, ◌==◌, ◌||◌, List, [], ◌∷◌, length}
+use Rattle.std.specs.Prelude.{take, codes, nat_eq}
 use Rattle.std.specs.Prelude.{if◌then◌else◌}
 use Rattle.std.specs.List.{before_first, ends_with}
 use Rattle.rr_bytes.specs.Blanks.{is_blank}

@@ -1,5 +1,6 @@
 -- What a connection that tells its bytes is answered, by the bytes that it gives.
-use Rattle.std.specs.Prelude.{◌≡◌, ℕ, ◌<◌, false, ◌⊎◌, List, [], ◌++◌, length, map, drop, Ok, Err}
+use Rattle.std.specs.Prelude.{◌≡◌, ℕ, ◌<◌, false, ◌⊎◌, List, [], ◌++◌, length}
+use Rattle.std.specs.Prelude.{map, drop, Ok, Err}
 use Rattle.std.specs.Prelude.{Some}
 use Rattle.percent_encoding.specs.Percent.{percent_decode}
 use Rattle.rr_io.specs.Told.{Told}
@@ -37,7 +38,8 @@ IsSent text (Err Write) answered = IsCutOff text answered
 -- part of both where a write failed (profile)
 abbrev pub IsDumpSent : List ℕ → Answer → List ℕ → Type 0
 IsDumpSent text (Ok done) answered =
-    (part : List ℕ) × (rest : List ℕ) × (text ≡ part ++ rest) × (answered ≡ given_head ++ part)
+    (part : List ℕ) × (rest : List ℕ) × (text ≡ part ++ rest)
+    × (answered ≡ given_head ++ part)
 IsDumpSent text (Err Read) answered = ⊥
 IsDumpSent text (Err Write) answered = IsCutOff (given_head ++ text) answered
 
@@ -75,7 +77,8 @@ pub record IsReportSent {D : Type 0} (desk : Ghosts D) (given : List ℕ) (size 
   pub submits : SubmitsRead desk body size end before after old new result
 
 -- what a request is answered, by what it asks and what stands after its head
-abbrev pub RepliesTo : {D : Type 0} → Ghosts D → List ℕ → Asks → D → D → Answer → List ℕ → Type 0
+abbrev pub RepliesTo : {D : Type 0} → Ghosts D → List ℕ → Asks → D → D → Answer
+    → List ℕ → Type 0
 RepliesTo desk given (refused refusal) before after result answered =
     IsSent (refusal_reply refusal) result answered × (after ≡ before)
 RepliesTo desk given (submission size) before after result answered =
@@ -92,7 +95,8 @@ RepliesTo desk given dump before after result answered =
     × (after ≡ before))
 
 -- what a connection is answered that gives these bytes in all, by what it wants
-abbrev pub RepliesToWants : {D : Type 0} → Ghosts D → List ℕ → Wants → D → D → Answer → List ℕ
+abbrev pub RepliesToWants : {D : Type 0} → Ghosts D → List ℕ → Wants → D → D → Answer
+    → List ℕ
     → Type 0
 RepliesToWants desk asked (whois text) before after result answered =
     IsAnswerSent desk [] text before after result answered
@@ -100,7 +104,8 @@ RepliesToWants desk asked (http place asks) before after result answered =
     RepliesTo desk (drop place asked) asks before after result answered
 
 -- what its bytes want is answered
-pub record IsReplied {D : Type 0} (desk : Ghosts D) (before : D) (asked : List ℕ) (result : Answer)
+pub record IsReplied {D : Type 0} (desk : Ghosts D) (before : D) (asked : List ℕ)
+    (result : Answer)
     (answered : List ℕ) (after : D) : Type 0 where
   pub wants : Wants
   pub is_wanted : IsWanted asked wants
@@ -119,7 +124,8 @@ pub record IsUnanswered {D : Type 0} (before : D) (asked : List ℕ) (result : A
 
 -- the reply to a connection: by the desk, the bytes that it gives in all, and how serving it ended,
 -- the bytes that it is answered, and what that leaves of the desk (RFC 3912, RFC 9112; profile)
-abbrev pub IsReply : {D : Type 0} → Ghosts D → D → List ℕ → Answer → List ℕ → D → Type 0
+abbrev pub IsReply : {D : Type 0} → Ghosts D → D → List ℕ → Answer → List ℕ → D
+    → Type 0
 IsReply desk before asked result answered after =
     IsUnanswered before asked result answered after
     ⊎ IsReplied desk before asked result answered after
@@ -139,7 +145,8 @@ pub record IsWholeReport {D : Type 0} (desk : Ghosts D) (body : List ℕ) (befor
 -- it
 abbrev pub AnswersWithItsReport : {D : Type 0} → Ghosts D → Type 0
 AnswersWithItsReport {D} desk =
-    (before after : D) (old between new : Told) (body answered : List ℕ) (missing : ℕ) (done : Done)
+    (before after : D) (old between new : Told) (body answered : List ℕ) (missing : ℕ)
+    (done : Done)
     → old.bytes ≡ Some [] → new.bytes ≡ Some answered → Takes old between given_head
     → SubmitsBody desk.ledger (desk.settings before).source body missing before after between new
     (Ok done)

@@ -1,6 +1,8 @@
 -- What a request asks, by its method, its target and its fields (RFC 9110; profile).
-use Rattle.std.specs.Prelude.{ℕ, ◌≤◌, Bool, false, nat_eq, ◌==◌, ◌&&◌, not, nat_lt, nat_le}
-use Rattle.std.specs.Prelude.{List, [], ◌∷◌, length, map, filter, drop, codes, Option, None, Some}
+use Rattle.std.specs.Prelude.{ℕ, ◌≤◌, Bool, false, nat_eq, ◌==◌, ◌&&◌, not, nat_lt}
+use Rattle.std.specs.Prelude.{nat_le}
+use Rattle.std.specs.Prelude.{List, [], ◌∷◌, length, map, filter, drop, codes, Option, None}
+use Rattle.std.specs.Prelude.{Some}
 use Rattle.std.specs.Prelude.{Result, Ok, Err, if◌then◌else◌}
 use Rattle.std.specs.List.{before_first, list_all, list_any, starts_with}
 use Rattle.std.specs.Str.{bytes_eq}

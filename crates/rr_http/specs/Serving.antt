@@ -1,6 +1,7 @@
 -- What serving a connection does: what is read of it, what it is answered, and what that leaves of
 -- the desk.
-use Rattle.std.specs.Prelude.{◌≡◌, ℕ, ◌-◌, Bool, true, false, nat_lt, IsTrue, ◌⊎◌, List, [], ◌++◌}
+use Rattle.std.specs.Prelude.{◌≡◌, ℕ, ◌-◌, Bool, true, false, nat_lt, IsTrue, ◌⊎◌}
+use Rattle.std.specs.Prelude.{List, [], ◌++◌}
 use Rattle.std.specs.Prelude.{length, drop, Result, Ok, Err}
 use Rattle.percent_encoding.specs.Percent.{percent_decode}
 use Rattle.rr_io.specs.declared.streams.Source as source
@@ -25,7 +26,7 @@ use Rattle.rr_http.specs.Wants.{HeadWants, IsUndecided, IsWanted, ReadsHead, Wan
 use Rattle.rr_http.specs.Wants.{whois, http}
 
 -- a connection failed where a read of it failed, or a write; an end of input before the body's is
--- no failed read (profile)
+-- not a failed read (profile)
 abbrev pub answer_by : BodyEnd → Bool → Answer
 answer_by Broken wrote_badly = Err conn_fault.Read
 answer_by Whole true = Err conn_fault.Write
@@ -51,7 +52,8 @@ pub record IsUnsubmitted {D : Type 0} (end : BodyEnd) (before after : D) (old ne
   pub failed : result ≡ answer_by end true
   pub same : after ≡ before
 
-abbrev pub SubmitsRead : {D : Type 0} → Ghosts D → List ℕ → ℕ → BodyEnd → D → D → Told → Told
+abbrev pub SubmitsRead : {D : Type 0} → Ghosts D → List ℕ → ℕ → BodyEnd → D → D
+    → Told → Told
     → Answer → Type 0
 SubmitsRead desk body size end before after old new result =
     IsUnsubmitted end before after old new result
@@ -67,7 +69,8 @@ visit_of from_old from_new old new answer = record {
   answer = answer;
 }
 
-abbrev pub visit : {C : Type 0} → source.Ghosts C → sink.Ghosts C → C → C → Answer → Visit
+abbrev pub visit : {C : Type 0} → source.Ghosts C → sink.Ghosts C → C → C → Answer
+    → Visit
 visit reader writer old new answer =
     visit_of (reader.told old) (reader.told new) (writer.told old) (writer.told new) answer
 
@@ -111,19 +114,22 @@ pub record MeetsNoMemory {D : Type 0} (desk : Ghosts D) (buffered : List ℕ) (s
   pub unavailable : IsRefusedNow before after visit
 
 -- a submission that is not taken in
-abbrev pub IsTurnedAway : {D : Type 0} → Ghosts D → List ℕ → ℕ → D → D → Visit → Type 0
+abbrev pub IsTurnedAway : {D : Type 0} → Ghosts D → List ℕ → ℕ → D → D → Visit
+    → Type 0
 IsTurnedAway desk buffered size before after visit =
     MeetsStoppedDesk desk before after visit
     ⊎ MeetsNoMemory desk buffered size before after visit
 
 -- a submission is turned away or taken in
-abbrev pub ServesBody : {D : Type 0} → Ghosts D → List ℕ → ℕ → D → D → Visit → Type 0
+abbrev pub ServesBody : {D : Type 0} → Ghosts D → List ℕ → ℕ → D → D → Visit
+    → Type 0
 ServesBody desk buffered size before after visit =
     IsTurnedAway desk buffered size before after visit
     ⊎ IsTakenIn desk buffered size before after visit
 
 -- what is done of what a request asks; these bytes came with its head
-abbrev pub ServesAsks : {D : Type 0} → Ghosts D → List ℕ → Asks → D → D → Visit → Type 0
+abbrev pub ServesAsks : {D : Type 0} → Ghosts D → List ℕ → Asks → D → D → Visit
+    → Type 0
 ServesAsks desk buffered (refused refusal) before after visit =
     LeavesAll before after visit × Replies (refusal_reply refusal) visit
 ServesAsks desk buffered (submission size) before after visit =
@@ -138,7 +144,8 @@ ServesAsks desk buffered dump before after visit =
     visit.writer_before visit.writer_after visit.answer
 
 -- what is done of what a connection wants at whose head these bytes were read
-abbrev pub ServesWants : {D : Type 0} → Ghosts D → List ℕ → Wants → D → D → Visit → Type 0
+abbrev pub ServesWants : {D : Type 0} → Ghosts D → List ℕ → Wants → D → D → Visit
+    → Type 0
 ServesWants desk head (whois asked) before after visit =
     (visit.reader_after ≡ visit.reader_before)
     × IsAnswered desk.Answers [] asked before after
@@ -166,7 +173,8 @@ pub record IsServed {D : Type 0} (desk : Ghosts D) (before after : D) (visit : V
   pub between : Told
   pub wants : Wants
   pub reads : ReadsHead visit.reader_before between head ended
-  pub is_wanted : (more : List ℕ) → (IsTrue ended → more ≡ []) → IsWanted (head ++ more) wants
+  pub is_wanted : (more : List ℕ) → (IsTrue ended → more ≡ [])
+      → IsWanted (head ++ more) wants
   pub serves : ServesWants desk head wants before after (visit_from between visit)
 
 -- a read failed before it was known what the connection wants: nothing is written

@@ -1,5 +1,6 @@
 -- What is said of a connection that tells all of its bytes.
-use Rattle.std.specs.Prelude.{◌≡◌, ℕ, ◌<◌, ◌≤◌, Bool, IsTrue, List, [], ◌++◌, length, take, drop}
+use Rattle.std.specs.Prelude.{◌≡◌, ℕ, ◌<◌, ◌≤◌, Bool, IsTrue, List, [], ◌++◌}
+use Rattle.std.specs.Prelude.{length, take, drop}
 use Rattle.std.specs.Prelude.{Some}
 use Rattle.rr_io.specs.Told.{Told}
 use Rattle.rr_io.specs.Receiving.{Gives}
@@ -21,7 +22,8 @@ WantsByItsBytes =
 abbrev pub IsBodyOf : BodyEnd → ℕ → List ℕ → List ℕ → Type 0
 IsBodyOf Whole size given body = (body ≡ take size given) × (length body ≡ size)
 IsBodyOf Short size given body = (body ≡ given) × (length given < size)
-IsBodyOf Broken size given body = (rest : List ℕ) × (given ≡ body ++ rest) × (length body < size)
+IsBodyOf Broken size given body =
+    (rest : List ℕ) × (given ≡ body ++ rest) × (length body < size)
 
 -- a body that was read is that of what stands after the head
 abbrev pub BodyFollowsItsHead : Type 0

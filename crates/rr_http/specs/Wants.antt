@@ -1,5 +1,6 @@
 -- What a connection wants, by the bytes that it gives (RFC 3912, RFC 9112; profile).
-use Rattle.std.specs.Prelude.{◌≡◌, ℕ, ◌<◌, ◌≤◌, Bool, true, false, nat_le, IsTrue, is_some, ◌⊎◌}
+use Rattle.std.specs.Prelude.{◌≡◌, ℕ, ◌<◌, ◌≤◌, Bool, true, false, nat_le, IsTrue}
+use Rattle.std.specs.Prelude.{is_some, ◌⊎◌}
 use Rattle.std.specs.Prelude.{List, ◌++◌, length, map, take, [], Option, None, Some}
 use Rattle.std.specs.Prelude.{if◌then◌else◌}
 use Rattle.httparse.specs.Grammar.{ReadsRequest, RequestHead}
@@ -41,7 +42,7 @@ abbrev pub RequestAsks : List ℕ → Asks → Type 0
 RequestAsks text asks =
     (parsed : Option RequestHead) × IsParsed text parsed × (asks ≡ head_asks parsed)
 
--- bytes that have no whole head are too many if they are 8,192, and else no head, since the input
+-- bytes that have no whole head are too many if they are 8,192, and else no head, because the input
 -- ended (profile)
 abbrev pub unended : Bool → Refusal
 unended full = if full then HeadTooLarge else BadRequest
@@ -101,11 +102,13 @@ BreaksHead old new = (bytes : List ℕ) × BreaksOff old new bytes × IsUndecide
 -- what stands at the head of a connection of which these bytes were read, as code says it
 abbrev pub IsHead : List ℕ → Head → Type 0
 IsHead bytes (Whois count) =
-    (speaks_http bytes ≡ false) × (count ≤ length bytes) × (take count bytes ≡ whois_query bytes)
+    (speaks_http bytes ≡ false) × (count ≤ length bytes)
+    × (take count bytes ≡ whois_query bytes)
 IsHead bytes (Http count) =
     (speaks_http bytes ≡ true) × (count ≤ length bytes) × (head_length bytes ≡ Some count)
 IsHead bytes (Refused refusal) =
-    (speaks_http bytes ≡ true) × (head_length bytes ≡ None) × (refusal ≡ unended (is_full bytes))
+    (speaks_http bytes ≡ true) × (head_length bytes ≡ None)
+    × (refusal ≡ unended (is_full bytes))
 
 -- the head of a connection was read, and this stands there
 abbrev pub FindsHead : Told → Told → List ℕ → Head → Type 0

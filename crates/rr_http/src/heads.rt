@@ -1,6 +1,7 @@
 //! The head of a connection: the bytes by which it says what it asks.
 
-ghost use Rattle.std.specs.Prelude.{◌≡◌, ◌≤◌, None, false, length, take, IfOk, IfSome, OnErr};
+ghost use Rattle.std.specs.Prelude.{◌≡◌, ◌≤◌, None, false, length, take, IfOk, IfSome};
+ghost use Rattle.std.specs.Prelude.{OnErr};
 ghost use Rattle.rr_http.specs.HeadParts.{BreaksOn, ReadsOn, request_head};
 ghost use Rattle.rr_http.specs.Heads.{goal_place, has_line_feed, head_length, line_end};
 ghost use Rattle.rr_http.specs.Lines.{line_speaks_http, without_return};
@@ -73,7 +74,7 @@ fn request_head(count: usize, place: Option<usize>) -> Head
     }
 }
 
-/// Whether a first line is by HTTP; else it is by whois (profile).
+/// Whether a first line is by HTTP; otherwise it is by whois (profile).
 fn speaks_http(line: &[u8]) -> bool
     ensures { result ≡ line_speaks_http line.now }
 {

@@ -68,7 +68,8 @@ pub trait Registrar {
         ensures submits { stops self.old ≡ false → Submits ledger (settings self.old).source
             (sides R.Source W.Sink reader.old reader.new writer.old writer.new
             (ledger.registry self.old) (ledger.registry self.new)) self.old self.new result }
-        ensures runs { stops self.old ≡ false → UnlessStoreFault result (stops self.new ≡ false) }
+        ensures runs { stops self.old ≡ false
+            → UnlessStoreFault result (stops self.new ≡ false) }
         ensures confined { stops self.old ≡ false
             → ConfinesTexts (settings self.old).source (ledger.registry self.old) }
         ensures kept { stops self.old ≡ false → UnlessStoreFault result (Kept self.new) }

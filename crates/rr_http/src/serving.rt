@@ -105,7 +105,7 @@ fn take_in<D: Registrar, C: Connection>(
 }
 
 /// Submits a body of this size whose reading ended so, and writes the report after the head of the
-/// reply. That head is written first, since each line of the report is written once its item is
+/// reply. That head is written first, because each line of the report is written once its item is
 /// decided. What became of the submission the report says, so only whether a write failed is asked
 /// here.
 fn submit_read<D: Registrar, W: Sink>(

@@ -46,12 +46,12 @@ front : (ys rest : List Obj) → T (is_sorted key_cmp (map entry (ys ++ rest))) 
 front [] rest h = tt
 front (y ∷ ys) rest h = both _ _ (below_front y.key ys rest (first_of _ _ h)) (front ys rest (second_of (below_all key_cmp y.key (map entry (ys ++ rest))) _ h))
 
-free_behind : (ys : List Obj) (o : Obj) (rest : List Obj) → T (is_sorted key_cmp (map entry (ys ++ o ∷ rest))) → find_entry key_cmp o.key (map entry ys) ≡ None
-free_behind [] o rest h = refl
-free_behind (y ∷ ys) o rest h =
+free_after : (ys : List Obj) (o : Obj) (rest : List Obj) → T (is_sorted key_cmp (map entry (ys ++ o ∷ rest))) → find_entry key_cmp o.key (map entry ys) ≡ None
+free_after [] o rest h = refl
+free_after (y ∷ ys) o rest h =
     let below = below_there y.key ys o rest (first_of _ _ h) in
     ap (λ r. cond (is_eq r) (Some y) (find_entry key_cmp o.key (map entry ys))) (keys_total.antisymm o.key y.key ∙ ap ordering_reverse below)
-    ∙ free_behind ys o rest (second_of (below_all key_cmp y.key (map entry (ys ++ o ∷ rest))) _ h)
+    ∙ free_after ys o rest (second_of (below_all key_cmp y.key (map entry (ys ++ o ∷ rest))) _ h)
 
 found_front : (k : Key) (ys rest : List Obj) (x : Obj) → find_entry key_cmp k (map entry ys) ≡ Some x → find_entry key_cmp k (map entry (ys ++ rest)) ≡ Some x
 found_front k [] rest x e = cc
@@ -61,12 +61,12 @@ found_front k (y ∷ ys) rest x e =
       | false ↦ λ f. found_front k ys rest x f
     ] e
 
-found_behind : (ys : List Obj) (o : Obj) (rest : List Obj) → find_entry key_cmp o.key (map entry ys) ≡ None → find_entry key_cmp o.key (map entry (ys ++ o ∷ rest)) ≡ Some o
-found_behind [] o rest e = ap (λ b. cond b (Some o) (find_entry key_cmp o.key (map entry rest))) (tied_key o.key)
-found_behind (y ∷ ys) o rest e =
+found_after : (ys : List Obj) (o : Obj) (rest : List Obj) → find_entry key_cmp o.key (map entry ys) ≡ None → find_entry key_cmp o.key (map entry (ys ++ o ∷ rest)) ≡ Some o
+found_after [] o rest e = ap (λ b. cond b (Some o) (find_entry key_cmp o.key (map entry rest))) (tied_key o.key)
+found_after (y ∷ ys) o rest e =
     elim (eq_by_cmp key_cmp o.key y.key) as (λ b. cond b (Some y) (find_entry key_cmp o.key (map entry ys)) ≡ None → cond b (Some y) (find_entry key_cmp o.key (map entry (ys ++ o ∷ rest))) ≡ Some o) [
       | true ↦ λ f. cc
-      | false ↦ λ f. found_behind ys o rest f
+      | false ↦ λ f. found_after ys o rest f
     ] e
 
 pub entries_end : (ys : List Obj) (o : Obj) → map entry (ys ++ o ∷ []) ≡ map entry ys ++ (o.key, o) ∷ []
@@ -79,9 +79,9 @@ module _ (all ys left rest : List Obj) (o : Obj) (order : is_in_order all ≡ tr
 
   -- the key of the next object is free
   pub next_free : get (book_of ys) o.key ≡ None
-  next_free = get-from_sorted key_cmp (map entry ys) o.key (front ys (o ∷ rest) sorted) ∙ free_behind ys o rest sorted
+  next_free = get-from_sorted key_cmp (map entry ys) o.key (front ys (o ∷ rest) sorted) ∙ free_after ys o rest sorted
 
-  -- what is to come, behind one more
+  -- what is to come, after one more
   next_whole : (ys ++ o ∷ []) ++ rest ≡ all
   next_whole = append_assoc ys (o ∷ []) rest ∙ ap (λ xs. ys ++ xs) (sym step) ∙ whole
 
@@ -90,7 +90,7 @@ module _ (all ys left rest : List Obj) (o : Obj) (order : is_in_order all ≡ tr
   next_book = same_map keys_total keys_exact _ _ (λ q.
       get-insert keys_total (book_of ys) o.key o q
       ∙ ap (cond (eq_by_cmp key_cmp q o.key) (Some o)) (get-from_sorted key_cmp (map entry ys) q (front ys (o ∷ rest) sorted))
-      ∙ sym (find-append key_cmp keys_total (map entry ys) o.key o q (free_behind ys o rest sorted))
+      ∙ sym (find-append key_cmp keys_total (map entry ys) o.key o q (free_after ys o rest sorted))
       ∙ ap (find_entry key_cmp q) (sym (entries_end ys o))
       ∙ sym (get-from_sorted key_cmp (map entry (ys ++ o ∷ [])) q (front (ys ++ o ∷ []) rest (subst (λ (xs : List Obj). T (is_sorted key_cmp (map entry xs))) (sym (next_whole ∙ sym whole ∙ ap (λ xs. ys ++ xs) step)) sorted))))
 
@@ -103,5 +103,5 @@ module _ (all ys left rest : List Obj) (o : Obj) (order : is_in_order all ≡ tr
         apart = λ l x at. all_sound.apart l o.key x o
             (get-from_sorted key_cmp (map entry (ys ++ o ∷ rest)) l sorted
             ∙ found_front l ys (o ∷ rest) x (sym (get-from_sorted key_cmp (map entry ys) l (front ys (o ∷ rest) sorted)) ∙ at))
-            (get-from_sorted key_cmp (map entry (ys ++ o ∷ rest)) o.key sorted ∙ found_behind ys o rest (free_behind ys o rest sorted));
+            (get-from_sorted key_cmp (map entry (ys ++ o ∷ rest)) o.key sorted ∙ found_after ys o rest (free_after ys o rest sorted));
       }

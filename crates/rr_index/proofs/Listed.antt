@@ -46,8 +46,8 @@ missed k (e ∷ es) h =
 nothing : (x : Obj) → None ≡ Some x → ⊥
 nothing x e = cc
 
-behind : (e : Key × Obj) (es : List (Key × Obj)) (k : Key) (o : Obj) → T (below_all key_cmp e.0 es) → find_entry key_cmp k es ≡ Some o → find_entry key_cmp k (e ∷ es) ≡ Some o
-behind e es k o below f =
+after : (e : Key × Obj) (es : List (Key × Obj)) (k : Key) (o : Obj) → T (below_all key_cmp e.0 es) → find_entry key_cmp k es ≡ Some o → find_entry key_cmp k (e ∷ es) ≡ Some o
+after e es k o below f =
     elim (eq_by_cmp key_cmp k e.0) as (λ b. eq_by_cmp key_cmp k e.0 ≡ b → cond b (Some e.1) (find_entry key_cmp k es) ≡ Some o) [
       | true ↦ λ t. absurd (nothing o (sym (missed e.0 es below) ∙ ap (λ l. find_entry key_cmp l es) (sym (same_key k e.0 t)) ∙ f))
       | false ↦ λ t. f
@@ -58,7 +58,7 @@ own_entries : (es : List (Key × Obj)) → T (is_sorted key_cmp es) → ((k : Ke
 own_entries [] sorted keyed = refl
 own_entries (e ∷ es) sorted keyed =
     let own : e.1.key ≡ e.0 = keyed e.0 e.1 (ap (λ b. cond b (Some e.1) (find_entry key_cmp e.0 es)) (tied_key e.0)) in
-    let rest = own_entries es (second_of (below_all key_cmp e.0 es) _ sorted) (λ k o f. keyed k o (behind e es k o (first_of (below_all key_cmp e.0 es) _ sorted) f)) in
+    let rest = own_entries es (second_of (below_all key_cmp e.0 es) _ sorted) (λ k o f. keyed k o (after e es k o (first_of (below_all key_cmp e.0 es) _ sorted) f)) in
     λ i. (own i, e.1) ∷ rest i
 
 module _ (r : Reg) (sound : Sound r) where

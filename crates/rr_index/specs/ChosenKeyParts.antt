@@ -1,4 +1,5 @@
--- What private functions that choose keys by spans and prefixes promise each other. No public clause cites these.
+-- What private functions that choose keys by spans and prefixes promise each other. No public
+-- clause cites these.
 use Rattle.std.specs.Prelude.{Bool, false, List}
 use Rattle.std.specs.List.{list_any}
 use Rattle.std.specs.Ordering.{eq_by_cmp}

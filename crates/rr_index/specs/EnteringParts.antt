@@ -1,5 +1,6 @@
 -- What the private functions that enter an object promise each other. No public clause cites these.
-use Rattle.std.specs.Prelude.{◌≡◌, ◌&&◌, ◌||◌, ◌+◌, ◌-◌, not, ℕ, Bool, false, List, Option, IsTrue}
+use Rattle.std.specs.Prelude.{◌≡◌, ◌&&◌, ◌||◌, ◌+◌, ◌-◌, not, ℕ, Bool}
+use Rattle.std.specs.Prelude.{false, List, Option, IsTrue}
 use Rattle.std.specs.BTreeMap.{BTreeMap}
 use Rattle.std.specs.BTreeSet.{BTreeSet}
 use Rattle.std.specs.Option.{option_map_or}
@@ -17,28 +18,36 @@ use Rattle.rr_index.specs.declared.span_index.SpanIndex.{SpanIndex}
 
 -- The object's key stands under none of the sets that it names.
 abbrev pub IsUnderNone : BTreeMap (List ℕ) (BTreeSet Key) → Obj → Type 0
-IsUnderNone sets o = (name : List ℕ) (key : Key) → IsTrue (is_meant o (λ other. false) name key) → stands_under sets name key ≡ false
+IsUnderNone sets o = (name : List ℕ) (key : Key)
+    → IsTrue (is_meant o (λ other. false) name key) → stands_under sets name key ≡ false
 
 -- Whether the object, if there is one, names the set.
 abbrev pub is_named_by : Option Obj → List ℕ → Bool
 is_named_by standing name = option_map_or (names_set name) standing false
 
--- What an object names was entered, its key under no set that the one in whose place it comes names too.
+-- What an object names was entered, its key under no set that the one in whose place it comes names
+-- too.
 pub record HasNamed (o : Obj) (standing : Option Obj) (before after : Indexes) : Type 0 where
-  pub under : (name : List ℕ) (key : Key) → stands_under after.referrers.keys name key ≡ (stands_under before.referrers.keys name key || is_meant o (is_named_by standing) name key)
-  pub counts : (name : List ℕ) → count_at after.namings.counts name ≡ count_at before.namings.counts name + namings_by name o
+  pub under : (name : List ℕ) (key : Key) → stands_under after.referrers.keys name key
+      ≡ (stands_under before.referrers.keys name key
+      || is_meant o (is_named_by standing) name key)
+  pub counts : (name : List ℕ) → count_at after.namings.counts name
+      ≡ count_at before.namings.counts name + namings_by name o
   pub spans : after.spans ≡ before.spans
   pub origins : after.origins ≡ before.origins
   pub names : after.names ≡ before.names
 
 -- What an object names was taken out, its key save from under the sets that have to stay.
 pub record HasUnnamed (o : Obj) (stays : List ℕ → Bool) (before after : Indexes) : Type 0 where
-  pub under : (name : List ℕ) (key : Key) → stands_under after.referrers.keys name key ≡ (stands_under before.referrers.keys name key && not (is_meant o stays name key))
-  pub counts : (name : List ℕ) → count_at after.namings.counts name ≡ count_at before.namings.counts name - namings_by name o
+  pub under : (name : List ℕ) (key : Key) → stands_under after.referrers.keys name key
+      ≡ (stands_under before.referrers.keys name key && not (is_meant o stays name key))
+  pub counts : (name : List ℕ) → count_at after.namings.counts name
+      ≡ count_at before.namings.counts name - namings_by name o
   pub spans : after.spans ≡ before.spans
   pub origins : after.origins ≡ before.origins
   pub names : after.names ≡ before.names
 
 -- The spans and the origins are those of the registry's objects.
 abbrev pub HasPlaces : Reg → SpanIndex → OriginIndex → Type 0
-HasPlaces r of_spans of_origins = HasSpans r of_spans.inetnums of_spans.blocks of_spans.routes × HasOrigins r of_origins.routes
+HasPlaces r of_spans of_origins =
+    HasSpans r of_spans.inetnums of_spans.blocks of_spans.routes × HasOrigins r of_origins.routes

@@ -11,8 +11,10 @@ use Rattle.rr_index.specs.declared.name_index.NameIndex.{NameIndex}
 use Rattle.rr_index.specs.declared.origin_index.OriginIndex.{OriginIndex}
 use Rattle.rr_index.specs.declared.span_index.SpanIndex.{SpanIndex}
 
--- The spans, the origins, the mntners' names and the referrers are those of the registry's objects (profile).
-pub record HasKeys (r : Reg) (of_spans : SpanIndex) (of_origins : OriginIndex) (of_names : NameIndex) (of_sets : SetIndex) : Type 0 where
+-- The spans, the origins, the mntners' names and the referrers are those of the registry's objects
+-- (profile).
+pub record HasKeys (r : Reg) (of_spans : SpanIndex) (of_origins : OriginIndex)
+    (of_names : NameIndex) (of_sets : SetIndex) : Type 0 where
   pub spans : HasSpans r of_spans.inetnums of_spans.blocks of_spans.routes
   pub origins : HasOrigins r of_origins.routes
   pub names : HasNames r of_names.keys

@@ -10,4 +10,5 @@ use Rattle.rr_auth.specs.Registries.{Reg}
 
 -- Under the name of each registered mntner stands its key, and under no other name a key (profile).
 abbrev pub HasNames : Reg → BTreeMap (List ℕ) Key → Type 0
-HasNames r keys = (name : List ℕ) → key_at (slice_cmp nat_cmp) keys name ≡ cond (contains_key r (Mntner name)) (Some (Mntner name)) None
+HasNames r keys = (name : List ℕ) → key_at (slice_cmp nat_cmp) keys name
+    ≡ cond (contains_key r (Mntner name)) (Some (Mntner name)) None

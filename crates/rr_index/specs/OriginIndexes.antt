@@ -14,4 +14,5 @@ origin_cmp a b = ordering_then (nat_cmp a.0 b.0) (prefix_cmp a.1 b.1)
 
 -- Exactly the registered routes stand there (profile).
 abbrev pub HasOrigins : Reg → BTreeSet (ℕ × PrefixParts) → Type 0
-HasOrigins r routes = (origin : ℕ) (prefix : PrefixParts) → contains origin_cmp routes (origin, prefix) ≡ contains_key r (Route prefix origin)
+HasOrigins r routes = (origin : ℕ) (prefix : PrefixParts)
+    → contains origin_cmp routes (origin, prefix) ≡ contains_key r (Route prefix origin)

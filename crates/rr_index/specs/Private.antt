@@ -16,7 +16,8 @@ pub record IsApart (r : Reg) (k : Key) : Type 0 where
 
 -- The route lies from the least prefix of the origin to its greatest (profile).
 abbrev pub is_from : ℕ → ℕ × PrefixParts → Bool
-is_from origin route = is_le (origin_cmp (origin, masked 0 0) route) && not (is_lt (origin_cmp (origin, masked 4294967295 32) route))
+is_from origin route = is_le (origin_cmp (origin, masked 0 0) route)
+    && not (is_lt (origin_cmp (origin, masked 4294967295 32) route))
 
 -- The key's span crosses one that is held of its class.
 abbrev pub is_crossed : SpanMap (Unit {0}) → SpanMap (Unit {0}) → Key → Bool

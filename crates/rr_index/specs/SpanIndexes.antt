@@ -14,11 +14,12 @@ pub record IsRouted (r : Reg) (s : Ends) : Type 0 where
   pub origin : ℕ
   pub there : contains_key r (Route prefix origin) ≡ true
 
--- The spans of exactly the registered inetnums, as-blocks and prefixes of routes are held, and such a prefix has no bit
--- past its length (profile).
+-- The spans of exactly the registered inetnums, as-blocks and prefixes of routes are held, and such
+-- a prefix has no bit past its length (profile).
 pub record HasSpans (r : Reg) (inetnums blocks routes : SpanMap (Unit {0})) : Type 0 where
   pub inetnums_are : (s : Ends) → contains_key inetnums s ≡ contains_key r (Inetnum s)
   pub blocks_are : (s : Ends) → contains_key blocks s ≡ contains_key r (AsBlock s)
   pub routed : (s : Ends) → contains_key routes s ≡ true → IsRouted r s
-  pub routes_are : (p : PrefixParts) (n : ℕ) → contains_key r (Route p n) ≡ true → contains_key routes (span_of p) ≡ true
+  pub routes_are : (p : PrefixParts) (n : ℕ) → contains_key r (Route p n) ≡ true
+      → contains_key routes (span_of p) ≡ true
   pub masked : (p : PrefixParts) (n : ℕ) → contains_key r (Route p n) ≡ true → IsMasked p

@@ -1,4 +1,5 @@
-//! A registry as objects by key, with what answers questions about spans, origins, sets and maintainers beside them.
+//! A registry as objects by key, with what answers questions about spans, origins, sets and
+//! maintainers beside them.
 
 ghost use Rattle.std.specs.Prelude.{◌≡◌, OnErr, OnOk, None, true, is_some};
 ghost use Rattle.std.specs.FinMap.{get, insert};
@@ -14,11 +15,13 @@ use rr_sets::SetBook;
 use std::alloc::{AllocError, Global};
 use std::marker::Model;
 
-/// Objects by key in a balanced tree, the spans of inetnums and as-blocks in nests, the prefixes of routes in a prefix tree,
-/// the routes by origin, the names of the maintainers and how often each is named, and the keys under the sets that the
-/// objects name in `member-of`; contracts see the finite map from keys to objects. It is always sound. A key, a maintainer
-/// and whether it is named, a closest inetnum, as-block or route, and a crossing are found in O(log n) steps for n objects;
-/// k objects of any list, or k origins, in O(k log n); k prefixes of an origin in O(k + log n).
+/// Objects by key in a balanced tree, the spans of inetnums and as-blocks in nests, the prefixes of
+/// routes in a prefix tree, the routes by origin, the names of the maintainers and how often each
+/// is named, and the keys under the sets that the objects name in `member-of`; contracts see the
+/// finite map from keys to objects. It is always sound. A key, a maintainer and whether it is
+/// named, a closest inetnum, as-block or route, and a crossing are found in O(log n) steps for n
+/// objects; k objects of any list, or k origins, in O(k log n); k prefixes of an origin in O(k +
+/// log n).
 #[derive(Drop)]
 pub struct IndexedBook {
     objects: ObjectMap,

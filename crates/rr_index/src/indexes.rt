@@ -1,6 +1,7 @@
 //! What is kept beside the objects of a registry.
 
-ghost use Rattle.std.specs.Prelude.{◌≡◌, ℕ, IfOk, IsTrue, List, None, Some, OnErr, OnOk, false};
+ghost use Rattle.std.specs.Prelude.{◌≡◌, ℕ, IfOk, IsTrue, List, None, Some, OnErr, OnOk};
+ghost use Rattle.std.specs.Prelude.{false};
 ghost use Rattle.std.specs.BTreeSet.{contains};
 ghost use Rattle.std.specs.Cmp.Lexicographic.{slice_cmp};
 ghost use Rattle.std.specs.FinMap.{empty, get, insert, remove};
@@ -11,7 +12,8 @@ ghost use Rattle.rr_auth.specs.Registries.{Reg, Sound};
 ghost use Rattle.rr_book.specs.Books.{IsBook, book_of};
 ghost use Rattle.rr_book.specs.SetIndexes.{is_meant, stands_under};
 ghost use Rattle.rr_book.specs.SetLists.{names_set};
-ghost use Rattle.rr_index.specs.EnteringParts.{HasNamed, HasPlaces, HasUnnamed, IsUnderNone, is_named_by};
+ghost use Rattle.rr_index.specs.EnteringParts.{HasNamed, HasPlaces, HasUnnamed, IsUnderNone};
+ghost use Rattle.rr_index.specs.EnteringParts.{is_named_by};
 ghost use Rattle.rr_index.specs.Indexes.{HasIndexes, HasKeys};
 ghost use Rattle.rr_index.specs.NameIndexes.{HasNames};
 ghost use Rattle.rr_index.specs.Private.{is_crossed};
@@ -27,8 +29,8 @@ use rr_object::Object;
 use std::alloc::{AllocError, Global};
 use std::collections::BTreeSet;
 
-/// The spans of the objects, the routes by origin, the names of the mntners, the keys under the sets that the objects name in
-/// `member-of`, and how often they name each maintainer.
+/// The spans of the objects, the routes by origin, the names of the mntners, the keys under the
+/// sets that the objects name in `member-of`, and how often they name each maintainer.
 #[derive(Drop)]
 pub(crate) struct Indexes {
     pub(crate) spans: SpanIndex,
@@ -52,7 +54,7 @@ impl Indexes {
         }
     }
 
-    /// Those of objects that stand in the order of class and key; the error is want of memory.
+    /// Those of objects that stand in the order of class and key; the error is that memory ran out.
     pub(crate) fn of(alloc: Global, objects: &[Object]) -> Result<Indexes, AllocError>
         requires { IsBook objects.now }
         ensures { IfOk result (λ indexes. HasIndexes (book_of objects.now) indexes) }
@@ -64,13 +66,17 @@ impl Indexes {
         Ok(indexes)
     }
 
-    /// Enters an object of a key that stands under no set that the object names, and crosses no span that is held. The error
-    /// is want of memory, and leaves the indexes those of the same objects.
+    /// Enters an object of a key that stands under no set that the object names, and crosses no
+    /// span that is held. The error is that memory ran out, and it leaves the indexes those of the
+    /// same objects.
     pub(crate) fn enter(&mut self, alloc: Global, object: &Object) -> Result<(), AllocError>
         requires fresh { IsUnderNone self.old.referrers.keys object.now }
-        requires apart { is_crossed self.old.spans.inetnums self.old.spans.blocks object.now.key ≡ false }
-        ensures ok { OnOk result ((r : Reg) → HasIndexes r self.old → get r object.now.key ≡ None → HasIndexes (insert r object.now.key object.now) self.new) }
-        ensures err { OnErr result ((r : Reg) → HasIndexes r self.old → get r object.now.key ≡ None → HasIndexes r self.new) }
+        requires apart { is_crossed self.old.spans.inetnums self.old.spans.blocks object.now.key
+            ≡ false }
+        ensures ok { OnOk result ((r : Reg) → HasIndexes r self.old → get r object.now.key
+            ≡ None → HasIndexes (insert r object.now.key object.now) self.new) }
+        ensures err { OnErr result ((r : Reg) → HasIndexes r self.old
+            → get r object.now.key ≡ None → HasIndexes r self.new) }
     {
         self.namings.add(alloc, object)?;
         match self.enter_keys(alloc, object) {
@@ -85,10 +91,14 @@ impl Indexes {
     /// Enters the key of the object, under the sets that it names too.
     fn enter_keys(&mut self, alloc: Global, object: &Object) -> Result<(), AllocError>
         requires fresh { IsUnderNone self.old.referrers.keys object.now }
-        requires apart { is_crossed self.old.spans.inetnums self.old.spans.blocks object.now.key ≡ false }
-        ensures ok { OnOk result ((r : Reg) → HasKeys r self.old.spans self.old.origins self.old.names self.old.referrers → get r object.now.key ≡ None
-            → HasKeys (insert r object.now.key object.now) self.new.spans self.new.origins self.new.names self.new.referrers) }
-        ensures err { OnErr result ((r : Reg) → HasKeys r self.old.spans self.old.origins self.old.names self.old.referrers → get r object.now.key ≡ None
+        requires apart { is_crossed self.old.spans.inetnums self.old.spans.blocks object.now.key
+            ≡ false }
+        ensures ok { OnOk result ((r : Reg) → HasKeys r self.old.spans self.old.origins
+            self.old.names self.old.referrers → get r object.now.key ≡ None
+            → HasKeys (insert r object.now.key object.now) self.new.spans self.new.origins
+            self.new.names self.new.referrers) }
+        ensures err { OnErr result ((r : Reg) → HasKeys r self.old.spans self.old.origins
+            self.old.names self.old.referrers → get r object.now.key ≡ None
             → HasKeys r self.new.spans self.new.origins self.new.names self.new.referrers) }
         ensures aside { self.new.namings ≡ self.old.namings }
     {
@@ -105,10 +115,14 @@ impl Indexes {
 
     /// Enters the name, the origin and the span of the object.
     fn enter_key(&mut self, alloc: Global, object: &Object) -> Result<(), AllocError>
-        requires { is_crossed self.old.spans.inetnums self.old.spans.blocks object.now.key ≡ false }
-        ensures ok { OnOk result ((r : Reg) → HasPlaces r self.old.spans self.old.origins → HasNames r self.old.names.keys
-            → HasPlaces (insert r object.now.key object.now) self.new.spans self.new.origins × HasNames (insert r object.now.key object.now) self.new.names.keys) }
-        ensures err { OnErr result ((r : Reg) → HasPlaces r self.old.spans self.old.origins → HasNames r self.old.names.keys → get r object.now.key ≡ None
+        requires { is_crossed self.old.spans.inetnums self.old.spans.blocks object.now.key
+            ≡ false }
+        ensures ok { OnOk result ((r : Reg) → HasPlaces r self.old.spans self.old.origins
+            → HasNames r self.old.names.keys
+            → HasPlaces (insert r object.now.key object.now) self.new.spans self.new.origins
+            × HasNames (insert r object.now.key object.now) self.new.names.keys) }
+        ensures err { OnErr result ((r : Reg) → HasPlaces r self.old.spans self.old.origins
+            → HasNames r self.old.names.keys → get r object.now.key ≡ None
             → HasPlaces r self.new.spans self.new.origins × HasNames r self.new.names.keys) }
         ensures aside { self.new.referrers ≡ self.old.referrers }
         ensures uncounted { self.new.namings ≡ self.old.namings }
@@ -126,10 +140,12 @@ impl Indexes {
 
     /// Enters the origin and the span of the object.
     fn enter_place(&mut self, object: &Object) -> Result<(), AllocError>
-        requires { is_crossed self.old.spans.inetnums self.old.spans.blocks object.now.key ≡ false }
+        requires { is_crossed self.old.spans.inetnums self.old.spans.blocks object.now.key
+            ≡ false }
         ensures ok { OnOk result ((r : Reg) → HasPlaces r self.old.spans self.old.origins
             → HasPlaces (insert r object.now.key object.now) self.new.spans self.new.origins) }
-        ensures err { OnErr result ((r : Reg) → HasPlaces r self.old.spans self.old.origins → get r object.now.key ≡ None
+        ensures err { OnErr result ((r : Reg) → HasPlaces r self.old.spans self.old.origins
+            → get r object.now.key ≡ None
             → HasPlaces r self.new.spans self.new.origins) }
         ensures named { self.new.names ≡ self.old.names }
         ensures aside { self.new.referrers ≡ self.old.referrers }
@@ -146,19 +162,24 @@ impl Indexes {
         }
     }
 
-    /// Enters what an object names that comes in place of another: its key, under the sets that the other does not name,
-    /// and its maintainers. It gives the sets that the object names; the error is want of memory, and leaves the indexes
-    /// those of the same objects.
+    /// Enters what an object names that comes in place of another: its key, under the sets that the
+    /// other does not name, and its maintainers. It gives the sets that the object names; the error
+    /// is that memory ran out, and it leaves the indexes those of the same objects.
     pub(crate) fn enter_names(
         &mut self,
         alloc: Global,
         object: &Object,
         standing: Option<&Object>,
     ) -> Result<BTreeSet<SetName>, AllocError>
-        requires { (name : List ℕ) (key : Key) → IsTrue (is_meant object.now (is_named_by (option_copied standing)) name key) → stands_under self.old.referrers.keys name key ≡ false }
-        ensures sets { IfOk result (λ sets. (name : List ℕ) → contains (slice_cmp nat_cmp) sets name ≡ names_set name object.now) }
-        ensures ok { OnOk result (HasNamed object.now (option_copied standing.entry) self.old self.new) }
-        ensures err { OnErr result ((r : Reg) → HasIndexes r self.old → option_copied standing.entry ≡ get r object.now.key → HasIndexes r self.new) }
+        requires { (name : List ℕ) (key : Key)
+            → IsTrue (is_meant object.now (is_named_by (option_copied standing)) name key)
+            → stands_under self.old.referrers.keys name key ≡ false }
+        ensures sets { IfOk result (λ sets. (name : List ℕ)
+            → contains (slice_cmp nat_cmp) sets name ≡ names_set name object.now) }
+        ensures ok { OnOk result
+            (HasNamed object.now (option_copied standing.entry) self.old self.new) }
+        ensures err { OnErr result ((r : Reg) → HasIndexes r self.old
+            → option_copied standing.entry ≡ get r object.now.key → HasIndexes r self.new) }
     {
         let before = sets_named(alloc, standing)?;
         let after = sets_named(alloc, Some(object))?;
@@ -172,8 +193,8 @@ impl Indexes {
         }
     }
 
-    /// Takes out what an object names in whose place one came that names these sets: its key, save from under those, and
-    /// its maintainers.
+    /// Takes out what an object names in whose place one came that names these sets: its key, save
+    /// from under those, and its maintainers.
     pub(crate) fn leave_names(&mut self, old: Object, sets: BTreeSet<SetName>)
         ensures { HasUnnamed old (contains (slice_cmp nat_cmp) sets) self.old self.new }
     {
@@ -184,7 +205,8 @@ impl Indexes {
     /// Takes out an object that is no longer among these objects.
     pub(crate) fn leave(&mut self, objects: &ObjectMap, gone: &Object)
         requires { Sound objects.now }
-        ensures { (r : Reg) → HasIndexes r self.old → get r gone.now.key ≡ Some gone.now → objects.now ≡ remove r gone.now.key
+        ensures { (r : Reg) → HasIndexes r self.old → get r gone.now.key ≡ Some gone.now
+            → objects.now ≡ remove r gone.now.key
             → HasIndexes objects.now self.new }
     {
         let key = gone.key();

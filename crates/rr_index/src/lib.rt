@@ -1,5 +1,5 @@
-//! The book of a large registry: objects by key in a balanced tree, and beside it what answers questions about spans,
-//! origins, sets and maintainers without a look at all objects.
+//! The book of a large registry: objects by key in a balanced tree, and beside it what answers
+//! questions about spans, origins, sets and maintainers without a look at all objects.
 #![tactic(auto)]
 
 mod indexed_book;

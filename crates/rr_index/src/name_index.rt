@@ -16,7 +16,8 @@ use rr_object::Key;
 use std::alloc::{AllocError, Global};
 use std::collections::BTreeMap;
 
-/// The keys of the registered mntners, by name: a mntner is found by its name without a key that owns memory.
+/// The keys of the registered mntners, by name: a mntner is found by its name without a key that
+/// owns memory.
 #[derive(Drop)]
 pub(crate) struct NameIndex {
     keys: BTreeMap<Name, Key>,
@@ -39,10 +40,13 @@ impl NameIndex {
         self.keys.get(name)
     }
 
-    /// Enters the key of an object that is registered. The error is want of memory and changes nothing.
+    /// Enters the key of an object that is registered. The error is that memory ran out, and
+    /// nothing changes.
     pub(crate) fn add(&mut self, alloc: Global, key: &Key) -> Result<(), AllocError>
-        ensures ok { OnOk result ((r : Reg) (o : Obj) → HasNames r self.old.keys → HasNames (insert r key.now o) self.new.keys) }
-        ensures err { OnErr result ((r : Reg) → HasNames r self.old.keys → HasNames r self.new.keys) }
+        ensures ok { OnOk result ((r : Reg) (o : Obj) → HasNames r self.old.keys
+            → HasNames (insert r key.now o) self.new.keys) }
+        ensures err { OnErr result
+            ((r : Reg) → HasNames r self.old.keys → HasNames r self.new.keys) }
     {
         match key {
             Key::Mntner(name) => self.put(alloc, name, key),
@@ -53,8 +57,10 @@ impl NameIndex {
     /// Puts the key under the name.
     fn put(&mut self, alloc: Global, name: &Name, key: &Key) -> Result<(), AllocError>
         requires { key.now ≡ Mntner name.now }
-        ensures ok { OnOk result ((r : Reg) (o : Obj) → HasNames r self.old.keys → HasNames (insert r (Mntner name.now) o) self.new.keys) }
-        ensures err { OnErr result ((r : Reg) → HasNames r self.old.keys → HasNames r self.new.keys) }
+        ensures ok { OnOk result ((r : Reg) (o : Obj) → HasNames r self.old.keys
+            → HasNames (insert r (Mntner name.now) o) self.new.keys) }
+        ensures err { OnErr result
+            ((r : Reg) → HasNames r self.old.keys → HasNames r self.new.keys) }
     {
         let under = name.copy(alloc)?;
         let kept = key.copy(alloc)?;
@@ -64,7 +70,8 @@ impl NameIndex {
 
     /// Takes out the key of an object that was registered.
     pub(crate) fn take(&mut self, key: &Key)
-        ensures { (r : Reg) → HasNames r self.old.keys → HasNames (remove r key.now) self.new.keys }
+        ensures { (r : Reg) → HasNames r self.old.keys
+            → HasNames (remove r key.now) self.new.keys }
     {
         if let Key::Mntner(name) = key {
             self.keys.remove(name);

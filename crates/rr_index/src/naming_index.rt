@@ -1,6 +1,7 @@
 //! How often the objects of a registry name each maintainer.
 
-ghost use Rattle.std.specs.Prelude.{◌≡◌, ◌+◌, ◌-◌, ℕ, List, [], ◌∷◌, ◌==◌, cond, take, nat_lt, IfErr, IsTrue, OnErr, OnOk};
+ghost use Rattle.std.specs.Prelude.{◌≡◌, ◌+◌, ◌-◌, ℕ, List, [], ◌∷◌};
+ghost use Rattle.std.specs.Prelude.{◌==◌, cond, take, nat_lt, IfErr, IsTrue, OnErr, OnOk};
 ghost use Rattle.std.specs.FinMap.{empty};
 ghost use Rattle.std.specs.Str.{bytes_eq};
 ghost use Rattle.rr_object.specs.Objects.{names_of};
@@ -11,8 +12,8 @@ use rr_object::{Key, Object};
 use std::alloc::{AllocError, Global};
 use std::collections::BTreeMap;
 
-/// How often registered objects name each maintainer, its own mntner left out: whether one is named at all is found without
-/// a look at the objects.
+/// How often registered objects name each maintainer, its own mntner left out: whether one is named
+/// at all is found without a look at the objects.
 #[derive(Drop)]
 pub(crate) struct NamingIndex {
     counts: BTreeMap<Name, u64>,
@@ -38,10 +39,13 @@ impl NamingIndex {
         }
     }
 
-    /// Counts the maintainers that the object names. The error is want of memory and changes nothing.
+    /// Counts the maintainers that the object names. The error is that memory ran out, and nothing
+    /// changes.
     pub(crate) fn add(&mut self, alloc: Global, object: &Object) -> Result<(), AllocError>
-        ensures ok { OnOk result ((name : List ℕ) → count_at self.new.counts name ≡ count_at self.old.counts name + namings_by name object.now) }
-        ensures err { OnErr result ((name : List ℕ) → count_at self.new.counts name ≡ count_at self.old.counts name) }
+        ensures ok { OnOk result ((name : List ℕ) → count_at self.new.counts name
+            ≡ count_at self.old.counts name + namings_by name object.now) }
+        ensures err { OnErr result ((name : List ℕ)
+            → count_at self.new.counts name ≡ count_at self.old.counts name) }
     {
         match self.add_each(alloc, object) {
             Ok(()) => Ok(()),
@@ -52,12 +56,14 @@ impl NamingIndex {
         }
     }
 
-    /// Counts the maintainers that the object names, one after the other. The error is want of memory, and says how many
-    /// of its names were counted.
+    /// Counts the maintainers that the object names, one after the other. The error is that memory
+    /// ran out, and says how many of its names were counted.
     fn add_each(&mut self, alloc: Global, object: &Object) -> Result<(), u64>
-        ensures ok { OnOk result ((name : List ℕ) → count_at self.new.counts name ≡ count_at self.old.counts name + namings_by name object.now) }
+        ensures ok { OnOk result ((name : List ℕ) → count_at self.new.counts name
+            ≡ count_at self.old.counts name + namings_by name object.now) }
         ensures some { IfErr result (λ counted. (name : List ℕ) → count_at self.new.counts name
-            ≡ count_at self.old.counts name + namings name object.now.key (take counted (names_of object.now))) }
+            ≡ count_at self.old.counts name
+            + namings name object.now.key (take counted (names_of object.now))) }
     {
         let mut counted: u64 = 0;
         for name in object.maintainers_named() {
@@ -74,7 +80,8 @@ impl NamingIndex {
 
     /// Takes back what was counted of the object.
     pub(crate) fn take(&mut self, object: &Object)
-        ensures { (name : List ℕ) → count_at self.new.counts name ≡ count_at self.old.counts name - namings_by name object.now }
+        ensures { (name : List ℕ) → count_at self.new.counts name
+            ≡ count_at self.old.counts name - namings_by name object.now }
     {
         for name in object.maintainers_named() {
             self.lower(object.key(), name);
@@ -84,7 +91,8 @@ impl NamingIndex {
     /// Takes back what was counted of the object's first names.
     fn take_first(&mut self, object: &Object, counted: u64)
         ensures { (name : List ℕ) → count_at self.new.counts name
-            ≡ count_at self.old.counts name - namings name object.now.key (take counted (names_of object.now)) }
+            ≡ count_at self.old.counts name
+            - namings name object.now.key (take counted (names_of object.now)) }
     {
         let mut left = counted;
         for name in object.maintainers_named() {
@@ -96,10 +104,13 @@ impl NamingIndex {
         }
     }
 
-    /// Counts one naming more by an object of the key. The error is want of memory and changes nothing.
+    /// Counts one naming more by an object of the key. The error is that memory ran out, and
+    /// nothing changes.
     fn raise(&mut self, alloc: Global, key: &Key, name: &Name) -> Result<(), AllocError>
-        ensures ok { OnOk result ((other : List ℕ) → count_at self.new.counts other ≡ count_at self.old.counts other + namings other key.now (name.now ∷ [])) }
-        ensures err { OnErr result ((other : List ℕ) → count_at self.new.counts other ≡ count_at self.old.counts other) }
+        ensures ok { OnOk result ((other : List ℕ) → count_at self.new.counts other
+            ≡ count_at self.old.counts other + namings other key.now (name.now ∷ [])) }
+        ensures err { OnErr result ((other : List ℕ)
+            → count_at self.new.counts other ≡ count_at self.old.counts other) }
     {
         if key.is_mntner_of(name) {
             Ok(())
@@ -110,17 +121,20 @@ impl NamingIndex {
 
     /// Counts one naming less by an object of the key.
     fn lower(&mut self, key: &Key, name: &Name)
-        ensures { (other : List ℕ) → count_at self.new.counts other ≡ count_at self.old.counts other - namings other key.now (name.now ∷ []) }
+        ensures { (other : List ℕ) → count_at self.new.counts other
+            ≡ count_at self.old.counts other - namings other key.now (name.now ∷ []) }
     {
         if !key.is_mntner_of(name) {
             self.count_down(name);
         }
     }
 
-    /// Adds one to the count of the name. The error is want of memory and changes nothing.
+    /// Adds one to the count of the name. The error is that memory ran out, and nothing changes.
     fn count_up(&mut self, alloc: Global, name: &Name) -> Result<(), AllocError>
-        ensures ok { OnOk result ((other : List ℕ) → count_at self.new.counts other ≡ count_at self.old.counts other + cond (bytes_eq name.now other) 1 0) }
-        ensures err { OnErr result ((other : List ℕ) → count_at self.new.counts other ≡ count_at self.old.counts other) }
+        ensures ok { OnOk result ((other : List ℕ) → count_at self.new.counts other
+            ≡ count_at self.old.counts other + cond (bytes_eq name.now other) 1 0) }
+        ensures err { OnErr result ((other : List ℕ)
+            → count_at self.new.counts other ≡ count_at self.old.counts other) }
     {
         match self.counts.get_mut(name) {
             Some(count) => add_one(count),
@@ -133,7 +147,8 @@ impl NamingIndex {
 
     /// Takes one from the count of the name, and the name out where none is left.
     fn count_down(&mut self, name: &Name)
-        ensures { (other : List ℕ) → count_at self.new.counts other ≡ count_at self.old.counts other - cond (bytes_eq name.now other) 1 0 }
+        ensures { (other : List ℕ) → count_at self.new.counts other
+            ≡ count_at self.old.counts other - cond (bytes_eq name.now other) 1 0 }
     {
         if self.lessen(name) {
             self.counts.remove(name);
@@ -142,7 +157,8 @@ impl NamingIndex {
 
     /// Takes one from the count of the name, and says whether none is left.
     fn lessen(&mut self, name: &Name) -> bool
-        ensures lowered { (other : List ℕ) → count_at self.new.counts other ≡ count_at self.old.counts other - cond (bytes_eq name.now other) 1 0 }
+        ensures lowered { (other : List ℕ) → count_at self.new.counts other
+            ≡ count_at self.old.counts other - cond (bytes_eq name.now other) 1 0 }
         ensures none { IsTrue result → count_at self.new.counts name.now ≡ 0 }
     {
         match self.counts.get_mut(name) {
@@ -152,7 +168,8 @@ impl NamingIndex {
     }
 }
 
-/// Adds one to the count; where that is the greatest number, this counts as want of memory and changes nothing.
+/// Adds one to the count; where that is the greatest number, this counts as memory that ran out and
+/// changes nothing.
 fn add_one(count: &mut u64) -> Result<(), AllocError>
     ensures ok { OnOk result (count.new ≡ count.old + 1) }
     ensures err { OnErr result (count.new ≡ count.old) }

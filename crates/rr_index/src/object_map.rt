@@ -1,6 +1,7 @@
 //! Objects by key.
 
-ghost use Rattle.std.specs.Prelude.{◌≡◌, ◌&&◌, ◌||◌, [], ◌∷◌, None, Some, false, true, filter, is_some, map, IfErr, IfOk, OnErr, OnOk};
+ghost use Rattle.std.specs.Prelude.{◌≡◌, ◌&&◌, ◌||◌, [], ◌∷◌, None, Some};
+ghost use Rattle.std.specs.Prelude.{false, true, filter, is_some, map, IfErr, IfOk, OnErr, OnOk};
 ghost use Rattle.std.specs.BTreeSet.{contains};
 ghost use Rattle.std.specs.FinMap.{contains_key, empty, entries, get, insert, remove, values};
 ghost use Rattle.std.specs.List.{filter_map, list_any};
@@ -67,7 +68,8 @@ impl ObjectMap {
         }
     }
 
-    /// Objects that stand in the order of class and key; it compares each only with the next. The error is want of memory.
+    /// Objects that stand in the order of class and key; it compares each only with the next. The
+    /// error is that memory ran out.
     pub(crate) fn of(alloc: Global, objects: Vec<Object>) -> Result<ObjectMap, AllocError>
         requires { is_in_order objects.items ≡ true }
         ensures { IfOk result (λ kept. kept ≡ book_of objects.items) }
@@ -90,7 +92,8 @@ impl ObjectMap {
         self.entries.get(key).map(Placed::object)
     }
 
-    /// Puts the object under its key. The error is want of memory, changes nothing, and gives the object back.
+    /// Puts the object under its key. The error is that memory ran out; nothing changes, and it
+    /// gives the object back.
     pub(crate) fn add(&mut self, alloc: Global, object: Object) -> Result<(), AllocFailed<Object>>
         ensures ok { OnOk result (self.new ≡ insert self.old object.key object) }
         ensures err { OnErr result (self.new ≡ self.old) }
@@ -111,8 +114,8 @@ impl ObjectMap {
         }
     }
 
-    /// Puts the object in place of the one of its key, which is given back; it takes no memory. Where there is none, the
-    /// object comes back.
+    /// Puts the object in place of the one of its key, which is given back; it takes no memory.
+    /// Where there is none, the object comes back.
     pub(crate) fn replace(&mut self, object: Object) -> Result<Object, Object>
         ensures ok { OnOk result (self.new ≡ insert self.old object.key object) }
         ensures old { IfOk result (λ old. get self.old object.key ≡ Some old) }
@@ -134,7 +137,7 @@ impl ObjectMap {
         self.entries.remove(key).map(Placed::into_object)
     }
 
-    /// The objects in the order of class and key; the error is want of memory.
+    /// The objects in the order of class and key; the error is that memory ran out.
     pub(crate) fn all(&self, alloc: Global) -> Result<Vec<&Object>, AllocError>
         ensures { IfOk result (λ found. lent found.items ≡ values self.now) }
     {
@@ -145,13 +148,14 @@ impl ObjectMap {
         Ok(found)
     }
 
-    /// The objects of the keys, in the order of class and key; the error is want of memory.
+    /// The objects of the keys, in the order of class and key; the error is that memory ran out.
     pub(crate) fn at_keys(
         &self,
         alloc: Global,
         keys: &BTreeSet<Key>,
     ) -> Result<Vec<&Object>, AllocError>
-        ensures found { IfOk result (λ found. lent found.items ≡ filter_map (λ key. get self.now key) keys.now.keys) }
+        ensures found { IfOk result
+            (λ found. lent found.items ≡ filter_map (λ key. get self.now key) keys.now.keys) }
         ensures ordered { IsStrictlySortedBy ⟦<Key as Ord>⟧.cmp keys.now.keys }
     {
         let mut found = Vec::new(alloc);
@@ -163,14 +167,16 @@ impl ObjectMap {
         Ok(found)
     }
 
-    /// The objects of the routes that the index has under the origin, in their order; the error is want of memory.
+    /// The objects of the routes that the index has under the origin, in their order; the error is
+    /// that memory ran out.
     pub(crate) fn routes_of(
         &self,
         alloc: Global,
         origins: &OriginIndex,
         origin: AsNumber,
     ) -> Result<Vec<&Object>, AllocError>
-        ensures found { IfOk result (λ found. lent found.items ≡ filter_map (λ route. get self.now (Route route.1 route.0)) (filter (is_from origin) origins.now.routes.keys)) }
+        ensures found { IfOk result (λ found. lent found.items ≡ filter_map (λ route. get
+            self.now (Route route.1 route.0)) (filter (is_from origin) origins.now.routes.keys)) }
         ensures ordered { IsStrictlySortedBy origin_cmp origins.now.routes.keys }
     {
         let mut found = Vec::new(alloc);
@@ -189,20 +195,22 @@ impl ObjectMap {
         self.get(&Key::Route(prefix, origin))
     }
 
-    /// The aut-nums, in the order of their numbers; the error is want of memory.
+    /// The aut-nums, in the order of their numbers; the error is that memory ran out.
     pub(crate) fn aut_nums(&self, alloc: Global) -> Result<Vec<&Object>, AllocError>
         requires { Sound self.now }
-        ensures { IfOk result (λ found. lent found.items ≡ filter (is_of_class class.AutNum) (values self.now)) }
+        ensures { IfOk result
+            (λ found. lent found.items ≡ filter (is_of_class class.AutNum) (values self.now)) }
     {
         let lowest = AsNumber::new(0);
         let highest = AsNumber::new(u32::MAX);
         self.listed(alloc, Key::AutNum(lowest), Key::AutNum(highest))
     }
 
-    /// The routes, in the order of their keys; the error is want of memory.
+    /// The routes, in the order of their keys; the error is that memory ran out.
     pub(crate) fn routes(&self, alloc: Global) -> Result<Vec<&Object>, AllocError>
         requires { Sound self.now }
-        ensures { IfOk result (λ found. lent found.items ≡ filter (is_of_class class.Route) (values self.now)) }
+        ensures { IfOk result
+            (λ found. lent found.items ≡ filter (is_of_class class.Route) (values self.now)) }
     {
         let lowest = Address::from_bits(0);
         let highest = Address::from_bits(u32::MAX);
@@ -211,10 +219,12 @@ impl ObjectMap {
         self.listed(alloc, first_of(first), last_of(last))
     }
 
-    /// The objects whose keys lie from one key to another, in the order of class and key; the error is want of memory.
+    /// The objects whose keys lie from one key to another, in the order of class and key; the error
+    /// is that memory ran out.
     fn listed(&self, alloc: Global, first: Key, last: Key) -> Result<Vec<&Object>, AllocError>
         requires { is_gt (key_cmp first last) ≡ false }
-        ensures { IfOk result (λ found. lent found.items ≡ values_of (filter (λ e. lies_between first last e.0) (entries self.now))) }
+        ensures { IfOk result (λ found. lent found.items
+            ≡ values_of (filter (λ e. lies_between first last e.0) (entries self.now))) }
     {
         let mut found = Vec::new(alloc);
         for (_, placed) in self.between(first, last) {
@@ -223,7 +233,8 @@ impl ObjectMap {
         Ok(found)
     }
 
-    /// The objects whose keys lie from one key to another, with their keys, in the order of class and key.
+    /// The objects whose keys lie from one key to another, with their keys, in the order of class
+    /// and key.
     fn between(&self, first: Key, last: Key) -> Range<'_, Key, Placed>
         requires { is_gt (key_cmp first last) ≡ false }
         ensures { result ≡ filter (λ e. lies_between first last e.0) (entries self.now) }
@@ -231,8 +242,8 @@ impl ObjectMap {
         self.entries.range(first..=last)
     }
 
-    /// The inetnums of these spans and the routes of these prefixes, in the order of class and key; the error is want of
-    /// memory.
+    /// The inetnums of these spans and the routes of these prefixes, in the order of class and key;
+    /// the error is that memory ran out.
     pub(crate) fn chosen(
         &self,
         alloc: Global,
@@ -240,14 +251,16 @@ impl ObjectMap {
         prefixes: &[Prefix],
     ) -> Result<Vec<&Object>, AllocError>
         requires { Sound self.now }
-        ensures { IfOk result (λ found. lent found.items ≡ filter (λ o. is_chosen spans.now (map span_of prefixes.now) o.key) (values self.now)) }
+        ensures { IfOk result (λ found. lent found.items ≡ filter
+            (λ o. is_chosen spans.now (map span_of prefixes.now) o.key) (values self.now)) }
     {
         let mut keys = inetnum_keys(alloc, spans)?;
         self.add_routes(alloc, prefixes, &mut keys)?;
         self.at_keys(alloc, &keys)
     }
 
-    /// Puts the keys of the routes of these prefixes among the keys. Where memory is wanting some may be missing.
+    /// Puts the keys of the routes of these prefixes among the keys. If memory runs out some may be
+    /// missing.
     fn add_routes(
         &self,
         alloc: Global,
@@ -256,7 +269,8 @@ impl ObjectMap {
     ) -> Result<(), AllocError>
         requires { Sound self.now }
         ensures { OnOk result ((k : Key) → contains key_cmp keys.new k ≡
-            (contains key_cmp keys.old k || (contains_key self.now k && is_chosen [] (map span_of prefixes.now) k))) }
+            (contains key_cmp keys.old k
+            || (contains_key self.now k && is_chosen [] (map span_of prefixes.now) k))) }
     {
         for prefix in prefixes {
             self.add_routes_of(alloc, *prefix, keys)?;
@@ -264,7 +278,8 @@ impl ObjectMap {
         Ok(())
     }
 
-    /// Puts the keys of the routes of the prefix among the keys. Where memory is wanting some may be missing.
+    /// Puts the keys of the routes of the prefix among the keys. If memory runs out some may be
+    /// missing.
     fn add_routes_of(
         &self,
         alloc: Global,
@@ -273,7 +288,8 @@ impl ObjectMap {
     ) -> Result<(), AllocError>
         requires { Sound self.now }
         ensures { OnOk result ((k : Key) → contains key_cmp keys.new k ≡
-            (contains key_cmp keys.old k || (contains_key self.now k && is_chosen [] (span_of prefix ∷ []) k))) }
+            (contains key_cmp keys.old k
+            || (contains_key self.now k && is_chosen [] (span_of prefix ∷ []) k))) }
     {
         prefix.length();
         for (key, _) in self.between(first_of(prefix), last_of(prefix)) {
@@ -282,7 +298,7 @@ impl ObjectMap {
         Ok(())
     }
 
-    /// The origins of the routes of the prefix, ascending; the error is want of memory.
+    /// The origins of the routes of the prefix, ascending; the error is that memory ran out.
     pub(crate) fn origins(&self, alloc: Global, prefix: Prefix) -> Result<Vec<AsNumber>, AllocError>
         requires { Sound self.now }
         ensures { IfOk result (λ v. v.items ≡ origins_among (values self.now) prefix) }
@@ -296,7 +312,7 @@ impl ObjectMap {
         Ok(origins)
     }
 
-    /// Whether a route of the key's prefix is there; no for a key that is no route's.
+    /// Whether a route of the key's prefix is there; no for a key that is not a route's.
     pub(crate) fn is_routed(&self, key: &Key) -> bool
         requires { Sound self.now }
         ensures { (r : Reg) → self.now ≡ remove r key.now → IsTold r key.now result }
@@ -320,7 +336,8 @@ impl ObjectMap {
 
 /// The keys of the inetnums of these spans.
 fn inetnum_keys(alloc: Global, spans: &[Span]) -> Result<BTreeSet<Key>, AllocError>
-    ensures { IfOk result (λ keys. (k : Key) → contains key_cmp keys k ≡ is_chosen spans.now [] k) }
+    ensures { IfOk result
+        (λ keys. (k : Key) → contains key_cmp keys k ≡ is_chosen spans.now [] k) }
 {
     let mut keys = BTreeSet::new(alloc);
     for span in spans {

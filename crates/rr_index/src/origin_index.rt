@@ -14,7 +14,8 @@ use std::alloc::{AllocError, Global};
 use std::collections::BTreeSet;
 use std::collections::btree_set::Range;
 
-/// The origins of the registered routes, each with its prefix: the routes of an origin stand next to each other.
+/// The origins of the registered routes, each with its prefix: the routes of an origin stand next
+/// to each other.
 #[derive(Drop)]
 pub(crate) struct OriginIndex {
     routes: BTreeSet<(AsNumber, Prefix)>,
@@ -30,10 +31,13 @@ impl OriginIndex {
         }
     }
 
-    /// Enters an object that is registered under the key. The error is want of memory and changes nothing.
+    /// Enters an object that is registered under the key. The error is that memory ran out, and
+    /// nothing changes.
     pub(crate) fn add(&mut self, key: &Key) -> Result<(), AllocError>
-        ensures ok { OnOk result ((r : Reg) (o : Obj) → HasOrigins r self.old.routes → HasOrigins (insert r key.now o) self.new.routes) }
-        ensures err { OnErr result ((r : Reg) → HasOrigins r self.old.routes → HasOrigins r self.new.routes) }
+        ensures ok { OnOk result ((r : Reg) (o : Obj) → HasOrigins r self.old.routes
+            → HasOrigins (insert r key.now o) self.new.routes) }
+        ensures err { OnErr result
+            ((r : Reg) → HasOrigins r self.old.routes → HasOrigins r self.new.routes) }
     {
         if let Key::Route(prefix, origin) = key {
             self.routes.insert((*origin, *prefix))?;
@@ -43,7 +47,8 @@ impl OriginIndex {
 
     /// Takes out the object that was registered under the key.
     pub(crate) fn take(&mut self, key: &Key)
-        ensures { (r : Reg) → HasOrigins r self.old.routes → HasOrigins (remove r key.now) self.new.routes }
+        ensures { (r : Reg) → HasOrigins r self.old.routes
+            → HasOrigins (remove r key.now) self.new.routes }
     {
         if let Key::Route(prefix, origin) = key {
             self.routes.remove(&(*origin, *prefix));
@@ -60,13 +65,14 @@ impl OriginIndex {
         self.routes.range((origin, least)..=(origin, greatest))
     }
 
-    /// The prefixes of the routes of the origin, in order; the error is want of memory.
+    /// The prefixes of the routes of the origin, in order; the error is that memory ran out.
     pub(crate) fn prefixes_of(
         &self,
         alloc: Global,
         origin: AsNumber,
     ) -> Result<Vec<Prefix>, AllocError>
-        ensures found { IfOk result (λ found. found.items ≡ map (λ route. route.1) (filter (is_from origin) self.now.routes.keys)) }
+        ensures found { IfOk result (λ found. found.items
+            ≡ map (λ route. route.1) (filter (is_from origin) self.now.routes.keys)) }
         ensures ordered { IsStrictlySortedBy origin_cmp self.now.routes.keys }
     {
         let mut found = Vec::new(alloc);

@@ -6,7 +6,8 @@ use rr_object::Object;
 use std::alloc::{AllocFailed, Global};
 use std::marker::Model;
 
-/// An object in a place of its own, so that the nodes of a map that keeps it stay small; contracts see the object.
+/// An object in a place of its own, so that the nodes of a map that keeps it stay small; contracts
+/// see the object.
 #[derive(Drop)]
 pub(crate) struct Placed {
     object: Box<Object>,
@@ -21,7 +22,7 @@ impl Model for Placed {
 }
 
 impl Placed {
-    /// The object in a new place. The error is want of memory, and gives the object back.
+    /// The object in a new place. The error is that memory ran out, and it gives the object back.
     pub(crate) fn new(alloc: Global, object: Object) -> Result<Placed, AllocFailed<Object>>
         ensures ok { IfOk result (λ placed. placed ≡ object) }
         ensures err { IfErr result (λ refused. refused.value ≡ object) }
@@ -37,7 +38,8 @@ impl Placed {
         self.object.as_ref()
     }
 
-    /// Puts the object in the place of the one that was there, which is given back; it takes no memory.
+    /// Puts the object in the place of the one that was there, which is given back; it takes no
+    /// memory.
     pub(crate) fn replace(&mut self, object: Object) -> Object
         ensures old { result ≡ self.old }
         ensures after { self.new ≡ object }

@@ -36,13 +36,15 @@ impl SpanIndex {
         }
     }
 
-    /// Enters the span of an object that is registered under the key, which no span held crosses. The error is want of memory
-    /// and changes nothing.
+    /// Enters the span of an object that is registered under the key, which no span held crosses.
+    /// The error is that memory ran out, and nothing changes.
     pub(crate) fn add(&mut self, key: &Key) -> Result<(), AllocError>
         requires { is_crossed self.old.inetnums self.old.blocks key.now ≡ false }
-        ensures ok { OnOk result ((r : Reg) (o : Obj) → HasSpans r self.old.inetnums self.old.blocks self.old.routes
+        ensures ok { OnOk result
+            ((r : Reg) (o : Obj) → HasSpans r self.old.inetnums self.old.blocks self.old.routes
             → HasSpans (insert r key.now o) self.new.inetnums self.new.blocks self.new.routes) }
-        ensures err { OnErr result ((r : Reg) → HasSpans r self.old.inetnums self.old.blocks self.old.routes
+        ensures err { OnErr result
+            ((r : Reg) → HasSpans r self.old.inetnums self.old.blocks self.old.routes
             → HasSpans r self.new.inetnums self.new.blocks self.new.routes) }
     {
         match key {
@@ -56,10 +58,11 @@ impl SpanIndex {
         }
     }
 
-    /// Takes out the span of the object that was registered under the key; the prefix of a route stays where another route
-    /// of it does.
+    /// Takes out the span of the object that was registered under the key; the prefix of a route
+    /// stays where another route of it does.
     pub(crate) fn take(&mut self, key: &Key, is_routed: bool)
-        ensures { (r : Reg) → HasSpans r self.old.inetnums self.old.blocks self.old.routes → IsTold r key.now is_routed
+        ensures { (r : Reg) → HasSpans r self.old.inetnums self.old.blocks self.old.routes
+            → IsTold r key.now is_routed
             → HasSpans (remove r key.now) self.new.inetnums self.new.blocks self.new.routes }
     {
         match key {
@@ -103,7 +106,8 @@ impl SpanIndex {
 
     /// The prefix of the closest routes to the prefix.
     pub(crate) fn closest_routes(&self, prefix: Prefix) -> Option<Prefix>
-        ensures { (r : Reg) → Sound r → HasSpans r self.now.inetnums self.now.blocks self.now.routes → result ≡ closest_routes r prefix }
+        ensures { (r : Reg) → Sound r → HasSpans r self.now.inetnums self.now.blocks
+            self.now.routes → result ≡ closest_routes r prefix }
     {
         match closest_prefix(&self.routes, prefix) {
             Some(own) => {
@@ -116,7 +120,8 @@ impl SpanIndex {
 
     /// Whether an inetnum or an as-block crosses the key, being of its class.
     pub(crate) fn crosses(&self, key: &Key) -> bool
-        ensures { (r : Reg) → Sound r → HasSpans r self.now.inetnums self.now.blocks self.now.routes → result ≡ crosses_key r key.now }
+        ensures { (r : Reg) → Sound r → HasSpans r self.now.inetnums self.now.blocks
+            self.now.routes → result ≡ crosses_key r key.now }
     {
         match key {
             Key::Inetnum(span) => self.inetnums.crosses(*span),
@@ -137,7 +142,8 @@ fn closest_prefix(tree: &PrefixTree<()>, prefix: Prefix) -> Option<Prefix>
     }
 }
 
-/// Puts a span into the nest that none held crosses; the error is want of memory and changes nothing.
+/// Puts a span into the nest that none held crosses; the error is that memory ran out, and nothing
+/// changes.
 fn hold(nest: &mut SpanNest<()>, span: Span) -> Result<(), AllocError>
     requires { crosses_some nest.old span ≡ false }
     ensures ok { OnOk result (nest.new ≡ insert nest.old span tt) }
@@ -147,7 +153,7 @@ fn hold(nest: &mut SpanNest<()>, span: Span) -> Result<(), AllocError>
     Ok(())
 }
 
-/// Puts the prefix into the tree; the error is want of memory and changes nothing.
+/// Puts the prefix into the tree; the error is that memory ran out, and nothing changes.
 fn hold_prefix(tree: &mut PrefixTree<()>, prefix: Prefix) -> Result<(), AllocError>
     ensures ok { OnOk result (tree.new ≡ insert tree.old (span_of prefix) tt) }
     ensures err { OnErr result (tree.new ≡ tree.old) }

@@ -1,5 +1,6 @@
 -- What a cut reader or writer has inside, and how it is cut.
-use Rattle.std.specs.Prelude.{◌≡◌, ℕ, ◌+◌, ◌-◌, ◌^◌, ◌<◌, ◌≤◌, ◌⊎◌, min}
+use Rattle.std.specs.Prelude.{◌≡◌, ℕ, ◌+◌, ◌-◌, ◌^◌, ◌<◌, ◌≤◌}
+use Rattle.std.specs.Prelude.{◌⊎◌, min}
 use Rattle.rr_io.specs.Told.{Told, Counts, Fails}
 use Rattle.rr_io.specs.declared.cutting.Cut.{Cut}
 
@@ -23,8 +24,8 @@ cut_step c = c.step
 abbrev pub cut_left : {T : Type 0} → Cut T → ℕ
 cut_left c = c.left
 
--- it tells the bytes and the reads of what is inside, and the sum of its own failed calls and of those of what is
--- inside, up to 2^64 - 1 (profile)
+-- it tells the bytes and the reads of what is inside, and the sum of its own failed calls and of
+-- those of what is inside, up to 2^64 - 1 (profile)
 abbrev pub cut_told : {T : Type 0} → (T → Told) → (Cut T → ℕ) → Cut T → Told
 cut_told told own c = record {
   bytes = (told c.inner).bytes;
@@ -46,13 +47,15 @@ pub record FailsAtCut {T : Type 0} (own : Cut T → ℕ) (old new : Cut T) : Typ
   pub counted : Counts (own old) (own new) 1
 
 -- a call failed because that of what is inside did
-pub record FailsInside {T : Type 0} (told : T → Told) (own : Cut T → ℕ) (old new : Cut T) : Type 0 where
+pub record FailsInside {T : Type 0} (told : T → Told) (own : Cut T → ℕ)
+    (old new : Cut T) : Type 0 where
   pub some_left : 0 < cut_left old
   pub fails : Fails (told (cut_inner old)) (told (cut_inner new))
   pub no_fault : own new ≡ own old
 
 -- a call failed, at the cut or inside, and the cut stays where it is
-abbrev pub FailsSomewhere : {T : Type 0} → (T → Told) → (Cut T → ℕ) → Cut T → Cut T → Type 0
+abbrev pub FailsSomewhere : {T : Type 0} → (T → Told) → (Cut T → ℕ) → Cut T → Cut T
+    → Type 0
 FailsSomewhere told own old new =
     (FailsAtCut own old new ⊎ FailsInside told own old new)
     × (cut_left new ≡ cut_left old) × (cut_step new ≡ cut_step old)

@@ -1,12 +1,14 @@
 -- What a reader gives.
-use Rattle.std.specs.Prelude.{◌≡◌, ℕ, ◌+◌, ◌^◌, ◌<◌, ◌≤◌, List, [], ◌++◌, length, Some}
+use Rattle.std.specs.Prelude.{◌≡◌, ℕ, ◌+◌, ◌<◌, ◌≤◌, List, []}
+use Rattle.std.specs.Prelude.{◌++◌, length, Some}
 use Rattle.rr_io.specs.Told.{Told, Counts, Fails}
 use Rattle.rr_io.specs.declared.receiving.ReadEnd.{ReadEnd}
 use Rattle.rr_io.specs.declared.receiving.ReadEnd.TheVariants.{Whole, Broken, Endless}
 
 -- these bytes were given, in this order, and no call failed
 pub record Gives (old new : Told) (bytes : List ℕ) : Type 0 where
-  pub consumed : (xs : List ℕ) → old.bytes ≡ Some xs → (rest : List ℕ) × (new.bytes ≡ Some rest) × (xs ≡ bytes ++ rest)
+  pub consumed : (xs : List ℕ) → old.bytes ≡ Some xs
+      → (rest : List ℕ) × (new.bytes ≡ Some rest) × (xs ≡ bytes ++ rest)
   pub no_fault : new.faults ≡ old.faults
 
 -- so many reads were counted, each of them (profile)
@@ -23,9 +25,16 @@ pub record BreaksOff (old new : Told) (bytes : List ℕ) : Type 0 where
   pub gives : Gives old between bytes
   pub fails : Fails between new
 
--- the reading of these bytes, by how it ended: with no byte left after at most 16,777,216 reads, by a failed call after
--- fewer reads, or after exactly 16,777,216 reads, with at least as many bytes and no fault (profile)
+-- how many reads a reading counts before it ends as endless (profile)
+abbrev pub read_limit : ℕ
+read_limit = 16777216
+
+-- the reading of these bytes, by how it ended: with no byte left after at most 16,777,216 reads, by
+-- a failed call after fewer reads, or after exactly 16,777,216 reads, with at least as many bytes
+-- and no fault (profile)
 abbrev pub Reads : Told → Told → List ℕ → ReadEnd → Type 0
-Reads old new bytes Whole = Gives old new bytes × IsSpent new × (new.reads ≤ old.reads + 2 ^ 24)
-Reads old new bytes Broken = BreaksOff old new bytes × (new.reads < old.reads + 2 ^ 24)
-Reads old new bytes Endless = Gives old new bytes × (2 ^ 24 ≤ length bytes) × CountsReads old new (2 ^ 24)
+Reads old new bytes Whole =
+    Gives old new bytes × IsSpent new × (new.reads ≤ old.reads + read_limit)
+Reads old new bytes Broken = BreaksOff old new bytes × (new.reads < old.reads + read_limit)
+Reads old new bytes Endless =
+    Gives old new bytes × (read_limit ≤ length bytes) × CountsReads old new read_limit

@@ -1,5 +1,6 @@
 -- What a writer takes.
-use Rattle.std.specs.Prelude.{◌≡◌, ℕ, ◌<◌, List, ◌++◌, length, Result, Ok, Err, Some, ◌⊎◌}
+use Rattle.std.specs.Prelude.{◌≡◌, ℕ, ◌<◌, List, ◌++◌, length, Result, Ok, Err}
+use Rattle.std.specs.Prelude.{Some, ◌⊎◌}
 use Rattle.rr_io.specs.Told.{Told, Fails}
 
 -- these bytes were taken, in this order, and no call failed or was counted as a read

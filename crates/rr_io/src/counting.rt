@@ -6,9 +6,9 @@ use super::{Sink, Source};
 use std::io;
 use std::io::{ErrorKind, Read, Write};
 
-/// A reader or a writer of std. Its failed reads are counted, its failed writes apart from them, and its reads that do
-/// not fail, each up to `u64::MAX`. It tells its bytes where std does: over memory, and not over files, sockets and
-/// standard streams.
+/// A reader or a writer of std. Its failed reads are counted, its failed writes apart from them,
+/// and its reads that do not fail, each up to `u64::MAX`. It tells its bytes where std does: over
+/// memory, and not over files, sockets and standard streams.
 #[derive(Drop)]
 pub struct Counted<T> {
     inner: T,
@@ -18,7 +18,8 @@ pub struct Counted<T> {
 }
 
 impl<T> Counted<T> {
-    ghost use Rattle.rr_io.specs.Counted.{counted_inner, counted_failed_reads, counted_failed_writes, counted_reads};
+    ghost use Rattle.rr_io.specs.Counted.{counted_inner, counted_failed_reads};
+    ghost use Rattle.rr_io.specs.Counted.{counted_failed_writes, counted_reads};
 
     /// `inner`, with no failed call and no read so far.
     pub fn new(inner: T) -> Self
@@ -59,7 +60,8 @@ pub fn count_one(count: &mut u64)
 }
 
 impl<T: Read> Source for Counted<T> {
-    ghost told = { λ c. record { bytes = T.remaining c.inner; faults = c.failed_reads; reads = c.reads } };
+    ghost told = { λ c. record
+        { bytes = T.remaining c.inner; faults = c.failed_reads; reads = c.reads } };
 
     fn read(&mut self, buf: &mut [u8]) -> io::Result<usize> {
         match self.inner.read(buf) {
@@ -80,7 +82,8 @@ impl<T: Read> Source for Counted<T> {
 }
 
 impl<T: Write> Sink for Counted<T> {
-    ghost told = { λ c. record { bytes = T.contents c.inner; faults = c.failed_writes; reads = 0 } };
+    ghost told = { λ c. record
+        { bytes = T.contents c.inner; faults = c.failed_writes; reads = 0 } };
 
     fn write(&mut self, bytes: &[u8]) -> io::Result<usize> {
         match self.inner.write(bytes) {

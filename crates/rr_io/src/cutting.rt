@@ -1,5 +1,6 @@
 //! A reader or a writer that is cut short, for tests.
-ghost use Rattle.std.specs.Prelude.{◌≡◌, ◌<◌, ◌≤◌, length, take, min, IfOk, OnErr, IsErr};
+ghost use Rattle.std.specs.Prelude.{◌≡◌, ◌<◌, ◌≤◌, length, take, min, IfOk, OnErr};
+ghost use Rattle.std.specs.Prelude.{IsErr};
 ghost use Rattle.rr_io.specs.Told.{Counts, Fails};
 ghost use Rattle.rr_io.specs.Sending.{Takes};
 ghost use Rattle.rr_io.specs.Receiving.{CountsReads, Gives, IsSpent};
@@ -9,8 +10,8 @@ use crate::counting::count_one;
 use std::io;
 use std::io::ErrorKind;
 
-/// A reader or a writer for tests: it passes at most `step` bytes in a call, and fails in each call once `left` bytes
-/// have passed. Before that it fails only where what is inside does.
+/// A reader or a writer for tests: it passes at most `step` bytes in a call, and fails in each call
+/// once `left` bytes have passed. Before that it fails only where what is inside does.
 #[derive(Drop)]
 pub struct Cut<T> {
     inner: T,
@@ -68,7 +69,8 @@ fn fail(count: &mut u64) -> io::Error
 }
 
 impl<T: Source> Source for Cut<T> {
-    ghost use Rattle.rr_io.specs.Cut.{cut_inner, cut_left, cut_told, reads_cut, FailsSomewhere, Passes};
+    ghost use Rattle.rr_io.specs.Cut.{cut_inner, cut_left, cut_told, reads_cut, FailsSomewhere};
+    ghost use Rattle.rr_io.specs.Cut.{Passes};
 
     ghost told = { cut_told T.told reads_cut };
 
@@ -76,10 +78,14 @@ impl<T: Source> Source for Cut<T> {
 
     fn read(&mut self, buf: &mut [u8]) -> io::Result<usize>
         ensures bound { IfOk result (λ count. count ≤ length buf.new) }
-        ensures gives { IfOk result (λ count. Gives (cut_told T.told reads_cut self.old) (cut_told T.told reads_cut self.new) (take count buf.new)) }
-        ensures spent { IfOk result (λ count. count ≡ 0 → 0 < length buf.new → IsSpent (cut_told T.told reads_cut self.new)) }
-        ensures counts { IfOk result (λ _. CountsReads (cut_told T.told reads_cut self.old) (cut_told T.told reads_cut self.new) 1) }
-        ensures fails { OnErr result (Fails (cut_told T.told reads_cut self.old) (cut_told T.told reads_cut self.new)) }
+        ensures gives { IfOk result (λ count. Gives (cut_told T.told reads_cut self.old)
+            (cut_told T.told reads_cut self.new) (take count buf.new)) }
+        ensures spent { IfOk result (λ count. count ≡ 0 → 0 < length buf.new
+            → IsSpent (cut_told T.told reads_cut self.new)) }
+        ensures counts { IfOk result (λ _. CountsReads (cut_told T.told reads_cut self.old)
+            (cut_told T.told reads_cut self.new) 1) }
+        ensures fails { OnErr result
+            (Fails (cut_told T.told reads_cut self.old) (cut_told T.told reads_cut self.new)) }
         ensures aside { T.aside (cut_inner self.new) ≡ T.aside (cut_inner self.old) }
         ensures passes { IfOk result (λ count. Passes reads_cut self.old self.new count) }
         ensures cut { cut_left self.old ≡ 0 → IsErr result }
@@ -100,7 +106,8 @@ impl<T: Source> Source for Cut<T> {
 }
 
 impl<T: Sink> Sink for Cut<T> {
-    ghost use Rattle.rr_io.specs.Cut.{cut_inner, cut_left, cut_told, writes_cut, FailsSomewhere, Passes};
+    ghost use Rattle.rr_io.specs.Cut.{cut_inner, cut_left, cut_told, writes_cut, FailsSomewhere};
+    ghost use Rattle.rr_io.specs.Cut.{Passes};
 
     ghost told = { cut_told T.told writes_cut };
 
@@ -109,8 +116,10 @@ impl<T: Sink> Sink for Cut<T> {
     fn write(&mut self, bytes: &[u8]) -> io::Result<usize>
         ensures bound { IfOk result (λ count. count ≤ length bytes.now) }
         ensures some { IfOk result (λ count. 0 < length bytes.now → 0 < count) }
-        ensures takes { IfOk result (λ count. Takes (cut_told T.told writes_cut self.old) (cut_told T.told writes_cut self.new) (take count bytes.now)) }
-        ensures fails { OnErr result (Fails (cut_told T.told writes_cut self.old) (cut_told T.told writes_cut self.new)) }
+        ensures takes { IfOk result (λ count. Takes (cut_told T.told writes_cut self.old)
+            (cut_told T.told writes_cut self.new) (take count bytes.now)) }
+        ensures fails { OnErr result
+            (Fails (cut_told T.told writes_cut self.old) (cut_told T.told writes_cut self.new)) }
         ensures aside { T.aside (cut_inner self.new) ≡ T.aside (cut_inner self.old) }
         ensures passes { IfOk result (λ count. Passes writes_cut self.old self.new count) }
         ensures cut { cut_left self.old ≡ 0 → IsErr result }

@@ -1,4 +1,5 @@
-//! Readers and writers that count their failed calls and their reads, and whole transfers over them.
+//! Readers and writers that count their failed calls and their reads, and whole transfers over
+//! them.
 #![tactic(auto)]
 
 mod counting;

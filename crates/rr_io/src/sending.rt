@@ -19,9 +19,11 @@ pub fn write_all<W: Sink>(writer: &mut W, bytes: &[u8]) -> io::Result<()>
     Ok(())
 }
 
-/// Writes all of the pieces, one after the other. After a fault the writer has taken a front of their bytes.
+/// Writes all of the pieces, one after the other. After a fault the writer has taken a front of
+/// their bytes.
 pub fn write_pieces<W: Sink>(writer: &mut W, pieces: &[&[u8]]) -> io::Result<()>
-    ensures writes { Writes (W.told writer.old) (W.told writer.new) (flat_map (λ piece. piece.now) pieces.now) result }
+    ensures writes { Writes (W.told writer.old) (W.told writer.new)
+        (flat_map (λ piece. piece.now) pieces.now) result }
     ensures aside { W.aside writer.new ≡ W.aside writer.old }
 {
     'pieces: for piece in pieces {

@@ -8,17 +8,21 @@ use std::io;
 
 /// A reader. An error of any kind is a fault, and leaves what there is to read as it was.
 pub trait Source {
-    // The bytes that are left to read, and the counts of the reads that failed and of those that did not.
+    // The bytes that are left to read, and the counts of the reads that failed and of those that
+    // did not.
     ghost told: { Self → Told };
 
     // What stands beside the reader and is left alone by a read.
     ghost aside: { Self → Told } = { λ _. untold };
 
-    /// Reads some bytes into the front of `buf` and says how many: none only at the end, or into an empty `buf`.
+    /// Reads some bytes into the front of `buf` and says how many: none only at the end, or into an
+    /// empty `buf`.
     fn read(&mut self, buf: &mut [u8]) -> io::Result<usize>
         ensures bound { IfOk result (λ count. count ≤ length buf.new) }
-        ensures gives { IfOk result (λ count. Gives (told self.old) (told self.new) (take count buf.new)) }
-        ensures spent { IfOk result (λ count. count ≡ 0 → 0 < length buf.new → IsSpent (told self.new)) }
+        ensures gives { IfOk result
+            (λ count. Gives (told self.old) (told self.new) (take count buf.new)) }
+        ensures spent { IfOk result
+            (λ count. count ≡ 0 → 0 < length buf.new → IsSpent (told self.new)) }
         ensures counts { IfOk result (λ _. CountsReads (told self.old) (told self.new) 1) }
         ensures fails { OnErr result (Fails (told self.old) (told self.new)) }
         ensures aside { aside self.new ≡ aside self.old };
@@ -28,7 +32,8 @@ pub trait Source {
         ensures { result ≡ (told self.now).faults };
 }
 
-/// A writer. An error of any kind is a fault, and so is a write of at least one byte that takes none.
+/// A writer. An error of any kind is a fault, and so is a write of at least one byte that takes
+/// none.
 pub trait Sink {
     // The bytes that were taken, and the count of failed writes.
     ghost told: { Self → Told };
@@ -40,11 +45,13 @@ pub trait Sink {
     fn write(&mut self, bytes: &[u8]) -> io::Result<usize>
         ensures bound { IfOk result (λ count. count ≤ length bytes.now) }
         ensures some { IfOk result (λ count. 0 < length bytes.now → 0 < count) }
-        ensures takes { IfOk result (λ count. Takes (told self.old) (told self.new) (take count bytes.now)) }
+        ensures takes { IfOk result
+            (λ count. Takes (told self.old) (told self.new) (take count bytes.now)) }
         ensures fails { OnErr result (Fails (told self.old) (told self.new)) }
         ensures aside { aside self.new ≡ aside self.old };
 
-    /// How many writes failed, up to `u64::MAX`: apart from the failed reads of a reader in the same value.
+    /// How many writes failed, up to `u64::MAX`: apart from the failed reads of a reader in the
+    /// same value.
     fn failed_writes(&self) -> u64
         ensures { result ≡ (told self.now).faults };
 }

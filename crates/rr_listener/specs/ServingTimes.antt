@@ -1,5 +1,6 @@
 -- How long a peer is waited for (profile).
-use Rattle.std.specs.Prelude.{◌≡◌, ◌⊎◌, ℕ, ◌+◌, ◌-◌, ◌*◌, ◌/◌, ◌==◌, true, min, is_some, Option}
+use Rattle.std.specs.Prelude.{◌≡◌, ◌⊎◌, ℕ, ◌+◌, ◌-◌, ◌*◌, ◌/◌}
+use Rattle.std.specs.Prelude.{◌==◌, true, min, is_some, Option}
 use Rattle.std.specs.Prelude.{None, Some}
 use Rattle.std.specs.Prelude.{if◌then◌else◌}
 use Rattle.std.specs.Duration.{as_nanos}
@@ -28,7 +29,8 @@ pub record SetsWait (wait before after told : Option ℕ) : Type 0 where
   pub is_told : (told ≡ wait) ⊎ ((told ≡ None) × (before ≡ wait))
 
 -- the same of timeouts (profile)
-abbrev pub SetsTimeout : Option ℕ → Option Duration → Option Duration → Option Duration → Type 0
+abbrev pub SetsTimeout : Option ℕ → Option Duration → Option Duration → Option Duration
+    → Type 0
 SetsTimeout wait before after set =
     SetsWait wait (option_map as_nanos before) (option_map as_nanos after) (option_map as_nanos set)
 

@@ -13,7 +13,7 @@ use std::time::Duration;
 const LONGEST_WAIT: u64 = 10;
 
 /// How much of its time a peer has taken. Time passes while a call waits for the peer, and not
-/// while the desk works, since one peer is served at a time and the others wait in the system's
+/// while the desk works, because one peer is served at a time and the others wait in the system's
 /// queue.
 #[derive(Clone, Copy)]
 pub struct Deadline {
@@ -45,7 +45,8 @@ impl Deadline {
     /// The timeout to set before the next call, if the peer is given so many seconds in all; none
     /// if the one that was set last still serves. The error is that the time is over.
     pub fn next_timeout(&mut self, seconds: u64) -> io::Result<Option<Duration>>
-        ensures sets { IfOk result (λ set. SetsTimeout (next_wait seconds (as_nanos self.old.taken))
+        ensures sets { IfOk result
+            (λ set. SetsTimeout (next_wait seconds (as_nanos self.old.taken))
             self.old.timeout self.new.timeout set) }
         ensures over { OnErr result (next_wait seconds (as_nanos self.old.taken) ≡ None) }
         ensures taken { self.new.taken ≡ self.old.taken }

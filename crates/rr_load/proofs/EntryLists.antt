@@ -1,4 +1,4 @@
--- The objects of entries, with one entry more behind them.
+-- The objects of entries, with one entry more after them.
 use Rattle.std.proofs.Common.{◌≡◌, ℕ, ◌+◌, suc, List, [], ◌∷◌, ◌++◌, length, Ok, Err, Result, inl, inr, refl, sym, ap, subst, ◌∙◌, arith}
 use Rattle.std.specs.Prelude.{◌⊎◌}
 use Rattle.rr_text.specs.ParagraphReaders.{Entry}
@@ -11,26 +11,26 @@ use Rattle.rr_load.specs.Private.{IsFaultSoFar}
 use Rattle.rr_load.specs.declared.fault.DumpReadFault.{DumpReadFault}
 use Rattle.rr_load.specs.declared.fault.DumpReadFault.TheVariants.{Read, Endless, Text, Object, Memory}
 
--- objects with one behind them; the fault that comes first is that of all of them
-abbrev behind : Result (List Obj) DumpReadFault → Result Obj DumpReadFault → Result (List Obj) DumpReadFault
-behind (Ok objects) (Ok object) = Ok (objects ++ object ∷ [])
-behind (Ok objects) (Err fault) = Err fault
-behind (Err fault) later = Err fault
+-- objects with one after them; the fault that comes first is that of all of them
+abbrev after : Result (List Obj) DumpReadFault → Result Obj DumpReadFault → Result (List Obj) DumpReadFault
+after (Ok objects) (Ok object) = Ok (objects ++ object ∷ [])
+after (Ok objects) (Err fault) = Err fault
+after (Err fault) later = Err fault
 
-one_alone : (r : Result Obj DumpReadFault) → before r (Ok []) ≡ behind (Ok []) r
+one_alone : (r : Result Obj DumpReadFault) → before r (Ok []) ≡ after (Ok []) r
 one_alone (Ok object) = refl
 one_alone (Err fault) = refl
 
-one_between : (first : Result Obj DumpReadFault) (objects : Result (List Obj) DumpReadFault) (last : Result Obj DumpReadFault) → before first (behind objects last) ≡ behind (before first objects) last
+one_between : (first : Result Obj DumpReadFault) (objects : Result (List Obj) DumpReadFault) (last : Result Obj DumpReadFault) → before first (after objects last) ≡ after (before first objects) last
 one_between (Ok object) (Ok objects) (Ok last) = refl
 one_between (Ok object) (Ok objects) (Err fault) = refl
 one_between (Ok object) (Err fault) last = refl
 one_between (Err fault) objects last = refl
 
-with_last : (source : List ℕ) (n k : ℕ) (es : List Entry) (last : Entry) → k ≡ n + length es → objects_from source n (es ++ last ∷ []) ≡ behind (objects_from source n es) (entry_object source k last)
+with_last : (source : List ℕ) (n k : ℕ) (es : List Entry) (last : Entry) → k ≡ n + length es → objects_from source n (es ++ last ∷ []) ≡ after (objects_from source n es) (entry_object source k last)
 with_last source n k [] last at =
     let same : n ≡ k = omega arith in
-    one_alone (entry_object source n last) ∙ ap (λ m. behind (Ok []) (entry_object source m last)) same
+    one_alone (entry_object source n last) ∙ ap (λ m. after (Ok []) (entry_object source m last)) same
 with_last source n k (e ∷ es) last at =
     ap (before (entry_object source n e)) (with_last source (n + 1) k es last (omega arith))
     ∙ one_between (entry_object source n e) (objects_from source (n + 1) es) (entry_object source k last)
@@ -38,18 +38,18 @@ with_last source n k (e ∷ es) last at =
 -- one object more
 pub one_more : (source : List ℕ) (n : ℕ) (given : List Entry) (next : Entry) (objects : List Obj) (object : Obj) → n ≡ length given + 1 → objects_from source 1 given ≡ Ok objects
     → entry_object source n next ≡ Ok object → objects_from source 1 (given ++ next ∷ []) ≡ Ok (objects ++ object ∷ [])
-one_more source n given next objects object at so is = with_last source 1 n given next (omega arith) ∙ (λ i. behind (so i) (is i))
+one_more source n given next objects object at so is = with_last source 1 n given next (omega arith) ∙ (λ i. after (so i) (is i))
 
 -- the first fault
 pub first_fault : (source : List ℕ) (n : ℕ) (given : List Entry) (next : Entry) (objects : List Obj) (fault : DumpReadFault) → n ≡ length given + 1 → objects_from source 1 given ≡ Ok objects
     → (fault ≡ Memory) ⊎ (entry_object source n next ≡ Err fault) → IsFaultSoFar source (given ++ next ∷ []) fault
 first_fault source n given next objects fault at so (inl memory) = inl memory
-first_fault source n given next objects fault at so (inr is) = inr (with_last source 1 n given next (omega arith) ∙ (λ i. behind (so i) (is i)))
+first_fault source n given next objects fault at so (inr is) = inr (with_last source 1 n given next (omega arith) ∙ (λ i. after (so i) (is i)))
 
 -- which stays the first
 pub fault_stays : (source : List ℕ) (given : List Entry) (next : Entry) (fault : DumpReadFault) → IsFaultSoFar source given fault → IsFaultSoFar source (given ++ next ∷ []) fault
 fault_stays source given next fault (inl memory) = inl memory
-fault_stays source given next fault (inr is) = inr (with_last source 1 (length given + 1) given next (omega arith) ∙ ap (λ r. behind r (entry_object source (length given + 1) next)) is)
+fault_stays source given next fault (inr is) = inr (with_last source 1 (length given + 1) given next (omega arith) ∙ ap (λ r. after r (entry_object source (length given + 1) next)) is)
 
 -- the faults of entries are those of their texts and of objects
 abbrev pub IsOfEntry : DumpReadFault → Type 0

@@ -32,7 +32,7 @@ below_at : (k : Key) (es : List (Key × Obj)) (e : Key × Obj) (rest : List (Key
 below_at k [] e rest h = is_less _ (first_part (is_lt (key_cmp k e.0)) _ h)
 below_at k (x ∷ es) e rest h = below_at k es e rest (second_part (is_lt (key_cmp k x.0)) _ h)
 
--- an entry above all others is put behind them
+-- an entry above all others is put after them
 put_last : (es : List (Key × Obj)) (e : Key × Obj) (rest : List (Key × Obj)) → T (is_sorted key_cmp (es ++ e ∷ rest)) → put key_cmp e.0 e.1 es ≡ es ++ e ∷ []
 put_last [] e rest h = refl
 put_last (x ∷ es) e rest h =

@@ -1,4 +1,5 @@
--- The objects of a dump: the entries of a text, each an object of one source, or the first that is none (profile).
+-- The objects of a dump: the entries of a text, each an object of one source, or the first that is
+-- none (profile).
 use Rattle.std.specs.Prelude.{◌≡◌, ℕ, ◌+◌, List, [], ◌∷◌, Result, Ok, Err}
 use Rattle.rr_text.specs.declared.fault.TextFault.{TextFault}
 use Rattle.rr_text.specs.Entries.{entries}
@@ -13,7 +14,8 @@ use Rattle.rr_registry.specs.Loading.{IsTaken}
 use Rattle.rr_load.specs.declared.fault.DumpReadFault.{DumpReadFault}
 use Rattle.rr_load.specs.declared.fault.DumpReadFault.TheVariants.{Text, Object}
 
--- the object of the n-th entry, or the code with which a submission of its paragraph is refused (profile)
+-- the object of the n-th entry, or the code with which a submission of its paragraph is refused
+-- (profile)
 abbrev pub object_result : ℕ → Result Obj ObjectFault → Result Obj DumpReadFault
 object_result n (Ok object) = Ok object
 object_result n (Err fault) = Err (Object n (code_of fault))
@@ -24,7 +26,8 @@ entry_object source n (Ok fields) = object_result n (object_of fields source)
 entry_object source n (Err fault) = Err (Text n)
 
 -- an object before others; the fault that comes first is that of all of them
-abbrev pub before : Result Obj DumpReadFault → Result (List Obj) DumpReadFault → Result (List Obj) DumpReadFault
+abbrev pub before : Result Obj DumpReadFault → Result (List Obj) DumpReadFault
+    → Result (List Obj) DumpReadFault
 before (Ok object) (Ok objects) = Ok (object ∷ objects)
 before (Ok object) (Err fault) = Err fault
 before (Err fault) later = Err fault
@@ -32,13 +35,15 @@ before (Err fault) later = Err fault
 -- the objects of entries, the first of which is the n-th, or the first of their faults (profile)
 abbrev pub objects_from : List ℕ → ℕ → List Entry → Result (List Obj) DumpReadFault
 objects_from source n [] = Ok []
-objects_from source n (entry ∷ later) = before (entry_object source n entry) (objects_from source (n + 1) later)
+objects_from source n (entry ∷ later) =
+    before (entry_object source n entry) (objects_from source (n + 1) later)
 
 -- the objects of a dump, or the first of its faults; entries are counted from 1 (profile)
 abbrev pub dump_objects : List ℕ → List ℕ → Result (List Obj) DumpReadFault
 dump_objects source text = objects_from source 1 (entries text)
 
--- a text is a dump of this registry, whose objects are of one source: they are taken as a registry (profile)
+-- a text is a dump of this registry, whose objects are of one source: they are taken as a registry
+-- (profile)
 pub record IsDumpOf (source text : List ℕ) (registry : Reg) : Type 0 where
   pub objects : List Obj
   pub are : dump_objects source text ≡ Ok objects

@@ -7,7 +7,8 @@ use Rattle.rr_io.specs.declared.receiving.ReadEnd.TheVariants as end
 use Rattle.rr_object.specs.Objects.{Obj}
 use Rattle.rr_load.specs.Dumps.{dump_objects}
 use Rattle.rr_load.specs.declared.fault.DumpReadFault.{DumpReadFault}
-use Rattle.rr_load.specs.declared.fault.DumpReadFault.TheVariants.{Read, Endless, Text, Object, Memory}
+use Rattle.rr_load.specs.declared.fault.DumpReadFault.TheVariants.{Read, Endless, Text, Object}
+use Rattle.rr_load.specs.declared.fault.DumpReadFault.TheVariants.{Memory}
 
 -- the dump was read to its end, and its entries are these objects of the source (profile)
 pub record HasRead (source : List ℕ) (start now : Told) (objects : List Obj) : Type 0 where
@@ -26,8 +27,8 @@ pub record EndsSo (start now : Told) (ended : ReadEnd) : Type 0 where
   pub text : List ℕ
   pub reads : Reads start now text ended
 
--- why a dump was not read: the reading did not end, or it ended and an entry has a fault; where memory was wanting, the dump
--- was read to its end, or nothing of it was (profile)
+-- why a dump was not read: the reading did not end, or it ended and an entry has a fault; where
+-- memory ran out, the dump was read to its end, or nothing of it was (profile)
 abbrev pub FailsToRead : List ℕ → Told → Told → DumpReadFault → Type 0
 FailsToRead source start now Read = EndsSo start now end.Broken
 FailsToRead source start now Endless = EndsSo start now end.Endless

@@ -7,7 +7,7 @@ use rr_object::Code;
 use std::alloc::{AllocError, AllocFailed};
 use thiserror::Error;
 
-/// Why a dump is no list of objects of a source. Its entries are counted from 1.
+/// Why a dump is not a list of objects of a source. Its entries are counted from 1.
 #[derive(Clone, Copy, Debug, PartialEq, Eq, Error)]
 pub enum DumpReadFault {
     /// A read failed.
@@ -19,7 +19,7 @@ pub enum DumpReadFault {
     /// The text of this entry has a fault.
     #[error("entry {0} is no paragraph")]
     Text(u64),
-    /// This entry is no object of the source; a submission of it is refused with this code.
+    /// This entry is not an object of the source; a submission of it is refused with this code.
     #[error("entry {0} is no object: {1}")]
     Object(u64, Code),
     /// Memory ran out.

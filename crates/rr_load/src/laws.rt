@@ -1,8 +1,10 @@
-//! Laws of dumps that are read again, for readers and for the proofs of other crates. Nothing calls these functions.
+//! Laws of dumps that are read again, for readers and for the proofs of other crates. Nothing calls
+//! these functions.
 
 ghost use Rattle.rr_load.specs.Laws.{DumpsAreOfTheirSource, FullDumpsAreRead};
 
-/// The full dump of a registry of a source, with no text too large to be read, is a dump of that registry and of no other.
+/// The full dump of a registry of a source, with no text too large to be read, is a dump of that
+/// registry and of no other.
 pub fn full_dumps_are_read()
     ensures { FullDumpsAreRead }
 {}

@@ -1,6 +1,7 @@
 //! The objects of a dump, read entry by entry.
 
-ghost use Rattle.std.specs.Prelude.{◌≡◌, ◌⊎◌, ◌+◌, ◌<◌, ◌++◌, List, [], ◌∷◌, Ok, Err, IfErr, IfOk, MatchResult, OnSome, length};
+ghost use Rattle.std.specs.Prelude.{◌≡◌, ◌⊎◌, ◌+◌, ◌<◌, ◌++◌, List, []};
+ghost use Rattle.std.specs.Prelude.{◌∷◌, Ok, Err, IfErr, IfOk, MatchResult, OnSome, length};
 ghost use Rattle.rr_io.specs.Told.{Told};
 ghost use Rattle.rr_text.specs.ParagraphReaders.{Entry, HasGiven, left_of};
 ghost use Rattle.rr_object.specs.Readings.{object_of};
@@ -16,9 +17,10 @@ use rr_object::{Object, ObjectFault};
 use rr_text::{Paragraph, Paragraphs, TextFault};
 use std::alloc::Global;
 
-/// The objects of the dump that this reader gives, in its order, as those of a registry of this source. The dump is any RPSL
-/// text, and is read to its end in any case, one paragraph at a time: a failed read and too many of them come before the
-/// first entry that is no object. Want of memory may come in place of an entry's fault.
+/// The objects of the dump that this reader gives, in its order, as those of a registry of this
+/// source. The dump is any RPSL text, and is read to its end in any case, one paragraph at a time:
+/// a failed read and too many of them come before the first entry that is not an object. Want of
+/// memory may come in place of an entry's fault.
 pub fn read_dump<R: Source>(
     alloc: Global,
     reader: &mut R,
@@ -61,16 +63,18 @@ fn read_entries<R: Source>(
     }
 }
 
-/// The next entry of the text that this reader gives, a paragraph or its fault; `None` at its end. The error is a failed
-/// read, or too many of them.
+/// The next entry of the text that this reader gives, a paragraph or its fault; `None` at its end.
+/// The error is a failed read, or too many of them.
 fn next_entry<R: Source>(
     alloc: Global,
     paragraphs: &mut Paragraphs,
     reader: &mut R,
 ) -> Result<Option<Result<Paragraph, TextFault>>, DumpReadFault>
-    ensures finds { (start : Told) (given : List Entry) → HasGiven start (R.told reader.old) paragraphs.old given
+    ensures finds { (start : Told) (given : List Entry)
+        → HasGiven start (R.told reader.old) paragraphs.old given
         → FindsEntry start (R.told reader.new) paragraphs.new given result }
-    ensures nearer { IfOk result (λ next. OnSome next (left_of paragraphs.new < left_of paragraphs.old)) }
+    ensures nearer { IfOk result
+        (λ next. OnSome next (left_of paragraphs.new < left_of paragraphs.old)) }
     ensures aside { R.aside reader.new ≡ R.aside reader.old }
 {
     match paragraphs.next(alloc, reader) {
@@ -92,9 +96,12 @@ fn with_entry(
     entry: Result<Paragraph, TextFault>,
     source: &Name,
 ) -> Result<Vec<Object>, DumpReadFault>
-    ensures { (given : List Entry) (next : Entry) → n ≡ length given + 1 → IsEntryOf entry next
-        → MatchResult read (λ objects. objects_from source.now 1 given ≡ Ok objects.items) (IsFaultSoFar source.now given)
-        → MatchResult result (λ objects. objects_from source.now 1 (given ++ next ∷ []) ≡ Ok objects.items) (IsFaultSoFar source.now (given ++ next ∷ [])) }
+    ensures { (given : List Entry) (next : Entry) → n ≡ length given + 1
+        → IsEntryOf entry next
+        → MatchResult read (λ objects. objects_from source.now 1 given ≡ Ok objects.items)
+        (IsFaultSoFar source.now given)
+        → MatchResult result (λ objects. objects_from source.now 1 (given ++ next ∷ [])
+        ≡ Ok objects.items) (IsFaultSoFar source.now (given ++ next ∷ [])) }
 {
     let mut objects = read?;
     let object = entry_object(alloc, n, entry, source)?;
@@ -131,7 +138,8 @@ fn read_object(
 ) -> Result<Object, DumpReadFault>
     ensures { MatchResult result
         (λ object. object_result n (object_of paragraph source.now) ≡ Ok object)
-        (λ fault. (fault ≡ Memory) ⊎ (object_result n (object_of paragraph source.now) ≡ Err fault)) }
+        (λ fault. (fault ≡ Memory)
+        ⊎ (object_result n (object_of paragraph source.now) ≡ Err fault)) }
 {
     match Object::read(alloc, paragraph, source) {
         Ok(object) => Ok(object),

@@ -9,15 +9,15 @@ use Rattle.rr_number.specs.Numerals.{number_of}
 use Rattle.rr_number.proofs.Decimals.{number_of-spelled, number_of-read, IsNumber-decimal}
 
 -- what is read behind a test has passed it
-behind_test : (t : Bool) (o : Option ℕ) (n : ℕ) → cond t o None ≡ Some n → (t ≡ true) × (o ≡ Some n)
-behind_test true o n e = (refl, e)
-behind_test false o n e = absurd (cc)
+after_test : (t : Bool) (o : Option ℕ) (n : ℕ) → cond t o None ≡ Some n → (t ≡ true) × (o ≡ Some n)
+after_test true o n e = (refl, e)
+after_test false o n e = absurd (cc)
 
 -- what is read is spelled
 pub as_number_of-spelled : (text : List ℕ) (n : ℕ) → as_number_of text ≡ Some n → IsAsNumber text n
 unfolding as_number_of
 as_number_of-spelled text n read =
-    let parts = behind_test (bytes_eq (upper (take 2 text)) (codes "AS")) (number_of 10 (greatest_as_number + 1) (drop 2 text)) n read in
+    let parts = after_test (bytes_eq (upper (take 2 text)) (codes "AS")) (number_of 10 (greatest_as_number + 1) (drop 2 text)) n read in
     record {
       begins = (bytes_decides (upper (take 2 text)) (codes "AS")).0 parts.0;
       number = number_of-spelled 10 (greatest_as_number + 1) (drop 2 text) n parts.1;

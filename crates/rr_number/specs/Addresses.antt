@@ -46,7 +46,8 @@ octet_of text = number_of 3 256 text
 -- The address of four texts, if each spells an octet (RFC 2622, 2).
 unfoldable pub joined_of : List ℕ → List ℕ → List ℕ → List ℕ → Option ℕ
 joined_of a b c d =
-    option_and_then (λ w. option_and_then (λ x. option_and_then (λ y. option_map (λ z. join_octets w x y z)
+    option_and_then
+    (λ w. option_and_then (λ x. option_and_then (λ y. option_map (λ z. join_octets w x y z)
     (octet_of d)) (octet_of c)) (octet_of b)) (octet_of a)
 
 -- The address that the text spells, if it does (RFC 2622, 2).

@@ -1,5 +1,6 @@
 -- Operators on ranges, and the texts of both together (RFC 2622, 2).
-use Rattle.std.specs.Prelude.{◌≡◌, ℕ, Bool, false, ◌==◌, ◌&&◌, List, ◌++◌, Option, Some, None, if◌then◌else◌}
+use Rattle.std.specs.Prelude.{◌≡◌, ℕ, Bool, false, ◌==◌, ◌&&◌, List, ◌++◌}
+use Rattle.std.specs.Prelude.{Option, Some, None, if◌then◌else◌}
 use Rattle.std.specs.List.{before_first}
 use Rattle.std.specs.Option.{option_and_then, option_map}
 use Rattle.rr_number.specs.Bounds.{Bounds}
@@ -25,7 +26,8 @@ pub record IsRanged (text : List ℕ) (prefix : PrefixParts) (operator : Operato
 -- The prefix and the operator of two texts, if they spell them (RFC 2622, 2).
 unfoldable pub ranged_from : List ℕ → List ℕ → Option (PrefixParts × Operator)
 ranged_from front back =
-    option_and_then (λ prefix. option_map (λ operator. (prefix, operator)) (operator_of back)) (prefix_of front)
+    option_and_then (λ prefix. option_map (λ operator. (prefix, operator)) (operator_of back))
+    (prefix_of front)
 
 -- The prefix with its operator that the text spells, if it does (RFC 2622, 2).
 unfoldable pub ranged_of : List ℕ → Option (PrefixParts × Operator)

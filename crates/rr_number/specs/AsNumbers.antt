@@ -1,5 +1,6 @@
 -- AS numbers.
-use Rattle.std.specs.Prelude.{◌≡◌, ℕ, ◌+◌, List, ◌++◌, take, drop, codes, Option, None, if◌then◌else◌, decimal}
+use Rattle.std.specs.Prelude.{◌≡◌, ℕ, ◌+◌, List, ◌++◌, take, drop, codes, Option}
+use Rattle.std.specs.Prelude.{None, if◌then◌else◌, decimal}
 use Rattle.std.specs.Str.{bytes_eq}
 use Rattle.rr_bytes.specs.LetterCase.{upper}
 use Rattle.rr_number.specs.Numerals.{IsNumber, number_of}
@@ -8,7 +9,8 @@ use Rattle.rr_number.specs.Numerals.{IsNumber, number_of}
 abbrev pub greatest_as_number : ℕ
 greatest_as_number = 4294967295
 
--- An AS number is spelled as `AS`, in any letter case, and one to ten (profile) digits (RFC 2622, 2).
+-- An AS number is spelled as `AS`, in any letter case, and one to ten (profile) digits
+-- (RFC 2622, 2).
 pub record IsAsNumber (text : List ℕ) (n : ℕ) : Type 0 where
   pub begins : upper (take 2 text) ≡ codes "AS"
   pub number : IsNumber 10 (greatest_as_number + 1) (drop 2 text) n
@@ -16,7 +18,8 @@ pub record IsAsNumber (text : List ℕ) (n : ℕ) : Type 0 where
 -- The AS number that a text spells, if it spells one (RFC 2622, 2).
 unfoldable pub as_number_of : List ℕ → Option ℕ
 as_number_of text =
-    if bytes_eq (upper (take 2 text)) (codes "AS") then number_of 10 (greatest_as_number + 1) (drop 2 text) else None
+    if bytes_eq (upper (take 2 text)) (codes "AS")
+    then number_of 10 (greatest_as_number + 1) (drop 2 text) else None
 
 -- An AS number is printed without leading zeros (RFC 5396, 2).
 abbrev pub as_number_text : ℕ → List ℕ

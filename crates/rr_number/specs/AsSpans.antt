@@ -17,7 +17,8 @@ IsAsSpanText text s = IsEndsText IsAsNumber text s
 
 -- The block that the text spells, if it does (profile).
 unfoldable pub as_span_of : List ℕ → Option Ends
-as_span_of text = option_and_then (λ ends. ends_between as_number_of ends.0 ends.1) (dashed_of text)
+as_span_of text =
+    option_and_then (λ ends. ends_between as_number_of ends.0 ends.1) (dashed_of text)
 
 -- A block is printed as its two AS numbers (profile).
 abbrev pub as_span_text : Ends → List ℕ

@@ -1,4 +1,5 @@
--- Two texts with a dash between them, as the keys of inetnums and as-blocks have them, and the dash of operators.
+-- Two texts with a dash between them, as the keys of inetnums and as-blocks have them, and the dash
+-- of operators.
 use Rattle.std.specs.Prelude.{◌≡◌, ℕ, true, List, ◌∷◌, ◌++◌, Option}
 use Rattle.std.specs.List.{list_all}
 use Rattle.std.specs.Option.{option_map}
@@ -10,7 +11,8 @@ use Rattle.rr_bytes.specs.Trims.{trim_end, trim_start}
 abbrev pub dash : ℕ
 dash = 45
 
--- Two texts stand with one dash between them, which may have blanks, but no LF, on either side (profile).
+-- Two texts stand with one dash between them, which may have blanks, but no LF, on either side
+-- (profile).
 pub record IsDashed (text first last : List ℕ) : Type 0 where
   pub before : List ℕ
   pub after : List ℕ
@@ -20,4 +22,5 @@ pub record IsDashed (text first last : List ℕ) : Type 0 where
 
 -- the texts round the first dash, without the blanks beside it, if there is a dash
 unfoldable pub dashed_of : List ℕ → Option (List ℕ × List ℕ)
-dashed_of text = option_map (λ parts. (trim_end is_blank parts.0, trim_start is_blank parts.1)) (cut_at dash text)
+dashed_of text = option_map (λ parts. (trim_end is_blank parts.0, trim_start is_blank parts.1))
+    (cut_at dash text)

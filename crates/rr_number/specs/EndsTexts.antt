@@ -1,11 +1,14 @@
 -- The texts of spans: two ends with a dash between them. What an end is, each kind of span says.
-use Rattle.std.specs.Prelude.{ℕ, ◌≤◌, nat_le, List, ◌∷◌, ◌++◌, Option, Some, None, if◌then◌else◌}
+use Rattle.std.specs.Prelude.{ℕ, ◌≤◌, nat_le, List, ◌∷◌, ◌++◌, Option, Some, None}
+use Rattle.std.specs.Prelude.{if◌then◌else◌}
 use Rattle.std.specs.Option.{option_and_then}
 use Rattle.rr_number.specs.Dashes.{IsDashed, dash}
 use Rattle.rr_number.specs.Spans.{Ends}
 
--- Two ends with a dash between them, the first not above the last, spell the span from the one to the other (profile).
-pub record IsEndsText (IsEnd : List ℕ → ℕ → Type 0) (text : List ℕ) (s : Ends) : Type 0 where
+-- Two ends with a dash between them, the first not above the last, spell the span from the one to
+-- the other (profile).
+pub record IsEndsText (IsEnd : List ℕ → ℕ → Type 0) (text : List ℕ)
+    (s : Ends) : Type 0 where
   pub first_text : List ℕ
   pub last_text : List ℕ
   pub dashed : IsDashed text first_text last_text
@@ -15,7 +18,8 @@ pub record IsEndsText (IsEnd : List ℕ → ℕ → Type 0) (text : List ℕ) (s
 
 -- The span from one number to another, if the first is not above the last (profile).
 abbrev pub ends_of : ℕ → ℕ → Option Ends
-ends_of first last = if nat_le first last then Some (record { first = first; last = last }) else None
+ends_of first last =
+    if nat_le first last then Some (record { first = first; last = last }) else None
 
 -- The span between the ends that two texts spell, if they spell such (profile).
 unfoldable pub ends_between : (List ℕ → Option ℕ) → List ℕ → List ℕ → Option Ends

@@ -1,5 +1,6 @@
 -- The names of maintainers and sources, and the words that they may not be.
-use Rattle.std.specs.Prelude.{◌≡◌, ℕ, Bool, true, not, ◌&&◌, List, [], ◌∷◌, codes, nat_eq, Option, None, Some, if◌then◌else◌}
+use Rattle.std.specs.Prelude.{◌≡◌, ℕ, Bool, true, not, ◌&&◌, List, [], ◌∷◌, codes}
+use Rattle.std.specs.Prelude.{nat_eq, Option, None, Some, if◌then◌else◌}
 use Rattle.std.specs.List.{list_any, starts_with}
 use Rattle.std.specs.Str.{bytes_eq}
 use Rattle.rr_bytes.specs.LetterCase.{upper}
@@ -18,19 +19,23 @@ pub record IsUpperName (name : List ℕ) : Type 0 where
 -- The words that RPSL keeps for itself, in upper case (RFC 2622, 2).
 abbrev pub reserved_words : List (List ℕ)
 reserved_words =
-    codes "ANY" ∷ (as_any ∷ (rs_any ∷ (codes "PEERAS" ∷ (codes "AND" ∷ (codes "OR" ∷ (codes "NOT" ∷
-    (codes "ATOMIC" ∷ (codes "FROM" ∷ (codes "TO" ∷ (codes "AT" ∷ (codes "ACTION" ∷ (codes "ACCEPT" ∷ (codes "ANNOUNCE" ∷
-    (codes "EXCEPT" ∷ (codes "REFINE" ∷ (codes "NETWORKS" ∷ (codes "INTO" ∷ (codes "INBOUND" ∷ (codes "OUTBOUND" ∷ [])))))))))))))))))))
+    codes "ANY" ∷ (as_any
+    ∷ (rs_any ∷ (codes "PEERAS" ∷ (codes "AND" ∷ (codes "OR" ∷ (codes "NOT" ∷
+    (codes "ATOMIC" ∷ (codes "FROM" ∷ (codes "TO"
+    ∷ (codes "AT" ∷ (codes "ACTION" ∷ (codes "ACCEPT" ∷ (codes "ANNOUNCE" ∷
+    (codes "EXCEPT" ∷ (codes "REFINE" ∷ (codes "NETWORKS"
+    ∷ (codes "INTO" ∷ (codes "INBOUND" ∷ (codes "OUTBOUND" ∷ [])))))))))))))))))))
 
 -- A name, in upper case, is reserved where it is one of these words (RFC 2622, 2).
 unfoldable pub is_reserved : List ℕ → Bool
 is_reserved name = list_any (bytes_eq name) reserved_words
 
--- A name, in upper case, may be a maintainer's where it is not reserved and does not begin as sets' names do
--- (RFC 2622, 2).
+-- A name, in upper case, may be a maintainer's where it is not reserved and does not begin as sets'
+-- names do (RFC 2622, 2).
 abbrev pub is_maintainer_name : List ℕ → Bool
 is_maintainer_name name =
-    not (is_reserved name) && (not (starts_with nat_eq name (codes "AS-")) && not (starts_with nat_eq name (codes "RS-")))
+    not (is_reserved name)
+    && (not (starts_with nat_eq name (codes "AS-")) && not (starts_with nat_eq name (codes "RS-")))
 
 -- The maintainer's name that a text spells, in upper case.
 abbrev pub maintainer_name_of : List ℕ → Option (List ℕ)

@@ -1,10 +1,11 @@
 -- Decimal numbers as the registry's texts write them.
-use Rattle.std.specs.Prelude.{◌≡◌, ℕ, ◌<◌, ◌≤◌, Bool, true, ◌&&◌, List, length, Option, Some, None, nat_lt, nat_le, if◌then◌else◌}
+use Rattle.std.specs.Prelude.{◌≡◌, ℕ, ◌<◌, ◌≤◌, Bool, true, ◌&&◌, List}
+use Rattle.std.specs.Prelude.{length, Option, Some, None, nat_lt, nat_le, if◌then◌else◌}
 use Rattle.std.specs.Str.{all_ascii_digits}
 use Rattle.std.specs.Str.Parse.{digits_value}
 
--- A text spells a number in one to `most` digits, leading zeros among them, where the number is below the limit
--- (profile).
+-- A text spells a number in one to `most` digits, leading zeros among them, where the number is
+-- below the limit (profile).
 pub record IsNumber (most limit : ℕ) (text : List ℕ) (n : ℕ) : Type 0 where
   pub digits : all_ascii_digits text ≡ true
   pub some : 0 < length text
@@ -16,7 +17,8 @@ pub record IsNumber (most limit : ℕ) (text : List ℕ) (n : ℕ) : Type 0 wher
 abbrev pub is_number : ℕ → ℕ → List ℕ → Bool
 is_number most limit text =
     all_ascii_digits text
-    && (nat_lt 0 (length text) && (nat_le (length text) most && nat_lt (digits_value 10 text) limit))
+    && (nat_lt 0 (length text)
+    && (nat_le (length text) most && nat_lt (digits_value 10 text) limit))
 
 -- The number that the text spells so, if it does (profile).
 unfoldable pub number_of : ℕ → ℕ → List ℕ → Option ℕ

@@ -1,5 +1,7 @@
 -- Range operators (RFC 2622, 2).
-use Rattle.std.specs.Prelude.{◌≡◌, ℕ, ◌+◌, ◌≤◌, ◌⊎◌, ◌==◌, ◌&&◌, List, [], ◌∷◌, ◌++◌, Option, Some, None, if◌then◌else◌, max, nat_le}
+use Rattle.std.specs.Prelude.{◌≡◌, ℕ, ◌+◌, ◌≤◌, ◌⊎◌, ◌==◌, ◌&&◌}
+use Rattle.std.specs.Prelude.{List, [], ◌∷◌, ◌++◌, Option, Some, None}
+use Rattle.std.specs.Prelude.{if◌then◌else◌, max, nat_le}
 use Rattle.std.specs.Fmt.{decimal}
 use Rattle.std.specs.declared.cmp.Ordering.{Ordering}
 use Rattle.std.specs.Ordering.{ordering_then, nat_cmp}
@@ -62,7 +64,8 @@ one_length_of text = option_map (λ n. Lengths (record { low = n; high = n })) (
 -- The operator of two lengths' texts (RFC 2622, 2).
 unfoldable pub two_lengths_of : List ℕ → List ℕ → Option Operator
 two_lengths_of first second =
-    option_and_then (λ low. option_and_then (λ high. lengths_from low high) (length_of second)) (length_of first)
+    option_and_then (λ low. option_and_then (λ high. lengths_from low high) (length_of second))
+    (length_of first)
 
 -- The operator whose text after the caret is cut so at its first dash, or not at all (RFC 2622, 2).
 abbrev pub lengths_cut_of : List ℕ → Option (List ℕ × List ℕ) → Option Operator
@@ -73,7 +76,8 @@ lengths_cut_of text (Some parts) = two_lengths_of parts.0 parts.1
 unfoldable pub carried_of : List ℕ → Option Operator
 carried_of text =
     if bytes_eq text (plus ∷ []) then Some Plus
-    else (if bytes_eq text (dash ∷ []) then Some Minus else lengths_cut_of text (cut_at dash text))
+    else (if bytes_eq text (dash ∷ []) then Some Minus
+    else lengths_cut_of text (cut_at dash text))
 
 -- The operator that the text spells, if it does (RFC 2622, 2; nothing: profile).
 unfoldable pub operator_of : List ℕ → Option Operator
@@ -83,7 +87,8 @@ operator_of (b ∷ bs) = if b == caret then carried_of bs else None
 -- Lengths are printed as `^n` where they are equal, and else as `^n-m` (profile).
 abbrev pub lengths_text : ℕ → ℕ → List ℕ
 lengths_text low high =
-    if low == high then caret ∷ decimal low else caret ∷ (decimal low ++ (dash ∷ decimal high))
+    if low == high then caret ∷ decimal low
+    else caret ∷ (decimal low ++ (dash ∷ decimal high))
 
 -- An operator is printed as it is spelled (profile).
 unfoldable pub operator_text : Operator → List ℕ
@@ -92,8 +97,9 @@ operator_text Plus = caret ∷ plus ∷ []
 operator_text Minus = caret ∷ dash ∷ []
 operator_text (Lengths b) = lengths_text b.low b.high
 
--- What an operator makes of a least and a greatest length, before any is dropped: `^+` goes up to 32, `^-` begins one
--- above the least, `^n-m` goes from n, or the least where this is greater, to m (RFC 2622, 2).
+-- What an operator makes of a least and a greatest length, before any is dropped: `^+` goes up to
+-- 32, `^-` begins one above the least, `^n-m` goes from n, or the least where this is greater, to m
+-- (RFC 2622, 2).
 abbrev pub tabled : Operator → Bounds → Bounds
 tabled Plain b = b
 tabled Plus b = record { low = b.low; high = 32 }
@@ -120,6 +126,8 @@ abbrev pub operator_bounds : Operator → Bounds
 operator_bounds (Lengths b) = b
 operator_bounds _ = record { low = 0; high = 0 }
 
--- Operators are ordered by their forms: none, `^+`, `^-`, lengths, and these by their bounds (profile).
+-- Operators are ordered by their forms: none, `^+`, `^-`, lengths, and these by their bounds
+-- (profile).
 abbrev pub operator_cmp : Operator → Operator → Ordering
-operator_cmp o p = ordering_then (nat_cmp (operator_place o) (operator_place p)) (bounds_cmp (operator_bounds o) (operator_bounds p))
+operator_cmp o p = ordering_then (nat_cmp (operator_place o) (operator_place p))
+    (bounds_cmp (operator_bounds o) (operator_bounds p))

@@ -22,9 +22,11 @@ front_by (c ∷ cs) = Some (join_with_byte 58 (c ∷ cs))
 unfoldable pub front_of : List ℕ → Option (List ℕ)
 front_of text = front_by (but_last (components text))
 
--- A text names an AS, or nothing where it has AS numbers alone, several of them, or else a set (RFC 2622, 5; profile).
+-- A text names an AS, or nothing where it has AS numbers alone, several of them, or else a set
+-- (RFC 2622, 5; profile).
 abbrev pub named_by : List ℕ → Parent
-named_by text = option_map_or Number (as_number_of text) (if list_all is_as_number (components text) then Bare else Set text)
+named_by text = option_map_or Number (as_number_of text)
+    (if list_all is_as_number (components text) then Bare else Set text)
 
 -- A set is below what all components of its name but the last name (RFC 2622, 5; RFC 2725, 9).
 abbrev pub parent_of : List ℕ → Option Parent

@@ -1,5 +1,6 @@
 -- Prefixes (RFC 2622, 2): an address and how many of its first bits count.
-use Rattle.std.specs.Prelude.{◌≡◌, ℕ, ◌+◌, ◌-◌, ◌%◌, ◌^◌, ◌<◌, ◌≤◌, List, ◌∷◌, ◌++◌, Option}
+use Rattle.std.specs.Prelude.{◌≡◌, ℕ, ◌+◌, ◌-◌, ◌%◌, ◌^◌, ◌<◌}
+use Rattle.std.specs.Prelude.{◌≤◌, List, ◌∷◌, ◌++◌, Option}
 use Rattle.std.specs.Fmt.{decimal}
 use Rattle.std.specs.declared.cmp.Ordering.{Ordering}
 use Rattle.std.specs.Ordering.{ordering_then, nat_cmp}
@@ -18,13 +19,15 @@ pub record PrefixParts : Type 0 where
 abbrev pub count_of : ℕ → ℕ
 count_of length = 2 ^ (32 - length)
 
--- The address is one, the length is at most 32 (RFC 2622, 2), and the bits past the length are zero (profile).
+-- The address is one, the length is at most 32 (RFC 2622, 2), and the bits past the length are zero
+-- (profile).
 pub record IsMasked (p : PrefixParts) : Type 0 where
   pub short : p.length ≤ 32
   pub fits : p.address < 2 ^ 32
   pub aligned : p.address % count_of p.length ≡ 0
 
--- The prefix of this length that the address lies in: bits past the length are read as zero (profile).
+-- The prefix of this length that the address lies in: bits past the length are read as zero
+-- (profile).
 abbrev pub masked : ℕ → ℕ → PrefixParts
 masked address length = record { address = address - address % count_of length; length = length }
 

@@ -14,26 +14,30 @@ use Rattle.rr_number.specs.declared.operator.Operator.{Operator}
 abbrev pub is_between : Bounds → ℕ → Bool
 is_between b n = nat_le b.low n && nat_le n b.high
 
--- Under an operator a range admits what its prefix covers, of the lengths that the operator's row gives; where it is
--- dropped, no prefix has such a length (RFC 2622, 2).
+-- Under an operator a range admits what its prefix covers, of the lengths that the operator's row
+-- gives; where it is dropped, no prefix has such a length (RFC 2622, 2).
 abbrev pub OperatorsAdmit : Type 0
 OperatorsAdmit =
     (o : Operator) (r : RangeParts) (q : PrefixParts) → IsMasked q
     → MatchOption (applied o r) (is_between (tabled o (bounds_of r)) q.length ≡ false)
-    (λ s. admits s q ≡ (covers (span_of r.prefix) (span_of q) && is_between (tabled o (bounds_of r)) q.length))
+    (λ s. admits s q
+    ≡ (covers (span_of r.prefix) (span_of q) && is_between (tabled o (bounds_of r)) q.length))
 
 -- What an operator makes of a range is a range (RFC 2622, 2).
 abbrev pub OperatorsKeepRanges : Type 0
 OperatorsKeepRanges =
-    (o : Operator) (r s : RangeParts) → IsOperatorValue o → IsRange r → applied o r ≡ Some s → IsRange s
+    (o : Operator) (r s : RangeParts) → IsOperatorValue o → IsRange r → applied o r ≡ Some s
+    → IsRange s
 
 -- The text of a range spells its prefix and an operator (profile).
 abbrev pub PrintedRangesAreRead : Type 0
-PrintedRangesAreRead = (r : RangeParts) → IsRange r → IsRanged (range_text r) r.prefix (operator_for r)
+PrintedRangesAreRead =
+    (r : RangeParts) → IsRange r → IsRanged (range_text r) r.prefix (operator_for r)
 
 -- That operator makes the range of the prefix alone (profile).
 abbrev pub PrintedOperatorsMakeRanges : Type 0
-PrintedOperatorsMakeRanges = (r : RangeParts) → IsRange r → applied (operator_for r) (bare r.prefix) ≡ Some r
+PrintedOperatorsMakeRanges =
+    (r : RangeParts) → IsRange r → applied (operator_for r) (bare r.prefix) ≡ Some r
 
 -- The order of ranges is total, and only equal ranges tie (profile).
 pub record RangesAreOrdered : Type 0 where

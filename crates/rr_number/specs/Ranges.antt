@@ -31,11 +31,14 @@ bounds_of r = record { low = r.low; high = r.high }
 abbrev pub bare : PrefixParts → RangeParts
 bare p = record { prefix = p; low = p.length; high = p.length }
 
--- A range admits a prefix that its prefix covers and whose length lies between its two (RFC 2622, 2).
+-- A range admits a prefix that its prefix covers and whose length lies between its two
+-- (RFC 2622, 2).
 abbrev pub admits : RangeParts → PrefixParts → Bool
-admits r q = covers (span_of r.prefix) (span_of q) && (nat_le r.low q.length && nat_le q.length r.high)
+admits r q =
+    covers (span_of r.prefix) (span_of q) && (nat_le r.low q.length && nat_le q.length r.high)
 
 -- Ranges are ordered by prefix, then by least and by greatest length (profile).
 abbrev pub range_cmp : RangeParts → RangeParts → Ordering
 range_cmp r s =
-    ordering_then (prefix_cmp r.prefix s.prefix) (ordering_then (nat_cmp r.low s.low) (nat_cmp r.high s.high))
+    ordering_then (prefix_cmp r.prefix s.prefix)
+    (ordering_then (nat_cmp r.low s.low) (nat_cmp r.high s.high))

@@ -2,7 +2,8 @@
 use Rattle.std.specs.Prelude.{◌≡◌, ℕ, true, false, List, [], ◌∷◌, ◌++◌, map, Some}
 use Rattle.rr_bytes.specs.LetterCase.{upper}
 use Rattle.rr_number.specs.Parents.{front_of}
-use Rattle.rr_number.specs.SetNames.{component_text, components, is_any_set, is_name_of_kind, kind_of, set_name_of, IsSetText}
+use Rattle.rr_number.specs.SetNames.{component_text, components, is_any_set, is_name_of_kind}
+use Rattle.rr_number.specs.SetNames.{kind_of, set_name_of, IsSetText}
 
 -- The name of a set is read again from its printed text.
 abbrev pub SetNamesAreReadAgain : Type 0
@@ -15,12 +16,14 @@ SetNamesIgnoreCase = (a b : List ℕ) → upper a ≡ upper b → set_name_of a 
 -- The components of what is read are those of the spelling, each as it is printed.
 abbrev pub ComponentsArePrinted : Type 0
 ComponentsArePrinted =
-    (text name : List ℕ) → set_name_of text ≡ Some name → components name ≡ map component_text (components text)
+    (text name : List ℕ) → set_name_of text ≡ Some name
+    → components name ≡ map component_text (components text)
 
 -- A set other than `AS-ANY` and `RS-ANY` has a name of its kind.
 abbrev pub KindsAreTold : Type 0
 KindsAreTold =
-    (name : List ℕ) → IsSetText name → is_any_set name ≡ false → is_name_of_kind (kind_of name) name ≡ true
+    (name : List ℕ) → IsSetText name → is_any_set name ≡ false
+    → is_name_of_kind (kind_of name) name ≡ true
 
 -- The components of a name are those of its front, and one more.
 abbrev pub FrontsLackTheLast : Type 0

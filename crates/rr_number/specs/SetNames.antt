@@ -1,5 +1,7 @@
 -- The names of as-sets and route-sets.
-use Rattle.std.specs.Prelude.{◌≡◌, ℕ, Bool, not, ◌==◌, ◌&&◌, ◌||◌, List, length, map, codes, is_some, nat_eq, nat_le, Option, None, Some, if◌then◌else◌, true}
+use Rattle.std.specs.Prelude.{◌≡◌, ℕ, Bool, not, ◌==◌, ◌&&◌, ◌||◌, List, length}
+use Rattle.std.specs.Prelude.{map, codes, is_some, nat_eq, nat_le, Option, None, Some}
+use Rattle.std.specs.Prelude.{if◌then◌else◌, true}
 use Rattle.std.specs.List.{join_with_byte, list_all, list_any, slice_split, starts_with}
 use Rattle.std.specs.Option.{option_map_or}
 use Rattle.std.specs.Str.{bytes_eq}
@@ -27,29 +29,35 @@ is_as_number component = is_some (as_number_of component)
 -- The word of a set is a name that begins as its kind's do and is not reserved (RFC 2622, 5).
 abbrev pub is_set_word : SetKind → List ℕ → Bool
 is_set_word kind component =
-    is_name component && (starts_with nat_eq (upper component) (word_start kind) && not (is_reserved (upper component)))
+    is_name component && (starts_with nat_eq (upper component) (word_start kind)
+    && not (is_reserved (upper component)))
 
 -- A component is an AS number or the word of a set (RFC 2622, 5).
 abbrev pub is_component : SetKind → List ℕ → Bool
 is_component kind component = is_as_number component || is_set_word kind component
 
--- Each component is an AS number or a word of the kind, and at least one is such a word (RFC 2622, 5).
+-- Each component is an AS number or a word of the kind, and at least one is such a word
+-- (RFC 2622, 5).
 abbrev pub is_name_of_kind : SetKind → List ℕ → Bool
-is_name_of_kind kind text = list_all (is_component kind) (components text) && list_any (is_set_word kind) (components text)
+is_name_of_kind kind text =
+    list_all (is_component kind) (components text) && list_any (is_set_word kind) (components text)
 
 -- `AS-ANY` and `RS-ANY` name sets only by themselves (RFC 2622, 5; profile).
 abbrev pub is_any_set : List ℕ → Bool
 is_any_set text = bytes_eq (upper text) as_any || bytes_eq (upper text) rs_any
 
--- A set's name has at most 255 bytes as it is spelled (profile), and its components are of one kind (RFC 2622, 5).
+-- A set's name has at most 255 bytes as it is spelled (profile), and its components are of one kind
+-- (RFC 2622, 5).
 unfoldable pub is_set_name : List ℕ → Bool
-is_set_name text = nat_le (length text) 255 && (is_any_set text || (is_name_of_kind AsSet text || is_name_of_kind RouteSet text))
+is_set_name text = nat_le (length text) 255
+    && (is_any_set text || (is_name_of_kind AsSet text || is_name_of_kind RouteSet text))
 
 -- A component is printed in upper case, an AS number without leading zeros (profile).
 abbrev pub component_text : List ℕ → List ℕ
 component_text component = option_map_or as_number_text (as_number_of component) (upper component)
 
--- A set's name is printed as its components, each as it is printed, with colons between them (profile).
+-- A set's name is printed as its components, each as it is printed, with colons between them
+-- (profile).
 unfoldable pub set_text : List ℕ → List ℕ
 set_text text = join_with_byte 58 (map component_text (components text))
 
@@ -64,12 +72,14 @@ pub record IsSetText (text : List ℕ) : Type 0 where
 
 -- Whether a set's name, as it is printed, has a component that begins as a kind's names do.
 abbrev pub has_word_start : SetKind → List ℕ → Bool
-has_word_start kind text = list_any (λ component. starts_with nat_eq component (word_start kind)) (components text)
+has_word_start kind text =
+    list_any (λ component. starts_with nat_eq component (word_start kind)) (components text)
 
 -- A set is an as-set where a component of its name begins as those of as-sets do (RFC 2622, 5).
 abbrev pub is_as_set : List ℕ → Bool
 is_as_set text = has_word_start AsSet text
 
--- The kind of a set is told by the components beside AS numbers: an as-set, and else a route-set (RFC 2622, 5).
+-- The kind of a set is told by the components beside AS numbers: an as-set, and else a route-set
+-- (RFC 2622, 5).
 abbrev pub kind_of : List ℕ → SetKind
 kind_of text = if is_as_set text then AsSet else RouteSet

@@ -1,5 +1,6 @@
 -- What the tests on spans mean for spans as sets of numbers, and how they fit together.
-use Rattle.std.specs.Prelude.{◌≡◌, ℕ, true, false, ◌+◌, ◌<◌, ◌≤◌, ◌⊎◌, ◌↔◌}
+use Rattle.std.specs.Prelude.{◌≡◌, ℕ, true, false, ◌+◌, ◌<◌, ◌≤◌, ◌⊎◌}
+use Rattle.std.specs.Prelude.{◌↔◌}
 use Rattle.std.specs.Cmp.{IsTotalOrder}
 use Rattle.std.specs.FinMap.{IsAntisymmetric}
 use Rattle.rr_number.specs.Spans.{Ends, IsSpan, IsIn, covers, meets, crosses, size, span_cmp}
@@ -12,7 +13,8 @@ CoveringIsInclusion =
 -- Two spans meet where some number lies in both.
 abbrev pub MeetingIsSharing : Type 0
 MeetingIsSharing =
-    (s t : Ends) → IsSpan s → IsSpan t → (meets s t ≡ true) ↔ ((n : ℕ) × (IsIn n s × IsIn n t))
+    (s t : Ends) → IsSpan s → IsSpan t
+    → (meets s t ≡ true) ↔ ((n : ℕ) × (IsIn n s × IsIn n t))
 
 -- Each span covers itself.
 abbrev pub CoversItself : Type 0
@@ -20,7 +22,8 @@ CoversItself = (s : Ends) → covers s s ≡ true
 
 -- What a covered span covers, its cover covers.
 abbrev pub CoversFurther : Type 0
-CoversFurther = (s t u : Ends) → covers s t ≡ true → covers t u ≡ true → covers s u ≡ true
+CoversFurther =
+    (s t u : Ends) → covers s t ≡ true → covers t u ≡ true → covers s u ≡ true
 
 -- Only equal spans cover each other.
 abbrev pub CoversBothWays : Type 0

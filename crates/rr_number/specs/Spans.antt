@@ -1,5 +1,6 @@
 -- Spans of numbers: runs of addresses, or of AS numbers, seen as sets.
-use Rattle.std.specs.Prelude.{ℕ, refl, Bool, not, ◌&&◌, ◌+◌, ◌-◌, ◌^◌, ◌<◌, ◌≤◌, nat_le}
+use Rattle.std.specs.Prelude.{ℕ, refl, Bool, not, ◌&&◌, ◌+◌, ◌-◌, ◌^◌, ◌<◌}
+use Rattle.std.specs.Prelude.{◌≤◌, nat_le}
 use Rattle.std.specs.Coded.{Coded, code_by, coded×, coded_ℕ}
 use Rattle.std.specs.declared.cmp.Ordering.{Ordering}
 use Rattle.std.specs.Ordering.{ordering_then, nat_cmp}
@@ -12,7 +13,8 @@ pub record Ends : Type 0 where
 -- Ends are stored as the pair of them.
 abbrev pub ends_code : Coded Ends
 ends_code =
-    code_by (ℕ × ℕ) (coded× coded_ℕ coded_ℕ) (λ s. (s.first, s.last)) (λ p. record { first = p.0; last = p.1 }) (λ _. refl)
+    code_by (ℕ × ℕ) (coded× coded_ℕ coded_ℕ) (λ s. (s.first, s.last))
+    (λ p. record { first = p.0; last = p.1 }) (λ _. refl)
 
 -- Ends are those of a span where the first is not above the last and both have 32 bits (profile).
 pub record IsSpan (s : Ends) : Type 0 where

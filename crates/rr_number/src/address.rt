@@ -1,7 +1,9 @@
 //! Addresses.
-ghost use Rattle.std.specs.Prelude.{◌≡◌, ◌+◌, ◌<◌, ◌≤◌, ◌^◌, ◌++◌, ℕ, IfSome, length, Some};
+ghost use Rattle.std.specs.Prelude.{◌≡◌, ◌+◌, ◌<◌, ◌≤◌, ◌^◌, ◌++◌, ℕ};
+ghost use Rattle.std.specs.Prelude.{IfSome, length, Some};
 ghost use Rattle.rr_io.specs.Sending.{Writes};
-ghost use Rattle.rr_number.specs.Addresses.{IsAddress, address_of, address_text, joined_of, octet_of};
+ghost use Rattle.rr_number.specs.Addresses.{IsAddress, address_of, address_text, joined_of};
+ghost use Rattle.rr_number.specs.Addresses.{octet_of};
 
 use crate::digits::read_number;
 use crate::ends::End;
@@ -43,8 +45,8 @@ impl Address {
         self.bits
     }
 
-    /// The address that the whole text spells: four numbers below 256, of one to three digits each, joined by
-    /// dots. There is none where the text is spelled otherwise (RFC 2622, 2).
+    /// The address that the whole text spells: four numbers below 256, of one to three digits each,
+    /// joined by dots. There is none where the text is spelled otherwise (RFC 2622, 2).
     pub fn read(text: &[u8]) -> Option<Address>
         ensures found { IfSome result (λ address. IsAddress text.now address) }
         ensures only { (address : ℕ) → IsAddress text.now address → result ≡ Some address }
@@ -64,7 +66,8 @@ impl Address {
 
     /// Writes the address's text. After a fault the writer has taken a front of it.
     pub fn print_to<W: Sink>(&self, writer: &mut W) -> io::Result<()>
-        ensures writes { Writes (W.told writer.old) (W.told writer.new) (address_text self.now) result }
+        ensures writes { Writes (W.told writer.old) (W.told writer.new)
+            (address_text self.now) result }
         ensures aside { W.aside writer.new ≡ W.aside writer.old }
     {
         write_all(writer, self.text().as_bytes())

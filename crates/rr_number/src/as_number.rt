@@ -1,8 +1,10 @@
 //! AS numbers.
-ghost use Rattle.std.specs.Prelude.{◌≡◌, ◌++◌, length, ◌+◌, ◌≤◌, ℕ, IfSome, Some};
+ghost use Rattle.std.specs.Prelude.{◌≡◌, ◌++◌, length, ◌+◌, ◌≤◌, ℕ, IfSome};
+ghost use Rattle.std.specs.Prelude.{Some};
 ghost use Rattle.rr_io.specs.Sending.{Writes};
 ghost use Rattle.rr_number.specs.Numerals.{number_of};
-ghost use Rattle.rr_number.specs.AsNumbers.{as_number_of, as_number_text, greatest_as_number, IsAsNumber};
+ghost use Rattle.rr_number.specs.AsNumbers.{as_number_of, as_number_text, greatest_as_number};
+ghost use Rattle.rr_number.specs.AsNumbers.{IsAsNumber};
 
 use crate::digits::read_number;
 use crate::ends::End;
@@ -53,8 +55,8 @@ impl AsNumber {
         self.number
     }
 
-    /// The AS number that the bytes spell: `AS`, in any letter case, and 1 to 10 digits of a number of at most
-    /// 4294967295 (RFC 2622, 2; RFC 6793, 3; the count of digits: profile).
+    /// The AS number that the bytes spell: `AS`, in any letter case, and 1 to 10 digits of a number
+    /// of at most 4294967295 (RFC 2622, 2; RFC 6793, 3; the count of digits: profile).
     pub fn read(bytes: &[u8]) -> Option<Self>
         ensures exact { result ≡ as_number_of bytes.now }
         ensures found { IfSome result (IsAsNumber bytes.now) }
@@ -77,7 +79,8 @@ impl AsNumber {
 
     /// Writes the printed text. After a fault the writer has taken a front of it.
     pub fn print_to<W: Sink>(&self, writer: &mut W) -> io::Result<()>
-        ensures writes { Writes (W.told writer.old) (W.told writer.new) (as_number_text self.now) result }
+        ensures writes { Writes (W.told writer.old) (W.told writer.new)
+            (as_number_text self.now) result }
         ensures aside { W.aside writer.new ≡ W.aside writer.old }
     {
         write_all(writer, self.text().as_bytes())
@@ -119,7 +122,8 @@ impl fmt::Display for AsNumber {
 /// An AS number is read again from its printed text.
 pub fn as_numbers_are_read_again()
     ensures spelled { (n : ℕ) → n ≤ greatest_as_number → IsAsNumber (as_number_text n) n }
-    ensures again { (n : ℕ) → n ≤ greatest_as_number → as_number_of (as_number_text n) ≡ Some n }
+    ensures again { (n : ℕ) → n ≤ greatest_as_number
+        → as_number_of (as_number_text n) ≡ Some n }
 {}
 
 #[tactic(auto, unfolding(crate::specs::AsNumbers::as_number_of))]

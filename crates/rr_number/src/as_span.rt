@@ -85,7 +85,8 @@ impl AsSpan {
 
     /// Writes the printed text. After a fault the writer has taken a front of it.
     pub fn print_to<W: Sink>(&self, writer: &mut W) -> io::Result<()>
-        ensures writes { Writes (W.told writer.old) (W.told writer.new) (as_span_text self.now) result }
+        ensures writes { Writes (W.told writer.old) (W.told writer.new)
+            (as_span_text self.now) result }
         ensures aside { W.aside writer.new ≡ W.aside writer.old }
     {
         write_all(writer, self.text().as_bytes())

@@ -1,6 +1,7 @@
 //! Spans as texts: two ends with a dash between them.
 
-ghost use Rattle.std.specs.Prelude.{◌≡◌, ◌+◌, ◌++◌, ◌≤◌, List, Option, length, ℕ};
+ghost use Rattle.std.specs.Prelude.{◌≡◌, ◌+◌, ◌++◌, ◌≤◌, List, Option, length};
+ghost use Rattle.std.specs.Prelude.{ℕ};
 ghost use Rattle.rr_number.specs.EndsTexts.{ends_between, ends_text};
 
 use crate::short_text::ShortText;

@@ -1,11 +1,18 @@
-//! What holds of addresses, prefixes, operators and ranges together. Each function states a law and does nothing.
+//! What holds of addresses, prefixes, operators and ranges together. Each function states a law and
+//! does nothing.
 ghost use Rattle.std.specs.Prelude.{◌≡◌, ℕ, ◌<◌, ◌^◌};
 ghost use Rattle.std.specs.Ordering.{nat_cmp};
 ghost use Rattle.rr_number.specs.Addresses.{IsAddress, address_text};
-ghost use Rattle.rr_number.specs.Operators.{IsOperator, IsOperatorValue, operator_cmp, operator_text};
-ghost use Rattle.rr_number.specs.PrefixLaws.{CoverEachOtherAlone, CoversLonger, PrefixesAreOrdered, PrefixesHaveSpans, PrefixesNeverCross, SpansTellPrefixes};
-ghost use Rattle.rr_number.specs.Prefixes.{PrefixParts, IsMasked, IsPrefix, prefix_cmp, prefix_text};
-ghost use Rattle.rr_number.specs.RangeLaws.{OperatorsAdmit, OperatorsAreOrdered, OperatorsKeepRanges, PrintedOperatorsMakeRanges, PrintedRangesAreRead, RangesAreOrdered};
+ghost use Rattle.rr_number.specs.Operators.{IsOperator, IsOperatorValue, operator_cmp};
+ghost use Rattle.rr_number.specs.Operators.{operator_text};
+ghost use Rattle.rr_number.specs.PrefixLaws.{CoverEachOtherAlone, CoversLonger, PrefixesAreOrdered};
+ghost use Rattle.rr_number.specs.PrefixLaws.{PrefixesHaveSpans, PrefixesNeverCross};
+ghost use Rattle.rr_number.specs.PrefixLaws.{SpansTellPrefixes};
+ghost use Rattle.rr_number.specs.Prefixes.{PrefixParts, IsMasked, IsPrefix, prefix_cmp};
+ghost use Rattle.rr_number.specs.Prefixes.{prefix_text};
+ghost use Rattle.rr_number.specs.RangeLaws.{OperatorsAdmit, OperatorsAreOrdered};
+ghost use Rattle.rr_number.specs.RangeLaws.{OperatorsKeepRanges, PrintedOperatorsMakeRanges};
+ghost use Rattle.rr_number.specs.RangeLaws.{PrintedRangesAreRead, RangesAreOrdered};
 ghost use Rattle.rr_number.specs.Ranges.{RangeParts, range_cmp};
 ghost use Rattle.rr_number.specs.declared.operator.Operator.{Operator};
 
@@ -27,11 +34,12 @@ pub fn printed_prefixes_are_read()
 
 /// What is printed is read again: the text of an operator spells it.
 pub fn printed_operators_are_read()
-    ensures { (operator : Operator) → IsOperatorValue operator → IsOperator (operator_text operator) operator }
+    ensures { (operator : Operator) → IsOperatorValue operator
+        → IsOperator (operator_text operator) operator }
 {}
 
-/// What is printed is read again: the text of a range spells its prefix and an operator, and this makes the range of
-/// the prefix alone.
+/// What is printed is read again: the text of a range spells its prefix and an operator, and this
+/// makes the range of the prefix alone.
 pub fn printed_ranges_are_read()
     ensures spelled { PrintedRangesAreRead }
     ensures made { PrintedOperatorsMakeRanges }
@@ -57,8 +65,8 @@ pub fn spans_tell_prefixes()
     ensures { SpansTellPrefixes }
 {}
 
-/// Under an operator a range admits what its prefix covers, of the lengths that the operator's row gives; where it
-/// is dropped, no prefix has such a length.
+/// Under an operator a range admits what its prefix covers, of the lengths that the operator's row
+/// gives; where it is dropped, no prefix has such a length.
 pub fn operators_admit_what_they_say()
     ensures { OperatorsAdmit }
 {}
@@ -95,7 +103,8 @@ pub fn ranges_are_ordered()
     ensures ordered { RangesAreOrdered }
 {}
 
-/// Operators are ordered by their forms, none, `^+`, `^-` and lengths, then by their lengths, and only equal ones tie.
+/// Operators are ordered by their forms, none, `^+`, `^-` and lengths, then by their lengths, and
+/// only equal ones tie.
 pub fn operators_are_ordered()
     ensures derived { (o p : Operator) → ⟦<Operator as Ord>⟧.cmp o p ≡ operator_cmp o p }
     ensures ordered { OperatorsAreOrdered }

@@ -1,5 +1,5 @@
-//! The numbers and names of routing: addresses, prefixes, ranges of prefixes with their operators, AS numbers,
-//! spans, names. Each has an exact reader and an exact printer.
+//! The numbers and names of routing: addresses, prefixes, ranges of prefixes with their operators,
+//! AS numbers, spans, names. Each has an exact reader and an exact printer.
 #![tactic(auto)]
 
 mod address;

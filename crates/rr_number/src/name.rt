@@ -5,7 +5,8 @@ ghost use Rattle.std.specs.List.{list_any};
 ghost use Rattle.std.specs.Str.{bytes_eq};
 ghost use Rattle.rr_io.specs.Sending.{Writes};
 ghost use Rattle.rr_bytes.specs.LetterCase.{upper};
-ghost use Rattle.rr_number.specs.Names.{is_maintainer_name, is_reserved, maintainer_name_of, name_of, IsUpperName};
+ghost use Rattle.rr_number.specs.Names.{is_maintainer_name, is_reserved, maintainer_name_of};
+ghost use Rattle.rr_number.specs.Names.{name_of, IsUpperName};
 
 use crate::any_set::{AS_ANY, RS_ANY};
 use crate::name_text::NameText;

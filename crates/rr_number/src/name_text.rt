@@ -1,4 +1,5 @@
-//! What the names of maintainers and of sets have in common: bytes, which are compared, copied and printed.
+//! What the names of maintainers and of sets have in common: bytes, which are compared, copied and
+//! printed.
 
 ghost use Rattle.std.specs.Prelude.{◌≡◌, nat_eq, IfOk, Some};
 ghost use Rattle.std.proofs.Common.{rules};
@@ -43,7 +44,7 @@ impl NameText {
         &self.bytes
     }
 
-    /// An equal text; the error is want of memory.
+    /// An equal text; the error is that memory ran out.
     pub(crate) fn copy(&self, alloc: Global) -> Result<NameText, AllocError>
         ensures { IfOk result (λ copy. copy ≡ self.now) }
     {
@@ -86,7 +87,8 @@ impl Eq for NameText {
 impl PartialOrd for NameText {
     ghost partial_cmp = { as_partial_cmp (slice_cmp nat_cmp) };
 
-    ghost laws = { partial_order_from_own_ties (Prim.search (comparing, rules)) (Prim.search (comparing, rules)) };
+    ghost laws = { partial_order_from_own_ties (Prim.search (comparing, rules))
+        (Prim.search (comparing, rules)) };
 
     fn partial_cmp(&self, other: &NameText) -> Option<Ordering> {
         Some(self.cmp(other))

@@ -1,11 +1,14 @@
 //! Range operators.
-ghost use Rattle.std.specs.Prelude.{◌≡◌, ◌+◌, ◌<◌, ◌≤◌, ◌↔◌, ◌++◌, IsSome, IfSome, length, Some};
+ghost use Rattle.std.specs.Prelude.{◌≡◌, ◌+◌, ◌<◌, ◌≤◌, ◌↔◌, ◌++◌};
+ghost use Rattle.std.specs.Prelude.{IsSome, IfSome, length, Some};
 ghost use Rattle.rr_io.specs.Sending.{Writes};
 ghost use Rattle.rr_number.specs.Applied.{applied};
 ghost use Rattle.rr_number.specs.Bounds.{IsBounds};
 ghost use Rattle.rr_bytes.specs.Cuts.{cut_at};
 ghost use Rattle.rr_number.specs.Dashes.{dash};
-ghost use Rattle.rr_number.specs.Operators.{IsOperator, carried_of, lengths_cut_of, lengths_text, one_length_of, operator_of, operator_text, two_lengths_of};
+ghost use Rattle.rr_number.specs.Operators.{IsOperator, carried_of, lengths_cut_of, lengths_text};
+ghost use Rattle.rr_number.specs.Operators.{one_length_of, operator_of, operator_text};
+ghost use Rattle.rr_number.specs.Operators.{two_lengths_of};
 ghost use Rattle.rr_number.specs.declared.operator.Operator.{Operator};
 
 use crate::prefix::read_length;
@@ -29,7 +32,8 @@ pub enum Operator {
     Lengths(LengthBounds),
 }
 
-/// A least and a greatest length of prefixes, the least not above the greatest, and this not above 32.
+/// A least and a greatest length of prefixes, the least not above the greatest, and this not above
+/// 32.
 #[derive(Clone, Copy, Debug, PartialEq, Eq, PartialOrd, Ord)]
 pub struct LengthBounds {
     low: u8,
@@ -87,18 +91,20 @@ impl LengthBounds {
 }
 
 impl Operator {
-    /// The operator that the whole text spells: nothing, `^+`, `^-`, `^n` or `^n-m`, with lengths of one or two
-    /// digits, n not above m and m at most 32. There is none where the text is spelled otherwise (RFC 2622, 2).
+    /// The operator that the whole text spells: nothing, `^+`, `^-`, `^n` or `^n-m`, with lengths
+    /// of one or two digits, n not above m and m at most 32. There is none where the text is
+    /// spelled otherwise (RFC 2622, 2).
     pub fn read(text: &[u8]) -> Option<Operator>
         ensures found { IfSome result (λ operator. IsOperator text.now operator) }
-        ensures only { (operator : Operator) → IsOperator text.now operator → result ≡ Some operator }
+        ensures only { (operator : Operator) → IsOperator text.now operator
+            → result ≡ Some operator }
         ensures exact { result ≡ operator_of text.now }
     {
         read_operator(text)
     }
 
-    /// What the operator makes of the range; none where it drops it, as `^8` a range of lengths from 16
-    /// (RFC 2622, 2).
+    /// What the operator makes of the range; none where it drops it, as `^8` a range of lengths
+    /// from 16 (RFC 2622, 2).
     #[tactic(auto, unfolding(crate::specs::Applied::applied, crate::specs::Operators::lengths_under))]
     pub fn apply(self, range: Range) -> Option<Range>
         ensures { result ≡ applied self range }
@@ -125,7 +131,8 @@ impl Operator {
 
     /// Writes the operator's text. After a fault the writer has taken a front of it.
     pub fn print_to<W: Sink>(&self, writer: &mut W) -> io::Result<()>
-        ensures writes { Writes (W.told writer.old) (W.told writer.new) (operator_text self.now) result }
+        ensures writes { Writes (W.told writer.old) (W.told writer.new)
+            (operator_text self.now) result }
         ensures aside { W.aside writer.new ≡ W.aside writer.old }
     {
         write_all(writer, self.text().as_bytes())

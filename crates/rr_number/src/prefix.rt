@@ -1,7 +1,9 @@
 //! Prefixes.
-ghost use Rattle.std.specs.Prelude.{◌≡◌, ◌+◌, ◌<◌, ◌≤◌, ◌++◌, IfSome, length, Some};
+ghost use Rattle.std.specs.Prelude.{◌≡◌, ◌+◌, ◌<◌, ◌≤◌, ◌++◌, IfSome};
+ghost use Rattle.std.specs.Prelude.{length, Some};
 ghost use Rattle.rr_io.specs.Sending.{Writes};
-ghost use Rattle.rr_number.specs.Prefixes.{PrefixParts, count_of, masked, masked_of, length_of, prefix_of, prefix_text, span_of, IsMasked, IsPrefix};
+ghost use Rattle.rr_number.specs.Prefixes.{PrefixParts, count_of, masked, masked_of, length_of};
+ghost use Rattle.rr_number.specs.Prefixes.{prefix_of, prefix_text, span_of, IsMasked, IsPrefix};
 ghost use Rattle.rr_number.specs.Spans.{covers};
 
 use crate::address::Address;
@@ -13,8 +15,8 @@ use rr_io::{Sink, write_all};
 use std::marker::Model;
 use std::{fmt, io};
 
-/// A prefix: the addresses whose first `length` bits are those of `address`, whose other bits are zero.
-/// Prefixes are ordered by address, then by length (profile).
+/// A prefix: the addresses whose first `length` bits are those of `address`, whose other bits are
+/// zero. Prefixes are ordered by address, then by length (profile).
 #[derive(Clone, Copy, Debug, PartialEq, Eq, PartialOrd, Ord)]
 pub struct Prefix {
     address: Address,
@@ -34,8 +36,8 @@ impl Model for Prefix {
 }
 
 impl Prefix {
-    /// The prefix of this length that the address lies in: the bits past the length are read as zero
-    /// (profile).
+    /// The prefix of this length that the address lies in: the bits past the length are read as
+    /// zero (profile).
     pub fn new(address: Address, length: u8) -> Self
         requires { length ≤ 32 }
         ensures { result ≡ masked address length }
@@ -79,12 +81,13 @@ impl Prefix {
         self.span().covers(other.span())
     }
 
-    /// The prefix that the whole text spells: an address, a slash and a length of one or two digits, at most 32.
-    /// Bits past the length are read as zero. There is none where the text is spelled otherwise (RFC 2622, 2;
-    /// for the bits profile).
+    /// The prefix that the whole text spells: an address, a slash and a length of one or two
+    /// digits, at most 32. Bits past the length are read as zero. There is none where the text is
+    /// spelled otherwise (RFC 2622, 2; for the bits profile).
     pub fn read(text: &[u8]) -> Option<Prefix>
         ensures found { IfSome result (λ prefix. IsPrefix text.now prefix) }
-        ensures only { (prefix : PrefixParts) → IsPrefix text.now prefix → result ≡ Some prefix }
+        ensures only { (prefix : PrefixParts) → IsPrefix text.now prefix
+            → result ≡ Some prefix }
         ensures exact { result ≡ prefix_of text.now }
     {
         read_prefix(text)
@@ -101,7 +104,8 @@ impl Prefix {
 
     /// Writes the prefix's text. After a fault the writer has taken a front of it.
     pub fn print_to<W: Sink>(&self, writer: &mut W) -> io::Result<()>
-        ensures writes { Writes (W.told writer.old) (W.told writer.new) (prefix_text self.now) result }
+        ensures writes { Writes (W.told writer.old) (W.told writer.new)
+            (prefix_text self.now) result }
         ensures aside { W.aside writer.new ≡ W.aside writer.old }
     {
         write_all(writer, self.text().as_bytes())

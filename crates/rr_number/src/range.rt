@@ -1,7 +1,9 @@
 //! Ranges of prefixes.
-ghost use Rattle.std.specs.Prelude.{◌≡◌, ◌+◌, ◌≤◌, ◌++◌, IfSome, if◌then◌else◌, length, nat_le, Some};
+ghost use Rattle.std.specs.Prelude.{◌≡◌, ◌+◌, ◌≤◌, ◌++◌, IfSome};
+ghost use Rattle.std.specs.Prelude.{if◌then◌else◌, length, nat_le, Some};
 ghost use Rattle.rr_io.specs.Sending.{Writes};
-ghost use Rattle.rr_number.specs.Applied.{IsRanged, operator_for, ranged_from, range_text, ranged_of};
+ghost use Rattle.rr_number.specs.Applied.{IsRanged, operator_for, ranged_from, range_text};
+ghost use Rattle.rr_number.specs.Applied.{ranged_of};
 ghost use Rattle.rr_number.specs.Prefixes.{PrefixParts};
 ghost use Rattle.rr_number.specs.Ranges.{admits, bare, IsRange};
 ghost use Rattle.rr_number.specs.declared.operator.Operator.{Operator};
@@ -14,8 +16,8 @@ use rr_io::{Sink, write_all};
 use std::marker::Model;
 use std::{fmt, io};
 
-/// A range of prefixes: those that the prefix covers and whose length lies from `low` to `high`. Ranges are
-/// ordered by address, length, `low` and `high` (profile).
+/// A range of prefixes: those that the prefix covers and whose length lies from `low` to `high`.
+/// Ranges are ordered by address, length, `low` and `high` (profile).
 #[derive(Clone, Copy, Debug, PartialEq, Eq, PartialOrd, Ord)]
 pub struct Range {
     prefix: Prefix,
@@ -52,7 +54,8 @@ impl Range {
     pub(crate) fn with_lengths(self, low: u8, high: u8) -> Option<Self>
         requires inside { self.prefix.length ≤ low }
         requires short { high ≤ 32 }
-        ensures { result ≡ (if nat_le low high then Some (record { prefix = self.prefix; low = low; high = high }) else None) }
+        ensures { result ≡ (if nat_le low high
+            then Some (record { prefix = self.prefix; low = low; high = high }) else None) }
     {
         if low <= high {
             Some(Range {
@@ -65,7 +68,8 @@ impl Range {
         }
     }
 
-    /// Whether the range holds the prefix: its own covers it, and its length lies between the two (RFC 2622, 2).
+    /// Whether the range holds the prefix: its own covers it, and its length lies between the two
+    /// (RFC 2622, 2).
     pub fn admits(self, prefix: Prefix) -> bool
         ensures { result ≡ admits self prefix }
     {
@@ -96,7 +100,8 @@ impl Range {
         self.high
     }
 
-    /// The operator that makes the range of its prefix alone: the first of none, `^+`, `^-` and lengths.
+    /// The operator that makes the range of its prefix alone: the first of none, `^+`, `^-` and
+    /// lengths.
     pub fn operator(self) -> Operator
         ensures { result ≡ operator_for self }
     {
@@ -122,7 +127,8 @@ impl Range {
 
     /// Writes the range's text. After a fault the writer has taken a front of it.
     pub fn print_to<W: Sink>(&self, writer: &mut W) -> io::Result<()>
-        ensures writes { Writes (W.told writer.old) (W.told writer.new) (range_text self.now) result }
+        ensures writes { Writes (W.told writer.old) (W.told writer.new)
+            (range_text self.now) result }
         ensures aside { W.aside writer.new ≡ W.aside writer.old }
     {
         write_all(writer, self.text().as_bytes())
@@ -137,8 +143,8 @@ impl fmt::Display for Range {
     }
 }
 
-/// The prefix and its operator that the whole text spells, one right after the other. There is none where the text
-/// is spelled otherwise, as with two operators (RFC 2622, 2).
+/// The prefix and its operator that the whole text spells, one right after the other. There is none
+/// where the text is spelled otherwise, as with two operators (RFC 2622, 2).
 pub fn read_ranged(text: &[u8]) -> Option<(Prefix, Operator)>
     ensures found { IfSome result (λ ranged. IsRanged text.now ranged.0 ranged.1) }
     ensures only { (prefix : PrefixParts) (operator : Operator)

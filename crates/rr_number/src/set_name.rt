@@ -6,8 +6,13 @@ ghost use Rattle.std.specs.List.{list_all, list_any, starts_with};
 ghost use Rattle.rr_io.specs.Sending.{Writes};
 ghost use Rattle.rr_bytes.specs.LetterCase.{upper};
 ghost use Rattle.rr_number.specs.AnySets.{as_any, rs_any};
-ghost use Rattle.rr_number.specs.SetNameLaws.{ComponentsArePrinted, FrontsLackTheLast, KindsAreTold, SetNamesAreReadAgain, SetNamesIgnoreCase};
-ghost use Rattle.rr_number.specs.SetNames.{has_word_start, kind_of, IsSetText, component_text, components, is_any_set, is_as_number, is_component, is_name_of_kind, is_set_name, is_set_word, word_start, set_name_of, set_text};
+ghost use Rattle.rr_number.specs.SetNameLaws.{ComponentsArePrinted, FrontsLackTheLast};
+ghost use Rattle.rr_number.specs.SetNameLaws.{KindsAreTold, SetNamesAreReadAgain};
+ghost use Rattle.rr_number.specs.SetNameLaws.{SetNamesIgnoreCase};
+ghost use Rattle.rr_number.specs.SetNames.{has_word_start, kind_of, IsSetText, component_text};
+ghost use Rattle.rr_number.specs.SetNames.{components, is_any_set, is_as_number, is_component};
+ghost use Rattle.rr_number.specs.SetNames.{is_name_of_kind, is_set_name, is_set_word, word_start};
+ghost use Rattle.rr_number.specs.SetNames.{set_name_of, set_text};
 
 mod parent;
 
@@ -25,9 +30,9 @@ use std::{fmt, io};
 /// The most bytes that a set's name is spelled in (profile).
 const MOST_BYTES: usize = 255;
 
-/// The name of an as-set or a route-set, as it is printed: components joined by `:`, in upper
-/// case, each an AS number or a name that begins with `AS-` (all of them) or `RS-` (all of them),
-/// at least one of them such a name (RFC 2622, 5). Names of sets are ordered by their bytes (profile).
+/// The name of an as-set or a route-set, as it is printed: components joined by `:`, in upper case,
+/// each an AS number or a name that begins with `AS-` (all of them) or `RS-` (all of them), at
+/// least one of them such a name (RFC 2622, 5). Names of sets are ordered by their bytes (profile).
 #[derive(Debug, PartialEq, Eq, PartialOrd, Ord, Drop)]
 pub struct SetName {
     text: NameText,
@@ -221,7 +226,8 @@ fn printed(alloc: Global, bytes: &[u8]) -> Result<Vec<u8>, AllocError>
 
 /// Puts a component at the end, as it is printed.
 fn push_component(alloc: Global, text: &mut Vec<u8>, component: &[u8]) -> Result<(), AllocError>
-    ensures { IfOk result (λ _. text.new.items ≡ text.old.items ++ component_text component.now) }
+    ensures { IfOk result
+        (λ _. text.new.items ≡ text.old.items ++ component_text component.now) }
 {
     match AsNumber::read(component) {
         Some(number) => text.extend_from_slice(number.text().as_bytes())?,
@@ -230,8 +236,8 @@ fn push_component(alloc: Global, text: &mut Vec<u8>, component: &[u8]) -> Result
     Ok(())
 }
 
-/// A set's name is read again from its printed text, in any letter case; the components beside AS numbers tell its
-/// kind, and its parent has all of them but the last.
+/// A set's name is read again from its printed text, in any letter case; the components beside AS
+/// numbers tell its kind, and its parent has all of them but the last.
 pub fn set_names_are_read_again()
     ensures again { SetNamesAreReadAgain }
     ensures case_ignored { SetNamesIgnoreCase }

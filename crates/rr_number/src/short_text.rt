@@ -6,7 +6,8 @@ use arrayvec::ArrayString;
 use itoa::Buffer;
 use std::marker::Model;
 
-/// The printed text of a number: at most 40 bytes, which lie in the value itself, so printing takes no memory.
+/// The printed text of a number: at most 40 bytes, which lie in the value itself, so printing takes
+/// no memory.
 #[derive(Clone, Drop)]
 pub struct ShortText {
     text: ArrayString<40>,

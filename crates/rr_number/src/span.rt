@@ -94,9 +94,9 @@ impl Span {
         self.meets(other) && !self.covers(other) && !other.covers(self)
     }
 
-    /// The span of addresses that the whole text spells: two addresses with a dash between them, the first not
-    /// above the last, with or without blanks beside the dash; or a prefix. There is none where the text is
-    /// spelled otherwise (profile).
+    /// The span of addresses that the whole text spells: two addresses with a dash between them,
+    /// the first not above the last, with or without blanks beside the dash; or a prefix. There is
+    /// none where the text is spelled otherwise (profile).
     pub fn read(text: &[u8]) -> Option<Span>
         ensures found { IfSome result (λ span. IsSpanText text.now span) }
         ensures only { (span : Ends) → IsSpanText text.now span → result ≡ Some span }
@@ -115,7 +115,8 @@ impl Span {
 
     /// Writes the text of the span of addresses. After a fault the writer has taken a front of it.
     pub fn print_to<W: Sink>(&self, writer: &mut W) -> io::Result<()>
-        ensures writes { Writes (W.told writer.old) (W.told writer.new) (span_text self.now) result }
+        ensures writes { Writes (W.told writer.old) (W.told writer.new)
+            (span_text self.now) result }
         ensures aside { W.aside writer.new ≡ W.aside writer.old }
     {
         write_all(writer, self.text().as_bytes())

@@ -19,7 +19,7 @@ then_equal Less = refl
 then_equal Equal = refl
 then_equal Greater = refl
 
--- texts behind texts of one length are ordered by the first, then by the second
+-- texts after texts of one length are ordered by the first, then by the second
 pub joined_cmp : (a b c d : List ℕ) → length a ≡ length c
     → slice_cmp nat_cmp (a ++ b) (c ++ d) ≡ ordering_then (slice_cmp nat_cmp a c) (slice_cmp nat_cmp b d)
 joined_cmp [] b [] d e = refl
@@ -66,7 +66,7 @@ hex_parts m n =
     parts_order (m / 16) (m % 16) (n / 16) (n % 16) m n
     (λ e. omega arith) (λ e f. omega arith) (λ e f. omega arith) (λ e f. omega arith) (λ e. omega arith)
 
--- the sixteen digits rise: those from 10 on are letters, which stand 39 places behind the digits before them
+-- the sixteen digits rise: those from 10 on are letters, which stand 39 places after the digits before them
 is_digit_of : ℕ → Bool
 is_digit_of n = slice_index lower_digits n == 48 + n + 39 * (n / 10)
 

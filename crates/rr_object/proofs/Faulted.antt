@@ -55,7 +55,7 @@ classed class.Route text fields key e = origin_step text (only (values_of (kind_
 classed class.AsSet text fields key e = made AsSet class.AsSet (λ a. refl) (as_set_key_of text) key e
 classed class.RouteSet text fields key e = made RouteSet class.RouteSet (λ a. refl) (route_set_key_of text) key e
 
--- of tests for the faults behind that of the key, the first that is passed tells the fault
+-- of tests for the faults after that of the key, the first that is passed tells the fault
 told_step : (read : Obj) (count value from_here : Bool)
     → result_err (result_and_then (λ object. if from_here then Ok object else Err OtherSource)
     (if count then Err BadCount else if value then Err BadValue else Ok read))

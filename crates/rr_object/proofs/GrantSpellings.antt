@@ -18,7 +18,7 @@ use Rattle.rr_number.specs.Prefixes.{prefix_of}
 use Rattle.rr_number.specs.Ranges.{RangeParts}
 use Rattle.rr_object.specs.declared.grants.Begun.{Begun}
 use Rattle.rr_object.specs.declared.grants.Begun.TheVariants.{Nothing, Named, Braced}
-use Rattle.rr_object.specs.Grants.{grants_behind, for_each_prefix, for_no_prefix, is_any, is_closing, is_opening, last_grant, next_grant, range_item, with_range}
+use Rattle.rr_object.specs.Grants.{grants_after, for_each_prefix, for_no_prefix, is_any, is_closing, is_opening, last_grant, next_grant, range_item, with_range}
 use Rattle.rr_object.specs.GrantTexts.{AreGrants, IsGrant, ReadGrantsAreSpelled, SpelledGrantsAreRead}
 use Rattle.rr_bytes.specs.LetterCase.{is_keyword, lowered}
 use Rattle.rr_object.specs.Items.{are_good, meant, meant_by}
@@ -186,32 +186,32 @@ turned (Named name) item items next begins e =
 turned (Braced grant) item items next begins e =
     braced_turn grant item items next (is_closing item) (range_item item) begins refl refl e
 
--- a list of entries is read as its first item's step and what is read behind it
+-- a list of entries is read as its first item's step and what is read after it
 record IsStep (begun : Begun) (item : List ℕ) (others : List (List ℕ)) (grants : List GrantParts) : Type 0 where
   pub next : Option GrantParts × Begun
   pub entries : List GrantParts
   pub is : next_grant begun item ≡ Some next
-  pub behind : grants_behind next.1 others ≡ Some entries
+  pub after : grants_after next.1 others ≡ Some entries
   pub whole : option_to_list next.0 ++ entries ≡ grants
 
-step_behind : (begun : Begun) (item : List ℕ) (others : List (List ℕ)) (grants : List GrantParts) (next : Option GrantParts × Begun)
-    (read : Option (List GrantParts)) → next_grant begun item ≡ Some next → grants_behind next.1 others ≡ read
+step_after : (begun : Begun) (item : List ℕ) (others : List (List ℕ)) (grants : List GrantParts) (next : Option GrantParts × Begun)
+    (read : Option (List GrantParts)) → next_grant begun item ≡ Some next → grants_after next.1 others ≡ read
     → option_map (λ entries. option_to_list next.0 ++ entries) read ≡ Some grants → IsStep begun item others grants
-step_behind begun item others grants next None is at e = cc
-step_behind begun item others grants next (Some entries) is at e =
-    record { next = next; entries = entries; is = is; behind = at; whole = cc }
+step_after begun item others grants next None is at e = cc
+step_after begun item others grants next (Some entries) is at e =
+    record { next = next; entries = entries; is = is; after = at; whole = cc }
 
 step_next : (begun : Begun) (item : List ℕ) (others : List (List ℕ)) (grants : List GrantParts)
     (found : Option (Option GrantParts × Begun)) → next_grant begun item ≡ found
-    → option_and_then (λ next. option_map (λ entries. option_to_list next.0 ++ entries) (grants_behind next.1 others)) found ≡ Some grants
+    → option_and_then (λ next. option_map (λ entries. option_to_list next.0 ++ entries) (grants_after next.1 others)) found ≡ Some grants
     → IsStep begun item others grants
 step_next begun item others grants None is e = cc
 step_next begun item others grants (Some next) is e =
-    step_behind begun item others grants next (grants_behind next.1 others) is refl e
+    step_after begun item others grants next (grants_after next.1 others) is refl e
 
 stepped : (begun : Begun) (item : List ℕ) (others : List (List ℕ)) (grants : List GrantParts)
-    → grants_behind begun (item ∷ others) ≡ Some grants → IsStep begun item others grants
-unfolding grants_behind
+    → grants_after begun (item ∷ others) ≡ Some grants → IsStep begun item others grants
+unfolding grants_after
 stepped begun item others grants e = step_next begun item others grants (next_grant begun item) refl e
 
 -- at the end of the items
@@ -225,33 +225,33 @@ ended (Named name) items grants begins e =
     rw (← same) (record { front = items; rest = []; cut = sym (append-nil items); first = entry; others = refl })
 ended (Braced grant) items grants begins e = cc
 
--- the entry that was ended goes before those behind it
+-- the entry that was ended goes before those after it
 put_before : (over : Option GrantParts) (done rest : List (List ℕ)) (entries : List GrantParts) → Ends over done → AreGrants entries rest
     → AreGrants (option_to_list over ++ entries) (done ++ rest)
 put_before None done rest entries ends others = rw ends others
 put_before (Some grant) done rest entries ends others =
     record { front = done; rest = rest; cut = refl; first = ends; others = others }
 
-all_behind : (whole done left rest : List (List ℕ)) (over : Option GrantParts) (entries grants : List GrantParts)
+all_after : (whole done left rest : List (List ℕ)) (over : Option GrantParts) (entries grants : List GrantParts)
     → whole ≡ done ++ (left ++ rest) → option_to_list over ++ entries ≡ grants
     → AreGrants (option_to_list over ++ entries) (done ++ (left ++ rest)) → AreGrants grants whole
-all_behind whole done left rest over entries grants cut same all = rw (cut, ← same) all
+all_after whole done left rest over entries grants cut same all = rw (cut, ← same) all
 
-read_behind : (left : List (List ℕ)) (begun : Begun) (items : List (List ℕ)) (grants : List GrantParts) → Begins begun items
-    → grants_behind begun left ≡ Some grants → AreGrants grants (items ++ left)
-unfolding grants_behind
-read_behind [] begun items grants begins e = rw (append-nil items) (ended begun items grants begins e)
-read_behind (item ∷ left) begun items grants begins e =
+read_after : (left : List (List ℕ)) (begun : Begun) (items : List (List ℕ)) (grants : List GrantParts) → Begins begun items
+    → grants_after begun left ≡ Some grants → AreGrants grants (items ++ left)
+unfolding grants_after
+read_after [] begun items grants begins e = rw (append-nil items) (ended begun items grants begins e)
+read_after (item ∷ left) begun items grants begins e =
     let step = stepped begun item left grants e in
     let turn = turned begun item items step.next begins step.is in
-    let behind = read_behind left step.next.1 turn.left step.entries turn.begun step.behind in
-    let all = put_before step.next.0 turn.done (turn.left ++ left) step.entries turn.ended behind in
+    let after = read_after left step.next.1 turn.left step.entries turn.begun step.after in
+    let all = put_before step.next.0 turn.done (turn.left ++ left) step.entries turn.ended after in
     let cut : items ++ (item ∷ left) ≡ turn.done ++ (turn.left ++ left) =
     sym (append_assoc items (item ∷ []) left) ∙ ap (λ xs. xs ++ left) turn.cut ∙ append_assoc turn.done turn.left left in
-    all_behind (items ++ (item ∷ left)) turn.done turn.left left step.next.0 step.entries grants cut step.whole all
+    all_after (items ++ (item ∷ left)) turn.done turn.left left step.next.0 step.entries grants cut step.whole all
 
 pub read_grants_are_spelled : ReadGrantsAreSpelled
-read_grants_are_spelled items grants e = read_behind items Nothing [] grants refl e
+read_grants_are_spelled items grants e = read_after items Nothing [] grants refl e
 
 -- what begins with a maintainer's name
 record IsLed (items : List (List ℕ)) : Type 0 where
@@ -313,16 +313,16 @@ closing_no_range item range true at read =
     let none : range_item item ≡ None = ap range_item ((bytes_eq-Decides item (codes "}")).0 at) ∙ brace_no_range in
     absurd (cc (none, read))
 
--- what is read behind an item's step
+-- what is read after an item's step
 abbrev after_next : List (List ℕ) → Option (Option GrantParts × Begun) → Option (List GrantParts)
 after_next others found =
-    option_and_then (λ next. option_map (λ entries. option_to_list next.0 ++ entries) (grants_behind next.1 others)) found
+    option_and_then (λ next. option_map (λ entries. option_to_list next.0 ++ entries) (grants_after next.1 others)) found
 
 name_first : (item name : List ℕ) (others : List (List ℕ)) → maintainer_name_of item ≡ Some name
-    → grants_behind Nothing (item ∷ others) ≡ grants_behind (Named name) others
-unfolding grants_behind next_grant
+    → grants_after Nothing (item ∷ others) ≡ grants_after (Named name) others
+unfolding grants_after next_grant
 name_first item name others named =
-    ap (λ r. after_next others (option_map named_next r)) named ∙ option_map_id (grants_behind (Named name) others)
+    ap (λ r. after_next others (option_map named_next r)) named ∙ option_map_id (grants_after (Named name) others)
 
 next_named : (name n : List ℕ) (b c : Bool) (r : Option (List ℕ)) → b ≡ false → c ≡ false → r ≡ Some n
     → (if b then Some (ended_next (for_each_prefix name)) else if c then Some (opened_next name) else option_map (also_named name) r)
@@ -331,8 +331,8 @@ next_named name n b c r eb ec er = rw (eb, ec, er) refl
 
 -- a name ends before another name and at the end of the items
 name_ends : (name : List ℕ) (rest : List (List ℕ)) → (rest ≡ []) ⊎ IsLed rest
-    → grants_behind (Named name) rest ≡ option_map (λ es. for_each_prefix name ∷ es) (grants_behind Nothing rest)
-unfolding grants_behind next_grant
+    → grants_after (Named name) rest ≡ option_map (λ es. for_each_prefix name ∷ es) (grants_after Nothing rest)
+unfolding grants_after next_grant
 name_ends name rest (inl e) = rw e refl
 name_ends name rest (inr led) =
     let no_any = any_no_name led.item led.name (is_any led.item) refl led.named in
@@ -343,17 +343,17 @@ name_ends name rest (inr led) =
     ∙ ap (option_map (λ es. for_each_prefix name ∷ es)) (sym (name_first led.item led.name led.others led.named)))
 
 any_ends : (name keyword : List ℕ) (rest : List (List ℕ)) → is_any keyword ≡ true
-    → grants_behind (Named name) (keyword ∷ rest) ≡ option_map (λ es. for_each_prefix name ∷ es) (grants_behind Nothing rest)
-unfolding grants_behind next_grant
+    → grants_after (Named name) (keyword ∷ rest) ≡ option_map (λ es. for_each_prefix name ∷ es) (grants_after Nothing rest)
+unfolding grants_after next_grant
 any_ends name keyword rest any =
     ap
     (λ b. after_next rest
     (if b then Some (ended_next (for_each_prefix name)) else if is_opening keyword then Some (opened_next name) else option_map (also_named name) (maintainer_name_of keyword)))
     any
 
-brace_opens : (name : List ℕ) (rest : List (List ℕ)) → grants_behind (Named name) (codes "{" ∷ rest) ≡ grants_behind (Braced (for_no_prefix name)) rest
-unfolding grants_behind next_grant is_keyword
-brace_opens name rest = option_map_id (grants_behind (Braced (for_no_prefix name)) rest)
+brace_opens : (name : List ℕ) (rest : List (List ℕ)) → grants_after (Named name) (codes "{" ∷ rest) ≡ grants_after (Braced (for_no_prefix name)) rest
+unfolding grants_after next_grant is_keyword
+brace_opens name rest = option_map_id (grants_after (Braced (for_no_prefix name)) rest)
 
 abbrev with_ranges : GrantParts → List RangeParts → GrantParts
 with_ranges grant ranges = record { name = grant.name; any = grant.any; ranges = grant.ranges ++ ranges }
@@ -379,47 +379,47 @@ good_rest item listed None at good = absurd (let bad = rw at at good in cc bad)
 good_rest item listed (Some range) at good = (range, (refl, rw at at good))
 
 ranges_read : (listed rest : List (List ℕ)) (grant : GrantParts) → are_good range_item listed ≡ true
-    → grants_behind (Braced grant) (listed ++ (codes "}" ∷ rest))
-    ≡ option_map (λ es. with_ranges grant (meant range_item listed) ∷ es) (grants_behind Nothing rest)
-unfolding grants_behind next_grant
+    → grants_after (Braced grant) (listed ++ (codes "}" ∷ rest))
+    ≡ option_map (λ es. with_ranges grant (meant range_item listed) ∷ es) (grants_after Nothing rest)
+unfolding grants_after next_grant
 ranges_read [] rest grant good =
-    ap (λ g. option_map (λ es. g ∷ es) (grants_behind Nothing rest))
+    ap (λ g. option_map (λ es. g ∷ es) (grants_after Nothing rest))
     (λ i. record { name = grant.name; any = grant.any; ranges = sym (append-nil grant.ranges) i })
 ranges_read (item ∷ listed) rest grant good =
     let first = good_rest item listed (range_item item) refl good in
     let no_closing = closing_no_range item first.0 (is_closing item) refl first.1.0 in
     let next = next_range grant first.0 (is_closing item) (range_item item) no_closing first.1.0 in
     ap (after_next (listed ++ (codes "}" ∷ rest))) next
-    ∙ option_map_id (grants_behind (Braced (with_range grant first.0)) (listed ++ (codes "}" ∷ rest)))
+    ∙ option_map_id (grants_after (Braced (with_range grant first.0)) (listed ++ (codes "}" ∷ rest)))
     ∙ ranges_read listed rest (with_range grant first.0) first.1.1
-    ∙ ap (λ g. option_map (λ es. g ∷ es) (grants_behind Nothing rest))
+    ∙ ap (λ g. option_map (λ es. g ∷ es) (grants_after Nothing rest))
     (range_then grant first.0 (meant range_item listed) ∙ ap (with_ranges grant) (sym (meant_first item listed first.0 first.1.0)))
 
 entry_read : (grant : GrantParts) (items rest : List (List ℕ)) → IsGrant items grant → (rest ≡ []) ⊎ IsLed rest
-    → grants_behind Nothing (items ++ rest) ≡ option_map (λ es. grant ∷ es) (grants_behind Nothing rest)
+    → grants_after Nothing (items ++ rest) ≡ option_map (λ es. grant ∷ es) (grants_after Nothing rest)
 entry_read grant items rest (inl e) led =
     rw e.spelled
     (name_first e.item grant.name rest e.named ∙ name_ends grant.name rest led
-    ∙ ap (λ g. option_map (λ es. g ∷ es) (grants_behind Nothing rest)) (sym e.value))
+    ∙ ap (λ g. option_map (λ es. g ∷ es) (grants_after Nothing rest)) (sym e.value))
 entry_read grant items rest (inr (inl e)) led =
     rw e.spelled
     (name_first e.item grant.name (e.keyword ∷ rest) e.named ∙ any_ends grant.name e.keyword rest e.any
-    ∙ ap (λ g. option_map (λ es. g ∷ es) (grants_behind Nothing rest)) (sym e.value))
+    ∙ ap (λ g. option_map (λ es. g ∷ es) (grants_after Nothing rest)) (sym e.value))
 entry_read grant items rest (inr (inr e)) led =
     rw e.spelled
     (name_first e.item grant.name (codes "{" ∷ ((e.listed ++ (codes "}" ∷ [])) ++ rest)) e.named
     ∙ brace_opens grant.name ((e.listed ++ (codes "}" ∷ [])) ++ rest)
-    ∙ ap (grants_behind (Braced (for_no_prefix grant.name))) (append_assoc e.listed (codes "}" ∷ []) rest)
+    ∙ ap (grants_after (Braced (for_no_prefix grant.name))) (append_assoc e.listed (codes "}" ∷ []) rest)
     ∙ ranges_read e.listed rest (for_no_prefix grant.name) e.good
-    ∙ ap (λ g. option_map (λ es. g ∷ es) (grants_behind Nothing rest)) (sym e.value))
+    ∙ ap (λ g. option_map (λ es. g ∷ es) (grants_after Nothing rest)) (sym e.value))
 
-spelled_behind : (grants : List GrantParts) (items : List (List ℕ)) → AreGrants grants items → grants_behind Nothing items ≡ Some grants
-unfolding grants_behind
-spelled_behind [] items e = rw e refl
-spelled_behind (grant ∷ grants) items e =
+spelled_after : (grants : List GrantParts) (items : List (List ℕ)) → AreGrants grants items → grants_after Nothing items ≡ Some grants
+unfolding grants_after
+spelled_after [] items e = rw e refl
+spelled_after (grant ∷ grants) items e =
     rw e.cut
     (entry_read grant e.front e.rest e.first (entries_led grants e.rest e.others)
-    ∙ ap (option_map (λ es. grant ∷ es)) (spelled_behind grants e.rest e.others))
+    ∙ ap (option_map (λ es. grant ∷ es)) (spelled_after grants e.rest e.others))
 
 pub spelled_grants_are_read : SpelledGrantsAreRead
-spelled_grants_are_read items grants e = spelled_behind grants items e
+spelled_grants_are_read items grants e = spelled_after grants items e

@@ -50,12 +50,12 @@ has_parts (Route p n) is = is
 has_parts (AsSet n) is = is.text
 has_parts (RouteSet n) is = is.text
 
-behind_test : (t : Bool) (o : Option (List ℕ)) (name : List ℕ) → cond t o None ≡ Some name → o ≡ Some name
-behind_test true o name e = e
-behind_test false o name e = absurd (cc)
+after_test : (t : Bool) (o : Option (List ℕ)) (name : List ℕ) → cond t o None ≡ Some name → o ≡ Some name
+after_test true o name e = e
+after_test false o name e = absurd (cc)
 
 maintainer_formed : (text name : List ℕ) → maintainer_name_of text ≡ Some name → IsUpperName name
-maintainer_formed text name e = name_of-kept text name (behind_test (is_maintainer_name (upper text)) (name_of text) name e)
+maintainer_formed text name e = name_of-kept text name (after_test (is_maintainer_name (upper text)) (name_of text) name e)
 
 block_formed : (text : List ℕ) (s : Ends) → as_span_of text ≡ Some s → IsAsSpan s
 block_formed text s e =

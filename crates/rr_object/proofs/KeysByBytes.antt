@@ -76,7 +76,7 @@ span_cmp digits bound tell s t so sl to tl =
     ∙ ap (ordering_then _) (tell.order s.last t.last sl tl)
     ∙ ap (λ o. ordering_then o (nat_cmp s.last t.last)) (tell.order s.first t.first (omega arith) (omega arith))
 
--- a route's length and origin behind its address
+-- a route's length and origin after its address
 rest_cmp : (digits : ℕ → List ℕ) (bound : ℕ) → TellNumbers digits bound → (k l m n : ℕ) → m ≤ bound → n ≤ bound
     → slice_cmp nat_cmp (47 ∷ (length_bytes k ++ (45 ∷ digits m))) (47 ∷ (length_bytes l ++ (45 ∷ digits n)))
     ≡ ordering_then (nat_cmp k l) (nat_cmp m n)

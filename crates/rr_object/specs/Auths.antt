@@ -1,5 +1,6 @@
 -- Values of `auth` (RFC 2622, 3; the scheme `SHA256-PW`: profile).
-use Rattle.std.specs.Prelude.{ℕ, Bool, ◌&&◌, nat_le, length, List, [], ◌∷◌, Option, Some, None, codes, if◌then◌else◌}
+use Rattle.std.specs.Prelude.{ℕ, Bool, ◌&&◌, nat_le, length, List, [], ◌∷◌, Option}
+use Rattle.std.specs.Prelude.{Some, None, codes, if◌then◌else◌}
 use Rattle.std.specs.Char.{is_ascii_alphanumeric}
 use Rattle.std.specs.List.{list_all, before_first, after_first}
 use Rattle.std.specs.Option.{option_map, option_and_then}
@@ -20,19 +21,21 @@ unfoldable pub salted_digest_of : List ℕ → Option AuthParts
 salted_digest_of word =
     let salt = before_first is_colon word in
     if is_salt salt then
-    option_map (λ digest. record { salt = salt; digest = digest }) (result_ok (decode_sized (after_first is_colon word) 32))
+    option_map (λ digest. record { salt = salt; digest = digest })
+    (result_ok (decode_sized (after_first is_colon word) 32))
     else None
 
 -- the scheme whose lines are read, in any letter case (profile)
 abbrev pub is_sha256_pw : List ℕ → Bool
 is_sha256_pw word = is_keyword (codes "sha256-pw") word
 
--- a scheme and what stands behind it: one word for `SHA256-PW`; another scheme is well spelled and stands
--- for nothing; no word at all is badly spelled (RFC 2622, 3; profile)
+-- a scheme and what stands after it: one word for `SHA256-PW`; another scheme is well spelled and
+-- stands for nothing; no word at all is badly spelled (RFC 2622, 3; profile)
 unfoldable pub auth_of_words : List (List ℕ) → Option (Option AuthParts)
 auth_of_words [] = None
 auth_of_words (scheme ∷ further) =
-    if is_sha256_pw scheme then option_map Some (option_and_then salted_digest_of (only further)) else Some None
+    if is_sha256_pw scheme then option_map Some (option_and_then salted_digest_of (only further))
+    else Some None
 
 -- a value of `auth`: the words of it (RFC 2622, 3)
 abbrev pub auth_item : List ℕ → Option (Option AuthParts)

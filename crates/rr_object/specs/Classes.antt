@@ -2,11 +2,13 @@
 use Rattle.std.specs.Prelude.{ℕ, List, [], ◌∷◌, Option, codes, find}
 use Rattle.std.specs.Str.{bytes_eq}
 use Rattle.rr_object.specs.declared.class.Class.{Class}
-use Rattle.rr_object.specs.declared.class.Class.TheVariants.{Mntner, AsBlock, AutNum, Inetnum, Route, AsSet, RouteSet}
+use Rattle.rr_object.specs.declared.class.Class.TheVariants.{Mntner, AsBlock, AutNum, Inetnum}
+use Rattle.rr_object.specs.declared.class.Class.TheVariants.{Route, AsSet, RouteSet}
 
 -- the classes in the order of answers and dumps (profile)
 abbrev pub all_classes : List Class
-all_classes = Mntner ∷ (AsBlock ∷ (AutNum ∷ (Inetnum ∷ (Route ∷ (AsSet ∷ (RouteSet ∷ []))))))
+all_classes =
+    Mntner ∷ (AsBlock ∷ (AutNum ∷ (Inetnum ∷ (Route ∷ (AsSet ∷ (RouteSet ∷ []))))))
 
 -- the number of a class, its place in that order (profile)
 abbrev pub class_number : Class → ℕ

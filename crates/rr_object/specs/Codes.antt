@@ -1,7 +1,9 @@
 -- The codes of refused items.
 use Rattle.std.specs.Prelude.{ℕ, List, codes}
 use Rattle.rr_object.specs.declared.code.Code.{Code}
-use Rattle.rr_object.specs.declared.code.Code.TheVariants.{E01, E02, E03, E04, E05, E06, E07, E10, E11, E12, E13, E14, E15, E16, E17, E18, E90, E91, E92}
+use Rattle.rr_object.specs.declared.code.Code.TheVariants.{E01, E02, E03, E04, E05, E06, E07, E10}
+use Rattle.rr_object.specs.declared.code.Code.TheVariants.{E11, E12, E13, E14, E15, E16, E17, E18}
+use Rattle.rr_object.specs.declared.code.Code.TheVariants.{E90, E91, E92}
 
 -- a code as reports print it (profile)
 abbrev pub code_name : Code → List ℕ

@@ -1,6 +1,7 @@
--- Why a paragraph is no object.
+-- Why a paragraph is not an object.
 use Rattle.rr_object.specs.declared.fault.ObjectFault.{ObjectFault}
-use Rattle.rr_object.specs.declared.fault.ObjectFault.TheVariants.{UnknownClass, BadKey, BadCount, BadValue, OtherSource, Memory}
+use Rattle.rr_object.specs.declared.fault.ObjectFault.TheVariants.{UnknownClass, BadKey, BadCount}
+use Rattle.rr_object.specs.declared.fault.ObjectFault.TheVariants.{BadValue, OtherSource, Memory}
 use Rattle.rr_object.specs.declared.code.Code.{Code}
 use Rattle.rr_object.specs.declared.code.Code.TheVariants.{E02, E03, E04, E05, E06, E90}
 

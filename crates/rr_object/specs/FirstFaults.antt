@@ -1,11 +1,13 @@
 -- When a paragraph has each fault, and which fault is the first.
-use Rattle.std.specs.Prelude.{◌≡◌, ℕ, Bool, false, not, List, [], ◌∷◌, Option, None, is_none, find, Ok}
+use Rattle.std.specs.Prelude.{◌≡◌, ℕ, Bool, false, not, List, [], ◌∷◌, Option, None}
+use Rattle.std.specs.Prelude.{is_none, find, Ok}
 use Rattle.std.specs.Option.{option_map_or}
 use Rattle.std.specs.Result.{result_err, result_ok}
 use Rattle.rr_text.specs.Fields.{Field}
 use Rattle.rr_object.specs.declared.class.Class.{Class}
 use Rattle.rr_object.specs.declared.fault.ObjectFault.{ObjectFault}
-use Rattle.rr_object.specs.declared.fault.ObjectFault.TheVariants.{UnknownClass, BadKey, BadCount, BadValue, OtherSource, Memory}
+use Rattle.rr_object.specs.declared.fault.ObjectFault.TheVariants.{UnknownClass, BadKey, BadCount}
+use Rattle.rr_object.specs.declared.fault.ObjectFault.TheVariants.{BadValue, OtherSource, Memory}
 use Rattle.rr_object.specs.declared.key.Key.{Key}
 use Rattle.rr_object.specs.Classes.{class_named}
 use Rattle.rr_object.specs.KeySpellings.{key_of}
@@ -21,8 +23,9 @@ class_in (first ∷ others) = class_named first.name
 abbrev pub in_its_class : (Class → List Field → Bool) → List Field → Bool
 in_its_class fact fields = option_map_or (λ class. fact class fields) (class_in fields) false
 
--- a paragraph has a fault: its first attribute names no class; its key is none of its class; an attribute is missing,
--- has no item or is repeated; a value is bad; its source is not the registry's (profile)
+-- a paragraph has a fault: its first attribute names no class; its key is none of its class; an
+-- attribute is missing, has no item or is repeated; a value is bad; its source is not the
+-- registry's (profile)
 abbrev pub has_fault : List ℕ → List Field → ObjectFault → Bool
 has_fault source fields UnknownClass = is_none (class_in fields)
 has_fault source fields BadKey = is_none (result_ok (key_of fields))
@@ -41,10 +44,12 @@ first_fault source fields = find (has_fault source fields) fault_order
 
 -- a paragraph is refused for its first fault, and only for a fault (profile)
 abbrev pub FirstFaultIsTold : Type 0
-FirstFaultIsTold = (fields : List Field) (source : List ℕ) → result_err (object_of fields source) ≡ first_fault source fields
+FirstFaultIsTold = (fields : List Field) (source : List ℕ)
+    → result_err (object_of fields source) ≡ first_fault source fields
 
 -- an object says what its paragraph says (RFC 2622, 2)
 abbrev pub ObjectsSayTheirParagraphs : Type 0
 ObjectsSayTheirParagraphs =
-    (fields : List Field) (source : List ℕ) (object : Obj) → object_of fields source ≡ Ok object
+    (fields : List Field) (source : List ℕ) (object : Obj)
+    → object_of fields source ≡ Ok object
     → (key : Key) × ((key_of fields ≡ Ok key) × (object ≡ obj_at key fields))

@@ -1,5 +1,6 @@
 -- How lists of items spell entries of `mnt-routes` (RFC 2725, 10; what follows a name: profile).
-use Rattle.std.specs.Prelude.{◌≡◌, ℕ, true, false, ◌⊎◌, List, [], ◌∷◌, ◌++◌, Some, codes}
+use Rattle.std.specs.Prelude.{◌≡◌, ℕ, true, false, ◌⊎◌, List, [], ◌∷◌, ◌++◌}
+use Rattle.std.specs.Prelude.{Some, codes}
 use Rattle.rr_number.specs.Names.{maintainer_name_of}
 use Rattle.rr_object.specs.Grants.{for_each_prefix, grants_of, is_any, range_item}
 use Rattle.rr_object.specs.Items.{are_good, meant}
@@ -21,8 +22,8 @@ pub record IsNameWithAny (items : List (List ℕ)) (grant : GrantParts) : Type 0
   pub any : is_any keyword ≡ true
   pub value : grant ≡ for_each_prefix grant.name
 
--- a maintainer's name and well spelled ranges in braces are an entry for what these ranges admit (RFC 2725, 10);
--- a dropped range stands for nothing (profile)
+-- a maintainer's name and well spelled ranges in braces are an entry for what these ranges admit
+-- (RFC 2725, 10); a dropped range stands for nothing (profile)
 pub record IsNameWithRanges (items : List (List ℕ)) (grant : GrantParts) : Type 0 where
   pub item : List ℕ
   pub listed : List (List ℕ)
@@ -33,27 +34,33 @@ pub record IsNameWithRanges (items : List (List ℕ)) (grant : GrantParts) : Typ
 
 -- an entry is spelled in one of these three ways (RFC 2725, 10; profile)
 abbrev pub IsGrant : List (List ℕ) → GrantParts → Type 0
-IsGrant items grant = IsNameAlone items grant ⊎ (IsNameWithAny items grant ⊎ IsNameWithRanges items grant)
+IsGrant items grant =
+    IsNameAlone items grant ⊎ (IsNameWithAny items grant ⊎ IsNameWithRanges items grant)
 
--- items spell entries where they are those of the first and, behind them, those of the others (RFC 2725, 10)
-pub record IsFrontThenRest (Front Rest : List (List ℕ) → Type 0) (items : List (List ℕ)) : Type 0 where
+-- items spell entries where they are those of the first and, after them, those of the others
+-- (RFC 2725, 10)
+pub record IsFrontThenRest (Front Rest : List (List ℕ) → Type 0)
+    (items : List (List ℕ)) : Type 0 where
   pub front : List (List ℕ)
   pub rest : List (List ℕ)
   pub cut : items ≡ front ++ rest
   pub first : Front front
   pub others : Rest rest
 
--- items that spell these entries, one behind another (RFC 2725, 10)
+-- items that spell these entries, one after another (RFC 2725, 10)
 abbrev pub AreGrants : List GrantParts → List (List ℕ) → Type 0
 AreGrants [] items = items ≡ []
-AreGrants (grant ∷ grants) items = IsFrontThenRest (λ front. IsGrant front grant) (AreGrants grants) items
+AreGrants (grant ∷ grants) items =
+    IsFrontThenRest (λ front. IsGrant front grant) (AreGrants grants) items
 
 -- what is read of items is what they spell (RFC 2725, 10)
 abbrev pub ReadGrantsAreSpelled : Type 0
 ReadGrantsAreSpelled =
-    (items : List (List ℕ)) (grants : List GrantParts) → grants_of items ≡ Some grants → AreGrants grants items
+    (items : List (List ℕ)) (grants : List GrantParts) → grants_of items ≡ Some grants
+    → AreGrants grants items
 
 -- what items spell is read of them (RFC 2725, 10)
 abbrev pub SpelledGrantsAreRead : Type 0
 SpelledGrantsAreRead =
-    (items : List (List ℕ)) (grants : List GrantParts) → AreGrants grants items → grants_of items ≡ Some grants
+    (items : List (List ℕ)) (grants : List GrantParts) → AreGrants grants items
+    → grants_of items ≡ Some grants

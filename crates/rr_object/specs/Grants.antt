@@ -1,5 +1,6 @@
 -- Entries of `mnt-routes` (RFC 2725, 10; what follows a name: profile).
-use Rattle.std.specs.Prelude.{ℕ, Bool, true, false, List, [], ◌∷◌, ◌++◌, Option, Some, None, codes, if◌then◌else◌}
+use Rattle.std.specs.Prelude.{ℕ, Bool, true, false, List, [], ◌∷◌, ◌++◌, Option, Some}
+use Rattle.std.specs.Prelude.{None, codes, if◌then◌else◌}
 use Rattle.std.specs.Option.{option_map, option_and_then, option_to_list}
 use Rattle.std.specs.Str.{bytes_eq}
 use Rattle.rr_number.specs.Names.{maintainer_name_of}
@@ -22,8 +23,8 @@ is_opening item = bytes_eq item (codes "{")
 abbrev pub is_closing : List ℕ → Bool
 is_closing item = bytes_eq item (codes "}")
 
--- a prefix with an operator or none; a range that the operator empties is well spelled and stands for
--- nothing (RFC 2622, 2; profile)
+-- a prefix with an operator or none; a range that the operator empties is well spelled and stands
+-- for nothing (RFC 2622, 2; profile)
 unfoldable pub range_item : List ℕ → Option (Option RangeParts)
 range_item item = option_map (λ ranged. applied ranged.1 (bare ranged.0)) (ranged_of item)
 
@@ -41,8 +42,9 @@ with_range grant None = grant
 with_range grant (Some range) =
     record { name = grant.name; any = grant.any; ranges = grant.ranges ++ range ∷ [] }
 
--- what an item adds to the entry that was begun: the entry that it ends, if it ends one, and what is begun then. An
--- entry is a maintainer's name, then `ANY`, ranges in braces, or nothing, which means `ANY` (RFC 2725, 10; profile)
+-- what an item adds to the entry that was begun: the entry that it ends, if it ends one, and what
+-- is begun then. An entry is a maintainer's name, then `ANY`, ranges in braces, or nothing, which
+-- means `ANY` (RFC 2725, 10; profile)
 unfoldable pub next_grant : Begun → List ℕ → Option (Option GrantParts × Begun)
 next_grant Nothing item = option_map (λ name. (None, Named name)) (maintainer_name_of item)
 next_grant (Named name) item =
@@ -59,12 +61,14 @@ last_grant Nothing = Some []
 last_grant (Named name) = Some (for_each_prefix name ∷ [])
 last_grant (Braced grant) = None
 
--- the entries of a list of items behind what was begun; nothing where one is badly spelled (RFC 2725, 10)
-unfoldable pub grants_behind : Begun → List (List ℕ) → Option (List GrantParts)
-grants_behind begun [] = last_grant begun
-grants_behind begun (item ∷ others) =
-    option_and_then (λ next. option_map (λ grants. option_to_list next.0 ++ grants) (grants_behind next.1 others)) (next_grant begun item)
+-- the entries of a list of items after what was begun; nothing where one is badly spelled
+-- (RFC 2725, 10)
+unfoldable pub grants_after : Begun → List (List ℕ) → Option (List GrantParts)
+grants_after begun [] = last_grant begun
+grants_after begun (item ∷ others) =
+    option_and_then (λ next. option_map (λ grants. option_to_list next.0 ++ grants)
+    (grants_after next.1 others)) (next_grant begun item)
 
 -- the entries of a list of items (RFC 2725, 10)
 abbrev pub grants_of : List (List ℕ) → Option (List GrantParts)
-grants_of listed = grants_behind Nothing listed
+grants_of listed = grants_after Nothing listed

@@ -1,5 +1,6 @@
 -- The values of a paragraph's attributes, and the items of lists.
-use Rattle.std.specs.Prelude.{ℕ, Bool, ◌==◌, ◌||◌, List, [], ◌∷◌, ◌++◌, Option, Some, None, is_some, filter, map, if◌then◌else◌}
+use Rattle.std.specs.Prelude.{ℕ, Bool, ◌==◌, ◌||◌, List, [], ◌∷◌, ◌++◌, Option}
+use Rattle.std.specs.Prelude.{Some, None, is_some, filter, map, if◌then◌else◌}
 use Rattle.std.specs.List.{flat_map, filter_map, list_all}
 use Rattle.rr_bytes.specs.Blanks.{is_blank_or_comma}
 use Rattle.rr_bytes.specs.Parts.{parts_at}
@@ -36,7 +37,8 @@ spaced text = flat_map (λ b. if is_brace b then 32 ∷ (b ∷ (32 ∷ [])) else
 abbrev pub are_good : {X : Type 0} → (List ℕ → Option (Option X)) → List (List ℕ) → Bool
 are_good read listed = list_all (λ item. is_some (read item)) listed
 
--- what an item stands for: nothing where it is badly spelled, and where it is well spelled and dropped (profile)
+-- what an item stands for: nothing where it is badly spelled, and where it is well spelled and
+-- dropped (profile)
 abbrev pub meant_by : {X : Type 0} → Option (Option X) → Option X
 meant_by None = None
 meant_by (Some meant) = meant

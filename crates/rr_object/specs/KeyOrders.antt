@@ -12,7 +12,8 @@ use Rattle.rr_number.specs.declared.set_kind.SetKind.{SetKind}
 use Rattle.rr_number.specs.declared.set_kind.SetKind.TheVariants as kinds
 use Rattle.rr_number.specs.Spans.{IsSpan}
 use Rattle.rr_object.specs.declared.key.Key.{Key}
-use Rattle.rr_object.specs.declared.key.Key.TheVariants.{Mntner, AsBlock, AutNum, Inetnum, Route, AsSet, RouteSet}
+use Rattle.rr_object.specs.declared.key.Key.TheVariants.{Mntner, AsBlock, AutNum, Inetnum, Route}
+use Rattle.rr_object.specs.declared.key.Key.TheVariants.{AsSet, RouteSet}
 use Rattle.rr_object.specs.Classes.{class_number}
 use Rattle.rr_object.specs.Keys.{class_of}
 use Rattle.rr_object.specs.KeyTexts.{key_bytes}
@@ -22,7 +23,8 @@ pub record IsRoute (prefix : PrefixParts) (origin : ℕ) : Type 0 where
   pub masked : IsMasked prefix
   pub numbered : origin ≤ greatest_as_number
 
--- a registered set has a name of its kind (RFC 2622, 5), which is not `AS-ANY` or `RS-ANY` (profile)
+-- a registered set has a name of its kind (RFC 2622, 5), which is not `AS-ANY` or `RS-ANY`
+-- (profile)
 pub record IsSetKey (kind : SetKind) (name : List ℕ) : Type 0 where
   pub text : IsSetText name
   pub of_kind : kind_of name ≡ kind
@@ -38,7 +40,8 @@ HasKeyParts (Route prefix origin) = IsRoute prefix origin
 HasKeyParts (AsSet name) = IsSetText name
 HasKeyParts (RouteSet name) = IsSetText name
 
--- a key is well formed where it has such parts, and a set's name is one of the key's class (RFC 2622, 2 and 5; profile)
+-- a key is well formed where it has such parts, and a set's name is one of the key's class
+-- (RFC 2622, 2 and 5; profile)
 abbrev pub IsKeyValue : Key → Type 0
 IsKeyValue (Mntner name) = IsUpperName name
 IsKeyValue (AsBlock block) = IsAsSpan block
@@ -58,17 +61,22 @@ words_of (Route p n) = p.address ∷ (p.length ∷ (n ∷ []))
 words_of (AsSet n) = n
 words_of (RouteSet n) = n
 
--- keys in the order of a registry: by the class's number, then by these numbers as in a dictionary (profile)
+-- keys in the order of a registry: by the class's number, then by these numbers as in a dictionary
+-- (profile)
 abbrev pub key_cmp : Key → Key → Ordering
 key_cmp a b =
-    ordering_then (nat_cmp (class_number (class_of a)) (class_number (class_of b))) (slice_cmp nat_cmp (words_of a) (words_of b))
+    ordering_then (nat_cmp (class_number (class_of a)) (class_number (class_of b)))
+    (slice_cmp nat_cmp (words_of a) (words_of b))
 
--- keys in the order of answers and dumps: by the number of the class, then by the bytes as in a dictionary (profile)
+-- keys in the order of answers and dumps: by the number of the class, then by the bytes as in a
+-- dictionary (profile)
 abbrev pub class_and_bytes_cmp : Key → Key → Ordering
 class_and_bytes_cmp a b =
-    ordering_then (nat_cmp (class_number (class_of a)) (class_number (class_of b))) (slice_cmp nat_cmp (key_bytes a) (key_bytes b))
+    ordering_then (nat_cmp (class_number (class_of a)) (class_number (class_of b)))
+    (slice_cmp nat_cmp (key_bytes a) (key_bytes b))
 
 -- two keys of a class have equal bytes only if they are equal (profile)
 abbrev pub BytesTellKeys : Type 0
 BytesTellKeys =
-    (a b : Key) → IsKeyValue a → IsKeyValue b → class_of a ≡ class_of b → key_bytes a ≡ key_bytes b → a ≡ b
+    (a b : Key) → IsKeyValue a → IsKeyValue b → class_of a ≡ class_of b
+    → key_bytes a ≡ key_bytes b → a ≡ b

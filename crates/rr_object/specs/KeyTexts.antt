@@ -8,7 +8,8 @@ use Rattle.rr_number.specs.Prefixes.{PrefixParts, prefix_text}
 use Rattle.rr_number.specs.Spans.{Ends}
 use Rattle.rr_number.specs.SpanTexts.{span_text}
 use Rattle.rr_object.specs.declared.key.Key.{Key}
-use Rattle.rr_object.specs.declared.key.Key.TheVariants.{Mntner, AsBlock, AutNum, Inetnum, Route, AsSet, RouteSet}
+use Rattle.rr_object.specs.declared.key.Key.TheVariants.{Mntner, AsBlock, AutNum, Inetnum, Route}
+use Rattle.rr_object.specs.declared.key.Key.TheVariants.{AsSet, RouteSet}
 
 -- a key as reports print it: a route's is its prefix, a blank and its origin (profile)
 abbrev pub key_text : Key → List ℕ

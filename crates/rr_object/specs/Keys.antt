@@ -6,7 +6,8 @@ use Rattle.rr_number.specs.declared.set_kind.SetKind.TheVariants as kinds
 use Rattle.rr_object.specs.declared.class.Class.{Class}
 use Rattle.rr_object.specs.declared.key.Key.{Key}
 use Rattle.rr_object.specs.declared.class.Class.TheVariants as class
-use Rattle.rr_object.specs.declared.key.Key.TheVariants.{Mntner, AsBlock, AutNum, Inetnum, Route, AsSet, RouteSet}
+use Rattle.rr_object.specs.declared.key.Key.TheVariants.{Mntner, AsBlock, AutNum, Inetnum, Route}
+use Rattle.rr_object.specs.declared.key.Key.TheVariants.{AsSet, RouteSet}
 
 -- the class of the object that a key names (RFC 2622, 2)
 abbrev pub class_of : Key → Class
@@ -18,7 +19,8 @@ class_of (Route prefix origin) = class.Route
 class_of (AsSet name) = class.AsSet
 class_of (RouteSet name) = class.RouteSet
 
--- the key of the set of a kind and a name: as-sets and route-sets are told apart by their names (RFC 2622, 5)
+-- the key of the set of a kind and a name: as-sets and route-sets are told apart by their names
+-- (RFC 2622, 5)
 abbrev pub key_of_kind : SetKind → List ℕ → Key
 key_of_kind kinds.AsSet name = AsSet name
 key_of_kind kinds.RouteSet name = RouteSet name

@@ -1,9 +1,11 @@
 -- The interpreted attributes, and how often each stands in an object of each class.
 use Rattle.std.specs.Prelude.{ℕ, Bool, true, false, List, codes}
 use Rattle.rr_object.specs.declared.class.Class.{Class}
-use Rattle.rr_object.specs.declared.class.Class.TheVariants.{Mntner, AsBlock, AutNum, Inetnum, Route, AsSet, RouteSet}
+use Rattle.rr_object.specs.declared.class.Class.TheVariants.{Mntner, AsBlock, AutNum, Inetnum}
+use Rattle.rr_object.specs.declared.class.Class.TheVariants.{Route, AsSet, RouteSet}
 use Rattle.rr_object.specs.declared.kind.Kind.{Kind}
-use Rattle.rr_object.specs.declared.kind.Kind.TheVariants.{MntBy, Source, Auth, MntLower, MntRoutes, Origin, MemberOf, Members, MbrsByRef}
+use Rattle.rr_object.specs.declared.kind.Kind.TheVariants.{MntBy, Source, Auth, MntLower, MntRoutes}
+use Rattle.rr_object.specs.declared.kind.Kind.TheVariants.{Origin, MemberOf, Members, MbrsByRef}
 use Rattle.rr_object.specs.declared.kind.Occurs.{Occurs}
 use Rattle.rr_object.specs.declared.kind.Occurs.TheVariants.{Once, WithItems, Freely, AsText}
 
@@ -19,8 +21,9 @@ kind_name MemberOf = codes "member-of"
 kind_name Members = codes "members"
 kind_name MbrsByRef = codes "mbrs-by-ref"
 
--- how often an attribute stands in an object of a class: once, with at least one item over all occurrences,
--- freely; or it is kept as text there and not read (RFC 2622, 3 to 6; RFC 2725, 10; profile)
+-- how often an attribute stands in an object of a class: once, with at least one item over all
+-- occurrences, freely; or it is kept as text there and not read (RFC 2622, 3 to 6; RFC 2725, 10;
+-- profile)
 unfoldable pub occurs : Kind → Class → Occurs
 occurs MntBy class = WithItems
 occurs Source class = Once

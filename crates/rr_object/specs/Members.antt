@@ -1,5 +1,6 @@
 -- Items of `members`, `member-of` and `mbrs-by-ref`, and maintainers' names (RFC 2622, 5).
-use Rattle.std.specs.Prelude.{ℕ, Bool, true, false, ◌==◌, is_some, List, Option, Some, None, if◌then◌else◌}
+use Rattle.std.specs.Prelude.{ℕ, Bool, true, false, ◌==◌, is_some, List, Option, Some, None}
+use Rattle.std.specs.Prelude.{if◌then◌else◌}
 use Rattle.std.specs.List.{before_first}
 use Rattle.std.specs.Option.{option_map, option_and_then}
 use Rattle.rr_number.specs.declared.operator.Operator.TheVariants.{Plain}
@@ -36,17 +37,20 @@ is_as_set_kind RouteSet = false
 -- an AS number, or a set's name (RFC 2622, 5)
 unfoldable pub member_set_of : List ℕ → Option MemberSet
 member_set_of item =
-    if is_some (as_number_of item) then option_map AutNum (as_number_of item) else option_map Set (set_name_of item)
+    if is_some (as_number_of item) then option_map AutNum (as_number_of item)
+    else option_map Set (set_name_of item)
 
 -- as-sets list AS numbers and as-sets (RFC 2622, 5)
 abbrev pub is_in_as_sets : MemberSet → Bool
 is_in_as_sets (AutNum number) = true
 is_in_as_sets (Set name) = is_as_set_kind (kind_of name)
 
--- an item of an as-set: an AS number, or an as-set's name, `AS-ANY` among them; no operator (RFC 2622, 5)
+-- an item of an as-set: an AS number, or an as-set's name, `AS-ANY` among them; no operator
+-- (RFC 2622, 5)
 unfoldable pub as_set_item : List ℕ → Option (Option Member)
 as_set_item item =
-    option_and_then (λ set. if is_in_as_sets set then Some (Some (member.Set set Plain)) else None) (member_set_of item)
+    option_and_then (λ set. if is_in_as_sets set then Some (Some (member.Set set Plain)) else None)
+    (member_set_of item)
 
 -- an AS number or a set's name, with an operator or none (RFC 2622, 5)
 unfoldable pub operated_set : List ℕ → Option Member

@@ -8,7 +8,8 @@ use Rattle.rr_object.specs.declared.key.Key.{Key}
 use Rattle.rr_object.specs.declared.member.Member.{Member}
 use Rattle.rr_object.specs.Parts.{GrantParts, AuthParts, ByRefParts}
 
--- an object: its key, its paragraph, and what the interpreted attributes of it say (RFC 2622, 2 to 6; RFC 2725, 10)
+-- an object: its key, its paragraph, and what the interpreted attributes of it say (RFC 2622, 2 to
+-- 6; RFC 2725, 10)
 pub record Obj : Type 0 where
   pub key : Key
   pub paragraph : List Field
@@ -20,11 +21,12 @@ pub record Obj : Type 0 where
   pub by_ref : ByRefParts
   pub member_of : List (List ℕ)
 
--- the maintainers that an object names in `mnt-by`, `mnt-lower`, `mnt-routes` and `mbrs-by-ref`, without `ANY`
--- (profile)
+-- the maintainers that an object names in `mnt-by`, `mnt-lower`, `mnt-routes` and `mbrs-by-ref`,
+-- without `ANY` (profile)
 abbrev pub names_of : Obj → List (List ℕ)
 names_of object =
-    ((object.maintainers ++ object.lower) ++ map (λ grant. grant.name) object.routes) ++ object.by_ref.names
+    ((object.maintainers ++ object.lower) ++ map (λ grant. grant.name) object.routes)
+    ++ object.by_ref.names
 
 -- the object names the maintainer in one of these attributes (profile)
 abbrev pub object_names : List ℕ → Obj → Bool

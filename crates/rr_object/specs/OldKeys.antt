@@ -1,5 +1,6 @@
--- Keys as bytes in tables of version 1, which knew AS numbers of two octets alone.
-use Rattle.std.specs.Prelude.{◌≡◌, ℕ, Bool, nat_le, List, [], ◌∷◌, Option, Some, None, if◌then◌else◌}
+-- Keys as bytes in tables of version 1, which knew 16-bit AS numbers alone.
+use Rattle.std.specs.Prelude.{◌≡◌, ℕ, Bool, nat_le, List, [], ◌∷◌, Option, Some, None}
+use Rattle.std.specs.Prelude.{if◌then◌else◌}
 use Rattle.std.specs.List.{filter_map, list_all}
 use Rattle.std.specs.Ordering.{ordering_then, nat_cmp}
 use Rattle.std.specs.Cmp.Lexicographic.{slice_cmp}
@@ -8,13 +9,14 @@ use Rattle.hex.specs.Hex.{encode_lower}
 use Rattle.rr_number.specs.AsNumbers.{as_number_of}
 use Rattle.rr_number.specs.SetNames.{components}
 use Rattle.rr_object.specs.declared.key.Key.{Key}
-use Rattle.rr_object.specs.declared.key.Key.TheVariants.{Mntner, AsBlock, AutNum, Inetnum, Route, AsSet, RouteSet}
+use Rattle.rr_object.specs.declared.key.Key.TheVariants.{Mntner, AsBlock, AutNum, Inetnum, Route}
+use Rattle.rr_object.specs.declared.key.Key.TheVariants.{AsSet, RouteSet}
 use Rattle.rr_object.specs.Classes.{class_number}
 use Rattle.rr_object.specs.Keys.{class_of}
 use Rattle.rr_object.specs.KeyOrders.{IsKeyValue, key_cmp}
 use Rattle.rr_object.specs.KeyTexts.{bytes_with}
 
--- an AS number of two octets (RFC 6793, 1)
+-- a 16-bit AS number (RFC 6793, 1)
 abbrev pub has_two_octets : ℕ → Bool
 has_two_octets number = nat_le number 65535
 
@@ -36,10 +38,11 @@ numbers_in (Route prefix origin) = origin ∷ []
 numbers_in (AsSet name) = numbers_among name
 numbers_in (RouteSet name) = numbers_among name
 
--- a key as bytes in tables of version 1: an AS number has four digits there, and a key with a greater number has no
--- such bytes (profile)
+-- a key as bytes in tables of version 1: an AS number has four digits there, and a key with a
+-- greater number has no such bytes (profile)
 abbrev pub old_key_bytes : Key → Option (List ℕ)
-old_key_bytes key = if list_all has_two_octets (numbers_in key) then Some (bytes_with four_digits key) else None
+old_key_bytes key =
+    if list_all has_two_octets (numbers_in key) then Some (bytes_with four_digits key) else None
 
 -- two keys of a class have equal old bytes only if they are equal (profile)
 abbrev pub OldBytesTellKeys : Type 0
@@ -47,9 +50,12 @@ OldBytesTellKeys =
     (a b : Key) (bytes : List ℕ) → IsKeyValue a → IsKeyValue b → class_of a ≡ class_of b
     → old_key_bytes a ≡ Some bytes → old_key_bytes b ≡ Some bytes → a ≡ b
 
--- keys that have old bytes are ordered by the numbers of their classes, then by these bytes (profile)
+-- keys that have old bytes are ordered by the numbers of their classes, then by these bytes
+-- (profile)
 abbrev pub OldBytesKeepOrder : Type 0
 OldBytesKeepOrder =
-    (a b : Key) (x y : List ℕ) → IsKeyValue a → IsKeyValue b → old_key_bytes a ≡ Some x → old_key_bytes b ≡ Some y
+    (a b : Key) (x y : List ℕ) → IsKeyValue a → IsKeyValue b → old_key_bytes a ≡ Some x
+    → old_key_bytes b ≡ Some y
     → key_cmp a b
-    ≡ ordering_then (nat_cmp (class_number (class_of a)) (class_number (class_of b))) (slice_cmp nat_cmp x y)
+    ≡ ordering_then (nat_cmp (class_number (class_of a)) (class_number (class_of b)))
+    (slice_cmp nat_cmp x y)

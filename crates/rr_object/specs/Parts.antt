@@ -2,7 +2,8 @@
 use Rattle.std.specs.Prelude.{ℕ, Bool, List}
 use Rattle.rr_number.specs.Ranges.{RangeParts}
 
--- an entry of `mnt-routes`: a maintainer, for each prefix or for those that a range admits (RFC 2725, 10)
+-- an entry of `mnt-routes`: a maintainer, for each prefix or for those that a range admits
+-- (RFC 2725, 10)
 pub record GrantParts : Type 0 where
   pub name : List ℕ
   pub any : Bool
@@ -13,7 +14,8 @@ pub record AuthParts : Type 0 where
   pub salt : List ℕ
   pub digest : List ℕ
 
--- whose objects may say that they belong to a set: anybody's, or those of these maintainers (RFC 2622, 5)
+-- whose objects may say that they belong to a set: anybody's, or those of these maintainers
+-- (RFC 2622, 5)
 pub record ByRefParts : Type 0 where
   pub any : Bool
   pub names : List (List ℕ)

@@ -1,5 +1,8 @@
--- The object that a paragraph is, or its first fault (RFC 2622, 2 to 6; RFC 2725, 10; the order: profile).
-use Rattle.std.specs.Prelude.{◌≡◌, ℕ, Bool, false, not, ◌==◌, ◌||◌, List, [], Option, is_none, unwrap_or, Result, Ok, Err, codes, map, count_by, if◌then◌else◌}
+-- The object that a paragraph is, or its first fault (RFC 2622, 2 to 6; RFC 2725, 10; the order:
+-- profile).
+use Rattle.std.specs.Prelude.{◌≡◌, ℕ, Bool, false, not, ◌==◌, ◌||◌, List, []}
+use Rattle.std.specs.Prelude.{Option, is_none, unwrap_or, Result, Ok, Err, codes, map, count_by}
+use Rattle.std.specs.Prelude.{if◌then◌else◌}
 use Rattle.std.specs.List.{list_any}
 use Rattle.std.specs.Option.{option_map_or, option_and_then}
 use Rattle.std.specs.Str.{bytes_eq}
@@ -10,7 +13,8 @@ use Rattle.rr_object.specs.declared.class.Class.TheVariants as class
 use Rattle.rr_object.specs.declared.key.Key.{Key}
 use Rattle.rr_object.specs.declared.member.Member.{Member}
 use Rattle.rr_object.specs.declared.kind.Kind.{Kind}
-use Rattle.rr_object.specs.declared.kind.Kind.TheVariants.{MntBy, Source, Auth, MntLower, MntRoutes, Origin, MemberOf, Members, MbrsByRef}
+use Rattle.rr_object.specs.declared.kind.Kind.TheVariants.{MntBy, Source, Auth, MntLower, MntRoutes}
+use Rattle.rr_object.specs.declared.kind.Kind.TheVariants.{Origin, MemberOf, Members, MbrsByRef}
 use Rattle.rr_object.specs.declared.fault.ObjectFault.{ObjectFault}
 use Rattle.rr_object.specs.declared.fault.ObjectFault.TheVariants.{BadCount, BadValue, OtherSource}
 use Rattle.rr_object.specs.declared.kind.Occurs.{Occurs}
@@ -23,11 +27,13 @@ use Rattle.rr_object.specs.Items.{only, values_of, items, joined, spaced, are_go
 use Rattle.rr_object.specs.Keys.{class_of}
 use Rattle.rr_object.specs.KeySpellings.{key_of}
 use Rattle.rr_object.specs.Kinds.{kind_name, is_read, occurs}
-use Rattle.rr_object.specs.Members.{maintainer_item, set_item, by_ref_item, as_set_item, route_set_item}
+use Rattle.rr_object.specs.Members.{maintainer_item, set_item, by_ref_item, as_set_item}
+use Rattle.rr_object.specs.Members.{route_set_item}
 use Rattle.rr_object.specs.Objects.{Obj}
 use Rattle.rr_object.specs.Parts.{ByRefParts}
 
--- the text in which the items of an attribute's values stand: a brace in `mnt-routes` is one by itself (profile)
+-- the text in which the items of an attribute's values stand: a brace in `mnt-routes` is one by
+-- itself (profile)
 abbrev pub list_text : Kind → List (List ℕ) → List ℕ
 list_text MntRoutes values = spaced (joined values)
 list_text MntBy values = joined values
@@ -39,7 +45,8 @@ list_text MemberOf values = joined values
 list_text Members values = joined values
 list_text MbrsByRef values = joined values
 
--- the items of an attribute's values together: each value of `auth` is one item (RFC 2622, 2; profile)
+-- the items of an attribute's values together: each value of `auth` is one item (RFC 2622, 2;
+-- profile)
 abbrev pub items_among : Kind → List (List ℕ) → List (List ℕ)
 items_among Auth values = values
 items_among MntRoutes values = items (list_text MntRoutes values)
@@ -63,9 +70,11 @@ items_read kind class fields = if is_read kind class then items_of kind fields e
 abbrev pub count_named : List ℕ → List Field → ℕ
 count_named name fields = count_by (has_name name) fields
 
--- an attribute stands more or less often than it may, or has no item where it needs one (RFC 2622, 2; profile)
+-- an attribute stands more or less often than it may, or has no item where it needs one
+-- (RFC 2622, 2; profile)
 abbrev pub breaks : Occurs → Kind → List Field → Bool
-breaks Once kind fields = not (count_named (kind_name kind) fields == 1) || not (is_filled (items_of kind fields))
+breaks Once kind fields =
+    not (count_named (kind_name kind) fields == 1) || not (is_filled (items_of kind fields))
 breaks WithItems kind fields = not (is_filled (items_of kind fields))
 breaks Freely kind fields = false
 breaks AsText kind fields = false
@@ -74,15 +83,16 @@ breaks AsText kind fields = false
 abbrev pub is_miscounted_in : Class → Kind → List Field → Bool
 is_miscounted_in class kind fields = breaks (occurs kind class) kind fields
 
--- an attribute is missing or has no item that an object of the class needs, or one that stands once is
--- repeated; the `origin` of a route is a part of its key and judged there (profile)
+-- an attribute is missing or has no item that an object of the class needs, or one that stands once
+-- is repeated; the `origin` of a route is a part of its key and judged there (profile)
 unfoldable pub is_miscounted : Class → List Field → Bool
 is_miscounted class fields =
     not (count_named (class_name class) fields == 1)
-    || (is_miscounted_in class MntBy fields || (is_miscounted_in class Source fields || is_miscounted_in class Auth fields))
+    || (is_miscounted_in class MntBy fields
+    || (is_miscounted_in class Source fields || is_miscounted_in class Auth fields))
 
--- an item of `members` in an object of a class: as-sets have their own rule, route-sets the other; the other classes
--- stand with route-sets here, but `members` is not read in them (RFC 2622, 5)
+-- an item of `members` in an object of a class: as-sets have their own rule, route-sets the other;
+-- the other classes stand with route-sets here, but `members` is not read in them (RFC 2622, 5)
 abbrev pub member_item : Class → List ℕ → Option (Option Member)
 member_item class.Mntner item = route_set_item item
 member_item class.AsBlock item = route_set_item item
@@ -108,7 +118,7 @@ maintainers_of kind class fields = meant maintainer_item (items_read kind class 
 abbrev pub are_maintainers : Kind → Class → List Field → Bool
 are_maintainers kind class fields = are_good maintainer_item (items_read kind class fields)
 
--- an attribute of a name that is kept out, or a source that is no name (profile; RFC 2622, 2)
+-- an attribute of a name that is kept out, or a source that is not a name (profile; RFC 2622, 2)
 unfoldable pub has_bad_text : List Field → Bool
 has_bad_text fields = list_any is_kept_out fields || is_none (source_of fields)
 
@@ -127,7 +137,8 @@ has_bad_membership class fields =
     || (not (are_good by_ref_item (items_read MbrsByRef class fields))
     || not (are_good set_item (items_read MemberOf class fields)))
 
--- an interpreted attribute of an object of the class has a bad value (RFC 2622, 2 to 6; RFC 2725, 10)
+-- an interpreted attribute of an object of the class has a bad value (RFC 2622, 2 to 6;
+-- RFC 2725, 10)
 unfoldable pub has_bad_value : Class → List Field → Bool
 has_bad_value class fields =
     has_bad_text fields || (has_bad_authority class fields || has_bad_membership class fields)
@@ -152,7 +163,7 @@ obj_at key fields =
       member_of = meant set_item (items_read MemberOf class fields);
     }
 
--- the faults behind that of the key: a bad count, then a bad value (profile)
+-- the faults after that of the key: a bad count, then a bad value (profile)
 abbrev pub obj_of_key : List Field → Key → Result Obj ObjectFault
 obj_of_key fields key =
     if is_miscounted (class_of key) fields then Err BadCount
@@ -160,7 +171,8 @@ obj_of_key fields key =
     else Ok (obj_at key fields)
 
 -- a fault goes before what comes after it (profile)
-abbrev pub result_and_then : {X Y : Type 0} → (X → Result Y ObjectFault) → Result X ObjectFault → Result Y ObjectFault
+abbrev pub result_and_then : {X Y : Type 0} → (X → Result Y ObjectFault)
+    → Result X ObjectFault → Result Y ObjectFault
 result_and_then next (Ok x) = next x
 result_and_then next (Err fault) = Err fault
 
@@ -175,7 +187,8 @@ is_from source fields = option_map_or (λ name. bytes_eq name source) (source_of
 -- the object that a paragraph is in a registry of this source, or the first of its faults (profile)
 unfoldable pub object_of : List Field → List ℕ → Result Obj ObjectFault
 object_of fields source =
-    result_and_then (λ object. if is_from source fields then Ok object else Err OtherSource) (obj_of fields)
+    result_and_then (λ object. if is_from source fields then Ok object else Err OtherSource)
+    (obj_of fields)
 
 -- an object is what a paragraph reads as in a registry of this source (profile)
 abbrev pub ReadsAs : List ℕ → List Field → Obj → Type 0
@@ -185,6 +198,7 @@ ReadsAs source fields object = object_of fields source ≡ Ok object
 abbrev pub hidden : List ℕ
 hidden = codes "# filtered"
 
--- the paragraph of an object in public answers: no value of an attribute named `auth` is shown (profile)
+-- the paragraph of an object in public answers: no value of an attribute named `auth` is shown
+-- (profile)
 unfoldable pub public_of : Obj → List Field
 public_of object = map (with_value (kind_name Auth) hidden) object.paragraph

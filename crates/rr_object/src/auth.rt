@@ -24,7 +24,7 @@ impl Model for Auth {
 }
 
 impl Auth {
-    /// The digest with a copy of its salt; the error is want of memory.
+    /// The digest with a copy of its salt; the error is that memory ran out.
     pub(crate) fn new(
         alloc: Global,
         salt: &[u8],

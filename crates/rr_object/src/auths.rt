@@ -3,7 +3,8 @@
 ghost use Rattle.std.specs.Prelude.{◌≡◌, ◌≢◌, map, IfErr, IfOk, None, Some};
 ghost use Rattle.std.specs.Char.{is_ascii_alphanumeric};
 ghost use Rattle.std.specs.List.{list_all};
-ghost use Rattle.rr_object.specs.Auths.{auth_item, auth_of_words, is_salt, is_sha256_pw, salted_digest_of};
+ghost use Rattle.rr_object.specs.Auths.{auth_item, auth_of_words, is_salt, is_sha256_pw};
+ghost use Rattle.rr_object.specs.Auths.{salted_digest_of};
 ghost use Rattle.rr_object.specs.declared.fault.ObjectFault.TheVariants.{BadValue, Memory};
 
 use crate::auth::{Auth, DIGEST_BYTES};
@@ -17,7 +18,8 @@ const SALT_BYTES: usize = 16;
 /// What a value of `auth` stands for: a salt and a digest, or `None` for another scheme.
 pub fn read_auth(alloc: Global, value: &[u8]) -> Result<Option<Auth>, ObjectFault>
     ensures good { IfOk result (λ read. auth_item value.now ≡ Some read) }
-    ensures bad { IfErr result (λ fault. fault ≢ Memory → (fault ≡ BadValue) × (auth_item value.now ≡ None)) }
+    ensures bad { IfErr result
+        (λ fault. fault ≢ Memory → (fault ≡ BadValue) × (auth_item value.now ≡ None)) }
 {
     let found = words(alloc, value)?;
     read_words(alloc, &found)
@@ -25,7 +27,8 @@ pub fn read_auth(alloc: Global, value: &[u8]) -> Result<Option<Auth>, ObjectFaul
 
 #[tactic(auto, unfolding(crate::specs::Auths::auth_of_words))]
 fn read_words(alloc: Global, found: &[&[u8]]) -> Result<Option<Auth>, ObjectFault>
-    ensures good { IfOk result (λ read. auth_of_words (map (λ word. word.now) found.now) ≡ Some read) }
+    ensures good { IfOk result
+        (λ read. auth_of_words (map (λ word. word.now) found.now) ≡ Some read) }
     ensures bad { IfErr result (λ fault. fault ≢ Memory
         → (fault ≡ BadValue) × (auth_of_words (map (λ word. word.now) found.now) ≡ None)) }
 {
@@ -53,7 +56,8 @@ fn is_sha256_pw(scheme: &[u8]) -> bool
 #[tactic(auto, unfolding(crate::specs::Auths::salted_digest_of))]
 fn read_salted_digest(alloc: Global, word: &[u8]) -> Result<Auth, ObjectFault>
     ensures good { IfOk result (λ auth. salted_digest_of word.now ≡ Some auth) }
-    ensures bad { IfErr result (λ fault. fault ≢ Memory → (fault ≡ BadValue) × (salted_digest_of word.now ≡ None)) }
+    ensures bad { IfErr result (λ fault. fault ≢ Memory
+        → (fault ≡ BadValue) × (salted_digest_of word.now ≡ None)) }
 {
     let (salt, digits) = cut_around(word, b':');
     if !is_salt(salt) {

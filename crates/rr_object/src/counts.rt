@@ -4,7 +4,8 @@ ghost use Rattle.std.specs.Prelude.{◌≡◌, not, IfOk, map};
 ghost use Rattle.rr_bytes.specs.Parts.{is_filled};
 ghost use Rattle.rr_object.specs.Items.{values_of};
 ghost use Rattle.rr_object.specs.Kinds.{kind_name};
-ghost use Rattle.rr_object.specs.Readings.{breaks, is_miscounted, is_miscounted_in, items_of, items_read, list_text};
+ghost use Rattle.rr_object.specs.Readings.{breaks, is_miscounted, is_miscounted_in, items_of};
+ghost use Rattle.rr_object.specs.Readings.{items_read, list_text};
 ghost use Rattle.rr_object.specs.declared.kind.Kind.TheVariants as kinds;
 ghost use Rattle.rr_object.specs.declared.kind.Occurs.TheVariants.{Once};
 
@@ -14,8 +15,8 @@ use crate::lists::{count_named, items, joined, spaced};
 use rr_text::{Paragraph, Text};
 use std::alloc::{AllocError, Global};
 
-/// Whether an attribute that an object of the class needs is missing or has no item, or one that stands once is
-/// repeated; the values of `source` and the items of `mnt-by` were read.
+/// Whether an attribute that an object of the class needs is missing or has no item, or one that
+/// stands once is repeated; the values of `source` and the items of `mnt-by` were read.
 #[tactic(auto, unfolding(crate::specs::Readings::is_miscounted, crate::specs::Readings::items_read, crate::specs::Kinds::occurs))]
 pub(crate) fn is_miscounted(
     alloc: Global,
@@ -25,7 +26,8 @@ pub(crate) fn is_miscounted(
     maintainers: &[&[u8]],
 ) -> Result<bool, AllocError>
     requires sources { sources.now ≡ values_of (kind_name kinds.Source) paragraph.now }
-    requires maintainers { map (λ item. item.now) maintainers.now ≡ items_read kinds.MntBy class paragraph.now }
+    requires maintainers { map (λ item. item.now) maintainers.now
+        ≡ items_read kinds.MntBy class paragraph.now }
     ensures { IfOk result (λ miscounted. miscounted ≡ is_miscounted class paragraph.now) }
 {
     Ok(

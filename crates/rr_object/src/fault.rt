@@ -1,4 +1,4 @@
-//! Why a paragraph is no object.
+//! Why a paragraph is not an object.
 
 ghost use Rattle.std.specs.Prelude.{◌≡◌};
 ghost use Rattle.rr_object.specs.Faults.{code_of};
@@ -8,7 +8,8 @@ use crate::code::Code;
 use std::alloc::AllocError;
 use thiserror::Error;
 
-/// Why a paragraph is no object of the registry. But for `Memory` these stand in the order in which they are found.
+/// Why a paragraph is not an object of the registry. But for `Memory` these stand in the order in
+/// which they are found.
 #[derive(Clone, Copy, Debug, PartialEq, Eq, Error)]
 pub enum ObjectFault {
     /// It has no attribute, or the first one names no class.

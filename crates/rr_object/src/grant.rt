@@ -6,7 +6,8 @@ use rr_number::{Name, Range};
 use std::alloc::AllocError;
 use std::marker::Model;
 
-/// An entry of `mnt-routes`: a maintainer, and for which prefixes it may authorise routes (RFC 2725, 10).
+/// An entry of `mnt-routes`: a maintainer, and for which prefixes it may authorise routes
+/// (RFC 2725, 10).
 #[derive(Debug, Drop)]
 pub struct Grant {
     name: Name,
@@ -34,7 +35,7 @@ impl Grant {
         Grant { name, any, ranges }
     }
 
-    /// The entry for one range more, where there is one; the error is want of memory.
+    /// The entry for one range more, where there is one; the error is that memory ran out.
     pub(crate) fn with_range(self, range: Option<Range>) -> Result<Grant, AllocError>
         ensures { IfOk result (λ grant. grant ≡ with_range self range) }
     {
@@ -63,7 +64,8 @@ impl Grant {
         self.any
     }
 
-    /// The ranges whose prefixes the entry is for, none where it is for each prefix. Dropped ranges are left out.
+    /// The ranges whose prefixes the entry is for, none where it is for each prefix. Dropped ranges
+    /// are left out.
     pub fn ranges(&self) -> &[Range]
         ensures { result.now ≡ self.now.ranges }
     {

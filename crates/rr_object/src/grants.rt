@@ -1,6 +1,7 @@
 //! Reading entries of `mnt-routes`.
 
-ghost use Rattle.std.specs.Prelude.{◌≡◌, ◌≢◌, ◌++◌, map, IfErr, IfOk, None, OnOk, Some};
+ghost use Rattle.std.specs.Prelude.{◌≡◌, ◌≢◌, ◌++◌, map, IfErr, IfOk, None, OnOk};
+ghost use Rattle.std.specs.Prelude.{Some};
 ghost use Rattle.std.specs.Option.{option_to_list};
 ghost use Rattle.rr_number.specs.Names.{maintainer_name_of};
 ghost use Rattle.rr_object.specs.Grants.{grants_of, is_any, last_grant, next_grant, range_item};
@@ -25,9 +26,10 @@ pub(crate) enum Begun {
 }
 
 /// The entries that the items spell.
-#[tactic(auto, unfolding(crate::specs::Grants::grants_behind))]
+#[tactic(auto, unfolding(crate::specs::Grants::grants_after))]
 pub(crate) fn read_grants(alloc: Global, listed: &[&[u8]]) -> Result<Vec<Grant>, ObjectFault>
-    ensures good { IfOk result (λ read. grants_of (map (λ item. item.now) listed.now) ≡ Some read.items) }
+    ensures good { IfOk result
+        (λ read. grants_of (map (λ item. item.now) listed.now) ≡ Some read.items) }
     ensures bad { IfErr result (λ fault. fault ≢ Memory
         → (fault ≡ BadValue) × (grants_of (map (λ item. item.now) listed.now) ≡ None)) }
 {
@@ -73,23 +75,21 @@ fn next_grant(
     item: &[u8],
 ) -> Result<(Option<Grant>, Begun), ObjectFault>
     ensures good { IfOk result (λ next. next_grant begun item.now ≡ Some next) }
-    ensures bad { IfErr result (λ fault. fault ≢ Memory → (fault ≡ BadValue) × (next_grant begun item.now ≡ None)) }
+    ensures bad { IfErr result (λ fault. fault ≢ Memory
+        → (fault ≡ BadValue) × (next_grant begun item.now ≡ None)) }
 {
     match begun {
         Begun::Nothing => Ok((None, Begun::Named(read_maintainer(alloc, item)?))),
-        Begun::Named(name) => behind_name(alloc, name, item),
+        Begun::Named(name) => after_name(alloc, name, item),
         Begun::Braced(grant) => in_braces(grant, item),
     }
 }
 
 #[tactic(auto, unfolding(crate::specs::Grants::next_grant))]
-fn behind_name(
-    alloc: Global,
-    name: Name,
-    item: &[u8],
-) -> Result<(Option<Grant>, Begun), ObjectFault>
+fn after_name(alloc: Global, name: Name, item: &[u8]) -> Result<(Option<Grant>, Begun), ObjectFault>
     ensures good { IfOk result (λ next. next_grant (Named name) item.now ≡ Some next) }
-    ensures bad { IfErr result (λ fault. fault ≢ Memory → (fault ≡ BadValue) × (next_grant (Named name) item.now ≡ None)) }
+    ensures bad { IfErr result (λ fault. fault ≢ Memory
+        → (fault ≡ BadValue) × (next_grant (Named name) item.now ≡ None)) }
 {
     if is_any(item) {
         Ok((
@@ -113,7 +113,8 @@ fn behind_name(
 #[tactic(auto, unfolding(crate::specs::Grants::next_grant))]
 fn in_braces(grant: Grant, item: &[u8]) -> Result<(Option<Grant>, Begun), ObjectFault>
     ensures good { IfOk result (λ next. next_grant (Braced grant) item.now ≡ Some next) }
-    ensures bad { IfErr result (λ fault. fault ≢ Memory → (fault ≡ BadValue) × (next_grant (Braced grant) item.now ≡ None)) }
+    ensures bad { IfErr result (λ fault. fault ≢ Memory
+        → (fault ≡ BadValue) × (next_grant (Braced grant) item.now ≡ None)) }
 {
     if item == b"}".as_slice() {
         Ok((Some(grant), Begun::Nothing))
@@ -126,7 +127,8 @@ fn in_braces(grant: Grant, item: &[u8]) -> Result<(Option<Grant>, Begun), Object
 /// The maintainer's name that an item spells.
 pub(crate) fn read_maintainer(alloc: Global, item: &[u8]) -> Result<Name, ObjectFault>
     ensures good { IfOk result (λ name. maintainer_name_of item.now ≡ Some name) }
-    ensures bad { IfErr result (λ fault. fault ≢ Memory → (fault ≡ BadValue) × (maintainer_name_of item.now ≡ None)) }
+    ensures bad { IfErr result (λ fault. fault ≢ Memory
+        → (fault ≡ BadValue) × (maintainer_name_of item.now ≡ None)) }
 {
     match Name::read_maintainer(alloc, item)? {
         Some(name) => Ok(name),

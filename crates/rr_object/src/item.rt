@@ -1,6 +1,7 @@
 //! Items of lists: each kind of list has its own.
 
-ghost use Rattle.std.specs.Prelude.{◌≡◌, ◌≢◌, false, true, map, IfErr, IfOk, List, None, Option, Some, ℕ};
+ghost use Rattle.std.specs.Prelude.{◌≡◌, ◌≢◌, false, true, map, IfErr, IfOk, List};
+ghost use Rattle.std.specs.Prelude.{None, Option, Some, ℕ};
 ghost use Rattle.rr_object.specs.Items.{are_good, meant};
 ghost use Rattle.rr_object.specs.declared.fault.ObjectFault.TheVariants.{BadValue, Memory};
 
@@ -18,7 +19,8 @@ pub(crate) trait ReadItem {
     /// What the item stands for, `None` where it is well spelled and stands for nothing.
     fn read_item(alloc: Global, item: &[u8]) -> Result<Option<Self::Item>, ObjectFault>
         ensures good { IfOk result (λ read. item_of item.now ≡ Some read) }
-        ensures bad { IfErr result (λ fault. fault ≢ Memory → (fault ≡ BadValue) × (item_of item.now ≡ None)) };
+        ensures bad { IfErr result
+            (λ fault. fault ≢ Memory → (fault ≡ BadValue) × (item_of item.now ≡ None)) };
 }
 
 /// What the items stand for.
@@ -26,10 +28,13 @@ pub(crate) fn read_items<R: ReadItem>(
     alloc: Global,
     listed: &[&[u8]],
 ) -> Result<Vec<R::Item>, ObjectFault>
-    ensures good { IfOk result (λ _. are_good R.item_of (map (λ item. item.now) listed.now) ≡ true) }
-    ensures value { IfOk result (λ read. read.items ≡ meant R.item_of (map (λ item. item.now) listed.now)) }
+    ensures good { IfOk result
+        (λ _. are_good R.item_of (map (λ item. item.now) listed.now) ≡ true) }
+    ensures value { IfOk result
+        (λ read. read.items ≡ meant R.item_of (map (λ item. item.now) listed.now)) }
     ensures bad { IfErr result (λ fault. fault ≢ Memory
-        → (fault ≡ BadValue) × (are_good R.item_of (map (λ item. item.now) listed.now) ≡ false)) }
+        → (fault ≡ BadValue)
+        × (are_good R.item_of (map (λ item. item.now) listed.now) ≡ false)) }
 {
     let mut read = Vec::with_capacity(alloc, listed.len())?;
     'items: for item in listed {

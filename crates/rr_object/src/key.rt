@@ -8,8 +8,9 @@ use crate::class::Class;
 use rr_number::{AsNumber, AsSpan, Name, Prefix, SetKind, SetName, Span};
 use std::alloc::{AllocError, Global};
 
-/// What names an object among those of the registry. Keys are ordered by the numbers of their classes, then by
-/// what names the object in its class, which is the order of their bytes (profile).
+/// What names an object among those of the registry. Keys are ordered by the numbers of their
+/// classes, then by what names the object in its class, which is the order of their bytes
+/// (profile).
 #[derive(Debug, PartialEq, Eq, PartialOrd, Ord, Drop)]
 pub enum Key {
     /// A maintainer's name.
@@ -64,7 +65,7 @@ impl Key {
         }
     }
 
-    /// Tells a caller's proof that the parts of the key are names, spans, prefixes and AS numbers; it does nothing.
+    /// Tells a caller's proof that the parts of the key are names, spans, prefixes and AS numbers.
     pub fn is_within_bounds(&self)
         ensures { HasKeyParts self.now }
     {
@@ -89,7 +90,7 @@ impl Key {
         }
     }
 
-    /// An equal key; the error is want of memory.
+    /// An equal key; the error is that memory ran out.
     pub fn copy(&self, alloc: Global) -> Result<Key, AllocError>
         ensures { IfOk result (λ key. key ≡ self.now) }
     {

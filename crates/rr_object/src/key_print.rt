@@ -6,8 +6,10 @@ ghost use Rattle.std.specs.Option.{option_map};
 ghost use Rattle.rr_io.specs.Sending.{Writes};
 ghost use Rattle.rr_number.specs.AsNumbers.{as_number_text};
 ghost use Rattle.rr_number.specs.Prefixes.{prefix_text};
-ghost use Rattle.rr_object.specs.KeyTexts.{bytes_with, eight_digits, key_bytes, key_text, length_bytes, route_bytes, span_bytes};
-ghost use Rattle.rr_object.specs.OldKeys.{four_digits, has_two_octets, numbers_among, numbers_in, old_key_bytes};
+ghost use Rattle.rr_object.specs.KeyTexts.{bytes_with, eight_digits, key_bytes, key_text};
+ghost use Rattle.rr_object.specs.KeyTexts.{length_bytes, route_bytes, span_bytes};
+ghost use Rattle.rr_object.specs.OldKeys.{four_digits, has_two_octets, numbers_among, numbers_in};
+ghost use Rattle.rr_object.specs.OldKeys.{old_key_bytes};
 ghost use Rattle.rr_object.specs.KeyParts.{digits_of, is_old_component};
 
 use crate::key::Key;
@@ -40,17 +42,19 @@ impl Key {
         }
     }
 
-    /// The bytes by which the keys of a class are ordered and stored; the error is want of memory.
+    /// The bytes by which the keys of a class are ordered and stored; the error is that memory ran
+    /// out.
     pub fn bytes(&self, alloc: Global) -> Result<Vec<u8>, AllocError>
         ensures { IfOk result (λ bytes. bytes.items ≡ key_bytes self.now) }
     {
         bytes_with(alloc, Digits::Eight, self)
     }
 
-    /// The bytes of the key in tables of version 1; `None` where an AS number in it has more than two octets, which
-    /// those could not write. The error is want of memory.
+    /// The bytes of the key in tables of version 1; `None` where an AS number in it has more than
+    /// two octets, which those could not write. The error is that memory ran out.
     pub fn old_bytes(&self, alloc: Global) -> Result<Option<Vec<u8>>, AllocError>
-        ensures { IfOk result (λ old. option_map (λ bytes. bytes.items) old ≡ old_key_bytes self.now) }
+        ensures { IfOk result
+            (λ old. option_map (λ bytes. bytes.items) old ≡ old_key_bytes self.now) }
     {
         if has_old_bytes(self) {
             Ok(Some(bytes_with(alloc, Digits::Four, self)?))
@@ -120,7 +124,8 @@ fn is_old_component(component: &[u8]) -> bool
 }
 
 fn print_route<W: Sink>(prefix: Prefix, origin: AsNumber, writer: &mut W) -> io::Result<()>
-    ensures writes { Writes (W.told writer.old) (W.told writer.new) (prefix_text prefix ++ (32 ∷ as_number_text origin)) result }
+    ensures writes { Writes (W.told writer.old) (W.told writer.new)
+        (prefix_text prefix ++ (32 ∷ as_number_text origin)) result }
     ensures aside { W.aside writer.new ≡ W.aside writer.old }
 {
     let prefix = prefix.text();

@@ -1,7 +1,8 @@
 //! Keys read from texts.
 
 ghost use Rattle.std.specs.Prelude.{◌≡◌, IfOk, map};
-ghost use Rattle.rr_object.specs.KeySpellings.{as_set_key_of, key_of_text, route_key_of, route_key_of_words, route_set_key_of};
+ghost use Rattle.rr_object.specs.KeySpellings.{as_set_key_of, key_of_text, route_key_of};
+ghost use Rattle.rr_object.specs.KeySpellings.{route_key_of_words, route_set_key_of};
 ghost use Rattle.rr_object.specs.declared.class.Class.TheVariants as class;
 
 use crate::class::Class;
@@ -12,8 +13,8 @@ use rr_number::{AsNumber, AsSpan, Name, Prefix, SetName, Span};
 use std::alloc::{AllocError, Global};
 
 impl Key {
-    /// The key of a class that a text spells, as in a query: for a route its prefix, blanks and its origin. `None`
-    /// where it spells none; the error is want of memory.
+    /// The key of a class that a text spells, as in a query: for a route its prefix, blanks and its
+    /// origin. `None` where it spells none; the error is that memory ran out.
     #[tactic(auto, unfolding(crate::specs::KeySpellings::key_of_text))]
     pub fn read(alloc: Global, class: Class, text: &[u8]) -> Result<Option<Key>, AllocError>
         ensures { IfOk result (λ key. key ≡ key_of_text class text.now) }

@@ -1,11 +1,12 @@
-//! What follows of an object from how it is read, and of keys from their bytes. Each function states a law and does
-//! nothing.
+//! What follows of an object from how it is read, and of keys from their bytes. Each function
+//! states a law and does nothing.
 
 ghost use Rattle.std.specs.Prelude.{◌≡◌, ◌<◌, List, Ok, Some, length, ℕ};
 ghost use Rattle.rr_text.specs.Fields.{Field};
 ghost use Rattle.rr_object.specs.FirstFaults.{FirstFaultIsTold, ObjectsSayTheirParagraphs};
 ghost use Rattle.rr_object.specs.GrantTexts.{ReadGrantsAreSpelled, SpelledGrantsAreRead};
-ghost use Rattle.rr_object.specs.KeyOrders.{BytesTellKeys, IsKeyValue, class_and_bytes_cmp, key_cmp};
+ghost use Rattle.rr_object.specs.KeyOrders.{BytesTellKeys, IsKeyValue, class_and_bytes_cmp};
+ghost use Rattle.rr_object.specs.KeyOrders.{key_cmp};
 ghost use Rattle.rr_object.specs.KeySpellings.{key_of, key_of_text};
 ghost use Rattle.rr_object.specs.KeyTexts.{key_bytes};
 ghost use Rattle.rr_object.specs.Keys.{class_of};
@@ -17,7 +18,8 @@ ghost use Rattle.rr_object.specs.declared.key.Key as keys;
 
 use crate::key::Key;
 
-/// A paragraph is refused for its first fault, and for nothing else; an object says what its paragraph says.
+/// A paragraph is refused for its first fault, and for nothing else; an object says what its
+/// paragraph says.
 pub fn the_first_fault_is_told()
     ensures told { FirstFaultIsTold }
     ensures says { ObjectsSayTheirParagraphs }
@@ -25,23 +27,27 @@ pub fn the_first_fault_is_told()
 
 /// The object in a registry of a source is the one of any source.
 pub fn an_object_is_of_its_paragraph()
-    ensures { (fields : List Field) (source : List ℕ) (object : Obj) → object_of fields source ≡ Ok object
+    ensures { (fields : List Field) (source : List ℕ) (object : Obj)
+        → object_of fields source ≡ Ok object
         → obj_of fields ≡ Ok object }
 {}
 
 /// An object keeps its whole paragraph.
 pub fn an_object_keeps_its_paragraph()
-    ensures { (fields : List Field) (object : Obj) → obj_of fields ≡ Ok object → object.paragraph ≡ fields }
+    ensures { (fields : List Field) (object : Obj) → obj_of fields ≡ Ok object
+        → object.paragraph ≡ fields }
 {}
 
 /// An object has the key of its paragraph.
 pub fn an_object_has_its_paragraphs_key()
-    ensures { (fields : List Field) (object : Obj) → obj_of fields ≡ Ok object → key_of fields ≡ Ok object.key }
+    ensures { (fields : List Field) (object : Obj) → obj_of fields ≡ Ok object
+        → key_of fields ≡ Ok object.key }
 {}
 
 /// An object has a maintainer.
 pub fn an_object_has_a_maintainer()
-    ensures { (fields : List Field) (object : Obj) → obj_of fields ≡ Ok object → 0 < length object.maintainers }
+    ensures { (fields : List Field) (object : Obj) → obj_of fields ≡ Ok object
+        → 0 < length object.maintainers }
 {}
 
 /// Keys are ordered by the numbers of their classes, then by their parts.
@@ -50,24 +56,27 @@ pub fn keys_compare_by_their_parts()
     ensures { (a b : keys.Key) → ⟦<Key as Ord>⟧.cmp a b ≡ key_cmp a b }
 {}
 
-/// Keys are ordered by the numbers of their classes, then by their bytes, and two keys of a class have equal bytes only
-/// if they are equal.
+/// Keys are ordered by the numbers of their classes, then by their bytes, and two keys of a class
+/// have equal bytes only if they are equal.
 pub fn keys_compare_as_their_bytes()
-    ensures order { (a b : keys.Key) → IsKeyValue a → IsKeyValue b → ⟦<Key as Ord>⟧.cmp a b ≡ class_and_bytes_cmp a b }
+    ensures order { (a b : keys.Key) → IsKeyValue a → IsKeyValue b
+        → ⟦<Key as Ord>⟧.cmp a b ≡ class_and_bytes_cmp a b }
     ensures told { BytesTellKeys }
 {}
 
 /// The same of any two keys.
 pub fn any_two_keys_compare_as_their_bytes(key: &Key, other: &Key)
-    ensures order { ⟦<Key as Ord>⟧.cmp key.now other.now ≡ class_and_bytes_cmp key.now other.now }
-    ensures told { class_of key.now ≡ class_of other.now → key_bytes key.now ≡ key_bytes other.now → key.now ≡ other.now }
+    ensures order { ⟦<Key as Ord>⟧.cmp key.now other.now
+        ≡ class_and_bytes_cmp key.now other.now }
+    ensures told { class_of key.now ≡ class_of other.now
+        → key_bytes key.now ≡ key_bytes other.now → key.now ≡ other.now }
 {
     key.is_within_bounds();
     other.is_within_bounds();
 }
 
-/// Two keys of a class have equal old bytes only if they are equal, and keys that have old bytes are ordered by the
-/// numbers of their classes, then by these.
+/// Two keys of a class have equal old bytes only if they are equal, and keys that have old bytes
+/// are ordered by the numbers of their classes, then by these.
 pub fn old_bytes_tell_keys_in_their_order()
     ensures told { OldBytesTellKeys }
     ensures order { OldBytesKeepOrder }
@@ -75,14 +84,17 @@ pub fn old_bytes_tell_keys_in_their_order()
 
 /// The key that a text or a paragraph spells is well formed, and so is that of an object.
 pub fn keys_are_read_well_formed()
-    ensures text { (class : Class) (text : List ℕ) (key : keys.Key) → key_of_text class text ≡ Some key → IsKeyValue key }
-    ensures paragraph { (fields : List Field) (key : keys.Key) → key_of fields ≡ Ok key → IsKeyValue key }
-    ensures object { (fields : List Field) (source : List ℕ) (object : Obj) → object_of fields source ≡ Ok object
+    ensures text { (class : Class) (text : List ℕ) (key : keys.Key)
+        → key_of_text class text ≡ Some key → IsKeyValue key }
+    ensures paragraph { (fields : List Field) (key : keys.Key) → key_of fields ≡ Ok key
+        → IsKeyValue key }
+    ensures object { (fields : List Field) (source : List ℕ) (object : Obj)
+        → object_of fields source ≡ Ok object
         → IsKeyValue object.key }
 {}
 
-/// The entries of `mnt-routes` that are read of items are those that the items spell, and items that spell none are
-/// refused.
+/// The entries of `mnt-routes` that are read of items are those that the items spell, and items
+/// that spell none are refused.
 pub fn grants_are_read_as_spelled()
     ensures read { ReadGrantsAreSpelled }
     ensures spelled { SpelledGrantsAreRead }

@@ -1,4 +1,5 @@
-//! The objects of the registry: classes, keys, and what a paragraph's attributes say (RFC 2622, 2 to 6).
+//! The objects of the registry: classes, keys, and what a paragraph's attributes say (RFC 2622, 2
+//! to 6).
 #![tactic(auto)]
 
 pub mod auth;

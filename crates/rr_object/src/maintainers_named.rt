@@ -9,8 +9,8 @@ use crate::object::Object;
 use rr_number::Name;
 use std::marker::Model;
 
-/// The maintainers in `mnt-by`, `mnt-lower`, `mnt-routes` and `mbrs-by-ref` of an object, in this order and without
-/// `ANY`; one that is named twice comes twice.
+/// The maintainers in `mnt-by`, `mnt-lower`, `mnt-routes` and `mbrs-by-ref` of an object, in this
+/// order and without `ANY`; one that is named twice comes twice.
 #[derive(Debug, Drop)]
 pub struct MaintainersNamed<'a> {
     maintainers: &'a [Name],
@@ -24,7 +24,8 @@ impl<'a> Model for MaintainersNamed<'a> {
 
     ghost Value = { List (List ℕ) };
 
-    ghost view = { λ s. ((s.maintainers.now ++ s.lower.now) ++ map (λ grant. grant.name) s.routes.now) ++ s.by_ref.now };
+    ghost view = { λ s. ((s.maintainers.now ++ s.lower.now)
+        ++ map (λ grant. grant.name) s.routes.now) ++ s.by_ref.now };
 }
 
 impl Object {

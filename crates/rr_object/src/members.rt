@@ -3,7 +3,9 @@
 ghost use Rattle.std.specs.Prelude.{◌≡◌, ◌≢◌, IfErr, IfOk, None, Some};
 ghost use Rattle.rr_number.specs.SetNames.{set_name_of};
 ghost use Rattle.rr_object.specs.Auths.{auth_item};
-ghost use Rattle.rr_object.specs.Members.{as_set_item, is_as_set_kind, is_in_as_sets, maintainer_item, operated_set, by_ref_item, route_set_item, set_item, member_set_of};
+ghost use Rattle.rr_object.specs.Members.{as_set_item, is_as_set_kind, is_in_as_sets};
+ghost use Rattle.rr_object.specs.Members.{maintainer_item, operated_set, by_ref_item};
+ghost use Rattle.rr_object.specs.Members.{route_set_item, set_item, member_set_of};
 ghost use Rattle.rr_object.specs.declared.fault.ObjectFault.TheVariants.{BadValue, Memory};
 
 use crate::auth::Auth;
@@ -130,7 +132,8 @@ pub(crate) fn is_as_set_kind(kind: SetKind) -> bool
 /// The set's name that an item spells.
 fn read_set_name(alloc: Global, item: &[u8]) -> Result<SetName, ObjectFault>
     ensures good { IfOk result (λ name. set_name_of item.now ≡ Some name) }
-    ensures bad { IfErr result (λ fault. fault ≢ Memory → (fault ≡ BadValue) × (set_name_of item.now ≡ None)) }
+    ensures bad { IfErr result
+        (λ fault. fault ≢ Memory → (fault ≡ BadValue) × (set_name_of item.now ≡ None)) }
 {
     match SetName::read(alloc, item)? {
         Some(name) => Ok(name),
@@ -142,7 +145,8 @@ fn read_set_name(alloc: Global, item: &[u8]) -> Result<SetName, ObjectFault>
 #[tactic(auto, unfolding(crate::specs::Members::member_set_of))]
 fn read_set(alloc: Global, item: &[u8]) -> Result<MemberSet, ObjectFault>
     ensures good { IfOk result (λ set. member_set_of item.now ≡ Some set) }
-    ensures bad { IfErr result (λ fault. fault ≢ Memory → (fault ≡ BadValue) × (member_set_of item.now ≡ None)) }
+    ensures bad { IfErr result
+        (λ fault. fault ≢ Memory → (fault ≡ BadValue) × (member_set_of item.now ≡ None)) }
 {
     match AsNumber::read(item) {
         Some(number) => Ok(MemberSet::AutNum(number)),
@@ -154,7 +158,8 @@ fn read_set(alloc: Global, item: &[u8]) -> Result<MemberSet, ObjectFault>
 #[tactic(auto, unfolding(crate::specs::Members::operated_set))]
 fn read_operated_set(alloc: Global, item: &[u8]) -> Result<Member, ObjectFault>
     ensures good { IfOk result (λ member. operated_set item.now ≡ Some member) }
-    ensures bad { IfErr result (λ fault. fault ≢ Memory → (fault ≡ BadValue) × (operated_set item.now ≡ None)) }
+    ensures bad { IfErr result
+        (λ fault. fault ≢ Memory → (fault ≡ BadValue) × (operated_set item.now ≡ None)) }
 {
     let (name, operator) = cut_before(item, b'^');
     let set = read_set(alloc, name)?;

@@ -24,7 +24,8 @@ use rr_text::Paragraph;
 use std::alloc::{AllocError, Global};
 use std::marker::Model;
 
-/// An object: its paragraph, and what the interpreted attributes of it say (RFC 2622, 2 to 6; RFC 2725, 10).
+/// An object: its paragraph, and what the interpreted attributes of it say (RFC 2622, 2 to 6;
+/// RFC 2725, 10).
 #[derive(Debug, Drop)]
 pub struct Object {
     key: Key,
@@ -45,25 +46,51 @@ impl Model for Object {
 
     ghost Value = { Obj };
 
-    ghost view = { λ o. record { key = o.key; paragraph = o.paragraph; maintainers = o.maintainers.items; lower = o.lower.items; routes = o.routes.items; auths = o.auths.items; members = o.members.items; by_ref = o.by_ref; member_of = o.member_of.items } };
+    ghost view = { λ o. record {
+      key = o.key;
+      paragraph = o.paragraph;
+      maintainers =
+          o.maintainers.items;
+      lower = o.lower.items;
+      routes = o.routes.items;
+      auths = o.auths.items;
+      members = o.members.items;
+      by_ref = o.by_ref;
+      member_of = o.member_of.items;
+    } };
 
     // the fields are those that are read from the paragraph
-    ghost invariant = { λ o. obj_of o.paragraph ≡ Ok (record { key = o.key; paragraph = o.paragraph; maintainers = o.maintainers.items; lower = o.lower.items; routes = o.routes.items; auths = o.auths.items; members = o.members.items; by_ref = o.by_ref; member_of = o.member_of.items }) };
+    ghost invariant = { λ o. obj_of o.paragraph ≡ Ok
+        (record {
+          key = o.key;
+          paragraph = o.paragraph;
+          maintainers = o.maintainers.items;
+          lower =
+              o.lower.items;
+          routes = o.routes.items;
+          auths = o.auths.items;
+          members =
+              o.members.items;
+          by_ref = o.by_ref;
+          member_of = o.member_of.items;
+        }) };
 }
 
 impl Object {
-    /// The object that a paragraph is in the registry of this source, whose letter case is ignored. The fault is the
-    /// first that fits, in the order of `ObjectFault`, or want of memory.
+    /// The object that a paragraph is in the registry of this source, whose letter case is ignored.
+    /// The fault is the first that fits, in the order of `ObjectFault`, or that memory ran out.
     #[tactic(auto, using(crate::proofs::Parsed::keyless))]
     pub fn read(alloc: Global, paragraph: Paragraph, source: &Name) -> Result<Object, ObjectFault>
         ensures ok { IfOk result (λ object. object_of paragraph source.now ≡ Ok object) }
-        ensures fault { IfErr result (λ fault. fault ≢ Memory → object_of paragraph source.now ≡ Err fault) }
+        ensures fault { IfErr result
+            (λ fault. fault ≢ Memory → object_of paragraph source.now ≡ Err fault) }
     {
         let key = key_of(alloc, &paragraph)?;
         Object::read_with_key(alloc, key, paragraph, source)
     }
 
-    /// The same of a paragraph whose key was read: the faults of the class and the key are behind it.
+    /// The same of a paragraph whose key was read: the faults of the class and the key are after
+    /// it.
     #[tactic(auto, unfolding(crate::specs::Readings::object_of))]
     pub fn read_with_key(
         alloc: Global,
@@ -73,7 +100,8 @@ impl Object {
     ) -> Result<Object, ObjectFault>
         requires { key_of paragraph ≡ Ok key }
         ensures ok { IfOk result (λ object. object_of paragraph source.now ≡ Ok object) }
-        ensures fault { IfErr result (λ fault. fault ≢ Memory → object_of paragraph source.now ≡ Err fault) }
+        ensures fault { IfErr result
+            (λ fault. fault ≢ Memory → object_of paragraph source.now ≡ Err fault) }
     {
         let read = read_of_any_source(alloc, key, paragraph)?;
         if read.source.as_bytes() == source.as_bytes() {
@@ -90,7 +118,7 @@ impl Object {
         let _paragraph = &self.paragraph;
     }
 
-    /// Tells a caller's proof that the key is well formed, that of a set one of its kind; it does nothing.
+    /// Tells a caller's proof that the key is well formed, that of a set one of its kind.
     #[tactic(auto, using(crate::proofs::KeyBounds::obj_key_formed))]
     pub fn key_is_well_formed(&self)
         ensures { IsKeyValue self.now.key }
@@ -98,7 +126,7 @@ impl Object {
         self.is_read_from_its_paragraph();
     }
 
-    /// An equal object; the error is want of memory.
+    /// An equal object; the error is that memory ran out.
     #[tactic(auto, using(crate::proofs::Parsed::kept_its_key))]
     pub fn copy(&self, alloc: Global) -> Result<Object, AllocError>
         ensures { IfOk result (λ copy. copy ≡ self.now) }
@@ -182,7 +210,8 @@ struct Sourced {
     source: Name,
 }
 
-/// The object that a paragraph of this key is in a registry of any source, and the source that it names.
+/// The object that a paragraph of this key is in a registry of any source, and the source that it
+/// names.
 fn read_of_any_source(alloc: Global, key: Key, paragraph: Paragraph) -> Result<Sourced, ObjectFault>
     requires { key_of paragraph ≡ Ok key }
     ensures ok { IfOk result (λ read. obj_of paragraph ≡ Ok read.object) }
@@ -206,9 +235,24 @@ struct Said {
 #[tactic(auto, using(crate::proofs::Parsed::obj_read, crate::proofs::Parsed::miscounted, crate::proofs::Parsed::bad_text, crate::proofs::Parsed::bad_authority, crate::proofs::Parsed::bad_membership))]
 fn read_said(alloc: Global, key: &Key, paragraph: &Paragraph) -> Result<Said, ObjectFault>
     requires { key_of paragraph.now ≡ Ok key.now }
-    ensures ok { IfOk result (λ said. obj_of paragraph.now ≡ Ok (record { key = key.now; paragraph = paragraph.now; maintainers = said.authority.maintainers.items; lower = said.authority.lower.items; routes = said.authority.routes.items; auths = said.authority.auths.items; members = said.membership.members.items; by_ref = said.membership.by_ref; member_of = said.membership.member_of.items })) }
+    ensures ok { IfOk result (λ said. obj_of paragraph.now ≡ Ok (record {
+      key =
+          key.now;
+      paragraph = paragraph.now;
+      maintainers = said.authority.maintainers.items;
+      lower =
+          said.authority.lower.items;
+      routes = said.authority.routes.items;
+      auths =
+          said.authority.auths.items;
+      members = said.membership.members.items;
+      by_ref =
+          said.membership.by_ref;
+      member_of = said.membership.member_of.items;
+    })) }
     ensures source { IfOk result (λ said. source_of paragraph.now ≡ Some said.source) }
-    ensures fault { IfErr result (λ fault. fault ≢ Memory → obj_of paragraph.now ≡ Err fault) }
+    ensures fault { IfErr result
+        (λ fault. fault ≢ Memory → obj_of paragraph.now ≡ Err fault) }
 {
     let class = key.class();
     let sources = values_of(alloc, paragraph, Kind::Source.name().as_bytes())?;
@@ -229,7 +273,19 @@ fn read_said(alloc: Global, key: &Key, paragraph: &Paragraph) -> Result<Said, Ob
 
 /// The object that is made of what was read.
 fn made_of(key: Key, paragraph: Paragraph, authority: Authority, membership: Membership) -> Object
-    requires { obj_of paragraph ≡ Ok (record { key = key; paragraph = paragraph; maintainers = authority.maintainers.items; lower = authority.lower.items; routes = authority.routes.items; auths = authority.auths.items; members = membership.members.items; by_ref = membership.by_ref; member_of = membership.member_of.items }) }
+    requires { obj_of paragraph ≡ Ok (record {
+      key = key;
+      paragraph = paragraph;
+      maintainers =
+          authority.maintainers.items;
+      lower = authority.lower.items;
+      routes = authority.routes.items;
+      auths = authority.auths.items;
+      members = membership.members.items;
+      by_ref =
+          membership.by_ref;
+      member_of = membership.member_of.items;
+    }) }
     ensures { obj_of paragraph ≡ Ok result }
 {
     let Authority {

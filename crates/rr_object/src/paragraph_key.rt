@@ -16,12 +16,14 @@ use crate::lists::values_of;
 use rr_text::{Attribute, Paragraph, Text, meaning};
 use std::alloc::{AllocError, Global};
 
-/// The key of a paragraph: its first attribute names the class, and the value of that is the key; a route's key is the
-/// prefix and the one `origin` (RFC 2622, 2 and 4). `UnknownClass` where there is no attribute or the first names no
-/// class, `BadKey` where what it says is no key of the class, or want of memory.
+/// The key of a paragraph: its first attribute names the class, and the value of that is the key; a
+/// route's key is the prefix and the one `origin` (RFC 2622, 2 and 4). `UnknownClass` where there
+/// is no attribute or the first names no class, `BadKey` where what it says is not a key of the
+/// class, or that memory ran out.
 pub fn key_of(alloc: Global, paragraph: &Paragraph) -> Result<Key, ObjectFault>
     ensures ok { IfOk result (λ key. key_of paragraph.now ≡ Ok key) }
-    ensures fault { IfErr result (λ fault. fault ≢ Memory → key_of paragraph.now ≡ Err fault) }
+    ensures fault { IfErr result
+        (λ fault. fault ≢ Memory → key_of paragraph.now ≡ Err fault) }
 {
     match paragraph.attributes().next() {
         Some(first) => key_by(alloc, paragraph, &first),
@@ -32,7 +34,8 @@ pub fn key_of(alloc: Global, paragraph: &Paragraph) -> Result<Key, ObjectFault>
 /// The key of a paragraph of which this is the first attribute.
 fn key_by(alloc: Global, paragraph: &Paragraph, first: &Attribute) -> Result<Key, ObjectFault>
     ensures ok { IfOk result (λ key. key_from first.now paragraph.now ≡ Ok key) }
-    ensures fault { IfErr result (λ fault. fault ≢ Memory → key_from first.now paragraph.now ≡ Err fault) }
+    ensures fault { IfErr result
+        (λ fault. fault ≢ Memory → key_from first.now paragraph.now ≡ Err fault) }
 {
     let Some(class) = Class::named(first.name()) else {
         return Err(ObjectFault::UnknownClass);

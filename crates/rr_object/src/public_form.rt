@@ -1,6 +1,7 @@
 //! Objects as they are shown to everybody.
 
-ghost use Rattle.std.specs.Prelude.{◌≡◌, ◌++◌, IfOk, OnOk};
+ghost use Rattle.std.specs.Prelude.{◌≡◌, ◌++◌, IfOk, OnOk, OnErr};
+ghost use Rattle.std.specs.Io.{StartsWith};
 ghost use Rattle.rr_object.specs.Readings.{public_of};
 ghost use Rattle.rr_text.specs.CanonicalText.{canonical};
 
@@ -14,8 +15,8 @@ const SECRET: &[u8] = b"auth";
 /// The line in place of each of them.
 const FILTERED: &[u8] = b"# filtered";
 
-/// The paragraph of an object for public answers: each value of an attribute named `auth` is the line `# filtered`. The
-/// error is want of memory.
+/// The paragraph of an object for public answers: each value of an attribute named `auth` is the
+/// line `# filtered`. The error is that memory ran out.
 #[tactic(auto, unfolding(crate::specs::Readings::public_of))]
 pub fn public(alloc: Global, object: &Object) -> Result<Paragraph, AllocError>
     ensures { IfOk result (λ paragraph. paragraph ≡ public_of object.now) }
@@ -23,11 +24,12 @@ pub fn public(alloc: Global, object: &Object) -> Result<Paragraph, AllocError>
     object.paragraph().with_values(alloc, SECRET, FILTERED)
 }
 
-/// Appends the canonical text of that paragraph, without a copy of it. The error is want of memory, and tells nothing of what
-/// was appended.
+/// Appends the canonical text of that paragraph, without a copy of it. The error is that memory ran
+/// out: then some bytes may have been appended.
 #[tactic(auto, unfolding(crate::specs::Readings::public_of))]
 pub fn print_public(out: &mut Vec<u8>, object: &Object) -> Result<(), AllocError>
-    ensures { OnOk result (out.new.items ≡ out.old.items ++ canonical (public_of object.now)) }
+    ensures ok { OnOk result (out.new.items ≡ out.old.items ++ canonical (public_of object.now)) }
+    ensures err { OnErr result (StartsWith out.new.items out.old.items) }
 {
     print_onto_with_values(out, object.paragraph(), SECRET, FILTERED)
 }

@@ -1,13 +1,16 @@
 //! What the attributes of a paragraph say.
 
-ghost use Rattle.std.specs.Prelude.{◌≡◌, ◌≢◌, IfErr, IfOk, None, Some, false, map, true};
+ghost use Rattle.std.specs.Prelude.{◌≡◌, ◌≢◌, IfErr, IfOk, None, Some, false, map};
+ghost use Rattle.std.specs.Prelude.{true};
 ghost use Rattle.std.specs.List.{list_any};
 ghost use Rattle.std.specs.Option.{option_and_then};
 ghost use Rattle.rr_number.specs.Names.{name_of};
 ghost use Rattle.rr_object.specs.Auths.{auth_item};
 ghost use Rattle.rr_object.specs.Grants.{grants_of, is_any};
 ghost use Rattle.rr_object.specs.Items.{are_good, items, meant, only, values_of};
-ghost use Rattle.rr_object.specs.Readings.{by_ref_of, has_bad_authority, has_bad_membership, has_bad_text, is_kept_out, items_read, maintainers_of, member_item, source_of};
+ghost use Rattle.rr_object.specs.Readings.{by_ref_of, has_bad_authority, has_bad_membership};
+ghost use Rattle.rr_object.specs.Readings.{has_bad_text, is_kept_out, items_read, maintainers_of};
+ghost use Rattle.rr_object.specs.Readings.{member_item, source_of};
 ghost use Rattle.rr_object.specs.Kinds.{kind_name};
 ghost use Rattle.rr_object.specs.Members.{by_ref_item, set_item};
 ghost use Rattle.rr_object.specs.declared.fault.ObjectFault.TheVariants.{BadValue, Memory};
@@ -46,8 +49,8 @@ pub(crate) struct Membership {
     pub(crate) member_of: Vec<SetName>,
 }
 
-/// The source that a paragraph names. It is a fault that it names none, and that an attribute has a name that is kept
-/// out.
+/// The source that a paragraph names. It is a fault that it names none, and that an attribute has a
+/// name that is kept out.
 #[tactic(auto, unfolding(crate::specs::Readings::has_bad_text))]
 pub(crate) fn read_source(
     alloc: Global,
@@ -57,7 +60,8 @@ pub(crate) fn read_source(
     requires { sources.now ≡ values_of (kind_name kinds.Source) paragraph.now }
     ensures good { IfOk result (λ _. has_bad_text paragraph.now ≡ false) }
     ensures source { IfOk result (λ source. source_of paragraph.now ≡ Some source) }
-    ensures bad { IfErr result (λ fault. fault ≢ Memory → (fault ≡ BadValue) × (has_bad_text paragraph.now ≡ true)) }
+    ensures bad { IfErr result (λ fault. fault ≢ Memory
+        → (fault ≡ BadValue) × (has_bad_text paragraph.now ≡ true)) }
 {
     if has_kept_out(paragraph) {
         return Err(ObjectFault::BadValue);
@@ -99,13 +103,19 @@ pub(crate) fn read_authority(
     paragraph: &Paragraph,
     maintainers: &[&[u8]],
 ) -> Result<Authority, ObjectFault>
-    requires { map (λ item. item.now) maintainers.now ≡ items_read kinds.MntBy class paragraph.now }
+    requires { map (λ item. item.now) maintainers.now
+        ≡ items_read kinds.MntBy class paragraph.now }
     ensures good { IfOk result (λ _. has_bad_authority class paragraph.now ≡ false) }
-    ensures maintainers { IfOk result (λ said. said.maintainers.items ≡ maintainers_of kinds.MntBy class paragraph.now) }
-    ensures lower { IfOk result (λ said. said.lower.items ≡ maintainers_of kinds.MntLower class paragraph.now) }
-    ensures routes { IfOk result (λ said. grants_of (items_read kinds.MntRoutes class paragraph.now) ≡ Some said.routes.items) }
-    ensures auths { IfOk result (λ said. said.auths.items ≡ meant auth_item (items_read kinds.Auth class paragraph.now)) }
-    ensures bad { IfErr result (λ fault. fault ≢ Memory → (fault ≡ BadValue) × (has_bad_authority class paragraph.now ≡ true)) }
+    ensures maintainers { IfOk result
+        (λ said. said.maintainers.items ≡ maintainers_of kinds.MntBy class paragraph.now) }
+    ensures lower { IfOk result
+        (λ said. said.lower.items ≡ maintainers_of kinds.MntLower class paragraph.now) }
+    ensures routes { IfOk result (λ said. grants_of
+        (items_read kinds.MntRoutes class paragraph.now) ≡ Some said.routes.items) }
+    ensures auths { IfOk result (λ said. said.auths.items
+        ≡ meant auth_item (items_read kinds.Auth class paragraph.now)) }
+    ensures bad { IfErr result (λ fault. fault ≢ Memory
+        → (fault ≡ BadValue) × (has_bad_authority class paragraph.now ≡ true)) }
 {
     let maintainers = read_items::<Maintainers>(alloc, maintainers)?;
     let lower = read_listed::<Maintainers>(alloc, class, Kind::MntLower, paragraph)?;
@@ -127,10 +137,14 @@ pub(crate) fn read_membership(
     paragraph: &Paragraph,
 ) -> Result<Membership, ObjectFault>
     ensures good { IfOk result (λ _. has_bad_membership class paragraph.now ≡ false) }
-    ensures members { IfOk result (λ said. said.members.items ≡ meant (member_item class) (items_read kinds.Members class paragraph.now)) }
-    ensures by_ref { IfOk result (λ said. said.by_ref ≡ by_ref_of (items_read kinds.MbrsByRef class paragraph.now)) }
-    ensures member_of { IfOk result (λ said. said.member_of.items ≡ meant set_item (items_read kinds.MemberOf class paragraph.now)) }
-    ensures bad { IfErr result (λ fault. fault ≢ Memory → (fault ≡ BadValue) × (has_bad_membership class paragraph.now ≡ true)) }
+    ensures members { IfOk result (λ said. said.members.items
+        ≡ meant (member_item class) (items_read kinds.Members class paragraph.now)) }
+    ensures by_ref { IfOk result
+        (λ said. said.by_ref ≡ by_ref_of (items_read kinds.MbrsByRef class paragraph.now)) }
+    ensures member_of { IfOk result (λ said. said.member_of.items
+        ≡ meant set_item (items_read kinds.MemberOf class paragraph.now)) }
+    ensures bad { IfErr result (λ fault. fault ≢ Memory
+        → (fault ≡ BadValue) × (has_bad_membership class paragraph.now ≡ true)) }
 {
     let members = read_members(alloc, class, paragraph)?;
     let by_ref = read_by_ref(alloc, class, paragraph)?;
@@ -168,10 +182,13 @@ fn read_listed<R: ReadItem>(
     paragraph: &Paragraph,
 ) -> Result<Vec<R::Item>, ObjectFault>
     requires { kind ≢ kinds.Auth }
-    ensures good { IfOk result (λ _. are_good R.item_of (items_read kind class paragraph.now) ≡ true) }
-    ensures value { IfOk result (λ read. read.items ≡ meant R.item_of (items_read kind class paragraph.now)) }
+    ensures good { IfOk result
+        (λ _. are_good R.item_of (items_read kind class paragraph.now) ≡ true) }
+    ensures value { IfOk result
+        (λ read. read.items ≡ meant R.item_of (items_read kind class paragraph.now)) }
     ensures bad { IfErr result (λ fault. fault ≢ Memory
-        → (fault ≡ BadValue) × (are_good R.item_of (items_read kind class paragraph.now) ≡ false)) }
+        → (fault ≡ BadValue)
+        × (are_good R.item_of (items_read kind class paragraph.now) ≡ false)) }
 {
     let text = text_read(alloc, class, kind, paragraph)?;
     let listed = items(alloc, &text)?;
@@ -183,9 +200,11 @@ fn read_routes(
     class: Class,
     paragraph: &Paragraph,
 ) -> Result<Vec<Grant>, ObjectFault>
-    ensures good { IfOk result (λ read. grants_of (items_read kinds.MntRoutes class paragraph.now) ≡ Some read.items) }
+    ensures good { IfOk result
+        (λ read. grants_of (items_read kinds.MntRoutes class paragraph.now) ≡ Some read.items) }
     ensures bad { IfErr result (λ fault. fault ≢ Memory
-        → (fault ≡ BadValue) × (grants_of (items_read kinds.MntRoutes class paragraph.now) ≡ None)) }
+        → (fault ≡ BadValue)
+        × (grants_of (items_read kinds.MntRoutes class paragraph.now) ≡ None)) }
 {
     let text = text_read(alloc, class, Kind::MntRoutes, paragraph)?;
     let listed = items(alloc, &text)?;
@@ -194,10 +213,13 @@ fn read_routes(
 
 #[tactic(auto, unfolding(crate::specs::Readings::items_read, crate::specs::Readings::items_of))]
 fn read_auths(alloc: Global, class: Class, paragraph: &Paragraph) -> Result<Vec<Auth>, ObjectFault>
-    ensures good { IfOk result (λ _. are_good auth_item (items_read kinds.Auth class paragraph.now) ≡ true) }
-    ensures value { IfOk result (λ read. read.items ≡ meant auth_item (items_read kinds.Auth class paragraph.now)) }
+    ensures good { IfOk result
+        (λ _. are_good auth_item (items_read kinds.Auth class paragraph.now) ≡ true) }
+    ensures value { IfOk result
+        (λ read. read.items ≡ meant auth_item (items_read kinds.Auth class paragraph.now)) }
     ensures bad { IfErr result (λ fault. fault ≢ Memory
-        → (fault ≡ BadValue) × (are_good auth_item (items_read kinds.Auth class paragraph.now) ≡ false)) }
+        → (fault ≡ BadValue)
+        × (are_good auth_item (items_read kinds.Auth class paragraph.now) ≡ false)) }
 {
     if !Kind::Auth.is_read(class) {
         return Ok(Vec::new(alloc));
@@ -222,10 +244,13 @@ fn read_members(
     class: Class,
     paragraph: &Paragraph,
 ) -> Result<Vec<Member>, ObjectFault>
-    ensures good { IfOk result (λ _. are_good (member_item class) (items_read kinds.Members class paragraph.now) ≡ true) }
-    ensures value { IfOk result (λ read. read.items ≡ meant (member_item class) (items_read kinds.Members class paragraph.now)) }
+    ensures good { IfOk result (λ _. are_good (member_item class)
+        (items_read kinds.Members class paragraph.now) ≡ true) }
+    ensures value { IfOk result (λ read. read.items
+        ≡ meant (member_item class) (items_read kinds.Members class paragraph.now)) }
     ensures bad { IfErr result (λ fault. fault ≢ Memory
-        → (fault ≡ BadValue) × (are_good (member_item class) (items_read kinds.Members class paragraph.now) ≡ false)) }
+        → (fault ≡ BadValue) × (are_good (member_item class)
+        (items_read kinds.Members class paragraph.now) ≡ false)) }
 {
     match class {
         Class::AsSet => read_listed::<AsSetMembers>(alloc, class, Kind::Members, paragraph),
@@ -234,10 +259,13 @@ fn read_members(
 }
 
 fn read_by_ref(alloc: Global, class: Class, paragraph: &Paragraph) -> Result<ByRef, ObjectFault>
-    ensures good { IfOk result (λ _. are_good by_ref_item (items_read kinds.MbrsByRef class paragraph.now) ≡ true) }
-    ensures value { IfOk result (λ read. read ≡ by_ref_of (items_read kinds.MbrsByRef class paragraph.now)) }
+    ensures good { IfOk result
+        (λ _. are_good by_ref_item (items_read kinds.MbrsByRef class paragraph.now) ≡ true) }
+    ensures value { IfOk result
+        (λ read. read ≡ by_ref_of (items_read kinds.MbrsByRef class paragraph.now)) }
     ensures bad { IfErr result (λ fault. fault ≢ Memory
-        → (fault ≡ BadValue) × (are_good by_ref_item (items_read kinds.MbrsByRef class paragraph.now) ≡ false)) }
+        → (fault ≡ BadValue)
+        × (are_good by_ref_item (items_read kinds.MbrsByRef class paragraph.now) ≡ false)) }
 {
     let text = text_read(alloc, class, Kind::MbrsByRef, paragraph)?;
     let listed = items(alloc, &text)?;

@@ -185,7 +185,7 @@ or_back true false = refl
 or_back false true = refl
 or_back false false = refl
 
--- behind an object that was put among those before it, the faults are those of the ones that are left
+-- after an object that was put among those before it, the faults are those of the ones that are left
 pub clash_next : (before grown : List Obj) (n : ℕ) (o : Obj) (os : List Obj) → IsTakenIn before n o grown → clash before n (o ∷ os) ≡ clash grown (n + 1) os
 clash_next before grown n o os t =
     ap (λ f. option_or f (clash (before ++ o ∷ []) (n + 1) os)) t.free

@@ -69,7 +69,7 @@ rising_more (x ∷ xs) y f most = (
   rising_more xs y f.1 (λ z i. most z (inr i)),
 )
 
--- numbers that rise, turned round behind falling ones that are all above them
+-- numbers that rise, turned round after falling ones that are all above them
 falling_on : (outer level : List ℕ) → IsFalling outer → IsRising level → ((x y : ℕ) → IsIn x outer → IsIn y level → y ≤ x) → IsFalling (outer ++ reverse level)
 falling_on outer [] falling rising within = subst IsFalling (sym (append-nil outer)) falling
 falling_on outer (y ∷ level) falling rising within =
@@ -90,7 +90,7 @@ falling_last (y ∷ z ∷ zs) i d f e x at =
       | inr j ↦ rest x j
     ])
 
--- spans that go on to a first number: the level's are put behind the outer ones, and those that end below it are dropped
+-- spans that go on to a first number: the level's are put after the outer ones, and those that end below it are dropped
 pub moved_on : (gone : Ends → Bool) (old first : ℕ) (outer level left : List ℕ) → old ≤ first → IsKept gone old outer level → IsShortened first (outer ++ reverse level) left → IsKept gone first left []
 moved_on gone old first outer level left up held short = record {
   falling = falling_front left short.gone (subst IsFalling short.cut (falling_on outer level held.falling held.rising held.within));
@@ -122,7 +122,7 @@ pub record IsPassing (gone : Ends → Bool) (s : Ends) (more : Ends → Bool) (f
   pub kept : IsKept more first outer level
   pub begun : IsBegun more first
 
--- a span behind spans of its first number that the outer ones all reach
+-- a span after spans of its first number that the outer ones all reach
 pub passed : (gone more : Ends → Bool) (s : Ends) (first : ℕ) (outer level : List ℕ) → s.first ≡ first → IsKept gone first outer level → Rises gone s → IsJoined gone s more
     → ((x : ℕ) → IsIn x outer → s.last ≤ x) → IsPassing gone s more first outer (level ++ s.last ∷ [])
 passed gone more s first outer level here held rises joined reached = record {

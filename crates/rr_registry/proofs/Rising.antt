@@ -1,4 +1,4 @@
--- Objects whose keys rise: each is put behind those before it.
+-- Objects whose keys rise: each is put after those before it.
 use Rattle.std.proofs.Common.{◌≡◌, ◌⊎◌, ◌||◌, ℕ, ◌+◌, ◌-◌, ◌<◌, ◌≤◌, Bool, true, false, ◌&&◌, inl, inr, List, [], ◌∷◌, ◌++◌, length, get_or, take, drop, refl, sym, ap, subst, ◌∙◌, add-one, arith}
 use Rattle.std.specs.Prelude.{map}
 use Rattle.std.specs.Cmp.{ranked}
@@ -70,7 +70,7 @@ rises_on all rest later o same is below = same ∙ ap is_in_order is ∙ rises_b
 pub rises_not : (all rest later : List Obj) (o : Obj) → is_in_order all ≡ is_in_order rest → rest ≡ o ∷ later → is_below o later ≡ false → false ≡ is_in_order all
 rises_not all rest later o same is below = sym (same ∙ ap is_in_order is ∙ rises_by_first o later ∙ ap (λ b. b && is_in_order later) below)
 
--- a list is its first object and those behind it
+-- a list is its first object and those after it
 pub first_and_rest : (os : List Obj) (o : Obj) → 1 ≤ length os → o ≡ get_or os 0 o → os ≡ o ∷ take (length os - 1) (drop 1 os)
 first_and_rest [] o some is = absurd (omega arith)
 first_and_rest (x ∷ xs) o some is = λ i. sym is i ∷ sym (take_all (length (x ∷ xs) - 1) xs (omega arith)) i
@@ -140,7 +140,7 @@ spans_of key os s = is_key_of_some (key s) os
 abbrev pub GoesOn : OpenSpans → Ends → OpenSpans → Type 0
 GoesOn before s now = (gone more : Ends → Bool) → HasPassed gone before → Rises gone s → IsJoined gone s more → Passes gone s more now
 
--- spans of a class stay gone over behind an object of another
+-- spans of a class stay gone over after an object of another
 others_passed : (key : Ends → Key) (os : List Obj) (o : Obj) (passed : OpenSpans) → ((s : Ends) → eq_by_cmp key_cmp (key s) o.key ≡ false)
     → HasPassed (spans_of key os) passed → HasPassed (spans_of key (os ++ o ∷ [])) passed
 others_passed key os o passed other held =
@@ -231,7 +231,7 @@ none_reached os inetnums blocks held = record {
   passed = held;
 }
 
--- an object that none before it crosses was taken in behind them
+-- an object that none before it crosses was taken in after them
 more_reached : (os before rest : List Obj) (n : ℕ) (o : Obj) (inetnums blocks more_inetnums more_blocks : OpenSpans)
     → IsReached os before (o ∷ rest) n inetnums blocks → is_in_order (before ++ o ∷ []) ≡ true → IsKeyValue o.key → IsPassed before o more_inetnums more_blocks
     → IsReached os (before ++ o ∷ []) rest (n + 1) more_inetnums more_blocks
@@ -245,7 +245,7 @@ more_reached os before rest n o inetnums blocks more_inetnums more_blocks held r
       passed = passed.passed;
     }
 
--- the object behind the first n of a list that rises
+-- the object after the first n of a list that rises
 pub next_reached : (os : List Obj) (n : ℕ) (o : Obj) (k : Key) (inetnums blocks more_inetnums more_blocks : OpenSpans) → n < length os → o ≡ get_or os n o → o.key ≡ k → is_in_order os ≡ true
     → IsKeyValue o.key → IsReachedAt os n inetnums blocks
     → ((xs : List Obj) (x : Obj) → x.key ≡ k → is_in_order (xs ++ x ∷ []) ≡ true → ArePassed xs inetnums blocks → IsPassed xs x more_inetnums more_blocks)

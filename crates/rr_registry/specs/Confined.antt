@@ -1,5 +1,6 @@
 -- What a run does to what the holders of a prefix hold.
-use Rattle.std.specs.Prelude.{◌≡◌, Bool, true, not, ◌||◌, List, [], ◌∷◌, filter, Result, Ok, Err, if◌then◌else◌}
+use Rattle.std.specs.Prelude.{◌≡◌, Bool, true, not, ◌||◌, List, [], ◌∷◌, filter}
+use Rattle.std.specs.Prelude.{Result, Ok, Err, if◌then◌else◌}
 use Rattle.std.specs.List.{list_all}
 use Rattle.rr_object.specs.declared.code.Code.{Code}
 use Rattle.rr_auth.specs.declared.item.Item.{Item}
@@ -17,7 +18,8 @@ is_own_action h (Err code) = true
 
 -- Each of what is submitted is foreign in the registry, or the holders' own.
 abbrev pub are_foreign_or_own : Holding → Reg → List Submitted → Bool
-are_foreign_or_own h r submitted = list_all (λ s. is_foreign h r s.secrets || is_own_action h s.action) submitted
+are_foreign_or_own h r submitted =
+    list_all (λ s. is_foreign h r s.secrets || is_own_action h s.action) submitted
 
 -- What is submitted and not foreign in the registry.
 abbrev pub own_submitted : Holding → Reg → List Submitted → List Submitted
@@ -30,11 +32,14 @@ own_outcomes h r (s ∷ ss) [] = []
 own_outcomes h r (s ∷ ss) (o ∷ os) =
     if is_foreign h r s.secrets then own_outcomes h r ss os else o ∷ own_outcomes h r ss os
 
--- What the holders submitted, with the outcomes that it had, is by itself a run from where the run began, and both runs
--- end agreeing on what is held, with the prefix held; and where all was foreign, what is held is what it was.
-pub record IsConfined (h : Holding) (before : Reg) (submitted : List Submitted) (outcomes : List Outcome) (ended : Reg) : Type 0 where
+-- What the holders submitted, with the outcomes that it had, is by itself a run from where the run
+-- began, and both runs end agreeing on what is held, with the prefix held; and where all was
+-- foreign, what is held is what it was.
+pub record IsConfined (h : Holding) (before : Reg) (submitted : List Submitted)
+    (outcomes : List Outcome) (ended : Reg) : Type 0 where
   pub alone : Reg
-  pub run : Run before (own_submitted h before submitted) (own_outcomes h before submitted outcomes) alone
+  pub run : Run before (own_submitted h before submitted)
+      (own_outcomes h before submitted outcomes) alone
   pub agree : Agree h ended alone
   pub held : IsHeld h ended
   pub held_alone : IsHeld h alone
@@ -43,10 +48,12 @@ pub record IsConfined (h : Holding) (before : Reg) (submitted : List Submitted) 
 -- Whoever holds a prefix, where each of what is submitted is foreign or theirs.
 abbrev pub Confines : Reg → List Submitted → List Outcome → Reg → Type 0
 Confines before submitted outcomes ended =
-    (h : Holding) → IsHeld h before → are_foreign_or_own h before submitted ≡ true → IsConfined h before submitted outcomes ended
+    (h : Holding) → IsHeld h before → are_foreign_or_own h before submitted ≡ true
+    → IsConfined h before submitted outcomes ended
 
 -- So does each run from a sound registry.
 abbrev pub RunsConfine : Type 0
 RunsConfine =
     (r s : Reg) (submitted : List Submitted) (outcomes : List Outcome)
-    → Sound r → AreFormed submitted → Run r submitted outcomes s → Confines r submitted outcomes s
+    → Sound r → AreFormed submitted → Run r submitted outcomes s
+    → Confines r submitted outcomes s

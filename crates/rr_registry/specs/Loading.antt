@@ -1,5 +1,6 @@
 -- When a list of objects is a sound registry, and what else is the matter with it.
-use Rattle.std.specs.Prelude.{◌≡◌, ℕ, ◌+◌, Bool, ◌⊎◌, List, [], ◌∷◌, ◌++◌, Option, None, Some, position, if◌then◌else◌}
+use Rattle.std.specs.Prelude.{◌≡◌, ℕ, ◌+◌, Bool, ◌⊎◌, List, [], ◌∷◌}
+use Rattle.std.specs.Prelude.{◌++◌, Option, None, Some, position, if◌then◌else◌}
 use Rattle.std.specs.List.{list_any}
 use Rattle.std.specs.Option.{option_map, option_or}
 use Rattle.std.specs.Ordering.{eq_by_cmp}
@@ -9,7 +10,8 @@ use Rattle.rr_object.specs.KeyOrders.{key_cmp}
 use Rattle.rr_object.specs.Objects.{Obj, names_of}
 use Rattle.rr_auth.specs.Registries.{Reg, keys_cross, names_nobody}
 use Rattle.rr_registry.specs.declared.load.LoadFault.{LoadFault}
-use Rattle.rr_registry.specs.declared.load.LoadFault.TheVariants.{Duplicate, Overlap, Unnamed, Memory}
+use Rattle.rr_registry.specs.declared.load.LoadFault.TheVariants.{Duplicate, Overlap, Unnamed}
+use Rattle.rr_registry.specs.declared.load.LoadFault.TheVariants.{Memory}
 
 -- The registry with the objects of a list put in, in turn.
 abbrev pub gathered : Reg → List Obj → Reg
@@ -24,14 +26,14 @@ is_key_of_some k os = list_any (λ o. eq_by_cmp key_cmp k o.key) os
 abbrev pub is_crossed_by_some : Key → List Obj → Bool
 is_crossed_by_some k os = list_any (λ o. keys_cross o.key k) os
 
--- The fault of an object that is the n-th of a list: some object before it has its key, or else one before it crosses
--- it (profile).
+-- The fault of an object that is the n-th of a list: some object before it has its key, or else one
+-- before it crosses it (profile).
 abbrev pub clash_of : List Obj → ℕ → Obj → Option LoadFault
 clash_of before n o =
     if is_key_of_some o.key before then Some (Duplicate n)
     else (if is_crossed_by_some o.key before then Some (Overlap n) else None)
 
--- The first such fault of the objects of a list behind others, the first of them being the n-th.
+-- The first such fault of the objects of a list after others, the first of them being the n-th.
 abbrev pub clash : List Obj → ℕ → List Obj → Option LoadFault
 clash before n [] = None
 clash before n (o ∷ os) = option_or (clash_of before n o) (clash (before ++ o ∷ []) (n + 1) os)
@@ -40,8 +42,8 @@ clash before n (o ∷ os) = option_or (clash_of before n o) (clash (before ++ o 
 abbrev pub unnamed : Reg → List Obj → Option LoadFault
 unnamed r os = option_map (λ i. Unnamed (i + 1)) (position (λ o. names_nobody r (names_of o)) os)
 
--- What is the matter with a list of objects, counted from 1: first a key that stands twice or spans that cross, then a
--- maintainer who is not in the list (profile).
+-- What is the matter with a list of objects, counted from 1: first a key that stands twice or spans
+-- that cross, then a maintainer who is not in the list (profile).
 abbrev pub load_fault : List Obj → Option LoadFault
 load_fault os = option_or (clash [] 1 os) (unnamed (gathered empty os) os)
 
@@ -50,6 +52,6 @@ pub record IsTaken (os : List Obj) (r : Reg) : Type 0 where
   pub faultless : load_fault os ≡ None
   pub whole : r ≡ gathered empty os
 
--- The fault is the list's, or memory was wanting.
+-- The fault is the list's, or memory ran out.
 abbrev pub IsFaultOf : List Obj → LoadFault → Type 0
 IsFaultOf os fault = (fault ≡ Memory) ⊎ (load_fault os ≡ Some fault)

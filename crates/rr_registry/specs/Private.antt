@@ -1,5 +1,6 @@
 -- What the private functions of src promise each other. No public clause cites these.
-use Rattle.std.specs.Prelude.{◌≡◌, ◌⊎◌, ◌||◌, ℕ, Bool, true, false, List, [], ◌∷◌, None, Some, map}
+use Rattle.std.specs.Prelude.{◌≡◌, ◌⊎◌, ◌||◌, ℕ, Bool, true, false, List, []}
+use Rattle.std.specs.Prelude.{◌∷◌, None, Some, map}
 use Rattle.std.specs.BTreeMap.{values}
 use Rattle.std.specs.List.{list_any}
 use Rattle.std.specs.FinMap.{contains_key, empty, get, insert}
@@ -20,12 +21,14 @@ use Rattle.rr_cover.specs.SpanMaps.{SpanMap}
 use Rattle.rr_registry.specs.declared.gathered.Gathered.{Gathered}
 use Rattle.rr_registry.specs.Loading.{clash, clash_of, gathered, is_crossed_by_some, is_key_of_some}
 
--- Objects in order whose registry has each under its own well formed key and no two that cross: sound but for names.
+-- Objects in order whose registry has each under its own well formed key and no two that cross:
+-- sound but for names.
 pub record IsApart (os : List Obj) : Type 0 where
   pub ordered : is_in_order os ≡ true
   pub keyed : (k : Key) (o : Obj) → get (book_of os) k ≡ Some o → o.key ≡ k
   pub formed : (k : Key) (o : Obj) → get (book_of os) k ≡ Some o → IsKeyValue k
-  pub apart : (k l : Key) (o x : Obj) → get (book_of os) k ≡ Some o → get (book_of os) l ≡ Some x → keys_cross k l ≡ false
+  pub apart : (k l : Key) (o x : Obj) → get (book_of os) k ≡ Some o
+      → get (book_of os) l ≡ Some x → keys_cross k l ≡ false
 
 -- The n-th object was put among those before it.
 pub record IsTakenIn (before : List Obj) (n : ℕ) (o : Obj) (grown : List Obj) : Type 0 where
@@ -55,17 +58,21 @@ pub record HoldsSpans (os : List Obj) (inetnums blocks : SpanMap (Unit {0})) : T
   pub blocks_are : (s : Ends) → contains_key blocks s ≡ is_key_of_some (AsBlock s) os
 
 -- The span of a key that no object of a list crosses was put among those of the list.
-pub record IsEntered (os : List Obj) (key : Key) (inetnums blocks : SpanMap (Unit {0})) : Type 0 where
+pub record IsEntered (os : List Obj) (key : Key)
+    (inetnums blocks : SpanMap (Unit {0})) : Type 0 where
   pub free : is_crossed_by_some key os ≡ false
-  pub inetnums_are : (s : Ends) → contains_key inetnums s ≡ (eq_by_cmp key_cmp (Inetnum s) key || is_key_of_some (Inetnum s) os)
-  pub blocks_are : (s : Ends) → contains_key blocks s ≡ (eq_by_cmp key_cmp (AsBlock s) key || is_key_of_some (AsBlock s) os)
+  pub inetnums_are : (s : Ends) → contains_key inetnums s
+      ≡ (eq_by_cmp key_cmp (Inetnum s) key || is_key_of_some (Inetnum s) os)
+  pub blocks_are : (s : Ends) → contains_key blocks s
+      ≡ (eq_by_cmp key_cmp (AsBlock s) key || is_key_of_some (AsBlock s) os)
 
--- What was gathered is consistent: each object stands under its own key, and the spans are those of the objects.
+-- What was gathered is consistent: each object stands under its own key, and the spans are those of
+-- the objects.
 pub record IsConsistent (g : Gathered) : Type 0 where
   pub apart : IsApart (values g.objects)
   pub keyed : g.objects.entries ≡ map entry (values g.objects)
   pub spans : HoldsSpans (values g.objects) g.spans.inetnums g.spans.blocks
 
--- The verdict on an item, or a refusal with E90 where memory is wanting (profile).
+-- The verdict on an item, or a refusal with E90 if memory runs out (profile).
 abbrev pub IsJudged : Reg → List (List ℕ) → Item → Verdict → Type 0
 IsJudged r secrets item judged = (judged ≡ verdict r secrets item) ⊎ (judged ≡ Refuse E90)

@@ -11,11 +11,13 @@ use Rattle.rr_registry.specs.declared.run.Submitted.{Submitted}
 abbrev pub RunsJoin : Type 0
 RunsJoin =
     (r s t : Reg) (first later : List Submitted) (outcomes others : List Outcome)
-    → Run r first outcomes s → Run s later others t → Run r (first ++ later) (outcomes ++ others) t
+    → Run r first outcomes s → Run s later others t
+    → Run r (first ++ later) (outcomes ++ others) t
 
--- What a run of two lists, one behind the other, is made of: a run of the first, and one of the second from where that
--- led.
-pub record IsSplit (r t : Reg) (first later : List Submitted) (outcomes : List Outcome) : Type 0 where
+-- What a run of two lists, one after the other, is made of: a run of the first, and one of the
+-- second from where that led.
+pub record IsSplit (r t : Reg) (first later : List Submitted)
+    (outcomes : List Outcome) : Type 0 where
   pub between : Reg
   pub fore : List Outcome
   pub others : List Outcome
@@ -43,10 +45,12 @@ RunsStaySound =
 -- Each item of a list is as it is read in a source.
 abbrev pub AreReadIn : List ℕ → List Submitted → Type 0
 AreReadIn source [] = Unit {0}
-AreReadIn source (submitted ∷ later) = IfOk submitted.action (IsReadIn source) × AreReadIn source later
+AreReadIn source (submitted ∷ later) =
+    IfOk submitted.action (IsReadIn source) × AreReadIn source later
 
 -- A run from a registry of a source ends at one, whatever is submitted that is read in that source.
 abbrev pub RunsStayOfSource : Type 0
 RunsStayOfSource =
     (source : List ℕ) (r s : Reg) (submitted : List Submitted) (outcomes : List Outcome)
-    → IsRegistryOf source r → AreReadIn source submitted → Run r submitted outcomes s → IsRegistryOf source s
+    → IsRegistryOf source r → AreReadIn source submitted → Run r submitted outcomes s
+    → IsRegistryOf source s

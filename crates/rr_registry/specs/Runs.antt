@@ -9,7 +9,9 @@ use Rattle.rr_auth.specs.Registries.{Reg}
 use Rattle.rr_auth.specs.Verdicts.{verdict, after}
 use Rattle.rr_registry.specs.declared.outcome.Outcome.{Outcome}
 use Rattle.rr_registry.specs.declared.run.Submitted.{Submitted}
-use Rattle.rr_registry.specs.declared.outcome.Outcome.TheVariants.{Added, Changed, Same as Unchanged, Deleted, Refused}
+use Rattle.rr_registry.specs.declared.outcome.Outcome.TheVariants.{Added, Changed}
+use Rattle.rr_registry.specs.declared.outcome.Outcome.TheVariants.{Same as Unchanged, Deleted}
+use Rattle.rr_registry.specs.declared.outcome.Outcome.TheVariants.{Refused}
 
 -- The outcome that a verdict leads to.
 abbrev pub outcome_of : Verdict → Outcome
@@ -19,25 +21,30 @@ outcome_of Same = Unchanged
 outcome_of Delete = Deleted
 outcome_of (Refuse code) = Refused code
 
--- A verdict on an item had its effect: the outcome and the registry after it are the verdict's (profile).
-pub record HasEffect (before : Reg) (judged : Verdict) (item : Item) (outcome : Outcome) (then : Reg) : Type 0 where
+-- A verdict on an item had its effect: the outcome and the registry after it are the verdict's
+-- (profile).
+pub record HasEffect (before : Reg) (judged : Verdict) (item : Item) (outcome : Outcome)
+    (then : Reg) : Type 0 where
   pub outcome_is : outcome ≡ outcome_of judged
   pub effect : then ≡ after judged before item
 
--- Memory was wanting: the item is refused and nothing changes (profile).
+-- Memory ran out: the item is refused and nothing changes (profile).
 pub record IsWant (before : Reg) (outcome : Outcome) (then : Reg) : Type 0 where
   pub outcome_is : outcome ≡ Refused E90
   pub effect : then ≡ before
 
--- A verdict on an item was carried out, or memory was wanting.
+-- A verdict on an item was carried out, or memory ran out.
 abbrev pub IsCarriedOut : Reg → Verdict → Item → Outcome → Reg → Type 0
-IsCarriedOut before judged item outcome then = HasEffect before judged item outcome then ⊎ IsWant before outcome then
+IsCarriedOut before judged item outcome then =
+    HasEffect before judged item outcome then ⊎ IsWant before outcome then
 
 -- What one item, with the secrets given with it, does to a registry.
 abbrev pub IsStep : Reg → List (List ℕ) → Item → Outcome → Reg → Type 0
-IsStep before secrets item outcome then = IsCarriedOut before (verdict before secrets item) item outcome then
+IsStep before secrets item outcome then =
+    IsCarriedOut before (verdict before secrets item) item outcome then
 
--- What was refused as it was read keeps its code and leaves the registry; an item is a step (profile).
+-- What was refused as it was read keeps its code and leaves the registry; an item is a step
+-- (profile).
 abbrev pub Decides : Reg → List (List ℕ) → Result Item Code → Outcome → Reg → Type 0
 Decides before secrets (Ok item) outcome then = IsStep before secrets item outcome then
 Decides before secrets (Err code) outcome then = (outcome ≡ Refused code) × (then ≡ before)
@@ -48,4 +55,5 @@ Run before [] [] then = then ≡ before
 Run before [] (outcome ∷ outcomes) then = ⊥
 Run before (submitted ∷ later) [] then = ⊥
 Run before (submitted ∷ later) (outcome ∷ outcomes) then =
-    (between : Reg) × Decides before submitted.secrets submitted.action outcome between × Run between later outcomes then
+    (between : Reg) × Decides before submitted.secrets submitted.action outcome between
+    × Run between later outcomes then

@@ -6,7 +6,8 @@ ghost use Rattle.std.specs.FinMap.{insert};
 ghost use Rattle.rr_object.specs.Objects.{Obj};
 ghost use Rattle.rr_cover.specs.SpanMaps.{crosses_some};
 ghost use Rattle.rr_registry.specs.Loading.{clash_of, is_crossed_by_some, is_key_of_some};
-ghost use Rattle.rr_registry.specs.Private.{HoldsSpans, IsConsistent, IsEntered, IsTakenIn, objects_of};
+ghost use Rattle.rr_registry.specs.Private.{HoldsSpans, IsConsistent, IsEntered, IsTakenIn};
+ghost use Rattle.rr_registry.specs.Private.{objects_of};
 
 use crate::load::LoadFault;
 use rr_cover::{InsertFault, SpanNest};
@@ -15,8 +16,8 @@ use rr_object::{Key, Object};
 use std::alloc::{AllocError, Global};
 use std::collections::BTreeMap;
 
-/// Objects under their keys, and the spans of the inetnums and the as-blocks among them: whether a key stands there or
-/// is crossed is found in O(log n) steps for n objects.
+/// Objects under their keys, and the spans of the inetnums and the as-blocks among them: whether a
+/// key stands there or is crossed is found in O(log n) steps for n objects.
 #[derive(Drop)]
 pub(crate) struct Gathered {
     objects: BTreeMap<Key, Object>,
@@ -50,7 +51,8 @@ impl Gathered {
         requires { IsConsistent self.old }
         ensures ok { OnOk result (IsTakenIn (objects_of self.old) n object (objects_of self.new)) }
         ensures consistent { OnOk result (IsConsistent self.new) }
-        ensures err { IfErr result (λ fault. (fault ≡ LoadFault.Memory) ⊎ (clash_of (objects_of self.old) n object ≡ Some fault)) }
+        ensures err { IfErr result (λ fault. (fault ≡ LoadFault.Memory)
+            ⊎ (clash_of (objects_of self.old) n object ≡ Some fault)) }
     {
         object.key_is_well_formed();
         match self.enter(alloc, n, object.key()) {
@@ -64,8 +66,10 @@ impl Gathered {
         requires { IsConsistent self.old }
         ensures copy { IfOk result (λ copy. copy ≡ key.now) }
         ensures new { OnOk result (is_key_of_some key.now (objects_of self.old) ≡ false) }
-        ensures entered { OnOk result (IsEntered (objects_of self.old) key.now self.new.spans.inetnums self.new.spans.blocks) }
-        ensures err { IfErr result (λ fault. (fault ≡ LoadFault.Memory) ⊎ ((o : Obj) → o.key ≡ key.now → clash_of (objects_of self.old) n o ≡ Some fault)) }
+        ensures entered { OnOk result (IsEntered
+            (objects_of self.old) key.now self.new.spans.inetnums self.new.spans.blocks) }
+        ensures err { IfErr result (λ fault. (fault ≡ LoadFault.Memory) ⊎ ((o : Obj)
+            → o.key ≡ key.now → clash_of (objects_of self.old) n o ≡ Some fault)) }
         ensures same { self.new.objects ≡ self.old.objects }
     {
         if self.objects.contains_key(key) {
@@ -75,7 +79,7 @@ impl Gathered {
         Ok(key.copy(alloc)?)
     }
 
-    /// The objects in the order of class and key; the error is want of memory.
+    /// The objects in the order of class and key; the error is that memory ran out.
     pub(crate) fn into_objects(self, alloc: Global) -> Result<Vec<Object>, AllocError>
         ensures { IfOk result (λ objects. objects.items ≡ objects_of self) }
     {
@@ -86,9 +90,11 @@ impl Gathered {
 impl Spans {
     /// Enters the span of the n-th object, where its key is one.
     fn enter(&mut self, n: u64, key: &Key) -> Result<(), LoadFault>
-        ensures ok { OnOk result ((os : List Obj) → HoldsSpans os self.old.inetnums self.old.blocks → IsEntered os key.now self.new.inetnums self.new.blocks) }
+        ensures ok { OnOk result ((os : List Obj) → HoldsSpans os self.old.inetnums
+            self.old.blocks → IsEntered os key.now self.new.inetnums self.new.blocks) }
         ensures err { IfErr result (λ fault. (fault ≡ LoadFault.Memory)
-            ⊎ ((os : List Obj) → HoldsSpans os self.old.inetnums self.old.blocks → (fault ≡ LoadFault.Overlap n) × (is_crossed_by_some key.now os ≡ true))) }
+            ⊎ ((os : List Obj) → HoldsSpans os self.old.inetnums self.old.blocks
+            → (fault ≡ LoadFault.Overlap n) × (is_crossed_by_some key.now os ≡ true))) }
     {
         match key {
             Key::Inetnum(span) => hold(&mut self.inetnums, n, *span),
@@ -98,9 +104,10 @@ impl Spans {
     }
 }
 
-/// Puts the object under the key; the error is want of memory.
+/// Puts the object under the key; the error is that memory ran out.
 fn put(objects: &mut BTreeMap<Key, Object>, key: Key, object: Object) -> Result<(), LoadFault>
-    ensures ok { OnOk result (objects.new.entries ≡ insert_entry ⟦<Key as Ord>⟧.cmp objects.old.entries key object) }
+    ensures ok { OnOk result (objects.new.entries
+        ≡ insert_entry ⟦<Key as Ord>⟧.cmp objects.old.entries key object) }
     ensures err { IfErr result (λ fault. fault ≡ LoadFault.Memory) }
 {
     objects.insert(key, object)?;
@@ -111,7 +118,8 @@ fn put(objects: &mut BTreeMap<Key, Object>, key: Key, object: Object) -> Result<
 fn hold(nest: &mut SpanNest<()>, n: u64, span: Span) -> Result<(), LoadFault>
     ensures ok { OnOk result (nest.new ≡ insert nest.old span tt) }
     ensures free { OnOk result (crosses_some nest.old span ≡ false) }
-    ensures err { IfErr result (λ fault. (fault ≡ LoadFault.Memory) ⊎ ((fault ≡ LoadFault.Overlap n) × (crosses_some nest.old span ≡ true))) }
+    ensures err { IfErr result (λ fault. (fault ≡ LoadFault.Memory)
+        ⊎ ((fault ≡ LoadFault.Overlap n) × (crosses_some nest.old span ≡ true))) }
 {
     match nest.insert(span, ()) {
         Ok(_) => Ok(()),

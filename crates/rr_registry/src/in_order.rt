@@ -28,9 +28,12 @@ impl Passed {
         }
     }
 
-    /// Goes on to the key of an object behind those before it, and says whether it crosses none of them.
+    /// Goes on to the key of an object after those before it, and says whether it crosses none of
+    /// them.
     fn pass(&mut self, key: &Key) -> Result<bool, AllocError>
-        ensures { IfOk result (λ free. (os : List Obj) (o : Obj) → o.key ≡ key.now → is_in_order (os ++ o ∷ []) ≡ true → ArePassed os self.old.inetnums self.old.blocks
+        ensures { IfOk result (λ free. (os : List Obj) (o : Obj) → o.key ≡ key.now
+            → is_in_order (os ++ o ∷ []) ≡ true
+            → ArePassed os self.old.inetnums self.old.blocks
             → IsTrue free → IsPassed os o self.new.inetnums self.new.blocks) }
     {
         match key {
@@ -41,8 +44,8 @@ impl Passed {
     }
 }
 
-/// Whether the objects stand as they are gathered: their keys strictly rise, and no two spans cross. It takes O(n)
-/// steps for n objects, and the error is want of memory.
+/// Whether the objects stand as they are gathered: their keys strictly rise, and no two spans
+/// cross. It takes O(n) steps for n objects, and the error is that memory ran out.
 pub(crate) fn are_gathered(alloc: Global, objects: &[Object]) -> Result<bool, AllocError>
     ensures { IfOk result (λ gathered. IsTrue gathered → IsGathered objects.now objects.now) }
 {

@@ -26,8 +26,8 @@ pub fn runs_stay_of_their_source()
     ensures { RunsStayOfSource }
 {}
 
-/// A run from a sound registry answers the holders of a prefix as if nobody else had submitted anything, and leaves
-/// what they hold to them.
+/// A run from a sound registry answers the holders of a prefix as if nobody else had submitted
+/// anything, and leaves what they hold to them.
 pub fn runs_confine_what_is_foreign()
     ensures { RunsConfine }
 {}

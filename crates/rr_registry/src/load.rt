@@ -1,6 +1,7 @@
 //! Lists of objects taken as registries.
 
-ghost use Rattle.std.specs.Prelude.{◌≡◌, ◌⊎◌, ◌||◌, ◌<◌, ℕ, [], List, Some, IfOk, IfSome, MatchResult, OnOk, length, not, position};
+ghost use Rattle.std.specs.Prelude.{◌≡◌, ◌⊎◌, ◌||◌, ◌<◌, ℕ, [], List, Some};
+ghost use Rattle.std.specs.Prelude.{IfOk, IfSome, MatchResult, OnOk, length, not, position};
 ghost use Rattle.std.specs.BTreeSet.{contains};
 ghost use Rattle.std.specs.Cmp.Lexicographic.{slice_cmp};
 ghost use Rattle.std.specs.List.{list_any};
@@ -28,7 +29,7 @@ pub enum LoadFault {
     Overlap(u64),
     /// This object names a maintainer who is not in the list.
     Unnamed(u64),
-    /// Memory was wanting.
+    /// Memory ran out.
     Memory,
 }
 
@@ -57,8 +58,9 @@ impl<T: Drop> From<AllocFailed<T>> for LoadFault {
 impl<B: Keeper> Registry<B> {
     ghost use Rattle.rr_registry.specs.Loading.{IsFaultOf, IsTaken};
 
-    /// The registry of these objects. The fault is the first key that stands twice or span that crosses one before it,
-    /// else the first object that names a maintainer who is not in the list, or want of memory (profile).
+    /// The registry of these objects. The fault is the first key that stands twice or span that
+    /// crosses one before it, otherwise the first object that names a maintainer who is not in the
+    /// list, or that memory ran out (profile).
     #[tactic(auto, using(crate::proofs::Gathering::clash_is_fault))]
     pub fn from_objects(alloc: Global, objects: Vec<Object>) -> Result<Registry<B>, LoadFault>
         ensures { MatchResult result (IsTaken objects.items) (IsFaultOf objects.items) }
@@ -76,7 +78,8 @@ impl<B: Keeper> Registry<B> {
 
 /// The names of the mntners among the objects.
 fn names_of_mntners(alloc: Global, objects: &[Object]) -> Result<BTreeSet<Name>, AllocError>
-    ensures { IfOk result (λ mntners. (name : List ℕ) → contains (slice_cmp nat_cmp) mntners name ≡ list_any (λ o. is_mntner_of name o.key) objects.now) }
+    ensures { IfOk result (λ mntners. (name : List ℕ) → contains
+        (slice_cmp nat_cmp) mntners name ≡ list_any (λ o. is_mntner_of name o.key) objects.now) }
 {
     let mut mntners = BTreeSet::new(alloc);
     for object in objects {
@@ -87,7 +90,8 @@ fn names_of_mntners(alloc: Global, objects: &[Object]) -> Result<BTreeSet<Name>,
 
 /// Adds the name of the key to the mntners, where it is that of one.
 fn add_mntner(alloc: Global, mntners: &mut BTreeSet<Name>, key: &Key) -> Result<(), AllocError>
-    ensures { OnOk result ((name : List ℕ) → contains (slice_cmp nat_cmp) mntners.new name ≡ (contains (slice_cmp nat_cmp) mntners.old name || is_mntner_of name key.now)) }
+    ensures { OnOk result ((name : List ℕ) → contains (slice_cmp nat_cmp) mntners.new name
+        ≡ (contains (slice_cmp nat_cmp) mntners.old name || is_mntner_of name key.now)) }
 {
     match key {
         Key::Mntner(name) => {
@@ -100,7 +104,8 @@ fn add_mntner(alloc: Global, mntners: &mut BTreeSet<Name>, key: &Key) -> Result<
 
 /// The place of the first object that names a maintainer who is not among the objects.
 fn first_unnamed(alloc: Global, objects: &[Object]) -> Result<Option<usize>, AllocError>
-    ensures value { IfOk result (λ place. place ≡ position (λ o. list_any (λ n. not (list_any (λ x. is_mntner_of n x.key) objects.now)) (names_of o)) objects.now) }
+    ensures value { IfOk result (λ place. place ≡ position (λ o. list_any
+        (λ n. not (list_any (λ x. is_mntner_of n x.key) objects.now)) (names_of o)) objects.now) }
     ensures within { IfOk result (λ place. IfSome place (λ i. i < length objects.now)) }
 {
     let mntners = names_of_mntners(alloc, objects)?;
@@ -109,7 +114,8 @@ fn first_unnamed(alloc: Global, objects: &[Object]) -> Result<Option<usize>, All
 
 /// The place of the first object that names a maintainer who is not one of these.
 fn first_without(objects: &[Object], mntners: &BTreeSet<Name>) -> Option<usize>
-    ensures value { result ≡ position (λ o. list_any (λ n. not (contains (slice_cmp nat_cmp) mntners.now n)) (names_of o)) objects.now }
+    ensures value { result ≡ position (λ o. list_any
+        (λ n. not (contains (slice_cmp nat_cmp) mntners.now n)) (names_of o)) objects.now }
     ensures within { IfSome result (λ i. i < length objects.now) }
 {
     objects
@@ -119,15 +125,16 @@ fn first_without(objects: &[Object], mntners: &BTreeSet<Name>) -> Option<usize>
 
 /// Whether the object names a maintainer who is not one of these.
 fn names_nobody(object: &Object, mntners: &BTreeSet<Name>) -> bool
-    ensures { result ≡ list_any (λ n. not (contains (slice_cmp nat_cmp) mntners.now n)) (names_of object.now) }
+    ensures { result ≡ list_any (λ n. not (contains (slice_cmp nat_cmp) mntners.now n))
+        (names_of object.now) }
 {
     object
         .maintainers_named()
         .any(|name| !mntners.contains(name))
 }
 
-/// The objects in order, or the first whose key stands twice or whose span crosses one before it. Those that stand so
-/// already are not put together.
+/// The objects in order, or the first whose key stands twice or whose span crosses one before it.
+/// Those that stand so already are not put together.
 fn gather(alloc: Global, objects: Vec<Object>) -> Result<Vec<Object>, LoadFault>
     ensures { MatchResult result
         (λ gathered. IsGathered objects.items gathered.items)

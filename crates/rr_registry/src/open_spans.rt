@@ -3,18 +3,20 @@
 ghost use Rattle.std.specs.Prelude.{◌≡◌, ◌≤◌, ℕ, Bool, false, IfOk, IsTrue, OnOk};
 ghost use Rattle.rr_number.specs.Spans.{Ends};
 ghost use Rattle.rr_auth.proofs.Members.{IsIn};
-ghost use Rattle.rr_registry.specs.OpenSpanParts.{HasPassed, IsFalling, IsJoined, IsKept, IsShortened, Passes, Rises, ends_below};
+ghost use Rattle.rr_registry.specs.OpenSpanParts.{HasPassed, IsFalling, IsJoined, IsKept};
+ghost use Rattle.rr_registry.specs.OpenSpanParts.{IsShortened, Passes, Rises, ends_below};
 
 use rr_number::Span;
 use std::alloc::{AllocError, Global};
 
-/// What is kept of spans that are gone over in their order, no two of which cross: where those end that one behind them
-/// can still cross.
+/// What is kept of spans that are gone over in their order, no two of which cross: where those end
+/// that one after them can still cross.
 #[derive(Drop)]
 pub(crate) struct OpenSpans {
     /// The first number of the span that came last.
     first: u32,
-    /// The last numbers of the spans that begin below `first` and reach it: no number is above one before it.
+    /// The last numbers of the spans that begin below `first` and reach it: no number is above one
+    /// before it.
     outer: Vec<u32>,
     /// The last numbers of the spans that begin at `first`: no number is below one before it.
     level: Vec<u32>,
@@ -23,7 +25,8 @@ pub(crate) struct OpenSpans {
 impl OpenSpans {
     /// No spans.
     pub(crate) fn new(alloc: Global) -> OpenSpans
-        ensures { (gone : Ends → Bool) → ((t : Ends) → gone t ≡ false) → HasPassed gone result }
+        ensures { (gone : Ends → Bool) → ((t : Ends) → gone t ≡ false)
+            → HasPassed gone result }
     {
         OpenSpans {
             first: 0,
@@ -32,10 +35,11 @@ impl OpenSpans {
         }
     }
 
-    /// Goes on to a span that comes behind those before it, and says whether it crosses none of them. n spans take O(n)
-    /// steps together, and the error is want of memory.
+    /// Goes on to a span that comes after those before it, and says whether it crosses none of
+    /// them. n spans take O(n) steps together, and the error is that memory ran out.
     pub(crate) fn pass(&mut self, span: Span) -> Result<bool, AllocError>
-        ensures { IfOk result (λ free. (gone more : Ends → Bool) → HasPassed gone self.old → Rises gone span → IsJoined gone span more → IsTrue free
+        ensures { IfOk result (λ free. (gone more : Ends → Bool) → HasPassed gone self.old
+            → Rises gone span → IsJoined gone span more → IsTrue free
             → Passes gone span more self.new) }
     {
         self.move_on(span.first())?;
@@ -48,7 +52,8 @@ impl OpenSpans {
 
     /// Goes on to spans that begin at this number.
     fn move_on(&mut self, first: u32) -> Result<(), AllocError>
-        ensures kept { OnOk result ((gone : Ends → Bool) → self.old.first ≤ first → IsKept gone self.old.first self.old.outer.items self.old.level.items
+        ensures kept { OnOk result ((gone : Ends → Bool) → self.old.first ≤ first
+            → IsKept gone self.old.first self.old.outer.items self.old.level.items
             → IsKept gone first self.new.outer.items self.new.level.items) }
         ensures first { OnOk result (self.new.first ≡ first) }
     {
@@ -84,7 +89,8 @@ fn ends_below(lasts: &[u32], first: u32) -> bool
 
 /// Whether falling numbers all reach this one.
 fn reach(lasts: &[u32], last: u32) -> bool
-    ensures { IsTrue result → IsFalling lasts.now → (x : ℕ) → IsIn x lasts.now → last ≤ x }
+    ensures { IsTrue result → IsFalling lasts.now → (x : ℕ) → IsIn x lasts.now
+        → last ≤ x }
 {
     match lasts.last() {
         Some(least) => last <= *least,

@@ -17,7 +17,8 @@ use rr_object::{Code, Key, Object};
 use std::alloc::{AllocError, Global};
 use std::marker::Model;
 
-/// A registry, kept in a book; contracts see the finite map from keys to objects. It is always sound.
+/// A registry, kept in a book; contracts see the finite map from keys to objects. It is always
+/// sound.
 #[derive(Drop)]
 pub struct Registry<B: Keeper> {
     book: B,
@@ -64,39 +65,39 @@ impl<B: Keeper> Registry<B> {
         &self.book
     }
 
-    /// The objects in the order of class and key; the error is want of memory.
+    /// The objects in the order of class and key; the error is that memory ran out.
     pub fn objects(&self, alloc: Global) -> Result<Vec<&Object>, AllocError>
         ensures { IfOk result (λ objects. lent objects.items ≡ values self.now) }
     {
         self.book.objects(alloc)
     }
 
-    /// The inetnums and routes whose addresses cover the span, in the order of class and key; equal ones count. The
-    /// error is want of memory.
+    /// The inetnums and routes whose addresses cover the span, in the order of class and key; equal
+    /// ones count. The error is that memory ran out.
     pub fn covering(&self, alloc: Global, span: Span) -> Result<Vec<&Object>, AllocError>
         ensures { IfOk result (λ found. lent found.items ≡ covering self.now span) }
     {
         self.book.covering(alloc, span)
     }
 
-    /// The inetnums and routes whose addresses lie inside the span, in the order of class and key; equal ones count.
-    /// The error is want of memory.
+    /// The inetnums and routes whose addresses lie inside the span, in the order of class and key;
+    /// equal ones count. The error is that memory ran out.
     pub fn inside(&self, alloc: Global, span: Span) -> Result<Vec<&Object>, AllocError>
         ensures { IfOk result (λ found. lent found.items ≡ inside self.now span) }
     {
         self.book.inside(alloc, span)
     }
 
-    /// Tells a caller's proof that the registry is sound; it does nothing.
+    /// Tells a caller's proof that the registry is sound.
     pub fn sound(&self)
         ensures { Sound self.now }
     {
         self.book.sound();
     }
 
-    /// Does with the item what its verdict says, over this registry and these secrets (RFC 2725, 9; profile). Where
-    /// memory is wanting the item is refused with E90 and nothing changes. What the holders of a prefix hold stays as
-    /// it was where none of the secrets is theirs.
+    /// Does with the item what its verdict says, over this registry and these secrets (RFC 2725, 9;
+    /// profile). If memory runs out the item is refused with E90 and nothing changes. What the
+    /// holders of a prefix hold stays as it was where none of the secrets is theirs.
     pub fn apply(&mut self, alloc: Global, secrets: &mut Secrets, item: Item) -> Outcome
         ensures step { IsStep self.old secrets.old item result self.new }
         ensures leaves { LeavesOthers self.old secrets.old self.new }
@@ -124,7 +125,7 @@ impl<B: Keeper> Registry<B> {
         }
     }
 
-    /// The verdict on the item, which is a refusal with E90 where memory is wanting.
+    /// The verdict on the item, which is a refusal with E90 if memory runs out.
     fn verdict(&self, alloc: Global, secrets: &mut Secrets, item: &Item) -> Verdict
         ensures judged { IsJudged self.now secrets.old item.now result }
         ensures same_secrets { secrets.new ≡ secrets.old }
@@ -154,7 +155,8 @@ impl<B: Keeper> Registry<B> {
     /// Puts the object under its key, with this outcome.
     fn put(&mut self, alloc: Global, object: Object, done: Outcome) -> Outcome
         requires { Sound (insert self.old object.key object) }
-        ensures { ((result ≡ done) × (self.new ≡ insert self.old object.key object)) ⊎ IsWant self.old result self.new }
+        ensures { ((result ≡ done) × (self.new ≡ insert self.old object.key object))
+            ⊎ IsWant self.old result self.new }
     {
         match self.book.insert(alloc, object) {
             Ok(()) => done,
@@ -179,7 +181,7 @@ impl<B: Keeper> Registry<B> {
     }
 }
 
-/// Tells a caller's proof that the key of an object that is submitted is well formed; it does nothing.
+/// Tells a caller's proof that the key of an object that is submitted is well formed.
 pub(crate) fn is_well_formed(item: &Item)
     ensures { IsItem item.now }
 {

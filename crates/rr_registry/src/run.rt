@@ -9,7 +9,8 @@ use rr_book::Keeper;
 use rr_object::Code;
 use std::alloc::{AllocError, Global};
 
-/// What was submitted: an item, or the code with which it was refused as it was read, and the secrets given with it.
+/// What was submitted: an item, or the code with which it was refused as it was read, and the
+/// secrets given with it.
 #[derive(Drop)]
 pub struct Submitted {
     /// The secrets.
@@ -24,16 +25,17 @@ impl<B: Keeper> Registry<B> {
     ghost use Rattle.rr_registry.specs.RunLaws.{AreFormed};
     ghost use Rattle.rr_registry.specs.Runs.{Decides, Run};
 
-    /// Decides in turn what was submitted and gives the outcome of each; the error is want of memory for the outcomes,
-    /// before the first item, and leaves the registry as it was. The holders of a prefix are answered as if nobody else
-    /// had submitted anything.
+    /// Decides in turn what was submitted and gives the outcome of each; the error is that memory
+    /// ran out for the outcomes, before the first item, and leaves the registry as it was. The
+    /// holders of a prefix are answered as if nobody else had submitted anything.
     pub fn run_items(
         &mut self,
         alloc: Global,
         items: Vec<Submitted>,
     ) -> Result<Vec<Outcome>, AllocError>
         ensures run { IfOk result (λ outcomes. Run self.old items.items outcomes.items self.new) }
-        ensures confined { IfOk result (λ outcomes. Confines self.old items.items outcomes.items self.new) }
+        ensures confined { IfOk result
+            (λ outcomes. Confines self.old items.items outcomes.items self.new) }
         ensures err { OnErr result (self.new ≡ self.old) }
     {
         self.sound();

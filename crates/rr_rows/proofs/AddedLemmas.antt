@@ -10,13 +10,14 @@ use Rattle.sqlite.proofs.Callers.{one_permutation}
 use Rattle.rr_rows.specs.Contents.{IsTidy, columns, contents, meta_values, setting, settings}
 use Rattle.rr_rows.specs.Entries.{Entry, object_row, named_rows, AreRowsOf, IsAdded}
 use Rattle.rr_rows.specs.Maps.{HasVersion, IsFilled, this_version}
+use Rattle.rr_rows.proofs.OtherLemmas.{others_itself, others_then}
 
 pub flat_map-append : {A B : Type 0} (f : A → List B) (xs ys : List A) → flat_map f (xs ++ ys) ≡ flat_map f xs ++ flat_map f ys
 flat_map-append f [] ys = refl
 flat_map-append f (x ∷ xs) ys = ap (λ l. f x ++ l) (flat_map-append f xs ys) ∙ sym (append_assoc (f x) (flat_map f xs) (flat_map f ys))
 
 pub none_added : (db : Database) → IsTidy db → IsAdded [] db db
-none_added db tidy = record { tidy = tidy; objects = IsPermutation-refl _; named = IsPermutation-refl _; meta = refl }
+none_added db tidy = record { tidy = tidy; objects = IsPermutation-refl _; named = IsPermutation-refl _; meta = refl; others = others_itself db }
 
 -- what comes first and what comes after, in either order
 both_come : (xs ys a b c : List Row) → IsPermutation (xs ++ a) b → IsPermutation (ys ++ b) c → IsPermutation ((xs ++ ys) ++ a) c
@@ -30,6 +31,7 @@ added_then es fs a b c first second = record {
   objects = subst (λ l. IsPermutation (l ++ contents (a.trees 2)) (contents (c.trees 2))) (sym (map-append object_row es fs)) (both_come _ _ _ _ _ first.objects second.objects);
   named = subst (λ l. IsPermutation (l ++ contents (a.trees 4)) (contents (c.trees 4))) (sym (flat_map-append named_rows es fs)) (both_come _ _ _ _ _ first.named second.named);
   meta = second.meta ∙ first.meta;
+  others = others_then a b c first.others second.others;
 }
 
 pub append_none : {X : Type 0} (xs : List X) → xs ++ [] ≡ xs
@@ -51,6 +53,7 @@ added_renamed entry names old new same added = record {
   objects = added.objects;
   named = IsPermutation-trans _ _ _ (IsPermutation-append_left (contents (old.trees 4)) _ _ (IsPermutation-append_left [] _ _ (IsPermutation-map _ _ _ same))) added.named;
   meta = added.meta;
+  others = added.others;
 }
 
 -- a setting that is added where there is none is the one that is read

@@ -15,7 +15,7 @@ use Rattle.sqlite_schema.specs.declared.command.Source.TheVariants.{Values}
 use Rattle.sqlite_rules.specs.declared.error.Rowids.TheVariants.{Chosen, Given}
 use Rattle.sqlite_rules.specs.Cast.{cast_row}
 use Rattle.sqlite_rules.specs.Calls.{ids_of}
-use Rattle.sqlite_rules.specs.Edit.{Edit, edit_of, is_taken, next_rowid, with_rowid, without_all, Applies}
+use Rattle.sqlite_rules.specs.Edit.{Edit, edit_of, is_taken, next_rowid, with_rowid, without_all, Applies, IsNoIndex}
 use Rattle.sqlite.specs.Effect.{Database, value_rows}
 use Rattle.sqlite.specs.Rows.{Written, stamped}
 use Rattle.sqlite.specs.Does.{Tally, Does, AtPlace, OnRows}
@@ -26,11 +26,12 @@ use Rattle.rr_rows.specs.Tables.{Layout, Rules, laid, table_with, stands_apart}
 use Rattle.rr_rows.specs.Queries.{Means, alone}
 use Rattle.rr_rows.proofs.SchemaLemmas.{one_step_of}
 
--- one tree has these rows, and the schema and the trees of the other tables stay
+-- one tree has these rows, and the schema and the other trees stay
 pub record Sets (l : Layout) (tree : ℕ) (rows : List Row) (old new : Database) : Type 0 where
   pub schema : new.schema ≡ laid l
   pub rows_are : new.trees tree ≡ rows
   pub tables : AllByRecursion (λ t. t.tree ≢ tree → new.trees t.tree ≡ old.trees t.tree) (laid l).tables
+  pub others : (t : ℕ) → t ≢ tree → IsNoIndex (laid l) t → new.trees t ≡ old.trees t
 
 -- a part that gave a value did not stop on the way
 pub went : {B E R : Type 0} {b : B} {Stops : E → Type 0} → ((stop : E) × Stops stop × (Ok b ≡ Err stop)) ⊎ R → R
@@ -76,6 +77,7 @@ module _ (l : Layout) (apart : list_all stands_apart l.others ≡ true) (at tree
             schema = ap (λ (d : Database). d.schema) now;
             rows_are = ap (λ (t : Trees). t tree) all ∙ step.rows;
             tables = subst (λ (t : Trees). AllByRecursion (λ u. u.tree ≢ tree → t u.tree ≡ before u.tree) (laid l).tables) (sym all) step.tables;
+            others = subst (λ (t : Trees). (u : ℕ) → u ≢ tree → IsNoIndex (laid l) u → t u ≡ before u) (sym all) step.others;
           },
         )
 
@@ -100,5 +102,6 @@ module _ (l : Layout) (apart : list_all stands_apart l.others ≡ true) (at tree
             schema = ap (λ (d : Database). d.schema) now;
             rows_are = ap (λ (t : Trees). t tree) all ∙ step.rows;
             tables = subst (λ (t : Trees). AllByRecursion (λ u. u.tree ≢ tree → t u.tree ≡ before u.tree) (laid l).tables) (sym all) step.tables;
+            others = subst (λ (t : Trees). (u : ℕ) → u ≢ tree → IsNoIndex (laid l) u → t u ≡ before u) (sym all) step.others;
           },
         )

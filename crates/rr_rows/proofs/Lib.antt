@@ -6,6 +6,7 @@ pub mod QueryLemmas
 pub mod StatementLemmas
 pub mod NumberLemmas
 pub mod CreateLemmas
+pub mod OtherLemmas
 pub mod EntryLemmas
 pub mod MapKeys
 pub mod MapEntries

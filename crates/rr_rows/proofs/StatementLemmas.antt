@@ -1,6 +1,6 @@
 -- What each statement does to a database with the three tables.
 use Rattle.std.proofs.Common.{◌≡◌, ◌≢◌, ◌⊎◌, inl, inr, ℕ, ◌/◌, ◌≤◌, ℤ, pos, Bool, true, false, not, cond, List, [], ◌∷◌, length, map, filter, flat_map, Some, Ok, slice_get, codes, refl, sym, ap, subst, ◌∙◌, arith, IsPermutation, Ordering, Equal}
-use Rattle.std.specs.List.{list_all}
+use Rattle.std.specs.List.{AllByRecursion, list_all}
 use Rattle.std.proofs.lemmas.Bool.{cases_eq}
 use Rattle.std.proofs.lemmas.List.Sorted.{IsPermutation-map}
 use Rattle.sqlite_value.specs.declared.value.Value.TheVariants.{Null, Int, Text, Blob}
@@ -8,18 +8,19 @@ use Rattle.sqlite_value.specs.declared.keys.Collation.TheVariants.{Binary}
 use Rattle.sqlite_value.specs.Keys.{ascending}
 use Rattle.sqlite_value.specs.Order.{Row, column}
 use Rattle.sqlite_trees.specs.Tree.{Trees, rowid, put_row}
-use Rattle.sqlite_trees.proofs.ListLemmas.{map-map, filter-map, map-flat_map, flat_map-map}
+use Rattle.sqlite_trees.proofs.ListLemmas.{all_weaker, map-map, filter-map, map-flat_map, flat_map-map}
 use Rattle.sqlite_sql.specs.Term.{Term, Env, col, holds, eval_all}
 use Rattle.sqlite_sql.specs.Ops.{unary}
 use Rattle.sqlite_sql.specs.Query.{inner, end, key_cmp, matches, output, output_cmp}
 use Rattle.sqlite_sql.specs.Program.{overlay}
 use Rattle.sqlite_schema.specs.declared.schema.Column.{Column}
 use Rattle.sqlite_schema.specs.declared.schema.Kind.TheVariants as kind
+use Rattle.sqlite_schema.specs.declared.schema.Schema.{Schema}
 use Rattle.sqlite_schema.specs.declared.command.Command.TheVariants.{Insert, Delete, Select}
 use Rattle.sqlite_schema.specs.declared.command.Source.TheVariants.{Values}
 use Rattle.sqlite_rules.specs.Cast.{cast, cast_row}
 use Rattle.sqlite_rules.specs.Calls.{ids_of}
-use Rattle.sqlite_rules.specs.Edit.{id_in, next_rowid, without_all}
+use Rattle.sqlite_rules.specs.Edit.{IsNoIndex, id_in, next_rowid, without_all}
 use Rattle.sqlite.specs.Effect.{Database, value_rows}
 use Rattle.sqlite.specs.Rows.{stamped}
 use Rattle.sqlite.specs.State.{State, Executes, Shown}
@@ -27,7 +28,7 @@ use Rattle.sqlite.proofs.Callers.{reads_as}
 use Rattle.rr_rows.specs.Tables.{Layout, Rules, laid, table_with, stands_apart, HasTables}
 use Rattle.rr_rows.specs.Texts.{insert_meta, insert_object, insert_named, delete_object, delete_name, clear_meta, clear_object, clear_named, select_meta, select_object, select_of_key, select_named, select_sorted_named, select_naming, meta_numbers, object_numbers, named_numbers}
 use Rattle.rr_rows.specs.Queries.{Means, alone, rowids_of, rows_of, object_tests, name_tests, naming_tests}
-use Rattle.rr_rows.specs.Contents.{AreKeyed, IsTidy, Alters, Adds, Removes, IsInRank, columns, contents, number, numbered, meta_values, object_values, named_values, meets_tests, is_object_of, is_name_of, are_joined, pointed, by_one, by_two, by_three}
+use Rattle.rr_rows.specs.Contents.{AreKeyed, IsTidy, IsOfOther, Alters, Adds, Removes, IsInRank, columns, contents, number, numbered, meta_values, object_values, named_values, meets_tests, is_object_of, is_name_of, are_joined, pointed, by_one, by_two, by_three}
 use Rattle.rr_rows.proofs.TextLemmas.{insert_meta_is, insert_object_is, insert_named_is, delete_object_is, delete_name_is, clear_meta_is, clear_object_is, clear_named_is, select_meta_is, select_object_is, select_of_key_is, select_named_is, select_sorted_named_is, select_naming_is, meta_numbers_is, object_numbers_is, named_numbers_is}
 use Rattle.rr_rows.proofs.RowLemmas.{put_permutes, put_keyed, without_those, filter_keyed}
 use Rattle.rr_rows.proofs.ChangeLemmas.{Sets, inserted, deleted}
@@ -46,10 +47,15 @@ keyed_at tree db (inl h) tidy = subst (λ t. AreKeyed (db.trees t)) (sym h) tidy
 keyed_at tree db (inr (inl h)) tidy = subst (λ t. AreKeyed (db.trees t)) (sym h) tidy.object
 keyed_at tree db (inr (inr h)) tidy = subst (λ t. AreKeyed (db.trees t)) (sym h) tidy.named
 
+apart_from : (tree : ℕ) → IsOurs tree → (t : ℕ) → IsOfOther t → t ≢ tree
+apart_from tree (inl h) t other = subst (λ u. t ≢ u) (sym h) other.meta
+apart_from tree (inr (inl h)) t other = subst (λ u. t ≢ u) (sym h) other.object
+apart_from tree (inr (inr h)) t other = subst (λ u. t ≢ u) (sym h) other.named
+
 -- the tables are there still, and one of them has changed
-altered : (l : Layout) → list_all stands_apart l.others ≡ true → (tree : ℕ) (rows : List Row) (old new : Database) (Change : List Row → List Row → Type 0)
-    → IsTidy old → Sets l tree rows old new → AreKeyed rows → Change (contents (old.trees tree)) (contents rows) → Alters old new tree Change
-altered l apart tree rows old new Change tidy sets keyed change = record {
+altered : (l : Layout) → list_all stands_apart l.others ≡ true → (tree : ℕ) → IsOurs tree → (rows : List Row) (old new : Database) (Change : List Row → List Row → Type 0)
+    → IsTidy old → old.schema ≡ laid l → Sets l tree rows old new → AreKeyed rows → Change (contents (old.trees tree)) (contents rows) → Alters old new tree Change
+altered l apart tree ours rows old new Change tidy is sets keyed change = record {
   tidy = record {
     has = record { layout = l; is = sets.schema; apart = apart };
     meta = at 0 tidy.meta sets.tables.0;
@@ -60,6 +66,12 @@ altered l apart tree rows old new Change tidy sets keyed change = record {
   meta = sets.tables.0;
   object = sets.tables.1.0;
   named = sets.tables.1.1.0;
+  others = record {
+    schema = sets.schema ∙ sym is;
+    tables = subst (λ (s : Schema). AllByRecursion (λ t. IsOfOther t.tree → new.trees t.tree ≡ old.trees t.tree) s.tables) (sym is)
+        (all_weaker _ _ (λ t same other. same (apart_from tree ours t.tree other)) (laid l).tables sets.tables);
+    trees = λ t other none. sets.others t (apart_from tree ours t other) (subst (λ s. IsNoIndex s t) is none);
+  };
 }
   where
     at : (t : ℕ) → AreKeyed (old.trees t) → (t ≢ tree → new.trees t ≡ old.trees t) → AreKeyed (new.trees t)
@@ -81,7 +93,7 @@ module _ (at tree : ℕ) (ours : IsOurs tree) (name : List ℕ) (cols : List Col
         let keyed = keyed_at tree old.now ours tidy in
         let id = next_rowid (old.now.trees tree) in
         let new_row : Row = Int id ∷ values in
-        altered l tidy.has.apart tree _ old.now new.now (Adds (held ∷ [])) tidy did.1 (put_keyed _ _ did.0 refl keyed)
+        altered l tidy.has.apart tree ours _ old.now new.now (Adds (held ∷ [])) tidy tidy.has.is did.1 (put_keyed _ _ did.0 refl keyed)
         (subst (λ row. IsPermutation (row ∷ contents (old.now.trees tree)) (contents (put_row new_row (old.now.trees tree)))) (holds_them id) (IsPermutation-map columns (new_row ∷ old.now.trees tree) (put_row new_row (old.now.trees tree)) (put_permutes new_row (old.now.trees tree) did.0)))
 
   module _ (tests : List Term) (means : (l : Layout) → Means l text (Delete at (alone (rowids_of tree tests)))) (seen : (db : Trees) → overlay db [] tree ≡ db tree)
@@ -99,7 +111,7 @@ module _ (at tree : ℕ) (ours : IsOurs tree) (name : List ℕ) (cols : List Col
         subst (λ xs. IsPermutation xs (ids_of did.0)) (ap ids_of are ∙ map-map _ number (filter p rows)) (IsPermutation-map (λ row. id_in (rowid row)) _ _ shown.same) in
         let keyed = keyed_at tree old.now ours tidy in
         let left : without_all rows (ids_of did.0) ≡ filter (λ row. not (p row)) rows = without_those p rows (ids_of did.0) keyed ids in
-        altered l tidy.has.apart tree _ old.now new.now (Removes (meets_tests tests params)) tidy did.2 (subst AreKeyed (sym left) (filter_keyed (λ row. not (p row)) rows keyed))
+        altered l tidy.has.apart tree ours _ old.now new.now (Removes (meets_tests tests params)) tidy tidy.has.is did.2 (subst AreKeyed (sym left) (filter_keyed (λ row. not (p row)) rows keyed))
         (ap contents left ∙ ap (λ (q : Row → Bool). contents (filter (λ row. not (q row)) rows)) (λ i row. same row i) ∙ sym (filter-map (λ row. not (meets_tests tests params row)) columns rows))
 
   -- every row goes

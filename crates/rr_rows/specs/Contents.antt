@@ -1,5 +1,7 @@
 -- The rows of the three tables, and what a statement does to them.
-use Rattle.std.specs.Prelude.{ℤ, ◌<ℤ◌, Option, None, Some, ◌≡◌, ◌≢◌, ℕ, pos, true, not, Bool, List, [], ◌∷◌, ◌++◌, map, filter, IsPermutation, IsSorted, IsTrue}
+use Rattle.std.specs.Prelude.{ℤ, ◌<ℤ◌, Option, None, Some, ◌≡◌, ◌≢◌, ℕ, pos}
+use Rattle.std.specs.Prelude.{true, not, Bool, List, [], ◌∷◌, ◌++◌, map, filter}
+use Rattle.std.specs.Prelude.{IsPermutation, IsSorted, IsTrue}
 use Rattle.std.specs.declared.cmp.Ordering.{Ordering}
 use Rattle.std.specs.List.{AllByRecursion, list_all, list_any, flat_map}
 use Rattle.sqlite_value.specs.declared.value.Value.{Value}
@@ -11,6 +13,7 @@ use Rattle.sqlite_sql.specs.Term.{Term, holds}
 use Rattle.sqlite_sql.specs.Query.{key_cmp}
 use Rattle.sqlite_trees.specs.Tree.{rowid, IsAscending}
 use Rattle.sqlite_trees.specs.View.{is_int}
+use Rattle.sqlite_rules.specs.Edit.{IsNoIndex}
 use Rattle.sqlite.specs.Effect.{Database}
 use Rattle.sqlite.specs.State.{State}
 use Rattle.rr_rows.specs.Tables.{HasTables}
@@ -36,13 +39,30 @@ pub record IsTidy (db : Database) : Type 0 where
   pub object : AreKeyed (db.trees 2)
   pub named : AreKeyed (db.trees 4)
 
--- the rows of one of the three tables change so, and the two others stay
-pub record Alters (old new : Database) (tree : ℕ) (Change : List Row → List Row → Type 0) : Type 0 where
+-- a tree is of none of the three tables
+pub record IsOfOther (tree : ℕ) : Type 0 where
+  pub meta : tree ≢ 0
+  pub object : tree ≢ 2
+  pub named : tree ≢ 4
+
+-- beside the rows of the three tables all stays: the schema, the rows of each other table, and what
+-- each other tree has that is of no index, as the one that lists the schema
+pub record KeepsOthers (old new : Database) : Type 0 where
+  pub schema : new.schema ≡ old.schema
+  pub tables : AllByRecursion
+      (λ t. IsOfOther t.tree → new.trees t.tree ≡ old.trees t.tree) old.schema.tables
+  pub trees : (tree : ℕ) → IsOfOther tree → IsNoIndex old.schema tree
+      → new.trees tree ≡ old.trees tree
+
+-- the rows of one of the three tables change so, and all else stays
+pub record Alters (old new : Database) (tree : ℕ)
+    (Change : List Row → List Row → Type 0) : Type 0 where
   pub tidy : IsTidy new
   pub change : Change (contents (old.trees tree)) (contents (new.trees tree))
   pub meta : 0 ≢ tree → new.trees 0 ≡ old.trees 0
   pub object : 2 ≢ tree → new.trees 2 ≡ old.trees 2
   pub named : 4 ≢ tree → new.trees 4 ≡ old.trees 4
+  pub others : KeepsOthers old new
 
 -- these rows are added
 abbrev pub Adds : List Row → List Row → List Row → Type 0
@@ -97,7 +117,8 @@ is_named_of class key = meets_tests named_tests (Int (pos class) ∷ Text key �
 
 -- and one that names this maintainer
 abbrev pub is_name_of : ℕ → List ℕ → List ℕ → Row → Bool
-is_name_of class key name = meets_tests name_tests (Text name ∷ Int (pos class) ∷ Text key ∷ [])
+is_name_of class key name =
+    meets_tests name_tests (Text name ∷ Int (pos class) ∷ Text key ∷ [])
 
 -- and one that names one of these
 abbrev pub is_name_among : ℕ → List ℕ → List (List ℕ) → Row → Bool
@@ -105,7 +126,8 @@ is_name_among class key names row = list_any (λ name. is_name_of class key name
 
 -- a row of `named` and one of `object` are of one object, and the first is of the maintainer
 abbrev pub are_joined : List ℕ → Row → Row → Bool
-are_joined name first second = list_all (holds ((Text name ∷ []) ∷ (Null ∷ first) ∷ (Null ∷ second) ∷ [])) naming_tests
+are_joined name first second = list_all
+    (holds ((Text name ∷ []) ∷ (Null ∷ first) ∷ (Null ∷ second) ∷ [])) naming_tests
 
 -- the rows of `object` to which those of `named` point that are of the maintainer
 abbrev pub pointed : List ℕ → List Row → List Row → List Row

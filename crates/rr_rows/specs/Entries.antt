@@ -1,5 +1,6 @@
 -- The rows of a set of objects.
-use Rattle.std.specs.Prelude.{◌≡◌, ℕ, not, List, [], ◌∷◌, ◌++◌, map, filter, bytes_eq, if◌then◌else◌, IsPermutation}
+use Rattle.std.specs.Prelude.{◌≡◌, ℕ, not, List, [], ◌∷◌, ◌++◌, map, filter}
+use Rattle.std.specs.Prelude.{bytes_eq, if◌then◌else◌, IsPermutation}
 use Rattle.std.specs.List.{list_any, flat_map}
 use Rattle.sqlite_value.specs.Order.{Row}
 use Rattle.sqlite_trees.specs.Tree.{Trees}
@@ -9,7 +10,8 @@ use Rattle.rr_object.specs.Classes.{class_number}
 use Rattle.rr_object.specs.Keys.{class_of}
 use Rattle.rr_object.specs.KeyTexts.{key_bytes}
 use Rattle.rr_object.specs.Objects.{Obj, names_of}
-use Rattle.rr_rows.specs.Contents.{IsTidy, contents, object_values, named_values, is_object_of, is_named_of}
+use Rattle.rr_rows.specs.Contents.{IsTidy, KeepsOthers, contents, object_values, named_values}
+use Rattle.rr_rows.specs.Contents.{is_named_of, is_object_of}
 
 -- what the tables keep of an object: its class, its key, its text and the maintainers that it names
 pub record Entry : Type 0 where
@@ -23,10 +25,16 @@ abbrev pub once : List (List ℕ) → List (List ℕ)
 once [] = []
 once (name ∷ names) = if list_any (bytes_eq name) names then once names else name ∷ once names
 
--- the class's number, the bytes of the key, the canonical text, and each maintainer once, however often it is named
--- (profile)
+-- the class's number, the bytes of the key, the canonical text, and each maintainer once, however
+-- often it is named (profile)
 abbrev pub entry_of : Obj → Entry
-entry_of object = record { class = class_number (class_of object.key); key = key_bytes object.key; body = canonical object.paragraph; names = once (names_of object) }
+entry_of object = record {
+  class = class_number (class_of object.key);
+  key =
+      key_bytes object.key;
+  body = canonical object.paragraph;
+  names = once (names_of object);
+}
 
 abbrev pub object_row : Entry → Row
 object_row entry = object_values entry.class entry.key entry.body
@@ -40,26 +48,37 @@ pub record AreRowsOf (entries : List Entry) (db : Database) : Type 0 where
   pub objects : IsPermutation (map object_row entries) (contents (db.trees 2))
   pub named : IsPermutation (flat_map named_rows entries) (contents (db.trees 4))
 
--- the rows of these are added
+-- the rows of these are added, and all else stays
 pub record IsAdded (entries : List Entry) (old new : Database) : Type 0 where
   pub tidy : IsTidy new
-  pub objects : IsPermutation (map object_row entries ++ contents (old.trees 2)) (contents (new.trees 2))
-  pub named : IsPermutation (flat_map named_rows entries ++ contents (old.trees 4)) (contents (new.trees 4))
+  pub objects : IsPermutation (map object_row entries ++ contents (old.trees 2))
+      (contents (new.trees 2))
+  pub named : IsPermutation (flat_map named_rows entries ++ contents (old.trees 4))
+      (contents (new.trees 4))
   pub meta : new.trees 0 ≡ old.trees 0
+  pub others : KeepsOthers old new
 
--- one takes the place of those with its class and key
+-- one takes the place of those with its class and key, and all else stays
 pub record IsPut (entry : Entry) (old new : Database) : Type 0 where
   pub tidy : IsTidy new
-  pub objects : IsPermutation (object_row entry ∷ filter (λ row. not (is_object_of entry.class entry.key row)) (contents (old.trees 2))) (contents (new.trees 2))
-  pub named : IsPermutation (named_rows entry ++ filter (λ row. not (is_named_of entry.class entry.key row)) (contents (old.trees 4))) (contents (new.trees 4))
+  pub objects : IsPermutation (object_row entry
+      ∷ filter (λ row. not (is_object_of entry.class entry.key row)) (contents (old.trees 2)))
+      (contents (new.trees 2))
+  pub named : IsPermutation (named_rows entry
+      ++ filter (λ row. not (is_named_of entry.class entry.key row)) (contents (old.trees 4)))
+      (contents (new.trees 4))
   pub meta : new.trees 0 ≡ old.trees 0
+  pub others : KeepsOthers old new
 
--- those with a class and a key are taken out
+-- those with a class and a key are taken out, and all else stays
 pub record IsTakenOut (class : ℕ) (key : List ℕ) (old new : Database) : Type 0 where
   pub tidy : IsTidy new
-  pub objects : contents (new.trees 2) ≡ filter (λ row. not (is_object_of class key row)) (contents (old.trees 2))
-  pub named : contents (new.trees 4) ≡ filter (λ row. not (is_named_of class key row)) (contents (old.trees 4))
+  pub objects : contents (new.trees 2)
+      ≡ filter (λ row. not (is_object_of class key row)) (contents (old.trees 2))
+  pub named : contents (new.trees 4)
+      ≡ filter (λ row. not (is_named_of class key row)) (contents (old.trees 4))
   pub meta : new.trees 0 ≡ old.trees 0
+  pub others : KeepsOthers old new
 
 -- trees of a database of which this is true, which a stop may leave
 abbrev pub TreesOf : (Database → Type 0) → Trees → Type 0

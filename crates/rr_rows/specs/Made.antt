@@ -11,7 +11,7 @@ use Rattle.sqlite_schema.specs.declared.schema.Table.{Table}
 use Rattle.sqlite_schema.specs.declared.schema.Schema.{Schema}
 use Rattle.sqlite_catalog.specs.Change.{created, next_tree}
 use Rattle.sqlite.specs.Effect.{Database}
-use Rattle.rr_rows.specs.Contents.{IsTidy}
+use Rattle.rr_rows.specs.Contents.{IsTidy, KeepsOthers}
 use Rattle.rr_rows.specs.Tables.{Rules, meta, object, named}
 
 -- no table, no index and no view
@@ -20,11 +20,13 @@ no_schema = record { tables = []; indexes = []; views = [] }
 
 -- the primary key is the columns at these places, and nothing else is asked
 abbrev pub keyed_at : List ℕ → List Term → Rules
-keyed_at places checks = record { primary = places; uniques = places ∷ []; orders = plain ∷ []; checks = checks }
+keyed_at places checks =
+    record { primary = places; uniques = places ∷ []; orders = plain ∷ []; checks = checks }
 
 -- the class of an object is one of seven (profile)
 abbrev pub is_a_class : Term
-is_a_class = op2 And (op2 (Compare Ge Binary) (col 1 1) (lit (Int (pos 1)))) (op2 (Compare Le Binary) (col 1 1) (lit (Int (pos 7))))
+is_a_class = op2 And (op2 (Compare Ge Binary) (col 1 1) (lit (Int (pos 1))))
+    (op2 (Compare Le Binary) (col 1 1) (lit (Int (pos 7))))
 
 -- the tables as their texts define them, before they have trees
 abbrev pub meta_table : Table
@@ -62,6 +64,13 @@ pub record IsBare (db : Database) : Type 0 where
 abbrev pub HasRow : Database → Type 0
 HasRow db = db.trees 0 ≡ [] → db.trees 2 ≡ [] → db.trees 4 ≡ [] → ⊥
 
--- a new store has room here: nothing at all stands in the database, or the three tables without a row (profile)
+-- a new store has room here: nothing at all stands in the database, or the three tables without a
+-- row (profile)
 abbrev pub IsVacant : Database → Type 0
 IsVacant db = (db.schema ≡ no_schema) ⊎ IsBare db
+
+-- a new store leaves these tables: where nothing stood, those that the texts make, and no other, no
+-- other index and no view; where the three stood without a row, those that stood (profile)
+pub record HasItsTables (old new : Database) : Type 0 where
+  pub made : old.schema ≡ no_schema → new.schema ≡ with_named
+  pub kept : IsBare old → KeepsOthers old new

@@ -1,5 +1,7 @@
--- The rows of a finite map of objects, of a list of them, and of such a list in tables of version 1.
-use Rattle.std.specs.Prelude.{◌≡◌, ◌≢◌, ℕ, true, List, [], ◌∷◌, Option, Some, Ok, codes, map, is_some, unwrap_or}
+-- The rows of a finite map of objects, of a list of them, and of such a list in tables of version
+-- 1.
+use Rattle.std.specs.Prelude.{◌≡◌, ◌≢◌, ℕ, true, List, [], ◌∷◌, Option, Some}
+use Rattle.std.specs.Prelude.{Ok, codes, map, is_some, unwrap_or}
 use Rattle.std.specs.List.{AllByRecursion}
 use Rattle.std.specs.declared.cmp.Ordering.TheVariants.{Less}
 use Rattle.std.specs.FinMap.{FinMap, get, insert, remove, values}
@@ -20,7 +22,8 @@ use Rattle.rr_rows.specs.Entries.{Entry, AreRowsOf, entry_of, object_row}
 abbrev pub HasVersion : List ℕ → Database → Type 0
 HasVersion version db = settings (db.trees 0) ≡ setting (codes "version") version ∷ []
 
--- the version of tables whose keys have AS numbers of four octets, in eight hexadecimal digits (profile)
+-- the version of tables whose keys have AS numbers of four octets, in eight hexadecimal digits
+-- (profile)
 abbrev pub this_version : List ℕ
 this_version = codes "2"
 
@@ -33,8 +36,8 @@ pub record IsFilled (entries : List Entry) (db : Database) : Type 0 where
   pub rows : AreRowsOf entries db
   pub version : HasVersion this_version db
 
--- an object as readers make it: of good attributes, and what these read as in a registry of any source (RFC 2622, 2 to
--- 6; RFC 2725, 10)
+-- an object as readers make it: of good attributes, and what these read as in a registry of any
+-- source (RFC 2622, 2 to 6; RFC 2725, 10)
 pub record IsObject (object : Obj) : Type 0 where
   pub fields : AreFields object.paragraph
   pub read : obj_of object.paragraph ≡ Ok object
@@ -52,27 +55,33 @@ pub record AreOfObjects (db : Database) : Type 0 where
 
 -- where a row of `object` is that of an object, these are the maintainers that it names, each once
 abbrev pub AreNamesOf : List (List ℕ) → Row → Type 0
-AreNamesOf names row = (object : Obj) → IsObject object → row ≡ object_row (entry_of object) → names ≡ (entry_of object).names
+AreNamesOf names row = (object : Obj) → IsObject object → row ≡ object_row (entry_of object)
+    → names ≡ (entry_of object).names
 
--- each object of a finite map stands under its own key, and the keys and objects are such as readers make
+-- each object of a finite map stands under its own key, and the keys and objects are such as
+-- readers make
 pub record IsKeyed (objects : FinMap key_cmp Obj) : Type 0 where
   pub keyed : (k : Key) (o : Obj) → get objects k ≡ Some o → o.key ≡ k
   pub formed : (k : Key) (o : Obj) → get objects k ≡ Some o → IsKeyValue k
   pub read : (k : Key) (o : Obj) → get objects k ≡ Some o → IsObject o
 
--- the tables hold the rows of the objects of a finite map and no others, and are of version 2 (profile)
+-- the tables hold the rows of the objects of a finite map and no others, and are of version 2
+-- (profile)
 pub record HasRows (objects : FinMap key_cmp Obj) (db : Database) : Type 0 where
   pub keyed : IsKeyed objects
   pub rows : AreRowsOf (map entry_of (values objects)) db
   pub version : HasVersion this_version db
 
--- where the tables hold a finite map of objects, they hold it with the object under this key behind the change
+-- where the tables hold a finite map of objects, they hold it with the object under this key after
+-- the change
 abbrev pub Puts : Key → Obj → Database → Database → Type 0
-Puts key object old new = (objects : FinMap key_cmp Obj) → HasRows objects old → HasRows (insert objects key object) new
+Puts key object old new = (objects : FinMap key_cmp Obj) → HasRows objects old
+    → HasRows (insert objects key object) new
 
 -- and here without the object of this key
 abbrev pub TakesOut : Key → Database → Database → Type 0
-TakesOut key old new = (objects : FinMap key_cmp Obj) → HasRows objects old → HasRows (remove objects key) new
+TakesOut key old new =
+    (objects : FinMap key_cmp Obj) → HasRows objects old → HasRows (remove objects key) new
 
 -- no two objects of a list have the same key
 abbrev pub AreApart : List Obj → Type 0
@@ -90,9 +99,10 @@ KeyForm = Key → Option (List ℕ)
 abbrev pub entry_in : KeyForm → Obj → Entry
 entry_in form object = record (entry_of object) { key = unwrap_or (form object.key) [] }
 
--- the tables hold the rows of a list of objects of one source and no others, with keys in this form and of this
--- version; no two of the objects have the same key (profile)
-pub record AreStoredIn (form : KeyForm) (number : List ℕ) (source : List ℕ) (objects : List Obj) (db : Database) : Type 0 where
+-- the tables hold the rows of a list of objects of one source and no others, with keys in this form
+-- and of this version; no two of the objects have the same key (profile)
+pub record AreStoredIn (form : KeyForm) (number : List ℕ) (source : List ℕ) (objects : List Obj)
+    (db : Database) : Type 0 where
   pub rows : AreRowsOf (map (entry_in form) objects) db
   pub version : HasVersion number db
   pub formed : AllByRecursion (λ o. is_some (form o.key) ≡ true) objects

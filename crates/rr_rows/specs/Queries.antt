@@ -1,5 +1,6 @@
 -- The queries that the statements on the three tables are, as the resolver reads them.
-use Rattle.std.specs.Prelude.{◌≡◌, ℕ, ◌+◌, pos, negsuc, false, List, [], ◌∷◌, map, None}
+use Rattle.std.specs.Prelude.{◌≡◌, ℕ, ◌+◌, pos, negsuc, false, List, [], ◌∷◌, map}
+use Rattle.std.specs.Prelude.{None}
 use Rattle.std.specs.List.{range_with_len}
 use Rattle.sqlite_value.specs.declared.value.Value.TheVariants.{Null, Int}
 use Rattle.sqlite_value.specs.declared.keys.Collation.TheVariants.{Binary}
@@ -51,7 +52,8 @@ numbers_of tree = rows_of tree [] (col 1 0 ∷ []) (col 1 0 ∷ [])
 
 -- all rows with their rowids, in the order of these
 abbrev pub numbered_of : ℕ → Query
-numbered_of tree = rows_of tree [] (col 1 0 ∷ col 1 1 ∷ col 1 2 ∷ col 1 3 ∷ []) (col 1 0 ∷ [])
+numbered_of tree =
+    rows_of tree [] (col 1 0 ∷ col 1 1 ∷ col 1 2 ∷ col 1 3 ∷ []) (col 1 0 ∷ [])
 
 -- a row of `object` has the class and the key that are given
 abbrev pub object_tests : List Term
@@ -63,11 +65,14 @@ named_tests = equals (col 1 2) (col 0 0) ∷ equals (col 1 3) (col 0 1) ∷ []
 
 -- and the maintainer too
 abbrev pub name_tests : List Term
-name_tests = equals (col 1 1) (col 0 0) ∷ equals (col 1 2) (col 0 1) ∷ equals (col 1 3) (col 0 2) ∷ []
+name_tests =
+    equals (col 1 1) (col 0 0) ∷ equals (col 1 2) (col 0 1) ∷ equals (col 1 3) (col 0 2) ∷ []
 
--- a row of `named` is of the maintainer that is given, and of the class and the key of a row of `object`
+-- a row of `named` is of the maintainer that is given, and of the class and the key of a row of
+-- `object`
 abbrev pub naming_tests : List Term
-naming_tests = equals (col 2 1) (col 1 2) ∷ equals (col 2 2) (col 1 3) ∷ equals (col 1 1) (col 0 0) ∷ []
+naming_tests =
+    equals (col 2 1) (col 1 2) ∷ equals (col 2 2) (col 1 3) ∷ equals (col 1 1) (col 0 0) ∷ []
 
 abbrev pub meta_query : Query
 meta_query = rows_of 0 [] (col 1 1 ∷ col 1 2 ∷ []) (col 1 1 ∷ col 1 2 ∷ [])
@@ -77,16 +82,20 @@ abbrev pub of_key_query : Query
 of_key_query = rows_of 2 object_tests (col 1 1 ∷ col 1 2 ∷ col 1 3 ∷ []) []
 
 abbrev pub sorted_named_query : Query
-sorted_named_query = rows_of 4 [] (col 1 1 ∷ col 1 2 ∷ col 1 3 ∷ []) (col 1 1 ∷ col 1 2 ∷ col 1 3 ∷ [])
+sorted_named_query =
+    rows_of 4 [] (col 1 1 ∷ col 1 2 ∷ col 1 3 ∷ []) (col 1 1 ∷ col 1 2 ∷ col 1 3 ∷ [])
 
 abbrev pub naming_query : Query
-naming_query = select_from (inner 4 (inner 2 end)) naming_tests (col 2 0 ∷ col 2 1 ∷ col 2 2 ∷ col 2 3 ∷ []) (col 2 1 ∷ col 2 2 ∷ [])
+naming_query = select_from (inner 4 (inner 2 end)) naming_tests
+    (col 2 0 ∷ col 2 1 ∷ col 2 2 ∷ col 2 3 ∷ []) (col 2 1 ∷ col 2 2 ∷ [])
 
 -- the parameters become a row of so many columns, whose rowid SQLite chooses
 abbrev pub insert_into : ℕ → ℕ → Command
-insert_into at width = Insert at (Values (lit Null ∷ map (col 0) (range_with_len 0 width)) (width + 1))
+insert_into at width =
+    Insert at (Values (lit Null ∷ map (col 0) (range_with_len 0 width)) (width + 1))
 
--- a text is this command under the schema, with no RETURNING and no time, and reads no list of tables
+-- a text is this command under the schema, with no RETURNING and no time, and reads no list of
+-- tables
 pub record Means (l : Layout) (text : List ℕ) (command : Command) : Type 0 where
   pub is : command_of (understood (laid l) text) ≡ command
   pub plain : IsPlain (understood (laid l) text)

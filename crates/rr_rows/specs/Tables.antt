@@ -1,5 +1,6 @@
 -- The three tables of a registry, and the schemas that have them.
-use Rattle.std.specs.Prelude.{◌≡◌, ℕ, Bool, true, false, not, ◌&&◌, ◌||◌, List, [], ◌∷◌, codes, None, nat_lt}
+use Rattle.std.specs.Prelude.{◌≡◌, ℕ, Bool, true, false, not, ◌&&◌, ◌||◌, List, []}
+use Rattle.std.specs.Prelude.{◌∷◌, codes, None, nat_lt}
 use Rattle.std.specs.List.{list_all}
 use Rattle.sqlite_value.specs.declared.value.Value.TheVariants.{Null}
 use Rattle.sqlite_value.specs.declared.keys.Collation.TheVariants.{Binary}
@@ -17,7 +18,15 @@ use Rattle.sqlite_schema.specs.Names.{same_name}
 
 -- a column of a STRICT table that takes no NULL (profile)
 abbrev pub required : List ℕ → Kind → Column
-required name kind = record { name = name; kind = kind; is_strict = true; not_null = true; default = Null; collation = Binary }
+required name kind = record {
+  name = name;
+  kind = kind;
+  is_strict = true;
+  not_null = true;
+  default =
+      Null;
+  collation = Binary;
+}
 
 -- the keys and the checks of a table, which only a refusal reads
 pub record Rules : Type 0 where
@@ -54,19 +63,28 @@ pub record IsPlain (table : Table) : Type 0 where
   pub counted : table.is_counted ≡ false
 
 abbrev pub rules_of : Table → Rules
-rules_of table = record { primary = table.primary; uniques = table.uniques; orders = table.orders; checks = table.checks }
+rules_of table = record {
+  primary = table.primary;
+  uniques = table.uniques;
+  orders =
+      table.orders;
+  checks = table.checks;
+}
 
 -- the settings of the store: the version of its tables (profile)
 abbrev pub meta : Rules → Table
-meta = table_with (codes "meta") 0 (required (codes "name") kind.Text ∷ required (codes "value") kind.Text ∷ [])
+meta = table_with (codes "meta") 0
+    (required (codes "name") kind.Text ∷ required (codes "value") kind.Text ∷ [])
 
 -- the objects, by class and key, with their canonical texts (profile)
 abbrev pub object : Rules → Table
-object = table_with (codes "object") 2 (required (codes "class") kind.Integer ∷ required (codes "okey") kind.Text ∷ required (codes "body") kind.Blob ∷ [])
+object = table_with (codes "object") 2 (required (codes "class") kind.Integer
+    ∷ required (codes "okey") kind.Text ∷ required (codes "body") kind.Blob ∷ [])
 
 -- which objects name which maintainers (profile)
 abbrev pub named : Rules → Table
-named = table_with (codes "named") 4 (required (codes "maintainer") kind.Text ∷ required (codes "class") kind.Integer ∷ required (codes "okey") kind.Text ∷ [])
+named = table_with (codes "named") 4 (required (codes "maintainer") kind.Text
+    ∷ required (codes "class") kind.Integer ∷ required (codes "okey") kind.Text ∷ [])
 
 -- what a file may have beside the three tables
 pub record Layout : Type 0 where
@@ -79,11 +97,17 @@ pub record Layout : Type 0 where
 
 -- the three tables come first, in this order (profile)
 abbrev pub laid : Layout → Schema
-laid l = record { tables = meta l.meta ∷ object l.object ∷ named l.named ∷ l.others; indexes = l.indexes; views = l.views }
+laid l = record {
+  tables = meta l.meta ∷ object l.object ∷ named l.named ∷ l.others;
+  indexes =
+      l.indexes;
+  views = l.views;
+}
 
 -- the reference is to none of the three tables
 abbrev pub refers_elsewhere : Reference → Bool
-refers_elsewhere reference = not (same_name (codes "meta") reference.parent || same_name (codes "object") reference.parent || same_name (codes "named") reference.parent)
+refers_elsewhere reference = not (same_name (codes "meta") reference.parent
+    || same_name (codes "object") reference.parent || same_name (codes "named") reference.parent)
 
 -- another table has a tree of its own, and no foreign key to the three
 abbrev pub stands_apart : Table → Bool

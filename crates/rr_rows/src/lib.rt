@@ -1,5 +1,5 @@
-//! The three tables in which SQLite keeps a registry: their texts, the rows that a set of objects has in them, and what
-//! each statement on them does.
+//! The three tables in which SQLite keeps a registry: their texts, the rows that a set of objects
+//! has in them, and what each statement on them does.
 #![tactic(auto)]
 
 mod numbers;

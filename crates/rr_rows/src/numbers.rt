@@ -15,8 +15,9 @@ fn is_past(last: Option<i64>, number: i64) -> bool
     }
 }
 
-/// Whether rows, whose first values are their numbers, have whole numbers that rise: that they do is told only of numbers of
-/// their own, and that they do not only where they do not rise. The error is want of memory, or that a row has no whole number.
+/// Whether rows, whose first values are their numbers, have whole numbers that rise: that they do
+/// is told only of numbers of their own, and that they do not only where they do not rise. The
+/// error is that memory ran out, or that a row has no whole number.
 pub fn are_numbered(rows: &[Row]) -> Result<bool, Error>
     ensures is { IfOk result (λ rise. IsTrue rise → AreKeyed rows.now) }
     ensures only { IfOk result (λ rise. AreRising rows.now → IsTrue rise) }

@@ -3,7 +3,8 @@
 ghost use Rattle.std.specs.Prelude.{◌≡◌, [], ◌∷◌, true, false, codes, IsTrue, None};
 ghost use Rattle.std.specs.List.{list_all};
 ghost use Rattle.sqlite_schema.specs.declared.schema.Kind.TheVariants as kind;
-ghost use Rattle.rr_rows.specs.Tables.{HasTables, IsPlain, meta, named, object, refers_elsewhere, required, rules_of, stands_apart};
+ghost use Rattle.rr_rows.specs.Tables.{HasTables, IsPlain, meta, named, object, refers_elsewhere};
+ghost use Rattle.rr_rows.specs.Tables.{required, rules_of, stands_apart};
 
 use sqlite_schema::names::same_name;
 use sqlite_schema::schema::{Column, Kind, Reference, Schema, Table};
@@ -37,8 +38,10 @@ fn is_plain(table: &Table) -> bool
 }
 
 fn are_settings(columns: &[Column]) -> bool
-    ensures is { IsTrue result → columns.now ≡ required (codes "name") kind.Text ∷ required (codes "value") kind.Text ∷ [] }
-    ensures only { columns.now ≡ required (codes "name") kind.Text ∷ required (codes "value") kind.Text ∷ [] → IsTrue result }
+    ensures is { IsTrue result → columns.now
+        ≡ required (codes "name") kind.Text ∷ required (codes "value") kind.Text ∷ [] }
+    ensures only { columns.now ≡ required (codes "name") kind.Text
+        ∷ required (codes "value") kind.Text ∷ [] → IsTrue result }
 {
     match columns {
         [first, second] => is_required(first, b"name", Kind::Text)
@@ -48,8 +51,10 @@ fn are_settings(columns: &[Column]) -> bool
 }
 
 fn are_objects(columns: &[Column]) -> bool
-    ensures is { IsTrue result → columns.now ≡ required (codes "class") kind.Integer ∷ required (codes "okey") kind.Text ∷ required (codes "body") kind.Blob ∷ [] }
-    ensures only { columns.now ≡ required (codes "class") kind.Integer ∷ required (codes "okey") kind.Text ∷ required (codes "body") kind.Blob ∷ [] → IsTrue result }
+    ensures is { IsTrue result → columns.now ≡ required (codes "class") kind.Integer
+        ∷ required (codes "okey") kind.Text ∷ required (codes "body") kind.Blob ∷ [] }
+    ensures only { columns.now ≡ required (codes "class") kind.Integer ∷ required
+        (codes "okey") kind.Text ∷ required (codes "body") kind.Blob ∷ [] → IsTrue result }
 {
     match columns {
         [first, second, third] => is_required(first, b"class", Kind::Integer)
@@ -60,8 +65,10 @@ fn are_objects(columns: &[Column]) -> bool
 }
 
 fn are_names(columns: &[Column]) -> bool
-    ensures is { IsTrue result → columns.now ≡ required (codes "maintainer") kind.Text ∷ required (codes "class") kind.Integer ∷ required (codes "okey") kind.Text ∷ [] }
-    ensures only { columns.now ≡ required (codes "maintainer") kind.Text ∷ required (codes "class") kind.Integer ∷ required (codes "okey") kind.Text ∷ [] → IsTrue result }
+    ensures is { IsTrue result → columns.now ≡ required (codes "maintainer") kind.Text
+        ∷ required (codes "class") kind.Integer ∷ required (codes "okey") kind.Text ∷ [] }
+    ensures only { columns.now ≡ required (codes "maintainer") kind.Text ∷ required (codes
+        "class") kind.Integer ∷ required (codes "okey") kind.Text ∷ [] → IsTrue result }
 {
     match columns {
         [first, second, third] => is_required(first, b"maintainer", Kind::Text)
@@ -134,12 +141,15 @@ fn are_ours(first: &Table, second: &Table, third: &Table, others: &[Table]) -> b
     ensures object { IsTrue result → second.now ≡ object (rules_of second.now) }
     ensures named { IsTrue result → third.now ≡ named (rules_of third.now) }
     ensures apart { IsTrue result → list_all stands_apart others.now ≡ true }
-    ensures only { first.now ≡ meta (rules_of first.now) → second.now ≡ object (rules_of second.now) → third.now ≡ named (rules_of third.now) → list_all stands_apart others.now ≡ true → IsTrue result }
+    ensures only { first.now ≡ meta (rules_of first.now)
+        → second.now ≡ object (rules_of second.now) → third.now ≡ named (rules_of third.now)
+        → list_all stands_apart others.now ≡ true → IsTrue result }
 {
     is_meta(first) && is_object(second) && is_named(third) && stand_apart(others)
 }
 
-/// Whether the three tables are the first of the schema, in their order, and no other refers to them.
+/// Whether the three tables are the first of the schema, in their order, and no other refers to
+/// them.
 pub fn has_tables(schema: &Schema) -> bool
     ensures is { IsTrue result → HasTables schema.now }
     ensures only { HasTables schema.now → IsTrue result }

@@ -44,7 +44,7 @@ mnt-by:         ROOT-MNT
 source:         TEST
 ";
 
-/// The block of AS numbers of two octets.
+/// The block of 16-bit AS numbers.
 pub const NUMBERS: &str = "\
 as-block:       AS0 - AS65535
 mnt-by:         ROOT-MNT

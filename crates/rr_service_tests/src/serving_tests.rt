@@ -112,7 +112,7 @@ Connection: close\r
 400 Bad Request
 ";
 
-/// The reply to a target that is no page.
+/// The reply to a target that is not a page.
 const NOT_FOUND: &str = "\
 HTTP/1.1 404 Not Found\r
 Content-Type: text/plain\r
@@ -380,7 +380,7 @@ fn a_stopped_desk_serves_nothing(rt: HostRuntime) -> Result<(), Fail> {
 }
 
 /// The reply to the two items where only so many bytes of the request come. In its first line it is
-/// no request yet: it is a name at first, and then two words that are no query.
+/// not a request yet: it is a name at first, and then two words that are not a query.
 fn cut_reply(count: usize) -> &'static str {
     match count {
         0 | 6..=25 => "% error 1\n",

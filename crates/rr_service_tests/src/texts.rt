@@ -11,7 +11,7 @@ source:         TEST
 
 ";
 
-/// The AS numbers of two octets.
+/// The 16-bit AS numbers.
 const NUMBERS: &str = "\
 as-block:       AS0 - AS65535
 mnt-by:         ROOT-MNT

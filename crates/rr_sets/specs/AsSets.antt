@@ -1,5 +1,6 @@
 -- Which AS numbers an as-set stands for.
-use Rattle.std.specs.Prelude.{◌≡◌, ℕ, Bool, ◌||◌, List, [], ◌∷◌, Contains, IsTrue, Some, false, is_some}
+use Rattle.std.specs.Prelude.{◌≡◌, ℕ, Bool, ◌||◌, List, [], ◌∷◌, Contains, IsTrue}
+use Rattle.std.specs.Prelude.{Some, false, is_some}
 use Rattle.std.specs.FinMap.{get}
 use Rattle.std.specs.Str.{bytes_eq}
 use Rattle.std.specs.Prelude.{◌⊎◌}
@@ -13,22 +14,26 @@ use Rattle.rr_sets.specs.SetObjects.{set_listed, number_listed, takes}
 
 -- A registered as-set lists the name of another set (RFC 2622, 5).
 abbrev pub ListsSet : Reg → List ℕ → List ℕ → Type 0
-ListsSet r name listed = (o : Obj) × (get r (AsSet name) ≡ Some o) × ((m : Member) × Contains o.members m × (set_listed m ≡ Some listed))
+ListsSet r name listed = (o : Obj) × (get r (AsSet name) ≡ Some o)
+    × ((m : Member) × Contains o.members m × (set_listed m ≡ Some listed))
 
 -- A registered as-set lists an AS number (RFC 2622, 5).
 abbrev pub ListsNumber : Reg → List ℕ → ℕ → Type 0
-ListsNumber r name n = (o : Obj) × (get r (AsSet name) ≡ Some o) × ((m : Member) × Contains o.members m × (number_listed m ≡ Some n))
+ListsNumber r name n = (o : Obj) × (get r (AsSet name) ≡ Some o)
+    × ((m : Member) × Contains o.members m × (number_listed m ≡ Some n))
 
--- The aut-num of a number says that it belongs to a registered as-set, which takes its word (RFC 2622, 5).
+-- The aut-num of a number says that it belongs to a registered as-set, which takes its word
+-- (RFC 2622, 5).
 abbrev pub BelongsTo : Reg → List ℕ → ℕ → Type 0
-BelongsTo r name n = (o : Obj) × (get r (AsSet name) ≡ Some o) × ((a : Obj) × (get r (AutNum n) ≡ Some a) × Contains a.member_of name × IsTrue (takes o.by_ref a))
+BelongsTo r name n = (o : Obj) × (get r (AsSet name) ≡ Some o) × ((a : Obj)
+    × (get r (AutNum n) ≡ Some a) × Contains a.member_of name × IsTrue (takes o.by_ref a))
 
 -- The name is `AS-ANY`, and the number has an aut-num (RFC 2622, 5).
 abbrev pub IsAnyNumber : Reg → List ℕ → ℕ → Type 0
 IsAnyNumber r name n = IsTrue (bytes_eq name as_any) × ((a : Obj) × (get r (AutNum n) ≡ Some a))
 
--- An AS number is in the set of this name itself: it is listed there, belongs to it by its aut-num's word, or the
--- set is `AS-ANY` (RFC 2622, 5).
+-- An AS number is in the set of this name itself: it is listed there, belongs to it by its
+-- aut-num's word, or the set is `AS-ANY` (RFC 2622, 5).
 abbrev pub IsDirect : Reg → List ℕ → ℕ → Type 0
 IsDirect r name n = ListsNumber r name n ⊎ (BelongsTo r name n ⊎ IsAnyNumber r name n)
 

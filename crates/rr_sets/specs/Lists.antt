@@ -1,5 +1,6 @@
 -- What the lists of a registry's objects have.
-use Rattle.std.specs.Prelude.{◌≡◌, ◌↔◌, ◌==◌, ℕ, Bool, false, List, Contains, Some}
+use Rattle.std.specs.Prelude.{◌≡◌, ◌↔◌, ◌==◌, ℕ, Bool, false, List, Contains}
+use Rattle.std.specs.Prelude.{Some}
 use Rattle.std.proofs.Common.{Bor}
 use Rattle.std.specs.FinMap.{get}
 use Rattle.std.specs.Option.{option_map_or}
@@ -23,7 +24,8 @@ IsAutNum r o = (n : ℕ) × (get r (AutNum n) ≡ Some o)
 
 -- The object is a registered route.
 abbrev pub IsRegisteredRoute : Reg → Obj → Type 0
-IsRegisteredRoute r o = (prefix : PrefixParts) × (origin : ℕ) × (get r (Route prefix origin) ≡ Some o)
+IsRegisteredRoute r o =
+    (prefix : PrefixParts) × (origin : ℕ) × (get r (Route prefix origin) ≡ Some o)
 
 -- The object is a route of this origin (RFC 2622, 4).
 abbrev pub is_originated : ℕ → Obj → Bool

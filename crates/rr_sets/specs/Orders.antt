@@ -1,9 +1,11 @@
--- The orders of sets and of ranges tell them apart, and an operator looks at the lengths of a range alone. These are
--- proofs; they stand here because ghost items of src, by which the graph of route-sets promises this, name them.
+-- The orders of sets and of ranges tell them apart, and an operator looks at the lengths of a range
+-- alone. These are proofs; they stand here because ghost items of src, by which the graph of
+-- route-sets promises this, name them.
 use Rattle.std.proofs.Common.{◌≡◌, ◌∙◌, ℕ, Option, None, Some, refl, sym, ap, subst}
 use Rattle.std.specs.Option.{option_map}
 use Rattle.std.specs.Ordering.{nat_cmp, ordering_then}
-use Rattle.std.proofs.lemmas.Map.Lookups.{CmpEqualImpliesEq, exact_bytes, exact_pairs, exact_unsigned}
+use Rattle.std.proofs.lemmas.Map.Lookups.{CmpEqualImpliesEq, exact_bytes, exact_pairs}
+use Rattle.std.proofs.lemmas.Map.Lookups.{exact_unsigned}
 use Rattle.rr_number.specs.Applied.{applied}
 use Rattle.rr_number.specs.Bounds.{Bounds}
 use Rattle.rr_number.specs.Operators.{lengths_under}
@@ -30,30 +32,39 @@ abbrev pub lengths_of : RangeParts → ℕ × ℕ
 lengths_of r = (r.low, r.high)
 
 -- Lengths that compare as equal are the same lengths.
-pub exact_lengths : CmpEqualImpliesEq (λ (x y : ℕ × ℕ). ordering_then (nat_cmp x.0 y.0) (nat_cmp x.1 y.1))
+pub exact_lengths : CmpEqualImpliesEq
+    (λ (x y : ℕ × ℕ). ordering_then (nat_cmp x.0 y.0) (nat_cmp x.1 y.1))
 exact_lengths = exact_pairs nat_cmp nat_cmp exact_unsigned exact_unsigned
 
 -- ranges of a prefix are the same where their lengths are
-same_lengths : (prefix : PrefixParts) (a b : Option Bounds) → option_map (range_of prefix) a ≡ option_map (range_of prefix) b → a ≡ b
+same_lengths : (prefix : PrefixParts) (a b : Option Bounds)
+    → option_map (range_of prefix) a ≡ option_map (range_of prefix) b → a ≡ b
 same_lengths prefix None None is = refl
 same_lengths prefix None (Some b) is = cc
 same_lengths prefix (Some a) None is = cc
-same_lengths prefix (Some a) (Some b) is = let same : range_of prefix a ≡ range_of prefix b = cc in ap (λ (r : RangeParts). Some (bounds_of r)) same
+same_lengths prefix (Some a) (Some b) is = let same : range_of prefix a ≡ range_of prefix b =
+    cc in ap (λ (r : RangeParts). Some (bounds_of r)) same
 
 -- the lengths of two ranges
 same_bounds : (v w : RangeParts) → lengths_of v ≡ lengths_of w → bounds_of v ≡ bounds_of w
 same_bounds v w same = λ i. record { low = (same i).0; high = (same i).1 }
 
 -- Operators that make the same of a range make the same of each range of its lengths.
-pub applied_alike : (l m : Operator) (v w : RangeParts) → lengths_of v ≡ lengths_of w → applied l v ≡ applied m v → applied l w ≡ applied m w
+pub applied_alike : (l m : Operator) (v w : RangeParts) → lengths_of v ≡ lengths_of w
+    → applied l v ≡ applied m v → applied l w ≡ applied m w
 unfolding applied
 applied_alike l m v w same is =
-    let under : lengths_under l (bounds_of v) ≡ lengths_under m (bounds_of v) = same_lengths v.prefix (lengths_under l (bounds_of v)) (lengths_under m (bounds_of v)) is in
-    ap (option_map (range_of w.prefix)) (subst (λ (b : Bounds). lengths_under l b ≡ lengths_under m b) (same_bounds v w same) under)
+    let under : lengths_under l (bounds_of v) ≡ lengths_under m (bounds_of v) =
+    same_lengths v.prefix (lengths_under l (bounds_of v)) (lengths_under m (bounds_of v)) is in
+    ap (option_map (range_of w.prefix))
+    (subst (λ (b : Bounds). lengths_under l b ≡ lengths_under m b) (same_bounds v w same) under)
 
 -- An operator that drops a range drops each range of its lengths.
-pub applied_dropped : (l : Operator) (v w : RangeParts) → lengths_of v ≡ lengths_of w → applied l v ≡ None → applied l w ≡ None
+pub applied_dropped : (l : Operator) (v w : RangeParts) → lengths_of v ≡ lengths_of w
+    → applied l v ≡ None → applied l w ≡ None
 unfolding applied
 applied_dropped l v w same none =
-    let under : lengths_under l (bounds_of v) ≡ None = same_lengths v.prefix (lengths_under l (bounds_of v)) None none in
-    ap (option_map (range_of w.prefix)) (subst (λ (b : Bounds). lengths_under l b ≡ None) (same_bounds v w same) under)
+    let under : lengths_under l (bounds_of v) ≡ None =
+    same_lengths v.prefix (lengths_under l (bounds_of v)) None none in
+    ap (option_map (range_of w.prefix))
+    (subst (λ (b : Bounds). lengths_under l b ≡ None) (same_bounds v w same) under)

@@ -1,5 +1,6 @@
 -- Which ranges of prefixes a set stands for.
-use Rattle.std.specs.Prelude.{◌≡◌, ℕ, ◌⊎◌, Bool, false, ◌||◌, List, Contains, IsTrue, Option, Some, is_some}
+use Rattle.std.specs.Prelude.{◌≡◌, ℕ, ◌⊎◌, Bool, false, ◌||◌, List, Contains}
+use Rattle.std.specs.Prelude.{IsTrue, Option, Some, is_some}
 use Rattle.std.specs.FinMap.{get}
 use Rattle.std.specs.Str.{bytes_eq}
 use Rattle.rr_auth.specs.Registries.{Reg}
@@ -31,54 +32,66 @@ registered_set r name = get r (key_of_kind (kind_of name) name)
 abbrev pub has_set : Reg → List ℕ → Bool
 has_set r name = is_some (registered_set r name) || (bytes_eq name as_any || bytes_eq name rs_any)
 
--- An as-set refers to the ASes that are in it itself and to the sets that it lists, with no operator (RFC 2622, 5).
+-- An as-set refers to the ASes that are in it itself and to the sets that it lists, with no
+-- operator (RFC 2622, 5).
 abbrev pub AsSetRefers : Reg → List ℕ → MemberSet → Operator → Type 0
 AsSetRefers r name (AutNum n) operator = IsDirect r name n × (operator ≡ Plain)
 AsSetRefers r name (Set listed) operator = ListsSet r name listed × (operator ≡ Plain)
 
--- A registered route-set refers to the ASes and sets in its `members`, each with its operator (RFC 2622, 5).
+-- A registered route-set refers to the ASes and sets in its `members`, each with its operator
+-- (RFC 2622, 5).
 abbrev pub RouteSetRefers : Reg → List ℕ → MemberSet → Operator → Type 0
-RouteSetRefers r name other operator = (o : Obj) × (get r (key.RouteSet name) ≡ Some o) × Contains o.members (member.Set other operator)
+RouteSetRefers r name other operator = (o : Obj) × (get r (key.RouteSet name) ≡ Some o)
+    × Contains o.members (member.Set other operator)
 
 -- What a named set refers to, by its kind (RFC 2622, 5).
 abbrev pub RefersAs : SetKind → Reg → List ℕ → MemberSet → Operator → Type 0
 RefersAs AsSet r name other operator = AsSetRefers r name other operator
 RefersAs RouteSet r name other operator = RouteSetRefers r name other operator
 
--- A set refers to another under an operator; an AS, as the set of its routes, refers to none (RFC 2622, 5).
+-- A set refers to another under an operator; an AS, as the set of its routes, refers to none
+-- (RFC 2622, 5).
 abbrev pub Refers : Reg → MemberSet → MemberSet → Operator → Type 0
 Refers r (AutNum n) other operator = ⊥
 Refers r (Set name) other operator = RefersAs (kind_of name) r name other operator
 
 -- A route of the AS is registered, and the range is that of its prefix alone (RFC 2622, 5).
 abbrev pub IsOriginated : Reg → ℕ → RangeParts → Type 0
-IsOriginated r n range = (prefix : PrefixParts) × (o : Obj) × (get r (key.Route prefix n) ≡ Some o) × (range ≡ bare prefix)
+IsOriginated r n range = (prefix : PrefixParts) × (o : Obj)
+    × (get r (key.Route prefix n) ≡ Some o) × (range ≡ bare prefix)
 
 -- A registered set has the range in its `members` (RFC 2622, 5).
 abbrev pub ListsRange : Reg → List ℕ → RangeParts → Type 0
-ListsRange r name range = (o : Obj) × (registered_set r name ≡ Some o) × Contains o.members (member.Range range)
+ListsRange r name range =
+    (o : Obj) × (registered_set r name ≡ Some o) × Contains o.members (member.Range range)
 
--- A registered route names the set in its `member-of`, and `mbrs-by-ref` takes its word; the range is that of its
--- prefix alone (RFC 2622, 5; that an as-set takes routes: profile).
+-- A registered route names the set in its `member-of`, and `mbrs-by-ref` takes its word; the range
+-- is that of its prefix alone (RFC 2622, 5; that an as-set takes routes: profile).
 abbrev pub IsRangeTaken : Reg → ByRefParts → List ℕ → RangeParts → Type 0
-IsRangeTaken r by_ref name range = (prefix : PrefixParts) × (n : ℕ) × (route : Obj) × (get r (key.Route prefix n) ≡ Some route) × Contains route.member_of name × IsTrue (takes by_ref route) × (range ≡ bare prefix)
+IsRangeTaken r by_ref name range = (prefix : PrefixParts) × (n : ℕ) × (route : Obj)
+    × (get r (key.Route prefix n) ≡ Some route) × Contains route.member_of name
+    × IsTrue (takes by_ref route) × (range ≡ bare prefix)
 
--- A route belongs to a registered set by its own word (RFC 2622, 5; that an as-set takes routes: profile).
+-- A route belongs to a registered set by its own word (RFC 2622, 5; that an as-set takes routes:
+-- profile).
 abbrev pub IsByReference : Reg → List ℕ → RangeParts → Type 0
-IsByReference r name range = (o : Obj) × (registered_set r name ≡ Some o) × IsRangeTaken r o.by_ref name range
+IsByReference r name range =
+    (o : Obj) × (registered_set r name ≡ Some o) × IsRangeTaken r o.by_ref name range
 
 -- The name is `RS-ANY`, and the range that of a route (RFC 2622, 5).
 abbrev pub IsAnyRange : Reg → List ℕ → RangeParts → Type 0
 IsAnyRange r name range = IsTrue (bytes_eq name rs_any) × ((n : ℕ) × IsOriginated r n range)
 
--- A range is in a set itself: a route of the AS has its prefix, the set lists it, a route belongs to the set by its own
--- word, or the set is `RS-ANY` (RFC 2622, 5).
+-- A range is in a set itself: a route of the AS has its prefix, the set lists it, a route belongs
+-- to the set by its own word, or the set is `RS-ANY` (RFC 2622, 5).
 abbrev pub HasRange : Reg → MemberSet → RangeParts → Type 0
 HasRange r (AutNum n) range = IsOriginated r n range
-HasRange r (Set name) range = ListsRange r name range ⊎ (IsByReference r name range ⊎ IsAnyRange r name range)
+HasRange r (Set name) range =
+    ListsRange r name range ⊎ (IsByReference r name range ⊎ IsAnyRange r name range)
 
--- Some chain of references leads from the set of the name to a set that has a range itself, which the operators of the
--- chain, put to it from the last to the first, make into this one, none dropping it (RFC 2622, 5).
+-- Some chain of references leads from the set of the name to a set that has a range itself, which
+-- the operators of the chain, put to it from the last to the first, make into this one, none
+-- dropping it (RFC 2622, 5).
 abbrev pub InRouteSet : Reg → List ℕ → RangeParts → Type 0
 InRouteSet r start range = carried.IsFound (Refers r) (HasRange r) applied (Set start) range
 
@@ -86,11 +99,11 @@ InRouteSet r start range = carried.IsFound (Refers r) (HasRange r) applied (Set 
 abbrev pub IsReachedFrom : Reg → List ℕ → MemberSet → Type 0
 IsReachedFrom r start set = carried.IsNamed (Refers r) (Set start) set
 
--- A chain of references leads to a name that is no set's (profile).
+-- A chain of references leads to a name that is not a set's (profile).
 abbrev pub IsMissingName : Reg → List ℕ → List ℕ → Type 0
 IsMissingName r start name = IsReachedFrom r start (Set name) × (has_set r name ≡ false)
 
--- References lead to more than `limit` sets, or to more than `limit` pairs of such a set and a range that it stands for
--- (profile).
+-- References lead to more than `limit` sets, or to more than `limit` pairs of such a set and a
+-- range that it stands for (profile).
 abbrev pub HasTooMany : Reg → ℕ → List ℕ → Type 0
 HasTooMany r limit start = carried.IsTooMany (Refers r) (HasRange r) applied limit (Set start)

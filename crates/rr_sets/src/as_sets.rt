@@ -1,6 +1,7 @@
 //! The expansion of as-sets.
 
-ghost use Rattle.std.specs.Prelude.{◌≡◌, ◌↔◌, ℕ, List, not, true, false, Contains, IfOk, OnOk, filter};
+ghost use Rattle.std.specs.Prelude.{◌≡◌, ◌↔◌, ℕ, List, not, true, false, Contains};
+ghost use Rattle.std.specs.Prelude.{IfOk, OnOk, filter};
 ghost use Rattle.std.specs.BTreeSet.{IsFromIterResult};
 ghost use Rattle.std.specs.Option.{option_copied};
 ghost use Rattle.std.specs.Ordering.{nat_cmp};
@@ -9,7 +10,8 @@ ghost use Rattle.std.specs.List.{filter_map};
 ghost use Rattle.std.specs.List.Sorted.{IsStrictlySortedBy};
 ghost use Rattle.std.proofs.lemmas.Map.Lookups.{CmpEqualImpliesEq};
 ghost use Rattle.rr_graph.specs.Chain.{MoreThan};
-ghost use Rattle.rr_sets.specs.AsSets.{InAsSet, IsDirect, IsMissing, IsReachedSet, ListsSet, has_as_set};
+ghost use Rattle.rr_sets.specs.AsSets.{InAsSet, IsDirect, IsMissing, IsReachedSet, ListsSet};
+ghost use Rattle.rr_sets.specs.AsSets.{has_as_set};
 ghost use Rattle.rr_sets.specs.SetObjects.{set_listed};
 
 use crate::book::SetBook;
@@ -21,31 +23,40 @@ use rr_object::{Member, MemberSet};
 use std::alloc::{AllocError, Global};
 use std::collections::BTreeSet;
 
-/// Lists the AS numbers that an as-set stands for: those that it and the sets that it reaches by their `members` list
-/// or have by `mbrs-by-ref`; those of `AS-ANY` are all that are registered (RFC 2622, 5). The names reached that are
-/// those of no registered as-set, nor `AS-ANY`, are missing.
+/// Lists the AS numbers that an as-set stands for: those that it and the sets that it reaches by
+/// their `members` list or have by `mbrs-by-ref`; those of `AS-ANY` are all that are registered
+/// (RFC 2622, 5). The names reached that are those of no registered as-set, nor `AS-ANY`, are
+/// missing.
 ///
-/// The fault is `NoSuchSet` where the name itself is such a one, else `TooMany` exactly where more than `limit` names
-/// are reached, want of memory aside.
+/// The fault is `NoSuchSet` where the name itself is such a one, otherwise `TooMany` exactly where
+/// more than `limit` names are reached, unless memory runs out.
 ///
-/// The steps outside the book are O(n log n), where n counts the names reached, the members of each, listed or by
-/// reference, and the names in its `mbrs-by-ref` and in `mnt-by` of its referrers. The book is asked once for the
-/// `referrers` of each set reached that has `mbrs-by-ref`.
+/// The steps outside the book are O(n log n), where n counts the names reached, the members of
+/// each, listed or by reference, and the names in its `mbrs-by-ref` and in `mnt-by` of its
+/// referrers. The book is asked once for the `referrers` of each set reached that has
+/// `mbrs-by-ref`.
 pub fn expand_as_set<B: SetBook>(
     alloc: Global,
     book: &B,
     name: &SetName,
     limit: usize,
 ) -> Result<Members<AsNumber>, ExpandFault>
-    ensures found { IfOk result (λ members. (n : ℕ) → Contains members.found.items n ↔ InAsSet (B.contents book.now) name.now n) }
-    ensures missing { IfOk result (λ members. (s : List ℕ) → Contains members.missing.items s ↔ IsMissing (B.contents book.now) name.now s) }
-    ensures found_sorted { IfOk result (λ members. IsStrictlySortedBy ⟦<AsNumber as Ord>⟧.cmp members.found.items) }
-    ensures missing_sorted { IfOk result (λ members. IsStrictlySortedBy (slice_cmp nat_cmp) members.missing.items) }
+    ensures found { IfOk result (λ members. (n : ℕ)
+        → Contains members.found.items n ↔ InAsSet (B.contents book.now) name.now n) }
+    ensures missing { IfOk result (λ members. (s : List ℕ)
+        → Contains members.missing.items s ↔ IsMissing (B.contents book.now) name.now s) }
+    ensures found_sorted { IfOk result
+        (λ members. IsStrictlySortedBy ⟦<AsNumber as Ord>⟧.cmp members.found.items) }
+    ensures missing_sorted { IfOk result
+        (λ members. IsStrictlySortedBy (slice_cmp nat_cmp) members.missing.items) }
     ensures known { OnOk result (has_as_set (B.contents book.now) name.now ≡ true) }
     ensures few { OnOk result (¬ MoreThan limit (IsReachedSet (B.contents book.now) name.now)) }
-    ensures unknown { result ≡ Err ExpandFault.NoSuchSet → has_as_set (B.contents book.now) name.now ≡ false }
-    ensures many_known { result ≡ Err ExpandFault.TooMany → has_as_set (B.contents book.now) name.now ≡ true }
-    ensures many { result ≡ Err ExpandFault.TooMany → MoreThan limit (IsReachedSet (B.contents book.now) name.now) }
+    ensures unknown { result ≡ Err ExpandFault.NoSuchSet
+        → has_as_set (B.contents book.now) name.now ≡ false }
+    ensures many_known { result ≡ Err ExpandFault.TooMany
+        → has_as_set (B.contents book.now) name.now ≡ true }
+    ensures many { result ≡ Err ExpandFault.TooMany
+        → MoreThan limit (IsReachedSet (B.contents book.now) name.now) }
 {
     if !has_as_set(alloc, book, name)? {
         return Err(ExpandFault::NoSuchSet);
@@ -60,29 +71,38 @@ fn expand_known<B: SetBook>(
     name: &SetName,
     limit: usize,
 ) -> Result<Members<AsNumber>, ExpandFault>
-    ensures found { IfOk result (λ members. (n : ℕ) → Contains members.found.items n ↔ InAsSet (B.contents book.now) name.now n) }
-    ensures missing { IfOk result (λ members. (s : List ℕ) → Contains members.missing.items s ↔ IsMissing (B.contents book.now) name.now s) }
-    ensures found_sorted { IfOk result (λ members. IsStrictlySortedBy ⟦<AsNumber as Ord>⟧.cmp members.found.items) }
-    ensures missing_sorted { IfOk result (λ members. IsStrictlySortedBy (slice_cmp nat_cmp) members.missing.items) }
+    ensures found { IfOk result (λ members. (n : ℕ)
+        → Contains members.found.items n ↔ InAsSet (B.contents book.now) name.now n) }
+    ensures missing { IfOk result (λ members. (s : List ℕ)
+        → Contains members.missing.items s ↔ IsMissing (B.contents book.now) name.now s) }
+    ensures found_sorted { IfOk result
+        (λ members. IsStrictlySortedBy ⟦<AsNumber as Ord>⟧.cmp members.found.items) }
+    ensures missing_sorted { IfOk result
+        (λ members. IsStrictlySortedBy (slice_cmp nat_cmp) members.missing.items) }
     ensures few { OnOk result (¬ MoreThan limit (IsReachedSet (B.contents book.now) name.now)) }
     ensures known { result ≡ Err ExpandFault.NoSuchSet → ⊥ }
-    ensures many { result ≡ Err ExpandFault.TooMany → MoreThan limit (IsReachedSet (B.contents book.now) name.now) }
+    ensures many { result ≡ Err ExpandFault.TooMany
+        → MoreThan limit (IsReachedSet (B.contents book.now) name.now) }
 {
     let names = reached_sets(alloc, book, name, limit)?;
     let members = members_of(alloc, book, &names)?;
     Ok(members)
 }
 
-/// What is in one of the sets itself, and which of the names are no as-set's.
+/// What is in one of the sets itself, and which of the names are not an as-set's.
 fn members_of<B: SetBook>(
     alloc: Global,
     book: &B,
     names: &[SetName],
 ) -> Result<Members<AsNumber>, AllocError>
-    ensures found { IfOk result (λ members. (n : ℕ) → Contains members.found.items n ↔ ((s : List ℕ) × Contains names.now s × IsDirect (B.contents book.now) s n)) }
-    ensures missing { IfOk result (λ members. (s : List ℕ) → Contains members.missing.items s ↔ (Contains names.now s × (has_as_set (B.contents book.now) s ≡ false))) }
-    ensures found_sorted { IfOk result (λ members. IsStrictlySortedBy ⟦<AsNumber as Ord>⟧.cmp members.found.items) }
-    ensures missing_sorted { IfOk result (λ members. IsStrictlySortedBy (slice_cmp nat_cmp) members.missing.items) }
+    ensures found { IfOk result (λ members. (n : ℕ) → Contains members.found.items n
+        ↔ ((s : List ℕ) × Contains names.now s × IsDirect (B.contents book.now) s n)) }
+    ensures missing { IfOk result (λ members. (s : List ℕ) → Contains members.missing.items s
+        ↔ (Contains names.now s × (has_as_set (B.contents book.now) s ≡ false))) }
+    ensures found_sorted { IfOk result
+        (λ members. IsStrictlySortedBy ⟦<AsNumber as Ord>⟧.cmp members.found.items) }
+    ensures missing_sorted { IfOk result
+        (λ members. IsStrictlySortedBy (slice_cmp nat_cmp) members.missing.items) }
 {
     let found = sorted(alloc, numbers_in(alloc, book, names)?)?;
     let missing = sorted(alloc, missing_names(alloc, book, names)?)?;
@@ -123,9 +143,11 @@ fn reached_sets<B: SetBook>(
     name: &SetName,
     limit: usize,
 ) -> Result<Vec<SetName>, ReachFault>
-    ensures found { IfOk result (λ names. (s : List ℕ) → Contains names.items s ↔ IsReachedSet (B.contents book.now) name.now s) }
+    ensures found { IfOk result (λ names. (s : List ℕ)
+        → Contains names.items s ↔ IsReachedSet (B.contents book.now) name.now s) }
     ensures few { OnOk result (¬ MoreThan limit (IsReachedSet (B.contents book.now) name.now)) }
-    ensures many { result ≡ Err ReachFault.TooMany → MoreThan limit (IsReachedSet (B.contents book.now) name.now) }
+    ensures many { result ≡ Err ReachFault.TooMany
+        → MoreThan limit (IsReachedSet (B.contents book.now) name.now) }
 {
     let mut starts = Vec::new(alloc);
     starts.push(name.copy(alloc)?)?;
@@ -169,7 +191,8 @@ fn numbers_in<B: SetBook>(
     book: &B,
     names: &[SetName],
 ) -> Result<Vec<AsNumber>, AllocError>
-    ensures { IfOk result (λ numbers. (n : ℕ) → Contains numbers.items n ↔ ((s : List ℕ) × Contains names.now s × IsDirect (B.contents book.now) s n)) }
+    ensures { IfOk result (λ numbers. (n : ℕ) → Contains numbers.items n
+        ↔ ((s : List ℕ) × Contains names.now s × IsDirect (B.contents book.now) s n)) }
 {
     let mut numbers = Vec::new(alloc);
     for name in names {
@@ -178,13 +201,14 @@ fn numbers_in<B: SetBook>(
     Ok(numbers)
 }
 
-/// Those of the names that are no as-set's.
+/// Those of the names that are not an as-set's.
 fn missing_names<B: SetBook>(
     alloc: Global,
     book: &B,
     names: &[SetName],
 ) -> Result<Vec<SetName>, AllocError>
-    ensures { IfOk result (λ missing. missing.items ≡ filter (λ s. not (has_as_set (B.contents book.now) s)) names.now) }
+    ensures { IfOk result (λ missing. missing.items
+        ≡ filter (λ s. not (has_as_set (B.contents book.now) s)) names.now) }
 {
     let mut missing = Vec::new(alloc);
     for name in names {
@@ -197,7 +221,8 @@ fn missing_names<B: SetBook>(
 
 /// The list in ascending order, without repeats.
 pub fn sorted<T: Ord + Drop>(alloc: Global, list: Vec<T>) -> Result<Vec<T>, AllocError>
-    ensures same { CmpEqualImpliesEq T.cmp → IfOk result (λ sorted. (x : T) → Contains sorted.items x ↔ Contains list.items x) }
+    ensures same { CmpEqualImpliesEq T.cmp
+        → IfOk result (λ sorted. (x : T) → Contains sorted.items x ↔ Contains list.items x) }
     ensures sorted { IfOk result (λ sorted. IsStrictlySortedBy T.cmp sorted.items) }
 {
     ascending(alloc, distinct(alloc, list)?)

@@ -1,6 +1,8 @@
-//! The objects that say by their `member-of` that they belong to a set, where the set takes their word.
+//! The objects that say by their `member-of` that they belong to a set, where the set takes their
+//! word.
 
-ghost use Rattle.std.specs.Prelude.{◌≡◌, ◌↔◌, ◌||◌, ℕ, List, Contains, IfOk, IsTrue, filter, length, not, ◌==◌};
+ghost use Rattle.std.specs.Prelude.{◌≡◌, ◌↔◌, ◌||◌, ℕ, List, Contains, IfOk};
+ghost use Rattle.std.specs.Prelude.{IsTrue, filter, length, not, ◌==◌};
 ghost use Rattle.std.specs.BTreeSet.{contains};
 ghost use Rattle.std.specs.Cmp.Lexicographic.{slice_cmp};
 ghost use Rattle.std.specs.List.{list_any};
@@ -16,16 +18,17 @@ use rr_object::{ByRef, Object};
 use std::alloc::{AllocError, Global};
 use std::collections::BTreeSet;
 
-/// The objects that belong to the set of the name by their own word, where `by_ref` is its `mbrs-by-ref`. The registry
-/// is not asked where that is empty, and else once for `referrers`. The steps outside the book are O(n log n) for n
-/// names in `by_ref` and in `mnt-by` of the referrers.
+/// The objects that belong to the set of the name by their own word, where `by_ref` is its
+/// `mbrs-by-ref`. The registry is not asked where that is empty, and else once for `referrers`. The
+/// steps outside the book are O(n log n) for n names in `by_ref` and in `mnt-by` of the referrers.
 pub fn belonging<'a, B: SetBook>(
     alloc: Global,
     book: &'a B,
     name: &SetName,
     by_ref: &ByRef,
 ) -> Result<Vec<&'a Object>, AllocError>
-    ensures { IfOk result (λ objects. (o : Obj) → Contains (lent objects.items) o ↔ (IsReferrer (B.contents book.now) name.now o × IsTrue (takes by_ref.now o))) }
+    ensures { IfOk result (λ objects. (o : Obj) → Contains (lent objects.items) o
+        ↔ (IsReferrer (B.contents book.now) name.now o × IsTrue (takes by_ref.now o))) }
 {
     if !may_take(by_ref) {
         return Ok(Vec::new(alloc));
@@ -47,7 +50,8 @@ fn taken<'a>(
     by_ref: &ByRef,
     objects: &[&'a Object],
 ) -> Result<Vec<&'a Object>, AllocError>
-    ensures { IfOk result (λ taken. taken.items ≡ filter (λ o. takes by_ref.now o.now) objects.now) }
+    ensures { IfOk result
+        (λ taken. taken.items ≡ filter (λ o. takes by_ref.now o.now) objects.now) }
 {
     let names = in_order(alloc, by_ref.names())?;
     maintained(alloc, by_ref.any(), &names, objects)
@@ -55,7 +59,8 @@ fn taken<'a>(
 
 /// The names, in order.
 fn in_order(alloc: Global, names: &[Name]) -> Result<BTreeSet<Name>, AllocError>
-    ensures { IfOk result (λ set. (name : List ℕ) → contains (slice_cmp nat_cmp) set name ≡ list_any (bytes_eq name) names.now) }
+    ensures { IfOk result (λ set. (name : List ℕ)
+        → contains (slice_cmp nat_cmp) set name ≡ list_any (bytes_eq name) names.now) }
 {
     let mut set = BTreeSet::new(alloc);
     for name in names {
@@ -71,7 +76,8 @@ fn maintained<'a>(
     names: &BTreeSet<Name>,
     objects: &[&'a Object],
 ) -> Result<Vec<&'a Object>, AllocError>
-    ensures { IfOk result (λ maintained. maintained.items ≡ filter (λ o. all || list_any (contains (slice_cmp nat_cmp) names.now) o.now.maintainers) objects.now) }
+    ensures { IfOk result (λ maintained. maintained.items ≡ filter (λ o. all
+        || list_any (contains (slice_cmp nat_cmp) names.now) o.now.maintainers) objects.now) }
 {
     objects
         .iter()

@@ -20,20 +20,23 @@ pub fn direct_numbers<B: SetBook>(
     book: &B,
     name: &SetName,
 ) -> Result<Vec<AsNumber>, AllocError>
-    ensures { IfOk result (λ numbers. (n : ℕ) → Contains numbers.items n ↔ IsDirect (B.contents book.now) name.now n) }
+    ensures { IfOk result (λ numbers. (n : ℕ)
+        → Contains numbers.items n ↔ IsDirect (B.contents book.now) name.now n) }
 {
     let mut numbers = registered_numbers(alloc, book, name)?;
     numbers.extend_from_slice(&any_numbers(alloc, book, name)?)?;
     Ok(numbers)
 }
 
-/// The AS numbers that a registered set lists, and those whose aut-nums belong to it by their own word.
+/// The AS numbers that a registered set lists, and those whose aut-nums belong to it by their own
+/// word.
 fn registered_numbers<B: SetBook>(
     alloc: Global,
     book: &B,
     name: &SetName,
 ) -> Result<Vec<AsNumber>, AllocError>
-    ensures { IfOk result (λ numbers. (n : ℕ) → Contains numbers.items n ↔ (ListsNumber (B.contents book.now) name.now n ⊎ BelongsTo (B.contents book.now) name.now n)) }
+    ensures { IfOk result (λ numbers. (n : ℕ) → Contains numbers.items n ↔ (ListsNumber
+        (B.contents book.now) name.now n ⊎ BelongsTo (B.contents book.now) name.now n)) }
 {
     book.sound();
     match as_set(alloc, book, name)? {
@@ -53,7 +56,8 @@ fn any_numbers<B: SetBook>(
     book: &B,
     name: &SetName,
 ) -> Result<Vec<AsNumber>, AllocError>
-    ensures { IfOk result (λ numbers. (n : ℕ) → Contains numbers.items n ↔ IsAnyNumber (B.contents book.now) name.now n) }
+    ensures { IfOk result (λ numbers. (n : ℕ)
+        → Contains numbers.items n ↔ IsAnyNumber (B.contents book.now) name.now n) }
 {
     book.sound();
     if name.is_as_any() {
@@ -63,13 +67,14 @@ fn any_numbers<B: SetBook>(
     }
 }
 
-/// The registered as-set of the name; the error is want of memory.
+/// The registered as-set of the name; the error is that memory ran out.
 pub fn as_set<'a, B: SetBook>(
     alloc: Global,
     book: &'a B,
     name: &SetName,
 ) -> Result<Option<&'a Object>, AllocError>
-    ensures { IfOk result (λ object. option_copied object ≡ get (B.contents book.now) (Key.AsSet name.now)) }
+    ensures { IfOk result
+        (λ object. option_copied object ≡ get (B.contents book.now) (Key.AsSet name.now)) }
 {
     let key = Key::AsSet(name.copy(alloc)?);
     Ok(book.get(&key))
@@ -97,7 +102,8 @@ fn number_listed(member: &Member) -> Option<AsNumber>
 
 /// The AS numbers of those objects that are aut-nums.
 fn numbers_of(alloc: Global, objects: &[&Object]) -> Result<Vec<AsNumber>, AllocError>
-    ensures { IfOk result (λ numbers. numbers.items ≡ filter_map (λ o. number_of_key o.now.key) objects.now) }
+    ensures { IfOk result
+        (λ numbers. numbers.items ≡ filter_map (λ o. number_of_key o.now.key) objects.now) }
 {
     objects
         .iter()

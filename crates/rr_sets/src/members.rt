@@ -10,8 +10,8 @@ use thiserror::Error;
 pub struct Members<T> {
     /// What is in the set, in ascending order.
     pub found: Vec<T>,
-    /// The names of sets that are reached and not registered, in ascending order; `AS-ANY` and `RS-ANY` always stand
-    /// for something.
+    /// The names of sets that are reached and not registered, in ascending order; `AS-ANY` and
+    /// `RS-ANY` always stand for something.
     pub missing: Vec<SetName>,
 }
 
@@ -24,7 +24,7 @@ pub enum ExpandFault {
     /// The expansion would go over the limit.
     #[error("too many members")]
     TooMany,
-    /// Memory was refused.
+    /// Memory ran out.
     #[error("out of memory")]
     Memory,
 }

@@ -6,7 +6,8 @@ ghost use Rattle.std.specs.Option.{option_copied};
 ghost use Rattle.rr_number.specs.Ranges.{RangeParts, bare};
 ghost use Rattle.rr_sets.specs.KeyParts.{range_of_key};
 ghost use Rattle.rr_sets.specs.MemberParts.{range_listed};
-ghost use Rattle.rr_sets.specs.RouteSets.{HasRange, IsAnyRange, IsByReference, IsOriginated, IsRangeTaken, ListsRange, has_set, registered_set};
+ghost use Rattle.rr_sets.specs.RouteSets.{HasRange, IsAnyRange, IsByReference, IsOriginated};
+ghost use Rattle.rr_sets.specs.RouteSets.{IsRangeTaken, ListsRange, has_set, registered_set};
 ghost use Rattle.rr_object.specs.declared.member.MemberSet.{MemberSet};
 
 use crate::book::SetBook;
@@ -21,7 +22,8 @@ pub fn ranges_in<B: SetBook>(
     book: &B,
     name: &SetName,
 ) -> Result<Vec<Range>, AllocError>
-    ensures { IfOk result (λ ranges. (range : RangeParts) → Contains ranges.items range ↔ HasRange (B.contents book.now) (MemberSet.Set name.now) range) }
+    ensures { IfOk result (λ ranges. (range : RangeParts) → Contains ranges.items range
+        ↔ HasRange (B.contents book.now) (MemberSet.Set name.now) range) }
 {
     let mut ranges = registered_ranges(alloc, book, name)?;
     ranges.extend_from_slice(&any_ranges(alloc, book, name)?)?;
@@ -34,7 +36,8 @@ pub fn ranges_of_origin<B: SetBook>(
     book: &B,
     origin: AsNumber,
 ) -> Result<Vec<Range>, AllocError>
-    ensures { IfOk result (λ ranges. (range : RangeParts) → Contains ranges.items range ↔ IsOriginated (B.contents book.now) origin range) }
+    ensures { IfOk result (λ ranges. (range : RangeParts)
+        → Contains ranges.items range ↔ IsOriginated (B.contents book.now) origin range) }
 {
     book.sound();
     bare_ranges(alloc, &book.prefixes_of(alloc, origin)?)
@@ -46,7 +49,9 @@ fn registered_ranges<B: SetBook>(
     book: &B,
     name: &SetName,
 ) -> Result<Vec<Range>, AllocError>
-    ensures { IfOk result (λ ranges. (range : RangeParts) → Contains ranges.items range ↔ (ListsRange (B.contents book.now) name.now range ⊎ IsByReference (B.contents book.now) name.now range)) }
+    ensures { IfOk result (λ ranges. (range : RangeParts)
+        → Contains ranges.items range ↔ (ListsRange (B.contents book.now) name.now range
+        ⊎ IsByReference (B.contents book.now) name.now range)) }
 {
     match registered_set(alloc, book, name)? {
         Some(object) => {
@@ -58,14 +63,16 @@ fn registered_ranges<B: SetBook>(
     }
 }
 
-/// The ranges of the routes that belong by their own word to a set of the name with these `mbrs-by-ref`.
+/// The ranges of the routes that belong by their own word to a set of the name with these
+/// `mbrs-by-ref`.
 fn ranges_by_reference<B: SetBook>(
     alloc: Global,
     book: &B,
     name: &SetName,
     by_ref: &ByRef,
 ) -> Result<Vec<Range>, AllocError>
-    ensures { IfOk result (λ ranges. (range : RangeParts) → Contains ranges.items range ↔ IsRangeTaken (B.contents book.now) by_ref.now name.now range) }
+    ensures { IfOk result (λ ranges. (range : RangeParts) → Contains ranges.items range
+        ↔ IsRangeTaken (B.contents book.now) by_ref.now name.now range) }
 {
     book.sound();
     let objects = belonging(alloc, book, name, by_ref)?;
@@ -74,7 +81,8 @@ fn ranges_by_reference<B: SetBook>(
 
 /// The ranges of `RS-ANY`; none for another set.
 fn any_ranges<B: SetBook>(alloc: Global, book: &B, name: &SetName) -> Result<Vec<Range>, AllocError>
-    ensures { IfOk result (λ ranges. (range : RangeParts) → Contains ranges.items range ↔ IsAnyRange (B.contents book.now) name.now range) }
+    ensures { IfOk result (λ ranges. (range : RangeParts)
+        → Contains ranges.items range ↔ IsAnyRange (B.contents book.now) name.now range) }
 {
     book.sound();
     if name.is_rs_any() {
@@ -84,13 +92,14 @@ fn any_ranges<B: SetBook>(alloc: Global, book: &B, name: &SetName) -> Result<Vec
     }
 }
 
-/// The registered set of the name; the error is want of memory.
+/// The registered set of the name; the error is that memory ran out.
 pub fn registered_set<'a, B: SetBook>(
     alloc: Global,
     book: &'a B,
     name: &SetName,
 ) -> Result<Option<&'a Object>, AllocError>
-    ensures { IfOk result (λ object. option_copied object ≡ registered_set (B.contents book.now) name.now) }
+    ensures { IfOk result
+        (λ object. option_copied object ≡ registered_set (B.contents book.now) name.now) }
 {
     let key = Key::of_kind(name.kind(), name.copy(alloc)?);
     Ok(book.get(&key))
@@ -136,7 +145,8 @@ fn bare_ranges(alloc: Global, prefixes: &[Prefix]) -> Result<Vec<Range>, AllocEr
 
 /// The ranges of those objects that are routes.
 fn ranges_of(alloc: Global, objects: &[&Object]) -> Result<Vec<Range>, AllocError>
-    ensures { IfOk result (λ ranges. ranges.items ≡ filter_map (λ o. range_of_key o.now.key) objects.now) }
+    ensures { IfOk result
+        (λ ranges. ranges.items ≡ filter_map (λ o. range_of_key o.now.key) objects.now) }
 {
     objects
         .iter()

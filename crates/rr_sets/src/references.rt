@@ -20,14 +20,18 @@ use std::alloc::{AllocError, Global};
 /// A set to which another refers, with the operator of the reference.
 pub type Reference = Edge<MemberSet, Operator>;
 
-/// The sets to which the set refers, in ascending order: each once under each operator, however often it is listed.
+/// The sets to which the set refers, in ascending order: each once under each operator, however
+/// often it is listed.
 pub fn references_of<B: SetBook>(
     alloc: Global,
     book: &B,
     set: &MemberSet,
 ) -> Result<Vec<Reference>, AllocError>
-    ensures same { IfOk result (λ references. (other : MemberSet) (operator : Operator) → Contains references.items (record { to = other; label = operator }) ↔ Refers (B.contents book.now) set.now other operator) }
-    ensures sorted { IfOk result (λ references. IsStrictlySortedBy ⟦<Edge<MemberSet, Operator> as Ord>⟧.cmp references.items) }
+    ensures same { IfOk result (λ references. (other : MemberSet) (operator : Operator)
+        → Contains references.items (record { to = other; label = operator })
+        ↔ Refers (B.contents book.now) set.now other operator) }
+    ensures sorted { IfOk result (λ references.
+        IsStrictlySortedBy ⟦<Edge<MemberSet, Operator> as Ord>⟧.cmp references.items) }
 {
     let mut references = all_references(alloc, book, set)?;
     put_in_order(&mut references);
@@ -40,7 +44,9 @@ fn all_references<B: SetBook>(
     book: &B,
     set: &MemberSet,
 ) -> Result<Vec<Reference>, AllocError>
-    ensures { IfOk result (λ references. (other : MemberSet) (operator : Operator) → Contains references.items (record { to = other; label = operator }) ↔ Refers (B.contents book.now) set.now other operator) }
+    ensures { IfOk result (λ references. (other : MemberSet) (operator : Operator)
+        → Contains references.items (record { to = other; label = operator })
+        ↔ Refers (B.contents book.now) set.now other operator) }
 {
     match set {
         MemberSet::AutNum(_) => Ok(Vec::new(alloc)),
@@ -57,7 +63,9 @@ fn as_set_references<B: SetBook>(
     book: &B,
     name: &SetName,
 ) -> Result<Vec<Reference>, AllocError>
-    ensures { IfOk result (λ references. (other : MemberSet) (operator : Operator) → Contains references.items (record { to = other; label = operator }) ↔ AsSetRefers (B.contents book.now) name.now other operator) }
+    ensures { IfOk result (λ references. (other : MemberSet) (operator : Operator)
+        → Contains references.items (record { to = other; label = operator })
+        ↔ AsSetRefers (B.contents book.now) name.now other operator) }
 {
     let numbers = direct_numbers(alloc, book, name)?;
     let names = names_listed(alloc, book, name)?;
@@ -70,7 +78,8 @@ fn names_listed<B: SetBook>(
     book: &B,
     name: &SetName,
 ) -> Result<Vec<SetName>, AllocError>
-    ensures { IfOk result (λ names. (listed : List ℕ) → Contains names.items listed ↔ ListsSet (B.contents book.now) name.now listed) }
+    ensures { IfOk result (λ names. (listed : List ℕ)
+        → Contains names.items listed ↔ ListsSet (B.contents book.now) name.now listed) }
 {
     match as_set(alloc, book, name)? {
         Some(object) => sets_listed(alloc, object.members()),
@@ -84,7 +93,8 @@ fn plain_references(
     numbers: Vec<AsNumber>,
     names: Vec<SetName>,
 ) -> Result<Vec<Reference>, AllocError>
-    ensures { IfOk result (λ references. references.items ≡ map number_reference numbers.items ++ map set_reference names.items) }
+    ensures { IfOk result (λ references. references.items
+        ≡ map number_reference numbers.items ++ map set_reference names.items) }
 {
     numbers
         .into_iter()
@@ -117,7 +127,9 @@ fn route_set_references<B: SetBook>(
     book: &B,
     name: &SetName,
 ) -> Result<Vec<Reference>, AllocError>
-    ensures { IfOk result (λ references. (other : MemberSet) (operator : Operator) → Contains references.items (record { to = other; label = operator }) ↔ RouteSetRefers (B.contents book.now) name.now other operator) }
+    ensures { IfOk result (λ references. (other : MemberSet) (operator : Operator)
+        → Contains references.items (record { to = other; label = operator })
+        ↔ RouteSetRefers (B.contents book.now) name.now other operator) }
 {
     let key = Key::RouteSet(name.copy(alloc)?);
     match book.get(&key) {
@@ -128,7 +140,8 @@ fn route_set_references<B: SetBook>(
 
 /// The references among the members.
 fn references_listed(alloc: Global, members: &[Member]) -> Result<Vec<Reference>, AllocError>
-    ensures { IfOk result (λ references. references.items ≡ filter_map reference_of members.now) }
+    ensures { IfOk result
+        (λ references. references.items ≡ filter_map reference_of members.now) }
 {
     let mut references = Vec::new(alloc);
     for member in members {
@@ -142,7 +155,7 @@ fn references_listed(alloc: Global, members: &[Member]) -> Result<Vec<Reference>
     Ok(references)
 }
 
-/// An equal set; the error is want of memory.
+/// An equal set; the error is that memory ran out.
 pub fn copy_of(alloc: Global, set: &MemberSet) -> Result<MemberSet, AllocError>
     ensures { IfOk result (λ same. same ≡ set.now) }
 {

@@ -1,6 +1,7 @@
 //! The expansion of sets into ranges of prefixes.
 
-ghost use Rattle.std.specs.Prelude.{◌≡◌, ◌↔◌, ℕ, List, true, false, Contains, IfOk, OnOk};
+ghost use Rattle.std.specs.Prelude.{◌≡◌, ◌↔◌, ℕ, List, true, false, Contains, IfOk};
+ghost use Rattle.std.specs.Prelude.{OnOk};
 ghost use Rattle.std.specs.Cmp.Lexicographic.{slice_cmp};
 ghost use Rattle.std.specs.List.{filter_map};
 ghost use Rattle.std.specs.List.Sorted.{IsStrictlySortedBy};
@@ -9,7 +10,8 @@ ghost use Rattle.std.specs.Ordering.{nat_cmp};
 ghost use Rattle.rr_number.specs.Ranges.{RangeParts, range_cmp};
 ghost use Rattle.rr_object.specs.declared.member.MemberSet.{MemberSet};
 ghost use Rattle.rr_sets.specs.MemberParts.{missing_name};
-ghost use Rattle.rr_sets.specs.RouteSets.{HasTooMany, InRouteSet, IsMissingName, IsReachedFrom, has_set};
+ghost use Rattle.rr_sets.specs.RouteSets.{HasTooMany, InRouteSet, IsMissingName, IsReachedFrom};
+ghost use Rattle.rr_sets.specs.RouteSets.{has_set};
 
 use crate::as_sets::sorted;
 use crate::book::SetBook;
@@ -21,38 +23,47 @@ use rr_number::{Operator, Range, SetName};
 use rr_object::MemberSet;
 use std::alloc::{AllocError, Global};
 
-/// Lists the ranges of prefixes that a set stands for, of either kind, `AS-ANY` and `RS-ANY` among them: those that it
-/// lists, those of the routes of its ASes and of the routes that it has by `mbrs-by-ref`, and those of the sets to
-/// which it refers, each put through the operator of the reference unless this drops it (RFC 2622, 5). The names of
-/// sets reached that are neither registered nor `AS-ANY` or `RS-ANY` are missing.
+/// Lists the ranges of prefixes that a set stands for, of either kind, `AS-ANY` and `RS-ANY` among
+/// them: those that it lists, those of the routes of its ASes and of the routes that it has by
+/// `mbrs-by-ref`, and those of the sets to which it refers, each put through the operator of the
+/// reference unless this drops it (RFC 2622, 5). The names of sets reached that are neither
+/// registered nor `AS-ANY` or `RS-ANY` are missing.
 ///
-/// The fault is `NoSuchSet` where the name itself is such a one, else `TooMany` exactly where more than `limit` sets
-/// are reached, ASes among them, or more than `limit` pairs of one of these and a range that it stands for; want of
-/// memory aside.
+/// The fault is `NoSuchSet` where the name itself is such a one, otherwise `TooMany` exactly where
+/// more than `limit` sets are reached, ASes among them, or more than `limit` pairs of one of these
+/// and a range that it stands for, unless memory runs out.
 ///
-/// The steps outside the book are O((P + KR + F) log P). P counts the sets reached, the members of each, listed or by
-/// reference, the routes of each AS reached, the names in its `mbrs-by-ref` and in `mnt-by` of its referrers, and those
-/// pairs; R the references of the sets reached; K the least and greatest lengths that ranges of one set have, at most
-/// 561; and F, for each pair, the ranges that references to its set make of it in each set that refers to it, each
-/// once, however many references do: m route-sets that each list all the others, under however many operators, and the
-/// same V ranges of one address have mV pairs, and F is about m²V. The book is asked at most three times for the
-/// `referrers` of each set reached that has `mbrs-by-ref`, and once for the prefixes of each AS reached; if sets refer
-/// to each other in a ring, at most four times and twice.
+/// The steps outside the book are O((P + KR + F) log P). P counts the sets reached, the members of
+/// each, listed or by reference, the routes of each AS reached, the names in its `mbrs-by-ref` and
+/// in `mnt-by` of its referrers, and those pairs; R the references of the sets reached; K the least
+/// and greatest lengths that ranges of one set have, at most 561; and F, for each pair, the ranges
+/// that references to its set make of it in each set that refers to it, each once, however many
+/// references do: m route-sets that each list all the others, under however many operators, and the
+/// same V ranges of one address have mV pairs, and F is about m²V. The book is asked at most three
+/// times for the `referrers` of each set reached that has `mbrs-by-ref`, and once for the prefixes
+/// of each AS reached; if sets refer to each other in a ring, at most four times and twice.
 pub fn expand_route_set<B: SetBook>(
     alloc: Global,
     book: &B,
     name: &SetName,
     limit: usize,
 ) -> Result<Members<Range>, ExpandFault>
-    ensures found { IfOk result (λ members. (range : RangeParts) → Contains members.found.items range ↔ InRouteSet (B.contents book.now) name.now range) }
-    ensures missing { IfOk result (λ members. (s : List ℕ) → Contains members.missing.items s ↔ IsMissingName (B.contents book.now) name.now s) }
-    ensures found_sorted { IfOk result (λ members. IsStrictlySortedBy range_cmp members.found.items) }
-    ensures missing_sorted { IfOk result (λ members. IsStrictlySortedBy (slice_cmp nat_cmp) members.missing.items) }
+    ensures found { IfOk result (λ members. (range : RangeParts) → Contains members.found.items
+        range ↔ InRouteSet (B.contents book.now) name.now range) }
+    ensures missing { IfOk result (λ members. (s : List ℕ)
+        → Contains members.missing.items s ↔ IsMissingName (B.contents book.now) name.now s) }
+    ensures found_sorted { IfOk result
+        (λ members. IsStrictlySortedBy range_cmp members.found.items) }
+    ensures missing_sorted { IfOk result
+        (λ members. IsStrictlySortedBy (slice_cmp nat_cmp) members.missing.items) }
     ensures known { OnOk result (has_set (B.contents book.now) name.now ≡ true) }
     ensures few { OnOk result (¬ HasTooMany (B.contents book.now) limit name.now) }
-    ensures unknown { result ≡ Err ExpandFault.NoSuchSet → has_set (B.contents book.now) name.now ≡ false }
-    ensures many_known { result ≡ Err ExpandFault.TooMany → has_set (B.contents book.now) name.now ≡ true }
-    ensures many { result ≡ Err ExpandFault.TooMany → HasTooMany (B.contents book.now) limit name.now }
+    ensures unknown { result ≡ Err ExpandFault.NoSuchSet
+        → has_set (B.contents book.now) name.now ≡ false }
+    ensures many_known { result ≡ Err ExpandFault.TooMany
+        → has_set (B.contents book.now) name.now ≡ true }
+    ensures many { result ≡ Err ExpandFault.TooMany
+        → HasTooMany (B.contents book.now) limit name.now }
 {
     if !has_set(alloc, book, name)? {
         return Err(ExpandFault::NoSuchSet);
@@ -67,13 +78,18 @@ fn expand_known<B: SetBook>(
     name: &SetName,
     limit: usize,
 ) -> Result<Members<Range>, ExpandFault>
-    ensures found { IfOk result (λ members. (range : RangeParts) → Contains members.found.items range ↔ InRouteSet (B.contents book.now) name.now range) }
-    ensures missing { IfOk result (λ members. (s : List ℕ) → Contains members.missing.items s ↔ IsMissingName (B.contents book.now) name.now s) }
-    ensures found_sorted { IfOk result (λ members. IsStrictlySortedBy range_cmp members.found.items) }
-    ensures missing_sorted { IfOk result (λ members. IsStrictlySortedBy (slice_cmp nat_cmp) members.missing.items) }
+    ensures found { IfOk result (λ members. (range : RangeParts) → Contains members.found.items
+        range ↔ InRouteSet (B.contents book.now) name.now range) }
+    ensures missing { IfOk result (λ members. (s : List ℕ)
+        → Contains members.missing.items s ↔ IsMissingName (B.contents book.now) name.now s) }
+    ensures found_sorted { IfOk result
+        (λ members. IsStrictlySortedBy range_cmp members.found.items) }
+    ensures missing_sorted { IfOk result
+        (λ members. IsStrictlySortedBy (slice_cmp nat_cmp) members.missing.items) }
     ensures few { OnOk result (¬ HasTooMany (B.contents book.now) limit name.now) }
     ensures known { result ≡ Err ExpandFault.NoSuchSet → ⊥ }
-    ensures many { result ≡ Err ExpandFault.TooMany → HasTooMany (B.contents book.now) limit name.now }
+    ensures many { result ≡ Err ExpandFault.TooMany
+        → HasTooMany (B.contents book.now) limit name.now }
 {
     let gathered = gathered(alloc, book, name, limit)?;
     let missing = sorted(alloc, missing_names(alloc, book, &gathered.nodes)?)?;
@@ -83,7 +99,8 @@ fn expand_known<B: SetBook>(
     })
 }
 
-/// Sets and the references between them. The ranges of a set are its own values, and operators pass them on.
+/// Sets and the references between them. The ranges of a set are its own values, and operators pass
+/// them on.
 #[derive(Drop)]
 struct RouteSets<'a, B: SetBook> {
     book: &'a B,
@@ -92,7 +109,8 @@ struct RouteSets<'a, B: SetBook> {
 impl<B: SetBook> Labelled for RouteSets<'_, B> {
     ghost use Rattle.rr_number.specs.Applied.{applied};
     ghost use Rattle.rr_sets.specs.RouteSets.{HasRange, Refers};
-    ghost use Rattle.rr_sets.specs.Orders.{applied_alike, applied_dropped, exact_lengths, exact_member_sets, exact_ranges, lengths_of};
+    ghost use Rattle.rr_sets.specs.Orders.{applied_alike, applied_dropped, exact_lengths};
+    ghost use Rattle.rr_sets.specs.Orders.{exact_member_sets, exact_ranges, lengths_of};
 
     type Node = MemberSet;
 
@@ -151,11 +169,14 @@ fn gathered<B: SetBook>(
     name: &SetName,
     limit: usize,
 ) -> Result<Gathered<MemberSet, Range>, ReachFault>
-    ensures nodes { IfOk result (λ gathered. (set : MemberSet) → Contains gathered.nodes.items set ↔ IsReachedFrom (B.contents book.now) name.now set) }
-    ensures values { IfOk result (λ gathered. (range : RangeParts) → Contains gathered.values.items range ↔ InRouteSet (B.contents book.now) name.now range) }
+    ensures nodes { IfOk result (λ gathered. (set : MemberSet) → Contains gathered.nodes.items
+        set ↔ IsReachedFrom (B.contents book.now) name.now set) }
+    ensures values { IfOk result (λ gathered. (range : RangeParts) → Contains
+        gathered.values.items range ↔ InRouteSet (B.contents book.now) name.now range) }
     ensures sorted { IfOk result (λ gathered. IsStrictlySortedBy range_cmp gathered.values.items) }
     ensures few { OnOk result (¬ HasTooMany (B.contents book.now) limit name.now) }
-    ensures many { result ≡ Err ReachFault.TooMany → HasTooMany (B.contents book.now) limit name.now }
+    ensures many { result ≡ Err ReachFault.TooMany
+        → HasTooMany (B.contents book.now) limit name.now }
 {
     let start = MemberSet::Set(name.copy(alloc)?);
     gather(alloc, &RouteSets { book }, &start, limit)
@@ -167,7 +188,8 @@ fn missing_names<B: SetBook>(
     book: &B,
     sets: &[MemberSet],
 ) -> Result<Vec<SetName>, AllocError>
-    ensures { IfOk result (λ missing. missing.items ≡ filter_map (missing_name (B.contents book.now)) sets.now) }
+    ensures { IfOk result
+        (λ missing. missing.items ≡ filter_map (missing_name (B.contents book.now)) sets.now) }
 {
     let mut missing = Vec::new(alloc);
     for set in sets {
@@ -184,7 +206,8 @@ fn missing_name<'a, B: SetBook>(
     book: &B,
     set: &'a MemberSet,
 ) -> Result<Option<&'a SetName>, AllocError>
-    ensures { IfOk result (λ name. option_copied name ≡ missing_name (B.contents book.now) set.now) }
+    ensures { IfOk result
+        (λ name. option_copied name ≡ missing_name (B.contents book.now) set.now) }
 {
     match set {
         MemberSet::AutNum(_) => Ok(None),

@@ -8,6 +8,7 @@ use Rattle.sqlite.specs.State.{State, HasCleanDisk, KeepsCommit, Survives}
 use Rattle.sqlite.specs.Held.{Held, state}
 use Rattle.sqlite.proofs.StateLemmas.{survives_then}
 use Rattle.rr_rows.specs.Contents.{IsTidy, Alters, Adds, RunsOn, Removes, is_name_among, is_name_of}
+use Rattle.rr_rows.proofs.OtherLemmas.{others_itself, others_then}
 
 -- the rows of `named` were altered in a transaction that goes on
 pub record HasAltered {S : Type 0} (g : Ghosts S) (old new : Held S) (Change : List Row → List Row → Type 0) : Type 0 where
@@ -28,7 +29,7 @@ keeps_then a b c p q = record { was_open = λ h. p.was_open (q.was_open h); comm
 none_altered : {S : Type 0} (g : Ghosts S) (old : Held S) (Change : List Row → List Row → Type 0) → ((rows : List Row) → Change rows rows)
     → (HasCleanDisk (state g old) → IsTrue (state g old).is_open → IsTidy (state g old).now) → HasAltered g old old Change
 none_altered g old Change none tidy = record {
-  done = λ clean on. record { tidy = tidy clean on; change = none _; meta = λ _. refl; object = λ _. refl; named = λ _. refl };
+  done = λ clean on. record { tidy = tidy clean on; change = none _; meta = λ _. refl; object = λ _. refl; named = λ _. refl; others = others_itself _ };
   step = λ clean on. record { is_open = on; mode = refl; committed = refl };
   kept = λ clean. keeps_itself (state g old);
   survives = survives_itself (state g old);
@@ -49,6 +50,7 @@ altered_more g old mid new First Second Both joined had alters step kept survive
             meta = λ h. two.meta h ∙ one.meta h;
             object = λ h. two.object h ∙ one.object h;
             named = λ h. two.named h ∙ one.named h;
+            others = others_then _ _ _ one.others two.others;
           };
       step = λ clean on. let one = had.step (earlier clean) on in let two = step clean in record { is_open = two.is_open; mode = two.mode ∙ one.mode; committed = two.committed ∙ one.committed };
       kept = λ clean. keeps_then (state g old) (state g mid) (state g new) (had.kept (earlier clean)) (kept clean);

@@ -1,8 +1,8 @@
 -- What statements in a row do.
-use Rattle.std.proofs.Common.{◌≡◌, ◌≢◌, ℕ, List, [], ◌∷◌, ◌++◌, map, filter, Ok, Err, Result, OnOk, sym, ap, subst, subst₂, ◌∙◌, arith, IsPermutation}
+use Rattle.std.proofs.Common.{◌≡◌, ◌≢◌, ℕ, not, List, [], ◌∷◌, ◌++◌, map, filter, Ok, Err, Result, OnOk, sym, ap, subst, subst₂, ◌∙◌, arith, IsPermutation}
 use Rattle.std.specs.List.{AllByRecursion}
 use Rattle.sqlite.specs.Effect.{Database}
-use Rattle.rr_rows.specs.Contents.{Alters, Adds, Removes, contents, is_name_among, is_object_of, is_named_of, object_values, named_values}
+use Rattle.rr_rows.specs.Contents.{Alters, Adds, KeepsOthers, Removes, contents, is_name_among, is_object_of, is_named_of, object_values, named_values}
 use Rattle.sqlite_value.specs.Order.{Row}
 use Rattle.std.specs.Prelude.{codes}
 use Rattle.rr_rows.specs.Contents.{meta_values}
@@ -11,10 +11,15 @@ use Rattle.rr_rows.specs.Made.{IsBare}
 use Rattle.rr_rows.specs.Maps.{AreNamesOf, AreOfObjects, IsFilled, this_version}
 use Rattle.rr_rows.proofs.AddedLemmas.{append_none, filled_by}
 use Rattle.rr_rows.proofs.ObjectRows.{names_gone}
+use Rattle.rr_rows.proofs.OtherLemmas.{others_then}
 
 pub then_ok : {X E P Q : Type 0} (r : Result X E) → OnOk r P → (P → Q) → OnOk r Q
 then_ok (Ok x) p f = f p
 then_ok (Err e) p f = tt
+
+pub both_ok : {X E P Q R : Type 0} (r : Result X E) → OnOk r P → OnOk r Q → (P → Q → R) → OnOk r R
+both_ok (Ok x) p q f = f p q
+both_ok (Err e) p q f = tt
 
 pub two_four : ◌≢◌ {A = ℕ} 2 4
 two_four h = omega arith
@@ -41,6 +46,7 @@ put_by entry a b c taken added = record {
   objects = subst (λ xs. IsPermutation (object_row entry ∷ xs) (contents (c.trees 2))) taken.objects added.objects;
   named = subst₂ (λ xs ys. IsPermutation (xs ++ ys) (contents (c.trees 4))) (append_none (named_rows entry)) taken.named added.named;
   meta = added.meta ∙ taken.meta;
+  others = others_then a b c taken.others added.others;
 }
 
 -- the names of the object of a key go one by one, and with them all names with the key
@@ -48,7 +54,7 @@ pub forgotten : (class : ℕ) (key : List ℕ) (names : List (List ℕ)) (rows :
     → AllByRecursion (AreNamesOf names) rows → Alters mid new 4 (Removes (is_name_among class key names)) → Alters old new 4 (Removes (is_named_of class key))
 forgotten class key names rows old mid new held same found all alters =
     let gone = subst (λ db. Alters db new 4 (Removes (is_name_among class key names))) same alters in
-    record { tidy = gone.tidy; change = gone.change ∙ names_gone class key names old rows held found all; meta = gone.meta; object = gone.object; named = gone.named }
+    record { tidy = gone.tidy; change = gone.change ∙ names_gone class key names old rows held found all; meta = gone.meta; object = gone.object; named = gone.named; others = subst (λ db. KeepsOthers db new) same alters.others }
 
 -- the rows of an object come
 pub added_by : (class : ℕ) (key body : List ℕ) (names : List (List ℕ)) (a b c : Database) → Alters a b 2 (Adds (object_values class key body ∷ [])) → Alters b c 4 (Adds (map (λ name. named_values name class key) names))
@@ -58,6 +64,17 @@ added_by class key body names a b c first second = record {
   objects = subst (IsPermutation _) (sym (ap contents (second.object two_four))) first.change;
   named = subst₂ (λ xs ys. IsPermutation (xs ++ ys) (contents (c.trees 4))) (sym (append_none _)) (ap contents (first.named four_two)) second.change;
   meta = second.meta none_four ∙ first.meta none_two;
+  others = others_then a b c first.others second.others;
+}
+
+-- and here they go
+pub taken_by : (class : ℕ) (key : List ℕ) (a b c : Database) → Alters a b 4 (Removes (is_named_of class key)) → Alters b c 2 (Removes (is_object_of class key)) → IsTakenOut class key a c
+taken_by class key a b c first second = record {
+  tidy = second.tidy;
+  objects = second.change ∙ ap (λ rows. filter (λ row. not (is_object_of class key row)) (contents rows)) (first.object two_four);
+  named = ap contents (second.named four_two) ∙ first.change;
+  meta = second.meta none_two ∙ first.meta none_four;
+  others = others_then a b c first.others second.others;
 }
 
 -- the version comes and then the rows of objects, in tables without a row

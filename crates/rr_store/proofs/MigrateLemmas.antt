@@ -3,8 +3,9 @@ use Rattle.std.proofs.Common.{◌≡◌, true, false, not, List, [], ◌∷◌, 
 use Rattle.sqlite_value.specs.Order.{Row}
 use Rattle.sqlite_trees.proofs.ListLemmas.{all_of, filter_none}
 use Rattle.sqlite.specs.Effect.{Database}
-use Rattle.rr_rows.specs.Contents.{Alters, Removes, contents}
+use Rattle.rr_rows.specs.Contents.{Alters, KeepsOthers, Removes, contents}
 use Rattle.rr_rows.specs.Made.{IsBare}
+use Rattle.rr_rows.proofs.OtherLemmas.{others_then}
 use Rattle.rr_store.proofs.BodyLemmas.{none_two, none_four, two_four}
 
 no_contents : (rows : List Row) → contents rows ≡ [] → rows ≡ []
@@ -22,3 +23,7 @@ cleared a b c d first second third = record {
   object = third.object two_four ∙ no_rows (b.trees 2) (c.trees 2) second.change;
   named = no_rows (c.trees 4) (d.trees 4) third.change;
 }
+
+-- and no others
+pub cleared_alone : (a b c d : Database) → Alters a b 0 (Removes (λ row. true)) → Alters b c 2 (Removes (λ row. true)) → Alters c d 4 (Removes (λ row. true)) → KeepsOthers a d
+cleared_alone a b c d first second third = others_then a b d first.others (others_then b c d second.others third.others)

@@ -51,7 +51,7 @@ other_key object block is formed same =
     let never : false ≡ true = sym (ap is_some none) ∙ formed in
     cc
 
-pub migrated : (root source : List ℕ) (objects : List Obj) (old new : Database) → AreOldStored source objects old → has_mntner root objects ≡ true → IsRewritten root source objects new → IsMigrated root source old new
+pub migrated : (root source : List ℕ) (objects : List Obj) (old new : Database) → AreOldStored source objects old → has_mntner root objects ≡ true → IsRewritten root source objects old new → IsMigrated root source old new
 migrated root source objects old new before registered after =
     let key = block_key root source after.block after.read in
     record {
@@ -68,4 +68,5 @@ migrated root source objects old new before registered after =
         apart = ascending-append (λ a b. a.key ≢ b.key) objects (after.block ∷ []) before.apart (tt, tt)
             (all_weaker (λ o. is_some (old_key_bytes o.key) ≡ true) (λ o. AllByRecursion (λ b. o.key ≢ b.key) (after.block ∷ [])) (λ o formed. (other_key o after.block key formed, tt)) objects before.formed);
       };
+      others = after.others;
     }

@@ -39,13 +39,13 @@ module _ {X : Type 0} where
       parted : IsPermutation (map (λ (p : X × Bool). p.0) to) (map (λ (p : X × Bool). p.0) (filter (λ (p : X × Bool). p.1) to ++ filter (λ (p : X × Bool). not p.1) to))
       parted = IsPermutation-map (λ (p : X × Bool). p.0) _ _ (IsPermutation-filter_both (λ (p : X × Bool). p.1) (λ (p : X × Bool). not p.1) (λ p. refl) to)
 
-    behind : (to : List (X × Bool)) (y : X) (b : Bool) → IsPermutation from ((y, b) ∷ to) → x ∷ vs ≡ y ∷ map (λ (p : X × Bool). p.0) to → IsPermutation us vs
-    behind to y true same e =
+    after : (to : List (X × Bool)) (y : X) (b : Bool) → IsPermutation from ((y, b) ∷ to) → x ∷ vs ≡ y ∷ map (λ (p : X × Bool). p.0) to → IsPermutation us vs
+    after to y true same e =
         let none : filter (λ (p : X × Bool). p.1) to ≡ [] = let one = one_marked to y true same in cc in
         let tail : vs ≡ map (λ (p : X × Bool). p.0) to = cc in
         let all = subst (λ l. IsPermutation (map (λ (p : X × Bool). p.0) to) (map (λ (p : X × Bool). p.0) (l ++ filter (λ (p : X × Bool). not p.1) to))) none (parted to y true same) in
         subst (IsPermutation us) (sym tail) (IsPermutation-trans _ _ _ (others to y true same) (IsPermutation-sym _ _ all))
-    behind to y false same e =
+    after to y false same e =
         let one : filter (λ (p : X × Bool). p.1) to ≡ (x, true) ∷ [] = one_marked to y false same in
         let head : y ≡ x = cc in
         let tail : vs ≡ map (λ (p : X × Bool). p.0) to = cc in
@@ -55,7 +55,7 @@ module _ {X : Type 0} where
 
     first_of : (to : List (X × Bool)) → IsPermutation from to → x ∷ vs ≡ map (λ (p : X × Bool). p.0) to → IsPermutation us vs
     first_of [] same e = cc
-    first_of (p ∷ to) same e = behind to p.0 p.1 same e
+    first_of (p ∷ to) same e = after to p.0 p.1 same e
 
     -- one item less on both sides
     pub cancel : IsPermutation (x ∷ us) (x ∷ vs) → IsPermutation us vs

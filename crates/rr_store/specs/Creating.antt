@@ -5,7 +5,7 @@ use Rattle.sqlite.specs.Held.{Held, state}
 use Rattle.sqlite.specs.State.{Survives}
 use Rattle.rr_object.specs.Objects.{Obj}
 use Rattle.rr_rows.specs.Entries.{TreesOf, entry_of}
-use Rattle.rr_rows.specs.Made.{HasRow, IsVacant}
+use Rattle.rr_rows.specs.Made.{HasItsTables, HasRow, IsVacant}
 use Rattle.rr_rows.specs.Maps.{IsFilled}
 use Rattle.rr_rows.specs.Tables.{HasTables}
 use Rattle.rr_store.specs.Calls.{OnCleanDisk, WhileOpen, database}
@@ -16,9 +16,12 @@ module _ {S : Type 0} (g : Ghosts S) (objects : List Obj) (conn : Held S) where
   -- a database that had room for it is the store of the objects (profile)
   pub record MakesStore (store : Held S) : Type 0 where
     pub filled : OnCleanDisk g store (IsFilled (map entry_of objects) (database g store))
+    pub tables : OnCleanDisk g store (HasItsTables (database g conn) (database g store))
     pub is_open : OnCleanDisk g store (IsTrue (state g store).is_open)
     pub vacant : OnCleanDisk g store (IsVacant (database g conn))
     pub crash : Survives (state g conn) (state g store) (TreesOf (IsFilled (map entry_of objects)))
+    pub crash_tables : Survives (state g conn) (state g store)
+        (TreesOf (HasItsTables (database g conn)))
 
   -- the rows are as they were, and where one stood in the tables, that is the fault
   pub record FailsToMake (left : Held S) (fault : CreateFault) : Type 0 where
@@ -27,3 +30,5 @@ module _ {S : Type 0} (g : Ghosts S) (objects : List Obj) (conn : Held S) where
     pub not_empty : fault ≡ NotEmpty
         → OnCleanDisk g left (HasTables (database g conn).schema × HasRow (database g conn))
     pub crash : Survives (state g conn) (state g left) (TreesOf (IsFilled (map entry_of objects)))
+    pub crash_tables : Survives (state g conn) (state g left)
+        (TreesOf (HasItsTables (database g conn)))

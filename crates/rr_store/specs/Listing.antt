@@ -8,7 +8,8 @@ use Rattle.rr_rows.specs.Maps.{HasRows}
 
 -- these are all objects that the tables hold, in order of class and key
 abbrev pub AreAll : Database → List Obj → Type 0
-AreAll db listed = (objects : FinMap key_cmp Obj) → HasRows objects db → listed ≡ values objects
+AreAll db listed =
+    (objects : FinMap key_cmp Obj) → HasRows objects db → listed ≡ values objects
 
 -- and these the ones of them that name the maintainer
 abbrev pub AreNaming : List ℕ → Database → List Obj → Type 0

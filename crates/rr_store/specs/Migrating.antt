@@ -1,5 +1,6 @@
 -- What migration makes of tables of version 1.
-use Rattle.std.specs.Prelude.{◌≡◌, ℕ, Bool, true, false, List, [], ◌∷◌, ◌++◌, codes, IsTrue}
+use Rattle.std.specs.Prelude.{◌≡◌, ℕ, Bool, true, false, List, [], ◌∷◌, ◌++◌}
+use Rattle.std.specs.Prelude.{codes, IsTrue}
 use Rattle.std.specs.List.{list_any}
 use Rattle.sqlite_trees.specs.declared.store.Store.{Ghosts}
 use Rattle.sqlite.specs.Effect.{Database}
@@ -9,6 +10,7 @@ use Rattle.rr_text.specs.Fields.{Field, one_line}
 pub use Rattle.rr_object.specs.Keys.{is_mntner_of}
 use Rattle.rr_object.specs.Objects.{Obj}
 use Rattle.rr_object.specs.Readings.{ReadsAs}
+use Rattle.rr_rows.specs.Contents.{KeepsOthers}
 use Rattle.rr_rows.specs.Entries.{TreesOf}
 use Rattle.rr_rows.specs.Maps.{AreOldStored, AreStored}
 use Rattle.rr_rows.specs.Tables.{HasTables}
@@ -31,7 +33,7 @@ abbrev pub has_mntner : List ℕ → List Obj → Bool
 has_mntner name objects = list_any (λ object. is_mntner_of name object.key) objects
 
 -- tables of version 1 held objects of the source, the root's mntner among them; those of version 2
--- hold the same objects and that block (profile)
+-- hold the same objects and that block, and all else stays (profile)
 pub record IsMigrated (root source : List ℕ) (old new : Database) : Type 0 where
   pub objects : List Obj
   pub block : Obj
@@ -39,6 +41,7 @@ pub record IsMigrated (root source : List ℕ) (old new : Database) : Type 0 whe
   pub registered : has_mntner root objects ≡ true
   pub read : ReadsAs source (upper_block root source) block
   pub after : AreStored source (objects ++ block ∷ []) new
+  pub others : KeepsOthers old new
 
 -- tables of version 1 hold objects of the source, and none is the root's mntner (profile)
 pub record HasNoRoot (root source : List ℕ) (db : Database) : Type 0 where

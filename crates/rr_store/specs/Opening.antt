@@ -71,7 +71,8 @@ IsOfRows Memory = ⊥
 -- rows (profile)
 pub record RefusesTables (version : Version) (source : List ℕ) (db : Database) (fault : OpenFault)
     : Type 0 where
-  pub wrong_version : (number : ℕ) → fault ≡ WrongVersion number → SaysOther version number db
+  pub wrong_version : (number : ℕ) → fault ≡ WrongVersion number
+      → SaysOther version number db
   pub bad_row : fault ≡ BadRow → HoldNone version source db
   pub no_other_said : fault ≡ BadRow → SaysNoOther version db
   pub tables : IsOfRows fault → HasTables db.schema

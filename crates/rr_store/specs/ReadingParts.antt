@@ -28,7 +28,8 @@ first_source fields = option_and_then (λ field. name_of (value_meaning field.li
 pub record IsRowOf (form : KeyForm) (object : Obj) (row : Row) : Type 0 where
   pub key : List ℕ
   pub formed : form object.key ≡ Some key
-  pub is : row ≡ object_values (class_number (class_of object.key)) key (canonical object.paragraph)
+  pub is : row
+      ≡ object_values (class_number (class_of object.key)) key (canonical object.paragraph)
 
 -- rows are those of objects of a source, in turn (profile)
 abbrev pub AreRead : KeyForm → List ℕ → List Row → List Obj → Type 0

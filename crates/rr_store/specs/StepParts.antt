@@ -10,7 +10,8 @@ use Rattle.rr_store.specs.Calls.{OnCleanDisk, database}
 
 module _ {S : Type 0} (g : Ghosts S) where
   -- the database was changed so
-  abbrev pub Made : {X E : Type 0} → (Database → Database → Type 0) → Held S → Held S → Result X E
+  abbrev pub Made : {X E : Type 0} → (Database → Database → Type 0) → Held S → Held S
+      → Result X E
       → Type 0
   Made Change old new result = OnCleanDisk g new
       (OnOk result (Change (database g old) (database g new)))

@@ -81,7 +81,7 @@ fn remove_names<S: Alter>(
 }
 
 /// Takes out the rows of `named` of the object with this class and key, if there is one: each by
-/// its whole primary key, since no index of that table begins with the class.
+/// its whole primary key, because no index of that table begins with the class.
 fn forget_names<S: Alter>(
     tx: &mut Transaction<'_, S>,
     alloc: Global,

@@ -1,6 +1,7 @@
 //! What the rows of the three tables say, each table by itself.
 
-ghost use Rattle.std.specs.Prelude.{◌≡◌, ℕ, [], ◌∷◌, codes, false, IfErr, IfOk, IsPermutation};
+ghost use Rattle.std.specs.Prelude.{◌≡◌, ℕ, [], ◌∷◌, codes, false, IfErr, IfOk};
+ghost use Rattle.std.specs.Prelude.{IsPermutation};
 ghost use Rattle.std.specs.Prelude.{OnOk};
 ghost use Rattle.std.specs.Prelude.{IsSorted, map};
 ghost use Rattle.std.specs.List.{AllByRecursion, flat_map};
@@ -32,7 +33,8 @@ use std::alloc::Global;
 
 /// Whether the settings are the one that says this version.
 fn judge_version(rows: &[Row], version: Version) -> Result<(), OpenFault>
-    ensures ok { OnOk result (rows.now ≡ setting (codes "version") (version_text version) ∷ []) }
+    ensures ok { OnOk result
+        (rows.now ≡ setting (codes "version") (version_text version) ∷ []) }
     ensures fault { IfErr result (IsVersionFault version rows.now) }
 {
     if let Some(number) = other_version(rows, version) {
@@ -82,7 +84,8 @@ pub(crate) fn check_objects<S: Alter>(
     ensures bad_row { OnCleanDisk S.Store conn.new (IfErr result (λ fault. fault ≡ BadRow →
         HoldsNone (form_of version) source.now
         (contents ((database S.Store conn.old).trees 2)))) }
-    ensures no_other { IfErr result (λ fault. (number : ℕ) → fault ≡ WrongVersion number → ⊥) }
+    ensures no_other { IfErr result
+        (λ fault. (number : ℕ) → fault ≡ WrongVersion number → ⊥) }
 {
     let count = count_object(conn)?;
     read_objects(conn, alloc, count, source, version)
@@ -123,7 +126,8 @@ fn judge_names(
     ensures bad_row { IsSorted by_three rows.now → IfErr result (λ fault. fault ≡ BadRow →
         IsPermutation (flat_map named_rows (map (entry_in (form_of version)) objects.now))
         rows.now → ⊥) }
-    ensures no_other { IfErr result (λ fault. (number : ℕ) → fault ≡ WrongVersion number → ⊥) }
+    ensures no_other { IfErr result
+        (λ fault. (number : ℕ) → fault ≡ WrongVersion number → ⊥) }
 {
     if are_named(alloc, rows, objects, version)? {
         Ok(())
@@ -148,7 +152,8 @@ fn check_sorted_names<S: Alter>(
     ensures bad_row { OnCleanDisk S.Store conn.new (IfErr result (λ fault. fault ≡ BadRow →
         IsPermutation (flat_map named_rows (map (entry_in (form_of version)) objects.now))
         (contents ((database S.Store conn.old).trees 4)) → ⊥)) }
-    ensures no_other { IfErr result (λ fault. (number : ℕ) → fault ≡ WrongVersion number → ⊥) }
+    ensures no_other { IfErr result
+        (λ fault. (number : ℕ) → fault ≡ WrongVersion number → ⊥) }
 {
     let rows = sorted_named_rows(conn)?;
     judge_names(alloc, &rows, objects, version)
@@ -170,7 +175,8 @@ fn check_named<S: Alter>(
     ensures bad_row { OnCleanDisk S.Store conn.new (IfErr result (λ fault. fault ≡ BadRow →
         IsPermutation (flat_map named_rows (map (entry_in (form_of version)) objects.now))
         (contents ((database S.Store conn.old).trees 4)) → ⊥)) }
-    ensures no_other { IfErr result (λ fault. (number : ℕ) → fault ≡ WrongVersion number → ⊥) }
+    ensures no_other { IfErr result
+        (λ fault. (number : ℕ) → fault ≡ WrongVersion number → ⊥) }
 {
     if names_in_turn(conn, alloc, objects, version)? {
         return Ok(());
@@ -198,7 +204,8 @@ pub(crate) fn check_names<S: Alter>(
     ensures bad_row { OnCleanDisk S.Store conn.new (IfErr result (λ fault. fault ≡ BadRow →
         IsPermutation (flat_map named_rows (map (entry_in (form_of version)) objects.now))
         (contents ((database S.Store conn.old).trees 4)) → ⊥)) }
-    ensures no_other { IfErr result (λ fault. (number : ℕ) → fault ≡ WrongVersion number → ⊥) }
+    ensures no_other { IfErr result
+        (λ fault. (number : ℕ) → fault ≡ WrongVersion number → ⊥) }
 {
     let _count = count_named(conn)?;
     check_named(conn, alloc, objects, version)

@@ -2,7 +2,7 @@
 
 ghost use Rattle.std.specs.Prelude.{◌≡◌, false, map, IfErr, OnOk};
 ghost use Rattle.rr_rows.specs.Entries.{entry_of};
-ghost use Rattle.rr_rows.specs.Made.{HasRow, IsBare, IsVacant, no_schema};
+ghost use Rattle.rr_rows.specs.Made.{HasItsTables, HasRow, IsBare, IsVacant, no_schema};
 ghost use Rattle.rr_rows.specs.Maps.{IsFilled};
 ghost use Rattle.rr_rows.specs.Tables.{HasTables};
 ghost use Rattle.rr_store.specs.Calls.{OnCleanDisk, WhileOpen, Writes, database};
@@ -27,6 +27,7 @@ fn create_in_blank<S: Alter>(
     requires blank { WhileOpen S.Store conn.old (conn.old.schema ≡ no_schema) }
     ensures makes { Writes S.Store (λ _. IsFilled (map entry_of (lent objects.now)))
         conn.old conn.new result }
+    ensures tables { Writes S.Store HasItsTables conn.old conn.new result }
 {
     // outside a transaction the database is as it was last committed
     let _settled = conn.is_autocommit();
@@ -44,6 +45,7 @@ fn create_in_bare<S: Alter>(
     requires bare { WhileOpen S.Store conn.old (IsBare (database S.Store conn.old)) }
     ensures makes { Writes S.Store (λ _. IsFilled (map entry_of (lent objects.now)))
         conn.old conn.new result }
+    ensures tables { Writes S.Store HasItsTables conn.old conn.new result }
 {
     // outside a transaction the database is as it was last committed
     let _settled = conn.is_autocommit();
@@ -62,6 +64,7 @@ fn create_in_tables<S: Alter>(
     requires tables { OnCleanDisk S.Store conn.old (HasTables conn.old.schema) }
     ensures makes { Writes S.Store (λ _. IsFilled (map entry_of (lent objects.now)))
         conn.old conn.new result }
+    ensures tables { Writes S.Store HasItsTables conn.old conn.new result }
     ensures bare { OnCleanDisk S.Store conn.new (OnOk result
         (IsBare (database S.Store conn.old))) }
     ensures filled { OnCleanDisk S.Store conn.new (IfErr result (λ fault. fault ≡ NotEmpty →
@@ -83,6 +86,7 @@ pub(crate) fn create_where_vacant<S: Alter>(
     requires autocommit { conn.old.in_transaction ≡ false }
     ensures makes { Writes S.Store (λ _. IsFilled (map entry_of (lent objects.now)))
         conn.old conn.new result }
+    ensures tables { Writes S.Store HasItsTables conn.old conn.new result }
     ensures vacant { OnCleanDisk S.Store conn.new (OnOk result
         (IsVacant (database S.Store conn.old))) }
     ensures filled { OnCleanDisk S.Store conn.new (IfErr result (λ fault. fault ≡ NotEmpty →

@@ -1,9 +1,9 @@
 //! The rows of a list of objects, as a transaction adds them to tables without a row.
 
 ghost use Rattle.std.specs.Prelude.{◌≡◌, map, IsTrue, OnOk};
-ghost use Rattle.rr_rows.specs.Contents.{IsTidy};
+ghost use Rattle.rr_rows.specs.Contents.{IsTidy, KeepsOthers};
 ghost use Rattle.rr_rows.specs.Entries.{IsAdded, entry_of};
-ghost use Rattle.rr_rows.specs.Made.{IsBare, no_schema};
+ghost use Rattle.rr_rows.specs.Made.{HasItsTables, IsBare, no_schema};
 ghost use Rattle.rr_rows.specs.Maps.{IsFilled};
 ghost use Rattle.rr_store.specs.Lent.{lent};
 ghost use Rattle.rr_store.specs.Calls.{WhileOpen, database};
@@ -49,6 +49,7 @@ pub(crate) fn fill<S: Alter>(
     ensures same_reference { tx.new.conn.ghost_name ≡ tx.old.conn.ghost_name }
     ensures ok { Made S.Store (λ _. IsFilled (map entry_of (lent objects.now)))
         tx.old.conn.now tx.new.conn.now result }
+    ensures others { Made S.Store KeepsOthers tx.old.conn.now tx.new.conn.now result }
     ensures step { GoesOn S.Store tx.old.conn.now tx.new.conn.now result }
     ensures kept { CommitsNothing S.Store tx.old.conn.now tx.new.conn.now }
     ensures survives { LeavesAll S.Store tx.old.conn.now tx.new.conn.now }
@@ -68,6 +69,7 @@ pub(crate) fn make_filled<S: Alter>(
     ensures same_reference { tx.new.conn.ghost_name ≡ tx.old.conn.ghost_name }
     ensures ok { Made S.Store (λ _. IsFilled (map entry_of (lent objects.now)))
         tx.old.conn.now tx.new.conn.now result }
+    ensures tables { Made S.Store HasItsTables tx.old.conn.now tx.new.conn.now result }
     ensures step { GoesOn S.Store tx.old.conn.now tx.new.conn.now result }
     ensures kept { CommitsNothing S.Store tx.old.conn.now tx.new.conn.now }
     ensures survives { LeavesAll S.Store tx.old.conn.now tx.new.conn.now }

@@ -2,7 +2,7 @@
 
 ghost use Rattle.std.specs.Prelude.{◌≡◌, [], IsTrue, OnOk};
 ghost use Rattle.rr_rows.specs.Made.{Creates, IsBare, meta_table, named_table, no_schema};
-ghost use Rattle.rr_rows.specs.Made.{object_table, with_meta, with_object};
+ghost use Rattle.rr_rows.specs.Made.{object_table, with_meta, with_named, with_object};
 ghost use Rattle.rr_store.specs.Calls.{WhileOpen, database};
 ghost use Rattle.rr_store.specs.StepParts.{CommitsNothing, GoesOn, LeavesAll, Made};
 
@@ -66,6 +66,8 @@ pub(crate) fn make_tables<S: Alter>(tx: &mut Transaction<'_, S>) -> Result<(), E
         ((database S.Store tx.old.conn.now).schema ≡ no_schema) }
     ensures same_reference { tx.new.conn.ghost_name ≡ tx.old.conn.ghost_name }
     ensures ok { Made S.Store (λ _. IsBare) tx.old.conn.now tx.new.conn.now result }
+    ensures schema { Made S.Store (λ _ new. new.schema ≡ with_named)
+        tx.old.conn.now tx.new.conn.now result }
     ensures step { GoesOn S.Store tx.old.conn.now tx.new.conn.now result }
     ensures kept { CommitsNothing S.Store tx.old.conn.now tx.new.conn.now }
     ensures survives { LeavesAll S.Store tx.old.conn.now tx.new.conn.now }

@@ -1,14 +1,14 @@
 //! Tables of version 1, written anew in one transaction as those of version 2.
 
-ghost use Rattle.std.specs.Prelude.{◌≡◌, [], ◌∷◌, ◌++◌, false, map, IfErr, IfOk, IsTrue, OnOk};
-ghost use Rattle.rr_rows.specs.Contents.{IsTidy};
+ghost use Rattle.std.specs.Prelude.{◌≡◌, [], ◌∷◌, ◌++◌, false, map, IfErr, IfOk};
+ghost use Rattle.std.specs.Prelude.{IsTrue, OnOk};
+ghost use Rattle.rr_rows.specs.Contents.{IsTidy, KeepsOthers};
 ghost use Rattle.rr_rows.specs.Entries.{entry_of};
 ghost use Rattle.rr_rows.specs.Made.{IsBare};
-ghost use Rattle.rr_rows.specs.Maps.{IsFilled};
 ghost use Rattle.rr_store.specs.Calls.{OnCleanDisk, WhileOpen, Writes, database};
 ghost use Rattle.rr_store.specs.Lent.{lent};
 ghost use Rattle.rr_store.specs.Migrating.{IsMigrated, RefusesOldTables, has_mntner};
-ghost use Rattle.rr_store.specs.MigratingParts.{IsRewritten};
+ghost use Rattle.rr_store.specs.MigratingParts.{IsReplaced, IsRewritten};
 ghost use Rattle.rr_store.specs.StepParts.{CommitsNothing, GoesOn, LeavesAll, Made};
 
 use crate::ending::end;
@@ -24,11 +24,12 @@ use rr_object::Object;
 use sqlite::{Alter, Connection, Error, Transaction};
 use std::alloc::{AllocError, Global};
 
-/// Takes out all rows of the three tables.
+/// Takes out all rows of the three tables, and no others.
 fn clear_rows<S: Alter>(tx: &mut Transaction<'_, S>) -> Result<(), Error>
     requires { WhileOpen S.Store tx.old.conn.now (IsTidy (database S.Store tx.old.conn.now)) }
     ensures same_reference { tx.new.conn.ghost_name ≡ tx.old.conn.ghost_name }
     ensures ok { Made S.Store (λ _. IsBare) tx.old.conn.now tx.new.conn.now result }
+    ensures others { Made S.Store KeepsOthers tx.old.conn.now tx.new.conn.now result }
     ensures step { GoesOn S.Store tx.old.conn.now tx.new.conn.now result }
     ensures kept { CommitsNothing S.Store tx.old.conn.now tx.new.conn.now }
     ensures survives { LeavesAll S.Store tx.old.conn.now tx.new.conn.now }
@@ -47,7 +48,7 @@ fn refill<S: Alter>(
 ) -> Result<(), StoreFault>
     requires { WhileOpen S.Store tx.old.conn.now (IsTidy (database S.Store tx.old.conn.now)) }
     ensures same_reference { tx.new.conn.ghost_name ≡ tx.old.conn.ghost_name }
-    ensures ok { Made S.Store (λ _. IsFilled (map entry_of (lent objects.now)))
+    ensures ok { Made S.Store (IsReplaced (map entry_of (lent objects.now)))
         tx.old.conn.now tx.new.conn.now result }
     ensures step { GoesOn S.Store tx.old.conn.now tx.new.conn.now result }
     ensures kept { CommitsNothing S.Store tx.old.conn.now tx.new.conn.now }
@@ -65,7 +66,7 @@ fn replace<S: Alter>(
 ) -> Result<(), StoreFault>
     requires autocommit { conn.old.in_transaction ≡ false }
     requires tidy { WhileOpen S.Store conn.old (IsTidy (database S.Store conn.old)) }
-    ensures { Writes S.Store (λ _. IsFilled (map entry_of (lent objects.now)))
+    ensures { Writes S.Store (IsReplaced (map entry_of (lent objects.now)))
         conn.old conn.new result }
 {
     // outside a transaction the database is as it was last committed
@@ -93,7 +94,7 @@ fn rewrite<S: Alter>(
 ) -> Result<(), StoreFault>
     requires autocommit { conn.old.in_transaction ≡ false }
     requires tidy { WhileOpen S.Store conn.old (IsTidy (database S.Store conn.old)) }
-    ensures { Writes S.Store (λ _. IsRewritten root.now source.now objects.items)
+    ensures { Writes S.Store (IsRewritten root.now source.now objects.items)
         conn.old conn.new result }
 {
     let block = upper_object(alloc, root, source)?;

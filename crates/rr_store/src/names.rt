@@ -35,8 +35,8 @@ fn each_once(alloc: Global, names: &[Name]) -> Result<Vec<Name>, AllocError>
     Ok(kept)
 }
 
-/// The maintainers that the object names, each once however often it names them. The error is want
-/// of memory.
+/// The maintainers that the object names, each once however often it names them. The error is that
+/// memory ran out.
 pub(crate) fn maintainers_of(alloc: Global, object: &Object) -> Result<Vec<Name>, AllocError>
     ensures { IfOk result (λ names. names.items ≡ once (names_of object.now)) }
 {

@@ -1,6 +1,7 @@
 //! Which objects name which maintainers, as the rows of `named` have it.
 
-ghost use Rattle.std.specs.Prelude.{◌≡◌, ◌++◌, [], IfOk, IfSome, IsPermutation, IsSorted, IsTrue};
+ghost use Rattle.std.specs.Prelude.{◌≡◌, ◌++◌, [], IfOk, IfSome, IsPermutation, IsSorted};
+ghost use Rattle.std.specs.Prelude.{IsTrue};
 ghost use Rattle.std.specs.Prelude.{OnOk, map, unwrap_or};
 ghost use Rattle.std.specs.List.{flat_map};
 ghost use Rattle.rr_rows.specs.Contents.{by_three, contents, named_values};

@@ -1,6 +1,7 @@
 //! The objects of rows.
 
-ghost use Rattle.std.specs.Prelude.{◌≡◌, ◌++◌, [], ◌∷◌, IfErr, IfOk, IfSome, IsPermutation, IsSome};
+ghost use Rattle.std.specs.Prelude.{◌≡◌, ◌++◌, [], ◌∷◌, IfErr, IfOk, IfSome};
+ghost use Rattle.std.specs.Prelude.{IsPermutation, IsSome};
 ghost use Rattle.std.specs.Prelude.{IsSorted, IsTrue, OnOk, Some, ℕ};
 ghost use Rattle.std.specs.List.{AllByRecursion};
 ghost use Rattle.sqlite.specs.declared.error.Error.{Error};
@@ -117,9 +118,11 @@ pub(crate) fn take_object(
         IsRowOf (form_of version) object (columns row.now) ×
         (objects.new.items ≡ objects.old.items ++ object ∷ [])) }
     ensures bad_row { IfErr result (λ fault. fault ≡ BadRow → (object : Obj) →
-        IsObjectOf source.now object → IsRowOf (form_of version) object (columns row.now) → ⊥) }
+        IsObjectOf source.now object → IsRowOf (form_of version) object (columns row.now)
+        → ⊥) }
     ensures no_store { IfErr result (λ fault. (error : Error) → fault ≡ Store error → ⊥) }
-    ensures no_other { IfErr result (λ fault. (number : ℕ) → fault ≡ WrongVersion number → ⊥) }
+    ensures no_other { IfErr result
+        (λ fault. (number : ℕ) → fault ≡ WrongVersion number → ⊥) }
 {
     match read_object(alloc, row, source, version) {
         Ok(Some(object)) => match objects.push(object) {
@@ -131,7 +134,7 @@ pub(crate) fn take_object(
     }
 }
 
-/// Tells a caller's proof that the object is such as readers make; it does nothing.
+/// Tells a caller's proof that the object is such as readers make.
 pub(crate) fn is_read(object: &Object)
     ensures { IsObject object.now }
 {
@@ -139,7 +142,7 @@ pub(crate) fn is_read(object: &Object)
     let _attributes = object.paragraph().attributes();
 }
 
-/// Tells a caller's proof that the objects are such as readers make; it does nothing.
+/// Tells a caller's proof that the objects are such as readers make.
 pub fn are_read(objects: &[&Object])
     ensures { AllByRecursion IsObject (lent objects.now) }
 {
@@ -199,7 +202,8 @@ pub(crate) fn in_order(objects: Vec<Object>) -> Result<Vec<Object>, OpenFault>
     ensures same { IfOk result (λ ordered. IsPermutation objects.items ordered.items) }
     ensures order { IfOk result (λ ordered. AreInOrder ordered.items) }
     ensures fault { IfErr result (λ fault. fault ≡ BadRow → AreApart objects.items → ⊥) }
-    ensures no_other { IfErr result (λ fault. (number : ℕ) → fault ≡ WrongVersion number → ⊥) }
+    ensures no_other { IfErr result
+        (λ fault. (number : ℕ) → fault ≡ WrongVersion number → ⊥) }
 {
     if are_in_order(&objects) {
         return Ok(objects);

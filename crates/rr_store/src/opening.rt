@@ -37,7 +37,8 @@ fn checked_objects<S: Alter>(
         AllByRecursion (IsObjectOf source.now) objects.items) }
     ensures bad_row { OnCleanDisk S.Store conn.new (IfErr result (λ fault. fault ≡ BadRow →
         HoldNone version source.now (database S.Store conn.old))) }
-    ensures no_other { IfErr result (λ fault. (number : ℕ) → fault ≡ WrongVersion number → ⊥) }
+    ensures no_other { IfErr result
+        (λ fault. (number : ℕ) → fault ≡ WrongVersion number → ⊥) }
 {
     let objects = check_objects(conn, alloc, source, version)?;
     check_names(conn, alloc, &objects, version)?;

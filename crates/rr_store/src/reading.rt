@@ -1,6 +1,7 @@
 //! Queries on the three tables.
 
-ghost use Rattle.std.specs.Prelude.{◌≡◌, [], ◌∷◌, false, map, IfErr, IfOk, IsPermutation, IsTrue};
+ghost use Rattle.std.specs.Prelude.{◌≡◌, [], ◌∷◌, false, map, IfErr, IfOk};
+ghost use Rattle.std.specs.Prelude.{IsPermutation, IsTrue};
 ghost use Rattle.std.specs.Prelude.{OnOk, ℕ};
 ghost use Rattle.std.specs.List.{AllByRecursion, flat_map};
 ghost use Rattle.sqlite.specs.Given.{IsPlain};
@@ -154,7 +155,8 @@ pub(crate) fn read_objects<S: Alter>(
     ensures bad_row { OnCleanDisk S.Store conn.new (IfErr result (λ fault. fault ≡ BadRow →
         HoldsNone (form_of version) source.now
         (contents ((database S.Store conn.old).trees 2)))) }
-    ensures no_other { IfErr result (λ fault. (number : ℕ) → fault ≡ WrongVersion number → ⊥) }
+    ensures no_other { IfErr result
+        (λ fault. (number : ℕ) → fault ≡ WrongVersion number → ⊥) }
 {
     // outside a transaction the database is as it was last committed
     let _settled = conn.is_autocommit();
@@ -179,7 +181,8 @@ pub(crate) fn names_in_turn<S: Alter>(
         IsPermutation (flat_map named_rows (map (entry_in (form_of version)) objects.now))
         (contents ((database S.Store conn.old).trees 4)))) }
     ensures no_bad_row { IfErr result (λ fault. fault ≡ BadRow → ⊥) }
-    ensures no_other { IfErr result (λ fault. (number : ℕ) → fault ≡ WrongVersion number → ⊥) }
+    ensures no_other { IfErr result
+        (λ fault. (number : ℕ) → fault ≡ WrongVersion number → ⊥) }
 {
     // outside a transaction the database is as it was last committed
     let _settled = conn.is_autocommit();

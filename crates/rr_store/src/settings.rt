@@ -1,6 +1,7 @@
 //! The version that the table of settings says.
 
-ghost use Rattle.std.specs.Prelude.{◌≡◌, ◌≢◌, ◌<◌, ◌^◌, [], ◌∷◌, Contains, None, codes, decimal};
+ghost use Rattle.std.specs.Prelude.{◌≡◌, ◌≢◌, ◌<◌, ◌^◌, [], ◌∷◌};
+ghost use Rattle.std.specs.Prelude.{Contains, None, codes, decimal};
 ghost use Rattle.std.specs.Prelude.{IfSome, IsTrue};
 ghost use Rattle.rr_rows.specs.Contents.{setting};
 ghost use Rattle.rr_store.specs.Versions.{version_number, version_text};
@@ -43,7 +44,8 @@ pub(crate) fn other_version(rows: &[Row], version: Version) -> Option<u32>
 
 /// Whether the rows are the one that says this version.
 pub(crate) fn says_version(rows: &[Row], version: Version) -> bool
-    ensures is { IsTrue result → rows.now ≡ setting (codes "version") (version_text version) ∷ [] }
+    ensures is { IsTrue result
+        → rows.now ≡ setting (codes "version") (version_text version) ∷ [] }
     ensures only { rows.now ≡ setting (codes "version") (version_text version) ∷ [] →
         IsTrue result }
 {

@@ -1,6 +1,7 @@
 //! One statement of a transaction each.
 
-ghost use Rattle.std.specs.Prelude.{◌≡◌, [], ◌∷◌, codes, filter, true, IfOk, IsPermutation, IsTrue};
+ghost use Rattle.std.specs.Prelude.{◌≡◌, [], ◌∷◌, codes, filter, true, IfOk};
+ghost use Rattle.std.specs.Prelude.{IsPermutation, IsTrue};
 ghost use Rattle.std.specs.Prelude.{OnOk};
 ghost use Rattle.rr_rows.specs.Contents.{Adds, Alters, IsTidy, Removes, contents};
 ghost use Rattle.rr_rows.specs.Contents.{is_name_of, is_object_of, meta_values, named_values};

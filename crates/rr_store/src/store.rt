@@ -243,10 +243,11 @@ impl<S: Alter> Store<S> {
         Ok(naming_objects(&mut self.conn, alloc, source, name)?)
     }
 
-    /// Tells a caller's proof that a stop leaves just the rows that stand; it does nothing.
+    /// Tells a caller's proof that a stop leaves just the rows that stand.
     pub fn settled(&self)
         ensures { IsTrue (state S.Store self.now).is_open → (trees : Trees) →
-            (state S.Store self.now).may_leave trees → trees ≡ (database S.Store self.now).trees }
+            (state S.Store self.now).may_leave trees
+            → trees ≡ (database S.Store self.now).trees }
     {
         // outside a transaction the database is as it was last committed
         let _settled = self.conn.is_autocommit();

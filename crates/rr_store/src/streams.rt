@@ -88,7 +88,8 @@ pub(crate) fn take_objects<S: Alter>(
     ensures unchanged { OnCleanDisk S.Store rows.new.conn.now (IfErr result (λ fault.
         ((error : Error) → fault ≡ Store error → ⊥) →
         IsUnchanged (state S.Store rows.old.conn.now) (state S.Store rows.new.conn.now))) }
-    ensures no_other { IfErr result (λ fault. (number : _) → fault ≡ WrongVersion number → ⊥) }
+    ensures no_other { IfErr result
+        (λ fault. (number : _) → fault ≡ WrongVersion number → ⊥) }
 {
     let mut objects = Vec::with_capacity(alloc, count)?;
     'rows: for _ in 0..u64::MAX {
@@ -140,7 +141,8 @@ fn take_names_of<S: Alter>(
         (more : List Values) × GivesMore S.Store rows.old.conn.now rows.new.conn.now more ×
         (contents more ≡ named_rows (entry_in (form_of version) object.now)))) }
     ensures no_bad_row { IfErr result (λ fault. fault ≡ BadRow → ⊥) }
-    ensures no_other { IfErr result (λ fault. (number : _) → fault ≡ WrongVersion number → ⊥) }
+    ensures no_other { IfErr result
+        (λ fault. (number : _) → fault ≡ WrongVersion number → ⊥) }
 {
     let names = maintainers_of(alloc, object)?;
     let key = key_text(alloc, object.key(), version)?;
@@ -162,7 +164,8 @@ pub(crate) fn take_all_names<S: Alter>(
         (rest : List Values) × GivesRest S.Store rows.old.conn.now rows.new.conn.now rest ×
         (contents rest ≡ flat_map named_rows (map (entry_in (form_of version)) objects.now)))) }
     ensures no_bad_row { IfErr result (λ fault. fault ≡ BadRow → ⊥) }
-    ensures no_other { IfErr result (λ fault. (number : _) → fault ≡ WrongVersion number → ⊥) }
+    ensures no_other { IfErr result
+        (λ fault. (number : _) → fault ≡ WrongVersion number → ⊥) }
 {
     for object in objects {
         if !take_names_of(rows, alloc, object, version)? {

@@ -1,6 +1,7 @@
 //! The versions of tables.
 
-ghost use Rattle.std.specs.Prelude.{◌≡◌, ◌<◌, ◌^◌, decimal, IfOk, IfSome, IsTrue, None, Some};
+ghost use Rattle.std.specs.Prelude.{◌≡◌, ◌<◌, ◌^◌, decimal, IfOk, IfSome, IsTrue};
+ghost use Rattle.std.specs.Prelude.{None, Some};
 ghost use Rattle.std.specs.Option.{option_map};
 ghost use Rattle.rr_store.specs.Versions.{form_of, version_number, version_text};
 
@@ -11,9 +12,9 @@ use std::alloc::{AllocError, Global};
 /// The version of tables, which says how their keys are written.
 #[derive(Clone, Copy, Debug, PartialEq, Eq)]
 pub(crate) enum Version {
-    /// AS numbers of two octets, in four hexadecimal digits.
+    /// 16-bit AS numbers, in four hexadecimal digits.
     Old,
-    /// AS numbers of four octets, in eight.
+    /// 32-bit AS numbers, in eight.
     This,
 }
 
@@ -39,7 +40,8 @@ impl Version {
 
     /// The text of a key, if it has one in tables of this version.
     pub(crate) fn key_bytes(self, alloc: Global, key: &Key) -> Result<Option<Vec<u8>>, AllocError>
-        ensures { IfOk result (λ bytes. option_map (λ b. b.items) bytes ≡ form_of self key.now) }
+        ensures { IfOk result
+            (λ bytes. option_map (λ b. b.items) bytes ≡ form_of self key.now) }
     {
         match self {
             Version::Old => key.old_bytes(alloc),

@@ -14,7 +14,7 @@ use Rattle.rr_registry.specs.declared.outcome.Outcome.{Outcome}
 use Rattle.rr_registry.specs.declared.outcome.Outcome.TheVariants.{Added, Changed, Same, Deleted, Refused}
 use Rattle.rr_submission.specs.declared.ending.Ending.{Ending}
 use Rattle.rr_submission.specs.declared.ending.Ending.TheVariants.{Complete, ReadFault, Memory, Stopped}
-use Rattle.rr_submission.specs.Endings.{before_count, behind_count}
+use Rattle.rr_submission.specs.Endings.{before_count, after_count}
 use Rattle.rr_submission.specs.Reports.{outcome_word, refusal_code}
 
 pub name_short : (name : List ℕ) → IsUpperName name → length name ≤ 255
@@ -77,8 +77,8 @@ before_count_short ReadFault = lit≤ tt
 before_count_short Memory = lit≤ tt
 before_count_short Stopped = lit≤ tt
 
-pub behind_count_short : (ending : Ending) → length (behind_count ending) ≤ 7
-behind_count_short Complete = lit≤ tt
-behind_count_short ReadFault = lit≤ tt
-behind_count_short Memory = lit≤ tt
-behind_count_short Stopped = lit≤ tt
+pub after_count_short : (ending : Ending) → length (after_count ending) ≤ 7
+after_count_short Complete = lit≤ tt
+after_count_short ReadFault = lit≤ tt
+after_count_short Memory = lit≤ tt
+after_count_short Stopped = lit≤ tt

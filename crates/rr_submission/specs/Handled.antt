@@ -1,7 +1,8 @@
 -- The items of the entries of a text decided one by one, each with its line (profile).
-use Rattle.std.specs.Prelude.{◌≡◌, ℕ, ◌+◌, ◌^◌, ◌≤◌, ◌⊎◌, List, [], ◌∷◌, ◌++◌, length, map, Result, Ok, Err}
+use Rattle.std.specs.Prelude.{◌≡◌, ℕ, ◌+◌, ◌≤◌, ◌⊎◌, List, []}
+use Rattle.std.specs.Prelude.{◌∷◌, ◌++◌, length, map, Result, Ok, Err}
 use Rattle.rr_io.specs.Told.{Told}
-use Rattle.rr_io.specs.Receiving.{Gives, IsSpent}
+use Rattle.rr_io.specs.Receiving.{Gives, IsSpent, read_limit}
 use Rattle.rr_io.specs.Sending.{Takes, TakesFront, TakesSome}
 use Rattle.rr_text.specs.Entries.{entries}
 use Rattle.rr_text.specs.WholePart.{whole_part}
@@ -16,9 +17,10 @@ use Rattle.rr_submission.specs.declared.ledger.Ledger.{Ghosts}
 use Rattle.rr_submission.specs.SubmissionItems.{AreItems, Asked, submitted}
 use Rattle.rr_submission.specs.Reports.{item_line, lines_from, stop_lines}
 
--- the line of the last item could not be written: it was decided, the items told before it had been decided and their
--- lines written whole
-pub record HandlesSome (source : List ℕ) (entries : List (Result (List Field) TextFault)) (old new : Reg) (before after : Told) (count : ℕ) : Type 0 where
+-- the line of the last item could not be written: it was decided, the items told before it had been
+-- decided and their lines written whole
+pub record HandlesSome (source : List ℕ) (entries : List (Result (List Field) TextFault))
+    (old new : Reg) (before after : Told) (count : ℕ) : Type 0 where
   pub told : List Asked
   pub last : Asked
   pub outcomes : List Outcome
@@ -31,13 +33,17 @@ pub record HandlesSome (source : List ℕ) (entries : List (Result (List Field) 
   pub counted : count ≡ length told + 1
 
 -- the ledger came to a halt at what was asked: only an item brings it to that
-abbrev pub HaltsAt : {L : Type 0} → Ghosts L → L → List (List ℕ) → Result Item Code → L → Type 0
+abbrev pub HaltsAt : {L : Type 0} → Ghosts L → L → List (List ℕ) → Result Item Code → L
+    → Type 0
 HaltsAt g old secrets (Ok item) new = g.Halts old secrets item new
 HaltsAt g old secrets (Err code) new = ⊥
 
--- the ledger came to a halt at the last item: the items told before it had been decided and their lines written whole,
--- and it has its line with the code E91 and the last line behind that, as far as they could be written
-pub record HandlesHalted {L : Type 0} (g : Ghosts L) (source : List ℕ) (entries : List (Result (List Field) TextFault)) (old new : L) (before after : Told) (count : ℕ) : Type 0 where
+-- the ledger came to a halt at the last item: the items told before it had been decided and their
+-- lines written whole, and it has its line with the code E91 and the last line after that, as far
+-- as they could be written
+pub record HandlesHalted {L : Type 0} (g : Ghosts L) (source : List ℕ)
+    (entries : List (Result (List Field) TextFault)) (old new : L) (before after : Told)
+    (count : ℕ) : Type 0 where
   pub told : List Asked
   pub last : Asked
   pub outcomes : List Outcome
@@ -51,23 +57,26 @@ pub record HandlesHalted {L : Type 0} (g : Ghosts L) (source : List ℕ) (entrie
   pub ends : TakesSome between after (stop_lines count last.request.key)
   pub counted : count ≡ length told
 
--- a front of the text was read, and at most one block behind it, whose bytes are passed unread: the front ends with a
--- blank line, so that its entries are the first of the text whatever follows, or with the text (profile)
+-- a front of the text was read, and at most one block after it, whose bytes are passed unread: the
+-- front ends with a blank line, so that its entries are the first of the text whatever follows, or
+-- with the text (profile)
 pub record ReadsItems (start now : Told) (front : List ℕ) : Type 0 where
   pub left : List ℕ
   pub gives : Gives start now (front ++ left)
   pub short : length left ≤ 4096
   pub apart : (whole_part front ≡ front) ⊎ ((left ≡ []) × IsSpent now)
-  pub few : now.reads ≤ start.reads + 2 ^ 24
+  pub few : now.reads ≤ start.reads + read_limit
 
 -- a front of the text was read, up to the item whose line could not be written
-pub record HandlesUnwritten (source : List ℕ) (start now : Told) (old new : Reg) (before after : Told) (count : ℕ) : Type 0 where
+pub record HandlesUnwritten (source : List ℕ) (start now : Told) (old new : Reg)
+    (before after : Told) (count : ℕ) : Type 0 where
   pub front : List ℕ
   pub reads : ReadsItems start now front
   pub handles : HandlesSome source (entries front) old new before after count
 
 -- a front of the text was read, up to the item at which the ledger came to a halt
-pub record HandlesStopped {L : Type 0} (g : Ghosts L) (source : List ℕ) (start now : Told) (old new : L) (before after : Told) (count : ℕ) : Type 0 where
+pub record HandlesStopped {L : Type 0} (g : Ghosts L) (source : List ℕ) (start now : Told)
+    (old new : L) (before after : Told) (count : ℕ) : Type 0 where
   pub front : List ℕ
   pub reads : ReadsItems start now front
   pub handles : HandlesHalted g source (entries front) old new before after count

@@ -1,5 +1,7 @@
--- What private functions that handle the items of a text promise each other. No public clause cites these.
-use Rattle.std.specs.Prelude.{◌≡◌, ℕ, ◌+◌, List, [], length, map, Result, Ok, Err, if◌then◌else◌}
+-- What private functions that handle the items of a text promise each other. No public clause cites
+-- these.
+use Rattle.std.specs.Prelude.{◌≡◌, ℕ, ◌+◌, List, [], length, map, Result, Ok, Err}
+use Rattle.std.specs.Prelude.{if◌then◌else◌}
 use Rattle.rr_io.specs.Told.{Told}
 use Rattle.rr_io.specs.Sending.{Takes, TakesFront, TakesSome}
 use Rattle.rr_io.specs.declared.receiving.ReadEnd.{ReadEnd}
@@ -22,7 +24,8 @@ use Rattle.rr_submission.specs.declared.request.Request.{Request}
 use Rattle.rr_submission.specs.Handled.{HaltsAt, HandlesStopped, HandlesUnwritten}
 
 -- each item was decided, and its line was written
-pub record HandlesAll (source : List ℕ) (entries : List (Result (List Field) TextFault)) (old new : Reg) (before after : Told) (done : Done) : Type 0 where
+pub record HandlesAll (source : List ℕ) (entries : List (Result (List Field) TextFault))
+    (old new : Reg) (before after : Told) (done : Done) : Type 0 where
   pub items : List Asked
   pub outcomes : List Outcome
   pub are_items : AreItems source [] entries items
@@ -31,18 +34,24 @@ pub record HandlesAll (source : List ℕ) (entries : List (Result (List Field) T
   pub counted : done.items ≡ length items
   pub refused : done.refused ≡ refusals outcomes
 
--- the text was read to its end, or to a failed read or the limit of reads, and these of its entries count
-pub record HandlesRead (source : List ℕ) (start now : Told) (end : ReadEnd) (old new : Reg) (before after : Told) (done : Done) : Type 0 where
+-- the text was read to its end, or to a failed read or the limit of reads, and these of its entries
+-- count
+pub record HandlesRead (source : List ℕ) (start now : Told) (end : ReadEnd) (old new : Reg)
+    (before after : Told) (done : Done) : Type 0 where
   pub given : List (Result (List Field) TextFault)
   pub ended : HasEnded start now end given
   pub handles : HandlesAll source given old new before after done
 
--- all of the items, with what is counted; those up to the one whose line could not be written, with their number; or
--- those before the one at which the ledger came to a halt
-abbrev pub HandlesItems : {L : Type 0} → Ghosts L → List ℕ → Told → Told → L → L → Told → Told → Result (Done × ReadEnd) Stop → Type 0
-HandlesItems g source start now old new before after (Ok handled) = HandlesRead source start now handled.1 (g.registry old) (g.registry new) before after handled.0
-HandlesItems g source start now old new before after (Err (Unwritten count)) = HandlesUnwritten source start now (g.registry old) (g.registry new) before after count
-HandlesItems g source start now old new before after (Err (Halted count)) = HandlesStopped g source start now old new before after count
+-- all of the items, with what is counted; those up to the one whose line could not be written, with
+-- their number; or those before the one at which the ledger came to a halt
+abbrev pub HandlesItems : {L : Type 0} → Ghosts L → List ℕ → Told → Told → L → L
+    → Told → Told → Result (Done × ReadEnd) Stop → Type 0
+HandlesItems g source start now old new before after (Ok handled) =
+    HandlesRead source start now handled.1 (g.registry old) (g.registry new) before after handled.0
+HandlesItems g source start now old new before after (Err (Unwritten count)) =
+    HandlesUnwritten source start now (g.registry old) (g.registry new) before after count
+HandlesItems g source start now old new before after (Err (Halted count)) =
+    HandlesStopped g source start now old new before after count
 
 -- a fact that holds unless the ledger came to a halt
 abbrev pub UnlessHalted : {T : Type 0} → Result T Stop → Type 0 → Type 0
@@ -51,7 +60,8 @@ UnlessHalted (Err (Unwritten count)) fact = fact
 UnlessHalted (Err (Halted count)) fact = Unit {0}
 
 -- an item was decided and counted, and its line was written
-pub record IsCounted (secrets : List (List ℕ)) (request : Request) (done : Done) (old new : Reg) (before after : Told) (counted : Done) : Type 0 where
+pub record IsCounted (secrets : List (List ℕ)) (request : Request) (done : Done) (old new : Reg)
+    (before after : Told) (counted : Done) : Type 0 where
   pub outcome : Outcome
   pub decides : Decides old secrets request.action outcome new
   pub items : counted.items ≡ done.items + 1
@@ -59,23 +69,29 @@ pub record IsCounted (secrets : List (List ℕ)) (request : Request) (done : Don
   pub writes : Takes before after (item_line counted.items request.key outcome)
 
 -- an item was decided, and its line could not be written
-pub record IsUntold (secrets : List (List ℕ)) (request : Request) (done : Done) (old new : Reg) (before after : Told) (count : ℕ) : Type 0 where
+pub record IsUntold (secrets : List (List ℕ)) (request : Request) (done : Done) (old new : Reg)
+    (before after : Told) (count : ℕ) : Type 0 where
   pub outcome : Outcome
   pub decides : Decides old secrets request.action outcome new
   pub items : count ≡ done.items + 1
   pub writes : TakesFront before after (item_line count request.key outcome)
 
 -- the ledger came to a halt at an item, which is not counted
-pub record HasHalted {L : Type 0} (g : Ghosts L) (secrets : List (List ℕ)) (request : Request) (done : Done) (old new : L) (before after : Told) (count : ℕ) : Type 0 where
+pub record HasHalted {L : Type 0} (g : Ghosts L) (secrets : List (List ℕ)) (request : Request)
+    (done : Done) (old new : L) (before after : Told) (count : ℕ) : Type 0 where
   pub halts : HaltsAt g old secrets request.action new
   pub items : count ≡ done.items
   pub writes : TakesSome before after (stop_lines count request.key)
 
 -- an item was decided, and its line was written or not, or the ledger came to a halt
-abbrev pub HandlesOne : {L : Type 0} → Ghosts L → List (List ℕ) → Request → Done → L → L → Told → Told → Result Done Stop → Type 0
-HandlesOne g secrets request done old new before after (Ok counted) = IsCounted secrets request done (g.registry old) (g.registry new) before after counted
-HandlesOne g secrets request done old new before after (Err (Unwritten count)) = IsUntold secrets request done (g.registry old) (g.registry new) before after count
-HandlesOne g secrets request done old new before after (Err (Halted count)) = HasHalted g secrets request done old new before after count
+abbrev pub HandlesOne : {L : Type 0} → Ghosts L → List (List ℕ) → Request → Done → L
+    → L → Told → Told → Result Done Stop → Type 0
+HandlesOne g secrets request done old new before after (Ok counted) =
+    IsCounted secrets request done (g.registry old) (g.registry new) before after counted
+HandlesOne g secrets request done old new before after (Err (Unwritten count)) =
+    IsUntold secrets request done (g.registry old) (g.registry new) before after count
+HandlesOne g secrets request done old new before after (Err (Halted count)) =
+    HasHalted g secrets request done old new before after count
 
 -- the fault of a submission whose items could not all be handled
 abbrev pub stop_fault : Stop → DeskFault

@@ -7,21 +7,28 @@ use Rattle.rr_text.specs.ParagraphReaders.{Entry, HasEnded, HasGiven}
 use Rattle.rr_submission.specs.declared.request.Request.{Request}
 use Rattle.rr_submission.specs.SubmissionItems.{AreItems, Asked}
 
--- these entries more were given, of which the last is an item, and the secrets of those before it count for it
-pub record FindsItem (source : List ℕ) (start now : Told) (p : Paragraphs) (given : List Entry) (before after : List (List ℕ)) (request : Request) : Type 0 where
+-- these entries more were given, of which the last is an item, and the secrets of those before it
+-- count for it
+pub record FindsItem (source : List ℕ) (start now : Told) (p : Paragraphs) (given : List Entry)
+    (before after : List (List ℕ)) (request : Request) : Type 0 where
   pub added : List Entry
   pub has : HasGiven start now p (given ++ added)
   pub some : 0 < length added
   pub item : (more : List Entry) (items : List Asked) → AreItems source after more items
-      → AreItems source before (added ++ more) (record { secrets = after; request = request } ∷ items)
+      → AreItems source before (added ++ more)
+      (record { secrets = after; request = request } ∷ items)
 
 -- these entries more were given, no item among them, and then the reading ended
-pub record FindsNone (source : List ℕ) (start now : Told) (given : List Entry) (before : List (List ℕ)) (ended : ReadEnd) : Type 0 where
+pub record FindsNone (source : List ℕ) (start now : Told) (given : List Entry)
+    (before : List (List ℕ)) (ended : ReadEnd) : Type 0 where
   pub added : List Entry
   pub all : HasEnded start now ended (given ++ added)
   pub none : AreItems source before added []
 
--- the next item, or how the reading ended behind the last one
-abbrev pub Finds : List ℕ → Told → Told → Paragraphs → List Entry → List (List ℕ) → List (List ℕ) → Result Request ReadEnd → Type 0
-Finds source start now p given before after (Ok request) = FindsItem source start now p given before after request
-Finds source start now p given before after (Err ended) = FindsNone source start now given before ended
+-- the next item, or how the reading ended after the last one
+abbrev pub Finds : List ℕ → Told → Told → Paragraphs → List Entry → List (List ℕ)
+    → List (List ℕ) → Result Request ReadEnd → Type 0
+Finds source start now p given before after (Ok request) =
+    FindsItem source start now p given before after request
+Finds source start now p given before after (Err ended) =
+    FindsNone source start now given before ended

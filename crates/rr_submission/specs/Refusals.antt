@@ -1,7 +1,8 @@
 -- How many items of a submission were refused (profile).
 use Rattle.std.specs.Prelude.{ℕ, Bool, true, false, List, count_by}
 use Rattle.rr_registry.specs.declared.outcome.Outcome.{Outcome}
-use Rattle.rr_registry.specs.declared.outcome.Outcome.TheVariants.{Added, Changed, Same, Deleted, Refused}
+use Rattle.rr_registry.specs.declared.outcome.Outcome.TheVariants.{Added, Changed, Same, Deleted}
+use Rattle.rr_registry.specs.declared.outcome.Outcome.TheVariants.{Refused}
 
 -- whether an outcome is a refusal
 abbrev pub is_refusal : Outcome → Bool

@@ -1,5 +1,6 @@
 -- The report on a submission (profile).
-use Rattle.std.specs.Prelude.{ℕ, ◌+◌, List, [], ◌∷◌, ◌++◌, length, Option, Some, None, codes, decimal}
+use Rattle.std.specs.Prelude.{ℕ, ◌+◌, List, [], ◌∷◌, ◌++◌, length, Option, Some}
+use Rattle.std.specs.Prelude.{None, codes, decimal}
 use Rattle.rr_object.specs.declared.class.Class.{Class}
 use Rattle.rr_object.specs.declared.key.Key.{Key}
 use Rattle.rr_object.specs.Classes.{class_name}
@@ -8,7 +9,8 @@ use Rattle.rr_object.specs.declared.code.Code.TheVariants.{E91}
 use Rattle.rr_object.specs.Keys.{class_of}
 use Rattle.rr_object.specs.KeyTexts.{key_text}
 use Rattle.rr_registry.specs.declared.outcome.Outcome.{Outcome}
-use Rattle.rr_registry.specs.declared.outcome.Outcome.TheVariants.{Added, Changed, Same, Deleted, Refused}
+use Rattle.rr_registry.specs.declared.outcome.Outcome.TheVariants.{Added, Changed, Same, Deleted}
+use Rattle.rr_registry.specs.declared.outcome.Outcome.TheVariants.{Refused}
 use Rattle.rr_submission.specs.declared.ending.Ending.{Ending}
 use Rattle.rr_submission.specs.declared.ending.Ending.TheVariants.{Stopped}
 use Rattle.rr_submission.specs.Endings.{last_line}
@@ -22,7 +24,7 @@ outcome_word Same = codes "unchanged"
 outcome_word Deleted = codes "deleted"
 outcome_word (Refused code) = codes "refused "
 
--- a refusal has its code behind the word
+-- a refusal has its code after the word
 abbrev pub refusal_code : Outcome → List ℕ
 refusal_code Added = []
 refusal_code Changed = []
@@ -58,8 +60,8 @@ lines_from number (item ∷ items) [] = []
 lines_from number (item ∷ items) (outcome ∷ outcomes) =
     item_line number item.request.key outcome ++ lines_from (number + 1) items outcomes
 
--- what ends a report where the ledger comes to a halt at an item behind so many: the line of the item, and the last
--- line
+-- what ends a report where the ledger comes to a halt at an item after so many: the line of the
+-- item, and the last line
 unfoldable pub stop_lines : ℕ → Option Key → List ℕ
 stop_lines count key = item_line (count + 1) key (Refused E91) ++ last_line Stopped count
 

@@ -1,10 +1,13 @@
 -- What a paragraph of a submission asks (profile).
-use Rattle.std.specs.Prelude.{◌≡◌, ℕ, Bool, true, false, List, Some, None, Result, Ok, Err, IfOk, IfSome, ◌⊎◌}
+use Rattle.std.specs.Prelude.{◌≡◌, ℕ, Bool, true, false, List, Some, None, Result, Ok, Err}
+use Rattle.std.specs.Prelude.{IfOk, IfSome, ◌⊎◌}
 use Rattle.rr_io.specs.declared.receiving.ReadEnd.{ReadEnd}
 use Rattle.rr_io.specs.declared.receiving.ReadEnd.TheVariants as end
 use Rattle.rr_text.specs.Fields.{Field}
 use Rattle.rr_text.specs.declared.fault.TextFault.{TextFault}
-use Rattle.rr_text.specs.declared.fault.TextFault.TheVariants.{TooLarge, BadByte, FirstContinues, NoColon, BadName, Memory, Read, Endless}
+use Rattle.rr_text.specs.declared.fault.TextFault.TheVariants.{TooLarge, BadByte, FirstContinues}
+use Rattle.rr_text.specs.declared.fault.TextFault.TheVariants.{NoColon, BadName, Memory, Read}
+use Rattle.rr_text.specs.declared.fault.TextFault.TheVariants.{Endless}
 use Rattle.rr_object.specs.declared.code.Code.{Code}
 use Rattle.rr_object.specs.declared.code.Code.TheVariants.{E01, E07, E90}
 use Rattle.rr_object.specs.declared.fault.ObjectFault.{ObjectFault}
@@ -20,7 +23,8 @@ use Rattle.rr_auth.specs.Sources.{IsReadIn}
 use Rattle.rr_submission.specs.declared.request.Request.{Request}
 use Rattle.rr_submission.specs.SubmissionTexts.{own_fields, asks_deletion}
 
--- the code of a paragraph that could not be read as text; a fault that is none of a paragraph ends the reading
+-- the code of a paragraph that could not be read as text; a fault that is none of a paragraph ends
+-- the reading
 abbrev pub text_code : TextFault → Result Code ReadEnd
 text_code TooLarge = Ok E07
 text_code BadByte = Ok E01
@@ -48,22 +52,27 @@ action_of source own key false = submitted_object (object_of own source)
 -- what is asked where the key was read or not
 abbrev pub request_of_key : List ℕ → List Field → Bool → Result Key ObjectFault → Request
 request_of_key source own deletes (Err fault) = unread (code_of fault)
-request_of_key source own deletes (Ok key) = record { key = Some key; action = action_of source own key deletes }
+request_of_key source own deletes (Ok key) =
+    record { key = Some key; action = action_of source own key deletes }
 
--- what a paragraph asks of a registry of this source: its attributes `password` and `delete` are no part of the object
+-- what a paragraph asks of a registry of this source: its attributes `password` and `delete` are
+-- not part of the object
 unfoldable pub request_of : List ℕ → List Field → Request
-request_of source fields = request_of_key source (own_fields fields) (asks_deletion fields) (key_of (own_fields fields))
+request_of source fields =
+    request_of_key source (own_fields fields) (asks_deletion fields) (key_of (own_fields fields))
 
--- memory was refused: the item is refused, and a key that it shows is that of its paragraph
+-- memory ran out: the item is refused, and a key that it shows is that of its paragraph
 pub record LacksMemory (fields : List Field) (request : Request) : Type 0 where
   pub refused : request.action ≡ Err E90
   pub shown : IfSome request.key (λ key. key_of (own_fields fields) ≡ Ok key)
 
 -- a reading of what a paragraph asks, which may want memory
 abbrev pub IsRequest : List ℕ → List Field → Request → Type 0
-IsRequest source fields request = (request ≡ request_of source fields) ⊎ LacksMemory fields request
+IsRequest source fields request =
+    (request ≡ request_of source fields) ⊎ LacksMemory fields request
 
--- what is asked is tied to what is shown and to the source: the key of an item is the one that is shown, and the item
--- is as it is read in the source
+-- what is asked is tied to what is shown and to the source: the key of an item is the one that is
+-- shown, and the item is as it is read in the source
 abbrev pub IsTied : List ℕ → Request → Type 0
-IsTied source request = IfOk request.action (λ item. (request.key ≡ Some (key_about item)) × IsReadIn source item)
+IsTied source request =
+    IfOk request.action (λ item. (request.key ≡ Some (key_about item)) × IsReadIn source item)

@@ -1,5 +1,6 @@
 -- The items of a submission (profile).
-use Rattle.std.specs.Prelude.{◌≡◌, ℕ, true, false, List, [], ◌∷◌, ◌++◌, Result, Ok, Err}
+use Rattle.std.specs.Prelude.{◌≡◌, ℕ, true, false, List, [], ◌∷◌, ◌++◌, Result}
+use Rattle.std.specs.Prelude.{Ok, Err}
 use Rattle.rr_text.specs.Fields.{Field}
 use Rattle.rr_text.specs.declared.fault.TextFault.{TextFault}
 use Rattle.rr_object.specs.declared.code.Code.{Code}
@@ -18,24 +19,35 @@ pub record Asked : Type 0 where
 abbrev pub submitted : Asked → Submitted
 submitted asked = record { secrets = asked.secrets; action = asked.request.action }
 
--- the items that the entries of a text give, behind paragraphs that gave these secrets
-pub data AreItems (source : List ℕ) : List (List ℕ) → List (Result (List Field) TextFault) → List Asked → Type 0 where
+-- the items that the entries of a text give, after paragraphs that gave these secrets
+pub data AreItems (source : List ℕ) : List (List ℕ) → List (Result (List Field) TextFault)
+    → List Asked → Type 0 where
   -- the text is at its end
   at_end : {secrets : List (List ℕ)} → AreItems source secrets [] []
-  -- a paragraph of passwords alone is no item, and its secrets count from there on
-  secrets_alone : {secrets : List (List ℕ)} {fields : List Field} {entries : List (Result (List Field) TextFault)} {items : List Asked} →
-      is_secrets_alone fields ≡ true → AreItems source (secrets ++ secrets_of fields) entries items →
+  -- a paragraph of passwords alone is not an item, and its secrets count from there on
+  secrets_alone : {secrets : List (List ℕ)} {fields : List Field}
+      {entries : List (Result (List Field) TextFault)} {items : List Asked} →
+      is_secrets_alone fields ≡ true
+      → AreItems source (secrets ++ secrets_of fields) entries items →
       AreItems source secrets (Ok fields ∷ entries) items
   -- any other paragraph is one item, for which its own secrets count too
-  asked : {secrets : List (List ℕ)} {fields : List Field} {entries : List (Result (List Field) TextFault)} {items : List Asked} →
-      (request : Request) → is_secrets_alone fields ≡ false → IsRequest source fields request →
+  asked : {secrets : List (List ℕ)} {fields : List Field}
+      {entries : List (Result (List Field) TextFault)} {items : List Asked} →
+      (request : Request) → is_secrets_alone fields ≡ false → IsRequest source fields request
+      →
       AreItems source (secrets ++ secrets_of fields) entries items →
-      AreItems source secrets (Ok fields ∷ entries) (record { secrets = secrets ++ secrets_of fields; request = request } ∷ items)
+      AreItems source secrets (Ok fields ∷ entries)
+      (record { secrets = secrets ++ secrets_of fields; request = request } ∷ items)
   -- a paragraph that could not be read as text is an item refused, and gives no secrets
-  faulty : {secrets : List (List ℕ)} {entries : List (Result (List Field) TextFault)} {items : List Asked} →
-      (fault : TextFault) (code : Code) → text_code fault ≡ Ok code → AreItems source secrets entries items →
-      AreItems source secrets (Err fault ∷ entries) (record { secrets = secrets; request = unread code } ∷ items)
-  -- so is one for whose reading as text or secrets memory was refused
-  unread_for_memory : {secrets : List (List ℕ)} {entries : List (Result (List Field) TextFault)} {items : List Asked} →
+  faulty : {secrets : List (List ℕ)} {entries : List (Result (List Field) TextFault)}
+      {items : List Asked} →
+      (fault : TextFault) (code : Code) → text_code fault ≡ Ok code
+      → AreItems source secrets entries items →
+      AreItems source secrets (Err fault ∷ entries)
+      (record { secrets = secrets; request = unread code } ∷ items)
+  -- so is one for whose reading as text or secrets memory ran out
+  unread_for_memory : {secrets : List (List ℕ)} {entries : List (Result (List Field) TextFault)}
+      {items : List Asked} →
       (entry : Result (List Field) TextFault) → AreItems source secrets entries items →
-      AreItems source secrets (entry ∷ entries) (record { secrets = secrets; request = unread E90 } ∷ items)
+      AreItems source secrets (entry ∷ entries)
+      (record { secrets = secrets; request = unread E90 } ∷ items)

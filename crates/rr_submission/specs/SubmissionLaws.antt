@@ -12,14 +12,17 @@ use Rattle.rr_submission.specs.SubmissionItems.{AreItems, Asked, submitted}
 -- a run of the items of a text, read in the source of a registry, leaves a registry of that source
 abbrev pub ItemsKeepTheSource : Type 0
 ItemsKeepTheSource =
-    (source : List ℕ) (entries : List (Result (List Field) TextFault)) (items : List Asked) (r s : Reg) (outcomes : List Outcome)
-    → IsRegistryOf source r → AreItems source [] entries items → Run r (map submitted items) outcomes s → IsRegistryOf source s
+    (source : List ℕ) (entries : List (Result (List Field) TextFault)) (items : List Asked)
+    (r s : Reg) (outcomes : List Outcome)
+    → IsRegistryOf source r → AreItems source [] entries items
+    → Run r (map submitted items) outcomes s → IsRegistryOf source s
 
--- from this registry a run of the first items of a text answers the holders of a prefix as if nobody else had submitted
--- anything, and leaves what they hold to them
+-- from this registry a run of the first items of a text answers the holders of a prefix as if
+-- nobody else had submitted anything, and leaves what they hold to them
 abbrev pub ConfinesTexts : List ℕ → Reg → Type 0
 ConfinesTexts source r =
-    (entries : List (Result (List Field) TextFault)) (items later : List Asked) (s : Reg) (outcomes : List Outcome)
+    (entries : List (Result (List Field) TextFault)) (items later : List Asked) (s : Reg)
+    (outcomes : List Outcome)
     → AreItems source [] entries (items ++ later) → Run r (map submitted items) outcomes s
     → Confines r (map submitted items) outcomes s
 

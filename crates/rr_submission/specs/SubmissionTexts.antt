@@ -14,7 +14,8 @@ is_delete field = has_name (codes "delete") field
 
 -- the paragraph of the object: all but the attributes `password` and `delete`
 abbrev pub own_fields : List Field → List Field
-own_fields fields = filter (λ field. not (is_delete field)) (filter (λ field. not (is_password field)) fields)
+own_fields fields =
+    filter (λ field. not (is_delete field)) (filter (λ field. not (is_password field)) fields)
 
 -- a secret is the lines of its value joined by one space, `#` kept
 abbrev pub secret_of : Field → List ℕ
@@ -24,7 +25,7 @@ secret_of field = joined_by_space field.lines
 abbrev pub secrets_of : List Field → List (List ℕ)
 secrets_of fields = map secret_of (filter is_password fields)
 
--- a paragraph of passwords alone is no item
+-- a paragraph of passwords alone is not an item
 abbrev pub is_secrets_alone : List Field → Bool
 is_secrets_alone fields = list_all is_password fields
 

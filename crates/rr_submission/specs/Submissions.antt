@@ -1,5 +1,7 @@
--- What a submission does: to the ledger and its registry, and to its reader and its writer (profile).
-use Rattle.std.specs.Prelude.{◌≡◌, ◌≢◌, ℕ, List, [], length, map, Result, Ok, Err, ◌⊎◌}
+-- What a submission does: to the ledger and its registry, and to its reader and its writer
+-- (profile).
+use Rattle.std.specs.Prelude.{◌≡◌, ◌≢◌, ℕ, List, [], length, map, Result, Ok, Err}
+use Rattle.std.specs.Prelude.{◌⊎◌}
 use Rattle.rr_io.specs.Told.{Told}
 use Rattle.rr_io.specs.Receiving.{Reads}
 use Rattle.rr_io.specs.Sending.{Takes, TakesFront, TakesSome}
@@ -42,8 +44,8 @@ pub record IsDone (source : List ℕ) (sides : Sides) (done : Done) : Type 0 whe
   pub counted : done.items ≡ length items
   pub refused : done.refused ≡ refusals outcomes
 
--- a read failed or there were too many: the items before that were decided and their lines written whole, and the last
--- line was written or cut short
+-- a read failed or there were too many: the items before that were decided and their lines written
+-- whole, and the last line was written or cut short
 pub record IsReadFault (source : List ℕ) (sides : Sides) (count : ℕ) : Type 0 where
   pub text : List ℕ
   pub end : ReadEnd
@@ -58,13 +60,15 @@ pub record IsReadFault (source : List ℕ) (sides : Sides) (count : ℕ) : Type 
   pub ends : TakesSome between sides.writer_after (last_line ReadFault (length items))
   pub counted : count ≡ length items
 
--- a write failed in the line of an item: the items up to that one were read and decided and no others
+-- a write failed in the line of an item: the items up to that one were read and decided and no
+-- others
 abbrev pub IsLineFault : List ℕ → Sides → ℕ → Type 0
 IsLineFault source sides count =
-    HandlesUnwritten source sides.reader_before sides.reader_after sides.before sides.after sides.writer_before sides.writer_after count
+    HandlesUnwritten source sides.reader_before sides.reader_after sides.before sides.after
+    sides.writer_before sides.writer_after count
 
--- the text was read to its end, and a write failed in the last line: all items were decided and their lines written
--- whole
+-- the text was read to its end, and a write failed in the last line: all items were decided and
+-- their lines written whole
 pub record IsLastLineFault (source : List ℕ) (sides : Sides) (count : ℕ) : Type 0 where
   pub text : List ℕ
   pub items : List Asked
@@ -79,20 +83,26 @@ pub record IsLastLineFault (source : List ℕ) (sides : Sides) (count : ℕ) : T
 
 -- a write failed, in the line of an item or in the last line
 abbrev pub IsWriteFault : List ℕ → Sides → ℕ → Type 0
-IsWriteFault source sides count = IsLineFault source sides count ⊎ IsLastLineFault source sides count
+IsWriteFault source sides count =
+    IsLineFault source sides count ⊎ IsLastLineFault source sides count
 
--- the ledger came to a halt at an item: the items before it were decided, and none behind it was read
-abbrev pub IsStoreFault : {L : Type 0} → Ghosts L → List ℕ → Sides → L → L → ℕ → Type 0
-IsStoreFault g source sides old new count = HandlesStopped g source sides.reader_before sides.reader_after old new sides.writer_before sides.writer_after count
+-- the ledger came to a halt at an item: the items before it were decided, and none after it was
+-- read
+abbrev pub IsStoreFault : {L : Type 0} → Ghosts L → List ℕ → Sides → L → L → ℕ
+    → Type 0
+IsStoreFault g source sides old new count = HandlesStopped g source sides.reader_before
+    sides.reader_after old new sides.writer_before sides.writer_after count
 
--- memory was refused before the first item: nothing was read or decided
+-- memory ran out before the first item: nothing was read or decided
 pub record IsUnread (sides : Sides) : Type 0 where
   pub unread : sides.reader_after ≡ sides.reader_before
   pub same : sides.after ≡ sides.before
   pub writes : TakesSome sides.writer_before sides.writer_after (last_line Memory 0)
 
--- what a submission that failed did, by its fault; a ledger that is ready does not say that it is stopped
-abbrev pub FailsBy : {L : Type 0} → Ghosts L → List ℕ → Sides → L → L → DeskFault → Type 0
+-- what a submission that failed did, by its fault; a ledger that is ready does not say that it is
+-- stopped
+abbrev pub FailsBy : {L : Type 0} → Ghosts L → List ℕ → Sides → L → L → DeskFault
+    → Type 0
 FailsBy g source sides old new (fault.ReadFault items) = IsReadFault source sides items
 FailsBy g source sides old new (fault.WriteFault items) = IsWriteFault source sides items
 FailsBy g source sides old new (fault.StoreFault items) = IsStoreFault g source sides old new items
@@ -100,7 +110,8 @@ FailsBy g source sides old new fault.Memory = IsUnread sides
 FailsBy g source sides old new fault.Stopped = ⊥
 
 -- what a submission to a ledger with a registry of this source does, by its answer
-abbrev pub Submits : {L : Type 0} → Ghosts L → List ℕ → Sides → L → L → Result Done DeskFault → Type 0
+abbrev pub Submits : {L : Type 0} → Ghosts L → List ℕ → Sides → L → L
+    → Result Done DeskFault → Type 0
 Submits g source sides old new (Ok done) = IsDone source sides done
 Submits g source sides old new (Err cause) = FailsBy g source sides old new cause
 

@@ -2,7 +2,7 @@
 
 ghost use Rattle.std.specs.Prelude.{◌≡◌};
 ghost use Rattle.rr_io.specs.Sending.{Writes};
-ghost use Rattle.rr_submission.specs.Endings.{before_count, behind_count, last_line};
+ghost use Rattle.rr_submission.specs.Endings.{before_count, after_count, last_line};
 
 use crate::short_text::ShortText;
 use rr_io::{Sink, write_all};
@@ -15,7 +15,7 @@ pub enum Ending {
     Complete,
     /// With a failed read, or with more reads than are made.
     ReadFault,
-    /// With want of memory, before its first item.
+    /// If memory ran out, before its first item.
     Memory,
     /// With a halt of the ledger at an item, whose line has the code E91.
     Stopped,
@@ -33,8 +33,8 @@ impl Ending {
         }
     }
 
-    fn behind_count(self) -> &'static str
-        ensures { result.now ≡ behind_count self }
+    fn after_count(self) -> &'static str
+        ensures { result.now ≡ after_count self }
     {
         match self {
             Ending::Complete => "\n",
@@ -43,23 +43,24 @@ impl Ending {
     }
 }
 
-/// Writes the last line of a report on this many items, whole in the first call of the writer. After a fault the writer
-/// has taken a front of it.
+/// Writes the last line of a report on this many items, whole in the first call of the writer.
+/// After a fault the writer has taken a front of it.
 pub fn write_last_line<W: Sink>(writer: &mut W, ending: Ending, items: u64) -> io::Result<()>
-    ensures writes { Writes (W.told writer.old) (W.told writer.new) (last_line ending items) result }
+    ensures writes { Writes (W.told writer.old) (W.told writer.new)
+        (last_line ending items) result }
     ensures aside { W.aside writer.new ≡ W.aside writer.old }
 {
     write_all(writer, last_line(ending, items).as_bytes())
 }
 
 /// The last line.
-#[tactic(auto, unfolding(crate::specs::Endings::last_line), using(crate::proofs::LineSizes::before_count_short, crate::proofs::LineSizes::behind_count_short))]
+#[tactic(auto, unfolding(crate::specs::Endings::last_line), using(crate::proofs::LineSizes::before_count_short, crate::proofs::LineSizes::after_count_short))]
 fn last_line(ending: Ending, items: u64) -> ShortText
     ensures { result ≡ last_line ending items }
 {
     let mut line = ShortText::new();
     line.push(ending.before_count().as_bytes());
     line.push_number(items);
-    line.push(ending.behind_count().as_bytes());
+    line.push(ending.after_count().as_bytes());
     line
 }

@@ -1,6 +1,7 @@
 //! Submissions: read, decided item by item, and reported.
 
-ghost use Rattle.std.specs.Prelude.{◌≡◌, ◌+◌, ◌<◌, ◌^◌, [], if◌then◌else◌, IfOk, OnOk, OnErr};
+ghost use Rattle.std.specs.Prelude.{◌≡◌, ◌+◌, ◌<◌, ◌^◌, [], if◌then◌else◌};
+ghost use Rattle.std.specs.Prelude.{IfOk, OnOk, OnErr};
 ghost use Rattle.rr_io.specs.Sending.{Writes};
 ghost use Rattle.rr_text.specs.ParagraphReaders.{HasGiven};
 ghost use Rattle.rr_registry.specs.Runs.{Decides};
@@ -27,12 +28,13 @@ use rr_text::Paragraphs;
 use std::alloc::Global;
 use std::io;
 
-/// Submits what the reader gives to a ledger with a registry of this source, and writes the report. The items are read,
-/// decided and reported one by one, in order, in memory that grows with the secrets of the text, and with what is
-/// remembered of them, but else not with the text. Where the line of an item cannot be written, that item and those
-/// before it stand, and those behind it are not read. Where the ledger comes to a halt at an item, those before it
-/// stand, the item has a line with the code E91, and a last line follows. What the holders of a prefix hold is changed
-/// by nobody else.
+/// Submits what the reader gives to a ledger with a registry of this source, and writes the report.
+/// The items are read, decided and reported one by one, in order, in memory that grows with the
+/// secrets of the text, and with what is remembered of them, but else not with the text. Where the
+/// line of an item cannot be written, that item and those before it stand, and those after it are
+/// not read. Where the ledger comes to a halt at an item, those before it stand, the item has a
+/// line with the code E91, and a last line follows. What the holders of a prefix hold is changed by
+/// nobody else.
 pub fn submit<L: Ledger, R: Source, W: Sink>(
     alloc: Global,
     ledger: &mut L,
@@ -103,7 +105,8 @@ fn report<L: Ledger, R: Source, W: Sink>(
     }
 }
 
-/// Reads, decides and reports the items of a text one by one: each line is written before the next item is read.
+/// Reads, decides and reports the items of a text one by one: each line is written before the next
+/// item is read.
 fn handle_items<L: Ledger, R: Source, W: Sink>(
     alloc: Global,
     ledger: &mut L,
@@ -114,7 +117,8 @@ fn handle_items<L: Ledger, R: Source, W: Sink>(
 ) -> Result<(Done, ReadEnd), Stop>
     requires ready { L.Ready ledger.old }
     requires unread { HasGiven (R.told reader.old) (R.told reader.old) paragraphs.old [] }
-    ensures handles { HandlesItems L.Ledger source.now (R.told reader.old) (R.told reader.new) ledger.old ledger.new (W.told writer.old) (W.told writer.new) result }
+    ensures handles { HandlesItems L.Ledger source.now (R.told reader.old)
+        (R.told reader.new) ledger.old ledger.new (W.told writer.old) (W.told writer.new) result }
     ensures ready { UnlessHalted result (L.Ready ledger.new) }
     ensures reader_aside { R.aside reader.new ≡ R.aside reader.old }
     ensures writer_aside { W.aside writer.new ≡ W.aside writer.old }
@@ -144,7 +148,8 @@ fn handle_item<L: Ledger, W: Sink>(
     requires items { done.items + 1 < 2 ^ 64 }
     requires refused { done.refused + 1 < 2 ^ 64 }
     requires ready { L.Ready ledger.old }
-    ensures handles { HandlesOne L.Ledger secrets.old request done ledger.old ledger.new (W.told writer.old) (W.told writer.new) result }
+    ensures handles { HandlesOne L.Ledger secrets.old request done ledger.old ledger.new
+        (W.told writer.old) (W.told writer.new) result }
     ensures ready { UnlessHalted result (L.Ready ledger.new) }
     ensures same_secrets { secrets.new ≡ secrets.old }
     ensures aside { W.aside writer.new ≡ W.aside writer.old }
@@ -173,7 +178,8 @@ fn decide<L: Ledger>(
     action: Result<Item, Code>,
 ) -> Result<Outcome, Halted>
     requires { L.Ready ledger.old }
-    ensures decides { IfOk result (λ outcome. Decides (L.registry ledger.old) secrets.old action outcome (L.registry ledger.new)) }
+    ensures decides { IfOk result (λ outcome. Decides
+        (L.registry ledger.old) secrets.old action outcome (L.registry ledger.new)) }
     ensures ready { OnOk result (L.Ready ledger.new) }
     ensures halts { OnErr result (HaltsAt L.Ledger ledger.old secrets.old action ledger.new) }
     ensures same_secrets { secrets.new ≡ secrets.old }
@@ -184,11 +190,13 @@ fn decide<L: Ledger>(
     }
 }
 
-/// Writes the line of an item at which the ledger came to a halt, behind so many that were decided, and the last line.
+/// Writes the line of an item at which the ledger came to a halt, after so many that were decided,
+/// and the last line.
 #[tactic(auto, unfolding(crate::specs::Reports::stop_lines))]
 fn write_stop<W: Sink>(writer: &mut W, items: u64, key: &Option<Key>) -> io::Result<()>
     requires { items + 1 < 2 ^ 64 }
-    ensures writes { Writes (W.told writer.old) (W.told writer.new) (stop_lines items key.now) result }
+    ensures writes { Writes (W.told writer.old) (W.told writer.new)
+        (stop_lines items key.now) result }
     ensures aside { W.aside writer.new ≡ W.aside writer.old }
 {
     write_item_line(writer, items + 1, key, Outcome::Refused(Code::E91))?;

@@ -1,6 +1,7 @@
 //! The items of a text in turn.
 
-ghost use Rattle.std.specs.Prelude.{◌≡◌, ◌∷◌, ◌++◌, ◌<◌, [], List, IfOk, OnOk, OnErr};
+ghost use Rattle.std.specs.Prelude.{◌≡◌, ◌∷◌, ◌++◌, ◌<◌, [], List, IfOk, OnOk};
+ghost use Rattle.std.specs.Prelude.{OnErr};
 ghost use Rattle.rr_io.specs.Told.{Told};
 ghost use Rattle.rr_text.specs.ParagraphReaders.{Entry, HasGiven, left_of};
 ghost use Rattle.rr_submission.specs.ItemReaders.{Finds};
@@ -17,8 +18,9 @@ use rr_object::Code;
 use rr_text::{Attribute, Paragraph, Paragraphs, TextFault};
 use std::alloc::{AllocError, Global};
 
-/// What the next item of the text that this reader gives asks; the error is how the reading ended, where there is no
-/// more. The secrets of the paragraphs that it passes are added to `secrets`. Want of memory is the refusal E90.
+/// What the next item of the text that this reader gives asks; the error is how the reading ended,
+/// where there is no more. The secrets of the paragraphs that it passes are added to `secrets`.
+/// Want of memory is the refusal E90.
 pub fn next_item<R: Source>(
     alloc: Global,
     paragraphs: &mut Paragraphs,
@@ -26,8 +28,10 @@ pub fn next_item<R: Source>(
     source: &Name,
     secrets: &mut Secrets,
 ) -> Result<Request, ReadEnd>
-    ensures finds { (start : Told) (given : List Entry) → HasGiven start (R.told reader.old) paragraphs.old given
-        → Finds source.now start (R.told reader.new) paragraphs.new given secrets.old secrets.new result }
+    ensures finds { (start : Told) (given : List Entry)
+        → HasGiven start (R.told reader.old) paragraphs.old given
+        → Finds source.now start
+        (R.told reader.new) paragraphs.new given secrets.old secrets.new result }
     ensures nearer { OnOk result (left_of paragraphs.new < left_of paragraphs.old) }
     ensures aside { R.aside reader.new ≡ R.aside reader.old }
 {
@@ -48,7 +52,8 @@ pub fn next_item<R: Source>(
     }
 }
 
-/// The code of a paragraph that could not be read as text; a fault that is none of a paragraph ends the reading.
+/// The code of a paragraph that could not be read as text; a fault that is none of a paragraph ends
+/// the reading.
 fn text_code(fault: TextFault) -> Result<Code, ReadEnd>
     ensures { result ≡ text_code fault }
 {

@@ -1,4 +1,5 @@
-//! Laws of submissions, for readers and for the proofs of other crates. Nothing calls these functions.
+//! Laws of submissions, for readers and for the proofs of other crates. Nothing calls these
+//! functions.
 
 ghost use Rattle.rr_submission.specs.SubmissionLaws.{ItemsAreConfined, ItemsKeepTheSource};
 
@@ -7,8 +8,8 @@ pub fn items_keep_the_source()
     ensures { ItemsKeepTheSource }
 {}
 
-/// The items of a text, decided from a sound registry, answer the holders of a prefix as if nobody else had submitted
-/// anything, and leave what they hold to them.
+/// The items of a text, decided from a sound registry, answer the holders of a prefix as if nobody
+/// else had submitted anything, and leave what they hold to them.
 pub fn items_are_confined()
     ensures { ItemsAreConfined }
 {}

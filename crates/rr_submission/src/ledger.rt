@@ -24,7 +24,7 @@ pub trait Ledger {
     // What a halt leaves: of the ledger before it, the secrets, the item, and the ledger after it.
     ghost Halts: { Self → List (List ℕ) → Item → Self → Type 0 };
 
-    /// Tells a caller's proof that the registry is sound; it does nothing.
+    /// Tells a caller's proof that the registry is sound.
     fn sound(&self)
         ensures { Sound (registry self.now) };
 
@@ -36,7 +36,8 @@ pub trait Ledger {
         item: Item,
     ) -> Result<Outcome, Halted>
         requires { Ready self.old }
-        ensures decides { IfOk result (λ outcome. IsStep (registry self.old) secrets.old item outcome (registry self.new)) }
+        ensures decides { IfOk result
+            (λ outcome. IsStep (registry self.old) secrets.old item outcome (registry self.new)) }
         ensures ready { OnOk result (Ready self.new) }
         ensures halts { OnErr result (Halts self.old secrets.old item self.new) }
         ensures same_secrets { secrets.new ≡ secrets.old };

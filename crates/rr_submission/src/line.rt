@@ -4,7 +4,8 @@ ghost use Rattle.std.specs.Prelude.{◌≡◌, ◌+◌, ◌≤◌, ◌++◌, len
 ghost use Rattle.rr_io.specs.Sending.{Writes};
 ghost use Rattle.rr_object.specs.Keys.{class_of};
 ghost use Rattle.rr_object.specs.KeyTexts.{key_text};
-ghost use Rattle.rr_submission.specs.Reports.{class_part, item_line, number_part, outcome_part, outcome_word, refusal_code, subject};
+ghost use Rattle.rr_submission.specs.Reports.{class_part, item_line, number_part, outcome_part};
+ghost use Rattle.rr_submission.specs.Reports.{outcome_word, refusal_code, subject};
 
 use crate::short_text::ShortText;
 use rr_io::{Sink, write_all};
@@ -12,14 +13,16 @@ use rr_object::{Class, Key};
 use rr_registry::Outcome;
 use std::io;
 
-/// Writes the line of an item, whole in the first call of the writer. After a fault the writer has taken a front of it.
+/// Writes the line of an item, whole in the first call of the writer. After a fault the writer has
+/// taken a front of it.
 pub fn write_item_line<W: Sink>(
     writer: &mut W,
     number: u64,
     key: &Option<Key>,
     outcome: Outcome,
 ) -> io::Result<()>
-    ensures writes { Writes (W.told writer.old) (W.told writer.new) (item_line number key.now outcome) result }
+    ensures writes { Writes (W.told writer.old) (W.told writer.new)
+        (item_line number key.now outcome) result }
     ensures aside { W.aside writer.new ≡ W.aside writer.old }
 {
     write_all(writer, item_line(number, key, outcome).as_bytes())
@@ -70,7 +73,7 @@ fn push_class(line: &mut ShortText, class: Class)
     line.push(b" ");
 }
 
-/// What stands behind the subject.
+/// What stands after the subject.
 #[tactic(auto, using(crate::proofs::LineSizes::outcome_word_short, crate::proofs::LineSizes::refusal_code_short))]
 fn push_outcome(line: &mut ShortText, outcome: Outcome)
     requires { length line.old ≤ 286 }

@@ -47,7 +47,8 @@ impl ShortText {
 
     fn push_route(&mut self, prefix: Prefix, origin: AsNumber)
         requires { length self.old + 81 ≤ SHORT_SIZE }
-        ensures value { self.new ≡ self.old ++ (prefix_text prefix ++ (32 ∷ as_number_text origin)) }
+        ensures value { self.new
+            ≡ self.old ++ (prefix_text prefix ++ (32 ∷ as_number_text origin)) }
         ensures short { length self.new ≤ length self.old + 81 }
     {
         self.push(prefix.text().as_bytes());

@@ -50,7 +50,8 @@ impl Request {
     /// What is asked by a paragraph of this key.
     fn about(alloc: Global, own: Paragraph, source: &Name, key: Key, deletes: bool) -> Request
         requires { key_of own ≡ Ok key }
-        ensures { (result ≡ record { key = Some key; action = action_of source.now own key deletes })
+        ensures { (result
+            ≡ record { key = Some key; action = action_of source.now own key deletes })
             ⊎ (result ≡ record { key = Some key; action = Err Code.E90 }) }
     {
         let action = match key.copy(alloc) {

@@ -7,8 +7,8 @@ use rr_bytes::joined_by_space;
 use rr_text::Attribute;
 use std::alloc::{AllocError, Global};
 
-/// The secret that an attribute `password` gives: the lines of its value joined by one space, `#` kept (profile). The
-/// error is out of memory.
+/// The secret that an attribute `password` gives: the lines of its value joined by one space, `#`
+/// kept (profile). The error is out of memory.
 pub fn secret_of(alloc: Global, attribute: &Attribute) -> Result<Vec<u8>, AllocError>
     ensures { IfOk result (λ secret. secret.items ≡ secret_of attribute.now) }
 {

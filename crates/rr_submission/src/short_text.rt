@@ -6,11 +6,12 @@ use arrayvec::ArrayVec;
 use itoa::Buffer;
 use std::marker::Model;
 
-/// The most bytes of a short text: a line of a report, whose number, class, key and outcome have fewer together, or a reply
-/// without an answer.
+/// The most bytes of a short text: a line of a report, whose number, class, key and outcome have
+/// fewer together, or a reply without an answer.
 pub const SHORT_SIZE: usize = 320;
 
-/// The bytes of a short text so far, which take no memory beside the value itself; contracts see the list of them.
+/// The bytes of a short text so far, which take no memory beside the value itself; contracts see
+/// the list of them.
 #[derive(Drop)]
 pub struct ShortText {
     bytes: ArrayVec<u8, SHORT_SIZE>,

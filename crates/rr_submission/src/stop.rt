@@ -8,12 +8,13 @@ use crate::submission::DeskFault;
 /// Why the handling of items stopped before the last of them.
 #[derive(Clone, Copy, Debug, PartialEq, Eq)]
 pub enum Stop {
-    /// The line of an item could not be written; that item is the last of so many that were decided.
+    /// The line of an item could not be written; that item is the last of so many that were
+    /// decided.
     Unwritten {
         /// The items that were decided.
         items: u64,
     },
-    /// The ledger came to a halt at an item, behind so many that were decided.
+    /// The ledger came to a halt at an item, after so many that were decided.
     Halted {
         /// The items that were decided.
         items: u64,

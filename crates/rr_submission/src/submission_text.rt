@@ -1,7 +1,8 @@
 //! What a submission's paragraph holds beside its object.
 
 ghost use Rattle.std.specs.Prelude.{◌≡◌, IfOk};
-ghost use Rattle.rr_submission.specs.SubmissionTexts.{asks_deletion, is_password, is_secrets_alone, own_fields};
+ghost use Rattle.rr_submission.specs.SubmissionTexts.{asks_deletion, is_password, is_secrets_alone};
+ghost use Rattle.rr_submission.specs.SubmissionTexts.{own_fields};
 
 use rr_text::{Attribute, Paragraph};
 use std::alloc::{AllocError, Global};
@@ -13,7 +14,7 @@ pub fn is_password(attribute: &Attribute) -> bool
     attribute.has_name(b"password")
 }
 
-/// Whether a paragraph gives secrets and is no item.
+/// Whether a paragraph gives secrets and is not an item.
 pub fn is_secrets_alone(paragraph: &Paragraph) -> bool
     ensures { result ≡ is_secrets_alone paragraph.now }
 {

@@ -4,7 +4,8 @@ use rr_io::{Counted, Cut};
 use rr_number::*;
 use std::test::Fail;
 
-/// The range that the prefix and operator of the text make; none where the text is no range, or the operator drops it.
+/// The range that the prefix and operator of the text make; none where the text is not a range, or
+/// the operator drops it.
 fn range(text: &str) -> Option<Range> {
     let (prefix, operator) = read_ranged(text.as_bytes())?;
     operator.apply(Range::of(prefix))

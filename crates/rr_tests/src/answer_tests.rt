@@ -36,7 +36,8 @@ mnt-by: ROOT-MNT
 source: TEST
 ";
 
-/// What names A-MNT for what lies below, for routes and for members; for B-MNT the attribute is text.
+/// What names A-MNT for what lies below, for routes and for members; for B-MNT the attribute is
+/// text.
 const NAMING: &str = "\
 password: bc
 password: abc
@@ -99,12 +100,15 @@ const NEAR: &[Asked] = &[
             (
                 "less 10.1.0.9",
                 1,
-                "inetnum:        0.0.0.0 - 255.255.255.255\ninetnum:        10.0.0.0/8\ninetnum:        10.1.0.0/16\nroute:          10.0.0.0/8\nroute:          10.1.0.0/16\n",
+                "inetnum:        0.0.0.0 - 255.255.255.255\ninetnum:        10.0.0.0/8\n\
+                 inetnum:        10.1.0.0/16\nroute:          10.0.0.0/8\n\
+                 route:          10.1.0.0/16\n",
             ),
             (
                 "more 10.1.0.0/16",
                 1,
-                "inetnum:        10.1.0.0/16\nroute:          10.1.0.0/16\nroute:          10.1.2.0/24\n",
+                "inetnum:        10.1.0.0/16\nroute:          10.1.0.0/16\n\
+                 route:          10.1.2.0/24\n",
             ),
             (
                 "closest 10.1.2.0/24",
@@ -130,7 +134,8 @@ const NEAR: &[Asked] = &[
             (
                 "inverse mnt a-mnt",
                 1,
-                "mntner:         A-MNT\naut-num:        AS1\ninetnum:        10.1.0.0/16\nroute:          10.1.0.0/16\nroute:          10.1.2.0/24\n",
+                "mntner:         A-MNT\naut-num:        AS1\ninetnum:        10.1.0.0/16\n\
+                 route:          10.1.0.0/16\nroute:          10.1.2.0/24\n",
             ),
             ("inverse mnt c-mnt", 1, "% no entries\n"),
             (
@@ -175,7 +180,9 @@ const NEAR: &[Asked] = &[
             (
                 "less 10.1.1.5",
                 1,
-                "inetnum:        0.0.0.0 - 255.255.255.255\ninetnum:        10.0.0.0/8\ninetnum:        10.1.0.0 - 10.1.1.255\ninetnum:        10.1.0.0/16\ninetnum:        10.1.0.128 - 10.1.1.127\ninetnum:        10.1.1.0/25\n",
+                "inetnum:        0.0.0.0 - 255.255.255.255\ninetnum:        10.0.0.0/8\n\
+                 inetnum:        10.1.0.0 - 10.1.1.255\ninetnum:        10.1.0.0/16\n\
+                 inetnum:        10.1.0.128 - 10.1.1.127\ninetnum:        10.1.1.0/25\n",
             ),
         ],
     },
@@ -185,7 +192,8 @@ const NEAR: &[Asked] = &[
             (
                 "inverse mnt a-mnt",
                 1,
-                "mntner:         A-MNT\ninetnum:        10.0.0.0/8\ninetnum:        11.0.0.0/8\nas-set:         AS-R\n",
+                "mntner:         A-MNT\ninetnum:        10.0.0.0/8\ninetnum:        11.0.0.0/8\n\
+                 as-set:         AS-R\n",
             ),
             (
                 "inverse mnt b-mnt",
@@ -201,7 +209,8 @@ const NEAR: &[Asked] = &[
         answers: &[(
             "more 10.128.0.0/9",
             1,
-            "inetnum:        10.128.0.0/32\ninetnum:        10.128.0.0/9\nroute:          10.128.0.0/9\nroute:          10.128.0.0/32\n",
+            "inetnum:        10.128.0.0/32\ninetnum:        10.128.0.0/9\n\
+             route:          10.128.0.0/9\nroute:          10.128.0.0/32\n",
         )],
     },
 ];
@@ -211,7 +220,7 @@ fn objects_are_asked_by_name_and_place(rt: HostRuntime) -> Result<(), Fail> {
     expect_answers(&rt, NEAR)
 }
 
-/// A query with blanks behind it, up to this size.
+/// A query with blanks after it, up to this size.
 fn padded(alloc: Global, query: &str, size: usize) -> Result<String, AllocError> {
     let mut text = String::from_str(alloc, query)?;
     for _blank in query.len()..size {
@@ -280,7 +289,8 @@ fn additions_list(alloc: Global, count: u32) -> Result<String, Fail> {
         let (high, low) = (n / 256, n % 256);
         write!(
             text,
-            "inetnum:        1.0.{high}.{low}/32\nmnt-by:         ROOT-MNT\nsource:         TEST\n\n"
+            "inetnum:        1.0.{high}.{low}/32\nmnt-by:         ROOT-MNT\nsource:         TEST\n\
+             \n"
         )?;
     }
     Ok(text)
@@ -301,7 +311,8 @@ fn five_hundred_inetnums_are_listed(rt: HostRuntime) -> Result<(), Fail> {
     expect_listed::<IndexedBook, HostRuntime>(&rt)
 }
 
-/// A maintainer of the second message of the examples of FIPS 180-4, cut into salt and secret, and what it maintains.
+/// A maintainer of the second message of the examples of FIPS 180-4, cut into salt and secret, and
+/// what it maintains.
 const SECRETIVE: &str = "\
 password: efdefgefghfghighijhijkijkljklmklmnlmnomnopnopq
 password: bc

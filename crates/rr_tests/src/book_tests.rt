@@ -40,7 +40,8 @@ const QUERIES: &[&str] = &[
     "prefixes RS-ANY",
 ];
 
-/// Queries of which each is to be answered by more than a note now and then, since routes and members stand.
+/// Queries of which each is to be answered by more than a note now and then, because routes and
+/// members stand.
 const FRUITFUL: [&str; 3] = ["inverse origin as1", "expand rs-1", "prefixes as-1"];
 
 /// What is to come about, so that what is compared is worth it.
@@ -60,7 +61,8 @@ const WANTED: &[Outcome] = &[
     Outcome::Refused(Code::E18),
 ];
 
-/// What the text of an object is made of: numbers below 6, and one below 3; two maintainers; the ends of a range.
+/// What the text of an object is made of: numbers below 6, and one below 3; two maintainers; the
+/// ends of a range.
 #[derive(Clone, Copy)]
 struct Parts {
     one: u8,
@@ -71,7 +73,8 @@ struct Parts {
     ends: (u8, u8),
 }
 
-/// The text of some object: so few keys and maintainers that many nest, cross, stand already, or name each other.
+/// The text of some object: so few keys and maintainers that many nest, cross, stand already, or
+/// name each other.
 fn any_text(alloc: Global, words: &mut Pcg32) -> Result<String, AllocError> {
     let [kind, one, other, who] = words.next_word().to_le_bytes();
     let [third, name, low, high] = words.next_word().to_le_bytes();
@@ -95,7 +98,9 @@ fn any_text(alloc: Global, words: &mut Pcg32) -> Result<String, AllocError> {
 fn mntner_text(alloc: Global, parts: Parts) -> Result<String, AllocError> {
     let Parts { third, name, .. } = parts;
     format!(in alloc;
-        "mntner: {name}\nauth: SHA256-PW ab:ba7816bf8f01cfea414140de5dae2223b00361a396177a9cb410ff61f20015ad\nmnt-by: {name}\ndescr: {third}\nsource: TEST\n"
+        "mntner: {name}\n\
+         auth: SHA256-PW ab:ba7816bf8f01cfea414140de5dae2223b00361a396177a9cb410ff61f20015ad\n\
+         mnt-by: {name}\ndescr: {third}\nsource: TEST\n"
     )
 }
 
@@ -111,7 +116,8 @@ fn numbers_text(alloc: Global, is_one: bool, parts: Parts) -> Result<String, All
     } = parts;
     if is_one {
         format!(in alloc;
-            "aut-num: AS{one}\nmember-of: AS-{other}, AS-{third}\nmnt-by: {by}\nmnt-lower: {name}\nsource: TEST\n"
+            "aut-num: AS{one}\nmember-of: AS-{other}, AS-{third}\nmnt-by: {by}\nmnt-lower: {name}\n\
+             source: TEST\n"
         )
     } else {
         format!(in alloc;
@@ -134,7 +140,8 @@ fn inetnum_text(alloc: Global, is_small: bool, parts: Parts) -> Result<String, A
     } = parts;
     if is_small {
         format!(in alloc;
-            "inetnum: 10.{one}.0.{low} - 10.{one}.{third}.{high}\nmnt-by: {by}\nmnt-routes: {name} {{10.{one}.0.0/16^+}}, {by}\nsource: TEST\n"
+            "inetnum: 10.{one}.0.{low} - 10.{one}.{third}.{high}\nmnt-by: {by}\n\
+             mnt-routes: {name} {{10.{one}.0.0/16^+}}, {by}\nsource: TEST\n"
         )
     } else {
         format!(in alloc;
@@ -154,7 +161,8 @@ fn route_text(alloc: Global, parts: Parts) -> Result<String, AllocError> {
         ..
     } = parts;
     format!(in alloc;
-        "route: 10.{one}.0.0/{}\norigin: AS{other}\nmember-of: AS-{one}, RS-{third}\nmnt-by: {by}\nsource: TEST\n",
+        "route: 10.{one}.0.0/{}\norigin: AS{other}\nmember-of: AS-{one}, RS-{third}\nmnt-by: {by}\n\
+         source: TEST\n",
         14 + third % 3
     )
 }
@@ -182,11 +190,14 @@ fn set_text(alloc: Global, has_numbers: bool, parts: Parts) -> Result<String, Al
     let parent = parent_text(alloc, parts)?;
     if has_numbers {
         format!(in alloc;
-            "as-set: {parent}AS-{one}\nmembers: AS{other}, AS-{third}\nmbrs-by-ref: {name}\nmnt-by: {by}\nsource: TEST\n"
+            "as-set: {parent}AS-{one}\nmembers: AS{other}, AS-{third}\nmbrs-by-ref: {name}\n\
+             mnt-by: {by}\nsource: TEST\n"
         )
     } else {
         format!(in alloc;
-            "route-set: {parent}RS-{one}\nmembers: RS-{third}^+, AS-{other}, AS{other}^24, 10.{other}.0.0/16\nmbrs-by-ref: {name}, ANY\nmnt-by: {by}\nsource: TEST\n"
+            "route-set: {parent}RS-{one}\n\
+             members: RS-{third}^+, AS-{other}, AS{other}^24, 10.{other}.0.0/16\n\
+             mbrs-by-ref: {name}, ANY\nmnt-by: {by}\nsource: TEST\n"
         )
     }
 }
@@ -281,7 +292,8 @@ fn expect_same_answers<P: Keeper, I: Keeper, R: Abort + AllocGlobal>(
     expect_text(rt, &found, wanted, "the answers are alike")
 }
 
-/// Which of the fruitful queries have been answered by more than a note, with those of the registry as it is now.
+/// Which of the fruitful queries have been answered by more than a note, with those of the registry
+/// as it is now.
 fn fruitful<B: Keeper>(
     alloc: Global,
     registry: &Registry<B>,
@@ -295,7 +307,8 @@ fn fruitful<B: Keeper>(
     Ok(fruitful)
 }
 
-/// The outcome of the next item; asserts that both registries give it, and list alike what is round some span.
+/// The outcome of the next item; asserts that both registries give it, and list alike what is round
+/// some span.
 fn expect_item<P: Keeper, I: Keeper, R: Abort + AllocGlobal>(
     rt: &R,
     plain: &mut Registry<P>,
@@ -310,7 +323,7 @@ fn expect_item<P: Keeper, I: Keeper, R: Abort + AllocGlobal>(
     Ok(outcome)
 }
 
-/// Adds the outcomes of the next fifty items; asserts that both registries answer alike behind them.
+/// Adds the outcomes of the next fifty items; asserts that both registries answer alike after them.
 fn expect_items<P: Keeper, I: Keeper, R: Abort + AllocGlobal>(
     rt: &R,
     plain: &mut Registry<P>,
@@ -331,7 +344,8 @@ fn expect_wanted<R: Abort>(rt: &R, outcomes: &[Outcome]) {
     }
 }
 
-/// Asserts that registries in two books answer alike to a thousand items, of which every outcome comes about.
+/// Asserts that registries in two books answer alike to a thousand items, of which every outcome
+/// comes about.
 fn expect_alike<P: Keeper + Drop, I: Keeper + Drop, R: Abort + AllocGlobal>(
     rt: &R,
 ) -> Result<(), Fail> {

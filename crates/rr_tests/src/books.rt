@@ -78,7 +78,8 @@ pub fn report<B: Keeper, R: Source>(
     Ok(writer.into_inner())
 }
 
-/// Submits a text that comes in pieces of at most so many bytes, or of one; answers with the report.
+/// Submits a text that comes in pieces of at most so many bytes, or of one; answers with the
+/// report.
 pub fn cut_report<B: Keeper>(
     alloc: Global,
     registry: &mut Registry<B>,

@@ -6,9 +6,10 @@ use std::test::Fail;
 /// The report on a change that the stored maintainers don't admit.
 const REFUSED: &str = "1 inetnum 10.1.0.0 - 10.1.255.255: refused E11\n% items 1\n";
 
-/// With the root's secret, AS2, whose routes nobody may add, and items for each of which two refusals hold: a
-/// maintainer is missing and mnt-by doesn't pass, twice; it doesn't pass and a span crosses, or an origin is missing; that
-/// and the closest inetnum refuses; mnt-by doesn't pass and a maintainer is named.
+/// With the root's secret, AS2, whose routes nobody may add, and items for each of which two
+/// refusals hold: a maintainer is missing and mnt-by doesn't pass, twice; it doesn't pass and a
+/// span crosses, or an origin is missing; that and the closest inetnum refuses; mnt-by doesn't pass
+/// and a maintainer is named.
 const EARLIER: &str = "\
 password: bc
 
@@ -44,8 +45,9 @@ mntner: A-MNT
 delete: x
 ";
 
-/// More of them: with B-MNT's secret, a span crosses, or AS2 refuses, and the closest inetnum refuses; with the root's,
-/// an origin is missing, AS2 refuses, or a span crosses, and no inetnum is above.
+/// More of them: with B-MNT's secret, a span crosses, or AS2 refuses, and the closest inetnum
+/// refuses; with the root's, an origin is missing, AS2 refuses, or a span crosses, and no inetnum
+/// is above.
 const LATER: &str = "\
 password: abc
 
@@ -287,7 +289,9 @@ delete: x
         given: &[
             HOLDERS,
             NESTED,
-            "password: c\n\nInetnum:10.1.0.0/16\r\n# skipped\nMNT-BY :\tA-MNT\r\nsource:  TEST \r\n\ninetnum: 10.1.0.0/16\nmnt-by: a-mnt\nsource: TEST\n\ninetnum: 10.1.0.5/16\nmnt-by: A-MNT\nsource: TEST\n",
+            "password: c\n\nInetnum:10.1.0.0/16\r\n# skipped\nMNT-BY :\tA-MNT\r\nsource:  TEST \r\n\
+             \ninetnum: 10.1.0.0/16\nmnt-by: a-mnt\nsource: TEST\n\ninetnum: 10.1.0.5/16\n\
+             mnt-by: A-MNT\nsource: TEST\n",
         ],
         report: "\
 1 inetnum 10.1.0.0 - 10.1.255.255: unchanged

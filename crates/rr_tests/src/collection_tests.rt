@@ -58,7 +58,8 @@ const ASKED: &[(Step, &str, &str)] = &[
     (
         Step::Covering,
         "10.128.0.0/32",
-        "0.0.0.0 - 255.255.255.255, 10.0.0.0 - 10.255.255.255, 10.128.0.0 - 10.128.0.0, 10.128.0.0 - 10.255.255.255, ",
+        "0.0.0.0 - 255.255.255.255, 10.0.0.0 - 10.255.255.255, 10.128.0.0 - 10.128.0.0, \
+         10.128.0.0 - 10.255.255.255, ",
     ),
 ];
 
@@ -138,7 +139,7 @@ fn told_closest(alloc: Global, closest: Option<(Span, u32)>) -> Result<String, A
     }
 }
 
-/// The spans, each with a comma behind it.
+/// The spans, each with a comma after it.
 fn told_spans(alloc: Global, spans: &[Span]) -> Result<String, AllocError> {
     let mut text = String::new(alloc);
     for span in spans {
@@ -179,7 +180,8 @@ fn expect_answers<R: Abort + AllocGlobal, C: Collection>(
     Ok(())
 }
 
-/// Asserts what is answered about the five prefixes, with and without the outermost, and about one put again.
+/// Asserts what is answered about the five prefixes, with and without the outermost, and about one
+/// put again.
 fn expect_of_five<R: Abort + AllocGlobal, C: Collection + Drop>(
     rt: &R,
     mut collection: C,
@@ -213,7 +215,8 @@ fn a_crossing_span_is_refused_with_its_value(rt: HostRuntime) -> Result<(), Fail
 
 // The test below shows most where `rt try --test --fail-alloc N` refuses the growth of that number.
 
-/// Whether the collection takes the span, which it does not hold, at once or behind a refusal that changed nothing.
+/// Whether the collection takes the span, which it does not hold, at once or after a refusal that
+/// changed nothing.
 fn takes<C: Collection>(collection: &mut C, span: Span, value: u32) -> bool {
     match collection.put(span, value) {
         Ok(old) => old.is_none(),
@@ -241,8 +244,8 @@ fn last_span(length: u8) -> Span {
 /// Nine lengths in no order.
 const LENGTHS: &[u8] = &[28, 24, 32, 27, 31, 26, 30, 25, 29];
 
-/// Asserts that a collection takes nine spans inside each other and one beside them, at which a tree parts, and lists
-/// the nine.
+/// Asserts that a collection takes nine spans inside each other and one beside them, at which a
+/// tree parts, and lists the nine.
 fn expect_growth<R: Abort + AllocGlobal, C: Collection>(rt: &R, collection: &mut C) {
     for length in LENGTHS {
         assert!(rt; takes(collection, last_span(*length), 0), "{length}");

@@ -1,4 +1,5 @@
-//! How many levels trees and nests of spans have. What they hold is seen in `collection_tests.rt` and `sequence_tests.rt`.
+//! How many levels trees and nests of spans have. What they hold is seen in `collection_tests.rt`
+//! and `sequence_tests.rt`.
 use rr_cover::{PrefixTree, SpanNest};
 use rr_number::{Address, Prefix, Span};
 use std::test::Fail;
@@ -35,7 +36,8 @@ fn a_parting_node_comes_and_goes_with_its_second_prefix(rt: HostRuntime) -> Resu
     Ok(())
 }
 
-/// The fewest nodes of a tree of so many levels, where the sides of each node differ by one level at most.
+/// The fewest nodes of a tree of so many levels, where the sides of each node differ by one level
+/// at most.
 fn fewest(levels: u32) -> u32 {
     let mut fewest = 0u32;
     let mut next = 1u32;

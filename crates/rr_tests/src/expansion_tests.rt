@@ -283,7 +283,8 @@ const LISTED: &[Asked] = &[
             (
                 "expand RS-W",
                 11,
-                "10.0.0.0/8^+\n10.0.0.0/8^24\n10.1.0.0/16^+\n10.1.0.0/16^24\n10.2.0.0/16^-\n% missing AS-GONE\n% missing RS-GONE\n",
+                "10.0.0.0/8^+\n10.0.0.0/8^24\n10.1.0.0/16^+\n10.1.0.0/16^24\n10.2.0.0/16^-\n\
+                 % missing AS-GONE\n% missing RS-GONE\n",
             ),
             ("expand RS-W", 10, "% error 3\n"),
             ("expand RS-Z", 3, "% empty\n"),
@@ -297,7 +298,8 @@ fn sets_stand_for_what_their_chains_reach(rt: HostRuntime) -> Result<(), Fail> {
     expect_answers(&rt, LISTED)
 }
 
-/// What AS-R and RS-R stand for, as they take the word of nobody, of A-MNT or of anybody, and as members come and go.
+/// What AS-R and RS-R stand for, as they take the word of nobody, of A-MNT or of anybody, and as
+/// members come and go.
 const REFERRING: &[Asked] = &[
     Asked {
         given: &[HOLDERS, REFERRERS],

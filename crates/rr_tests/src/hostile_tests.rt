@@ -15,7 +15,8 @@ const TEXTS: u32 = 2_000;
 /// What the texts are made of, beside single bytes of every value.
 const PARTS: [&str; 16] = [
     "inetnum: 10.0.0.0/8\nmnt-by: ROOT-MNT\nsource: TEST\n\n",
-    "inetnum: 10.1.0.0 - 10.1.255.255\nmnt-by: A-MNT\nmnt-routes: A-MNT {10.0.0.0/8^+}\nsource: TEST\n\n",
+    "inetnum: 10.1.0.0 - 10.1.255.255\nmnt-by: A-MNT\nmnt-routes: A-MNT {10.0.0.0/8^+}\n\
+     source: TEST\n\n",
     "mntner: A-MNT\nauth: SHA256-PW a:00\nmnt-by: A-MNT\nsource: TEST\n",
     "mntner: A-MNT\nauth: NONE\nmnt-by: ROOT-MNT\nsource: TEST\n\n",
     "aut-num: AS1\nmnt-by: ROOT-MNT\nsource: TEST\n\n",
@@ -90,7 +91,8 @@ fn is_blank(line: &[u8]) -> bool {
         .all(|byte| matches!(*byte, b' ' | b'\t' | b'\r'))
 }
 
-/// Asserts the lines of a report: one for each item, and the number of them. The first paragraph is of passwords alone.
+/// Asserts the lines of a report: one for each item, and the number of them. The first paragraph is
+/// of passwords alone.
 fn expect_lines<R: Abort + AllocGlobal>(rt: &R, text: &[u8], report: &[u8]) -> Result<(), Fail> {
     let count = paragraphs(text);
     let last = format!(in rt.alloc(); "% items {}\n", count.saturating_sub(1))?;
@@ -113,7 +115,8 @@ fn expect_cut<B: Keeper, R: Abort + AllocGlobal>(
     Ok(())
 }
 
-/// Submits a text to a book whole, and to two others by single bytes and in pieces: the reports are the same.
+/// Submits a text to a book whole, and to two others by single bytes and in pieces: the reports are
+/// the same.
 fn expect_alike<P: Keeper, I: Keeper, R: Abort + AllocGlobal>(
     rt: &R,
     plain: &mut Registry<P>,
@@ -128,7 +131,8 @@ fn expect_alike<P: Keeper, I: Keeper, R: Abort + AllocGlobal>(
     expect_cut(rt, by_pieces, text, step, &whole)
 }
 
-/// Submits the texts to a book whole, and to another kind of book by single bytes and in pieces: the reports are the same.
+/// Submits the texts to a book whole, and to another kind of book by single bytes and in pieces:
+/// the reports are the same.
 fn expect_reports<P: Keeper + Drop, I: Keeper + Drop, R: Abort + AllocGlobal>(
     rt: &R,
 ) -> Result<(), Fail> {

@@ -73,7 +73,7 @@ fn writes_whole_texts(rt: HostRuntime) {
 }
 
 #[test]
-fn a_read_fails_behind_the_bytes_that_pass(rt: HostRuntime) {
+fn a_read_fails_after_the_bytes_that_pass(rt: HostRuntime) {
     let mut reader = Cut::new(Counted::new(&b"abcdef"[..]), 3, 4);
     expect_read(&rt, &mut reader, b"abc");
     expect_read(&rt, &mut reader, b"d");

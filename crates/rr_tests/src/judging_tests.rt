@@ -1,4 +1,5 @@
-//! Calls below the desk, each with ample memory: verdicts, runs, names for routes, and the lists of a book.
+//! Calls below the desk, each with ample memory: verdicts, runs, names for routes, and the lists of
+//! a book.
 use crate::books::{item, objects, taken};
 use rr_auth::{Book, Secrets, Verdict, judge, route_names};
 use rr_index::IndexedBook;
@@ -12,7 +13,8 @@ use std::fmt::Write;
 use std::process::Abort;
 use std::test::Fail;
 
-/// A-MNT of the secret `c`, B-MNT of the secret `abc`, AS1 of A-MNT, and sets, two of which stand below AS1 and RS-A.
+/// A-MNT of the secret `c`, B-MNT of the secret `abc`, AS1 of A-MNT, and sets, two of which stand
+/// below AS1 and RS-A.
 const HELD_SETS: &str = "\
 mntner: A-MNT
 auth: SHA256-PW ab:ba7816bf8f01cfea414140de5dae2223b00361a396177a9cb410ff61f20015ad
@@ -143,7 +145,8 @@ fn given(
     Ok(Submitted { secrets, action })
 }
 
-/// A run: the secrets of each item, whether it is a deletion, its object, and the outcome. One has no object.
+/// A run: the secrets of each item, whether it is a deletion, its object, and the outcome. One has
+/// no object.
 const RUN: &[(&[&str], bool, Option<&str>, Outcome)] = &[
     (&["c"], false, Some(ALONE), Outcome::Added),
     (&["c"], false, Some(OTHER), Outcome::Changed),
@@ -244,7 +247,7 @@ fn names_for_a_route_are_those_of_its_grants_else_of_its_object(
     Ok(())
 }
 
-/// The keys of the objects, each with a bar behind it.
+/// The keys of the objects, each with a bar after it.
 fn keys(alloc: Global, objects: &[&Object]) -> Result<Vec<u8>, Fail> {
     let mut keys = Counted::new(Vec::new(alloc));
     for object in objects {

@@ -1,6 +1,6 @@
-//! Tests in memory: outside examples of texts, numbers, objects and secrets, streams that fail, spans behind lists, trees and
-//! nests; and, on registries in either book, worked submissions, answers, expansions and verdicts. What is expected comes
-//! from the rules, read by hand.
+//! Tests in memory: outside examples of texts, numbers, objects and secrets, streams that fail,
+//! spans in lists, trees and nests; and, on registries in either book, worked submissions, answers,
+//! expansions and verdicts. What is expected comes from the rules, read by hand.
 #![tactic(auto)]
 
 #[cfg(test)]

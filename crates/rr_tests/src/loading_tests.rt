@@ -38,7 +38,7 @@ mnt-by: ROOT-MNT
 source: TEST
 ";
 
-/// Two texts, and what is wrong with the objects of one behind the other.
+/// Two texts, and what is wrong with the objects of one after the other.
 const LISTS: &[(&str, &str, Option<LoadFault>)] = &[
     ("", BLOCK, Some(LoadFault::Unnamed(1))),
     (OPENING, OPENING, Some(LoadFault::Duplicate(5))),

@@ -72,7 +72,7 @@ fn is_reserved(alloc: Global, text: &str) -> Result<bool, AllocError> {
     }
 }
 
-/// Whether the text is a maintainer's name, which is no reserved word.
+/// Whether the text is a maintainer's name, which is not a reserved word.
 fn is_maintainer(alloc: Global, text: &str) -> Result<bool, AllocError> {
     match Name::read_maintainer(alloc, text.as_bytes())? {
         Some(name) => Ok(name.is_maintainer() && !name.is_reserved()),
@@ -242,12 +242,17 @@ fn names_of_sets_are_printed_without_leading_zeros(rt: HostRuntime) -> Result<()
     Ok(())
 }
 
-/// Names of sets of nineteen numbers and a last component: of 255 bytes and of 256, and what the first is printed as.
+/// Names of sets of nineteen numbers and a last component: of 255 bytes and of 256, and what the
+/// first is printed as.
 const LONGEST: &str =
-    "AS0000000001:AS0000000001:AS0000000001:AS0000000001:AS0000000001:AS0000000001:AS0000000001:AS0000000001:AS0000000001:AS0000000001:AS0000000001:AS0000000001:AS0000000001:AS0000000001:AS0000000001:AS0000000001:AS0000000001:AS0000000001:AS0000000001:AS-ABCDE";
+    "AS0000000001:AS0000000001:AS0000000001:AS0000000001:AS0000000001:AS0000000001:AS0000000001:\
+     AS0000000001:AS0000000001:AS0000000001:AS0000000001:AS0000000001:AS0000000001:AS0000000001:\
+     AS0000000001:AS0000000001:AS0000000001:AS0000000001:AS0000000001:AS-ABCDE";
 
 const LONGER: &str =
-    "AS0000000001:AS0000000001:AS0000000001:AS0000000001:AS0000000001:AS0000000001:AS0000000001:AS0000000001:AS0000000001:AS0000000001:AS0000000001:AS0000000001:AS0000000001:AS0000000001:AS0000000001:AS0000000001:AS0000000001:AS0000000001:AS0000000001:AS-ABCDEF";
+    "AS0000000001:AS0000000001:AS0000000001:AS0000000001:AS0000000001:AS0000000001:AS0000000001:\
+     AS0000000001:AS0000000001:AS0000000001:AS0000000001:AS0000000001:AS0000000001:AS0000000001:\
+     AS0000000001:AS0000000001:AS0000000001:AS0000000001:AS0000000001:AS-ABCDEF";
 
 const PRINTED: &str =
     "AS1:AS1:AS1:AS1:AS1:AS1:AS1:AS1:AS1:AS1:AS1:AS1:AS1:AS1:AS1:AS1:AS1:AS1:AS1:AS-ABCDE";
@@ -280,7 +285,8 @@ fn the_kind_is_told_by_the_components_beside_as_numbers(rt: HostRuntime) -> Resu
     Ok(())
 }
 
-/// What all components but the last name: the name of a set, a number, a bare list of numbers, or nothing.
+/// What all components but the last name: the name of a set, a number, a bare list of numbers, or
+/// nothing.
 fn parent_of(alloc: Global, text: &str) -> Result<Option<Parent>, Fail> {
     let name = SetName::read(alloc, text.as_bytes())?.ok_or("no name of a set")?;
     Ok(name.parent(alloc)?)

@@ -7,8 +7,9 @@ use std::process::Abort;
 use std::test::Fail;
 
 const MAINTAINER: &str = "\
-Mntner: A-MNT\r\ndescr: first # note\r\n\tsecond\r\n+\r\n% skipped\r\n+third\r\nauth: SHA256-PW\r\n \
-ab:ba7816bf8f01cfea414140de5dae2223b00361a396177a9cb410ff61f20015ad\r\nmnt-by: A-MNT\r\nsource: test";
+Mntner: A-MNT\r\ndescr: first # note\r\n\tsecond\r\n+\r\n% skipped\r\n+third\r\n\
+auth: SHA256-PW\r\n ab:ba7816bf8f01cfea414140de5dae2223b00361a396177a9cb410ff61f20015ad\r\n\
+mnt-by: A-MNT\r\nsource: test";
 
 const CANONICAL: &str = "\
 mntner:         A-MNT
@@ -223,8 +224,8 @@ fn has_one_range(alloc: Global, text: &str) -> Result<bool, Fail> {
 
 #[test]
 fn dropped_ranges_stand_for_nothing(rt: HostRuntime) -> Result<(), Fail> {
-    let text =
-        "route-set: RS-A\nmembers: 192.0.2.1/32^- 10.0.0.0/16^8, 10.0.0.0/8\nmnt-by: A-MNT\nsource: TEST\n";
+    let text = "route-set: RS-A\nmembers: 192.0.2.1/32^- 10.0.0.0/16^8, 10.0.0.0/8\nmnt-by: A-MNT\n\
+         source: TEST\n";
     assert!(rt; has_one_range(rt.alloc(), text)?);
     Ok(())
 }
@@ -279,8 +280,8 @@ fn a_copy_prints_the_same_text(rt: HostRuntime) -> Result<(), Fail> {
     Ok(())
 }
 
-/// Values of `auth` with their salts and the first and the last byte of their digests; the digest is SHA-256 of "abc"
-/// (FIPS 180-4).
+/// Values of `auth` with their salts and the first and the last byte of their digests; the digest
+/// is SHA-256 of "abc" (FIPS 180-4).
 const AUTHS: &[(&str, &[u8])] = &[
     (
         "sha256-pw a:ba7816bf8f01cfea414140de5dae2223b00361a396177a9cb410ff61f20015ad",
@@ -292,7 +293,8 @@ const AUTHS: &[(&str, &[u8])] = &[
     ("SHA256-PW a:00", b"fault"),
     ("SHA256-PW a_b:00 c", b"fault"),
     (
-        "SHA256-PW 12345678901234567:ba7816bf8f01cfea414140de5dae2223b00361a396177a9cb410ff61f20015ad",
+        "SHA256-PW 12345678901234567:\
+         ba7816bf8f01cfea414140de5dae2223b00361a396177a9cb410ff61f20015ad",
         b"fault",
     ),
     ("SHA256-PW:x", b"none"),
@@ -370,7 +372,7 @@ const NO_KEYS: &[(Class, &str, &str)] = &[
     (Class::Inetnum, "10.1.0.9 - 10.1.0.3", "no key"),
 ];
 
-/// The text with a blank and another behind it.
+/// The text with a blank and another after it.
 fn followed(mut text: Vec<u8>, other: &[u8]) -> Result<Vec<u8>, AllocError> {
     text.push(b' ')?;
     text.extend_from_slice(other)?;
@@ -433,7 +435,8 @@ const IN_TWO: &[(&str, &str)] = &[
     ),
 ];
 
-/// The bytes of the key of the text's paragraph, if it has one, and the code of what is read with that.
+/// The bytes of the key of the text's paragraph, if it has one, and the code of what is read with
+/// that.
 fn told_in_two(alloc: Global, source: &Name, text: &str) -> Result<Vec<u8>, Fail> {
     let paragraph = paragraph(alloc, text)?;
     match key_of(alloc, &paragraph) {

@@ -34,13 +34,14 @@ const EMPTY: &str = ":e3b0c44298fc1c149afbf4c8996fb92427ae41e4649b934ca495991b78
 /// The digest of `abc`, the first example of FIPS 180-4.
 const ABC: &str = ":ba7816bf8f01cfea414140de5dae2223b00361a396177a9cb410ff61f20015ad";
 
-/// The same digest, behind the first two letters as a salt.
+/// The same digest, after the first two letters as a salt.
 const SALTED_C: &str = "ab:BA7816BF8F01CFEA414140DE5DAE2223B00361A396177A9CB410FF61F20015AD";
 
 /// The digest of the second example of FIPS 180-4.
 const LONGER: &str = ":248d6a61d20638b8e5c026930c3e6039a33ce45964ff2167f6ecedd419db06c1";
 
-/// The messages of the examples of FIPS 180-4 with their digests, and the second one cut into salt and secret.
+/// The messages of the examples of FIPS 180-4 with their digests, and the second one cut into salt
+/// and secret.
 const PUBLISHED: [(&str, &str); 5] = [
     (EMPTY, ""),
     (ABC, "abc"),
@@ -51,7 +52,8 @@ const PUBLISHED: [(&str, &str); 5] = [
     ),
     (
         ":cf5b16a778af8380036ce59e7b0492370b249b11e8f07a51afac45037afee9d1",
-        "abcdefghbcdefghicdefghijdefghijkefghijklfghijklmghijklmnhijklmnoijklmnopjklmnopqklmnopqrlmnopqrsmnopqrstnopqrstu",
+        "abcdefghbcdefghicdefghijdefghijkefghijklfghijklmghijklmnhijklmno\
+         ijklmnopjklmnopqklmnopqrlmnopqrsmnopqrstnopqrstu",
     ),
 ];
 
@@ -64,8 +66,8 @@ fn published_digests_fit_their_messages_alone(rt: HostRuntime) -> Result<(), Fai
     Ok(())
 }
 
-/// Secrets in the order in which they come, with whether by then a maintainer passes whose digest of `abc` is salted,
-/// and one whose digest of it is not.
+/// Secrets in the order in which they come, with whether by then a maintainer passes whose digest
+/// of `abc` is salted, and one whose digest of it is not.
 const COMING: [(&str, bool, bool); 4] = [
     ("bc", false, false),
     ("abc", false, true),
@@ -91,7 +93,7 @@ fn a_secret_counts_from_when_it_comes(rt: HostRuntime) -> Result<(), Fail> {
 }
 
 #[test]
-fn secrets_that_come_together_count_behind_those_that_were_asked(
+fn secrets_that_come_together_count_after_those_that_were_asked(
     rt: HostRuntime,
 ) -> Result<(), Fail> {
     let salted = maintainer(rt.alloc(), &[SALTED_C])?;

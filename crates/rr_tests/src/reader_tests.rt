@@ -80,7 +80,8 @@ fn a_text_is_one_paragraph_however_it_is_cut(rt: HostRuntime) -> Result<(), Fail
     Ok(())
 }
 
-/// A skipped line and a blank one with so many bytes, a paragraph with so many more than 65,536, and a small one.
+/// A skipped line and a blank one with so many bytes, a paragraph with so many more than 65,536,
+/// and a small one.
 fn framed(alloc: Global, before: usize, more: usize) -> Result<Vec<u8>, AllocError> {
     let mut text = Vec::new(alloc);
     text.resize(before.saturating_sub(2), b'%')?;
@@ -90,8 +91,8 @@ fn framed(alloc: Global, before: usize, more: usize) -> Result<Vec<u8>, AllocErr
     Ok(text)
 }
 
-/// Asserts how the first paragraph of a text ends that comes by at most `step` bytes a read, and that a small one follows
-/// it.
+/// Asserts how the first paragraph of a text ends that comes by at most `step` bytes a read, and
+/// that a small one follows it.
 fn expect_framed<R: Abort + AllocGlobal>(
     rt: &R,
     text: &[u8],

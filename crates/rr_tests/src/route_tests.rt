@@ -35,8 +35,8 @@ mnt-by: B-MNT
 source: TEST
 ";
 
-/// With B-MNT's secret, grants to A-MNT by the route above and by AS2, one of them cut by an attribute; then, with
-/// A-MNT's too, routes that they admit and others.
+/// With B-MNT's secret, grants to A-MNT by the route above and by AS2, one of them cut by an
+/// attribute; then, with A-MNT's too, routes that they admit and others.
 const GRANTS: &str = "\
 password: abc
 
@@ -118,7 +118,8 @@ mnt-by: A-MNT
 source: TEST
 ",
         ],
-        report: "1 route 10.1.3.0/24 AS2: refused E15\n2 route 10.1.3.0/24 AS9: refused E14\n% items 2\n",
+        report: "1 route 10.1.3.0/24 AS2: refused E15\n2 route 10.1.3.0/24 AS9: refused E14\n\
+            % items 2\n",
     },
     Worked {
         shows: "mnt routes admits what its ranges say",

@@ -35,7 +35,8 @@ fn any_key(words: &mut Pcg32, of_prefixes: bool) -> Span {
     }
 }
 
-/// Takes a value out of both collections, or puts one into both, and asserts that they answer alike.
+/// Takes a value out of both collections, or puts one into both, and asserts that they answer
+/// alike.
 fn change_both<R: Abort, C: Collection, D: Collection>(
     rt: &R,
     collection: &mut C,
@@ -79,7 +80,8 @@ fn expect_alike_round<R: Abort + AllocGlobal, C: Collection, D: Collection>(
     Ok(())
 }
 
-/// Asserts that the collection, empty so far, answers as a list of spans does at each step of a sequence.
+/// Asserts that the collection, empty so far, answers as a list of spans does at each step of a
+/// sequence.
 fn expect_as_list<R: Abort + AllocGlobal, C: Collection + Drop>(
     rt: &R,
     mut collection: C,

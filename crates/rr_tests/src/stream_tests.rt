@@ -51,8 +51,8 @@ const TWO_READ: &str = "\
 % read fault after 2 items
 ";
 
-/// Submits the three where the reader fails after so many bytes and the writer after others; answers with what is
-/// answered, and with the bytes written.
+/// Submits the three where the reader fails after so many bytes and the writer after others;
+/// answers with what is answered, and with the bytes written.
 fn submit_cut<B: Keeper>(
     alloc: Global,
     registry: &mut Registry<B>,
@@ -76,7 +76,8 @@ fn expect_stand<B: Keeper, R: Abort + AllocGlobal>(
     Ok(())
 }
 
-/// Asserts what comes of the three: what is answered, that this front of the report was written, and how many stand.
+/// Asserts what comes of the three: what is answered, that this front of the report was written,
+/// and how many stand.
 fn expect_cut<B: Keeper + Drop, R: Abort + AllocGlobal>(
     rt: &R,
     (given, room): (usize, usize),
@@ -213,7 +214,8 @@ fn lengthened(alloc: Global, text: &str, size: usize) -> Result<Vec<u8>, AllocEr
 
 const BEFORE: &str = "inetnum: 10.0.0.0/8\nmnt-by: ROOT-MNT\nsource: TEST\ndescr: ";
 
-/// Texts with their sizes without the line end behind them, the bytes a read, and the first line of the report.
+/// Texts with their sizes without the line end after them, the bytes a read, and the first line of
+/// the report.
 const SIZES: &[(&str, usize, usize, &str)] = &[
     (
         BEFORE,
@@ -240,7 +242,7 @@ fn expect_size<B: Keeper + Drop, R: Abort + AllocGlobal>(
     expect_text(rt, &found, &wanted, "the size decides")
 }
 
-/// The lines behind the first one.
+/// The lines after the first one.
 const BEHIND: &str = "2 inetnum 11.0.0.0 - 11.255.255.255: added\n% items 2\n";
 
 #[test]

@@ -13,12 +13,12 @@ const FIRST: [&str; 7] = [
     "route-set: RS-A\n",
 ];
 
-/// What some class needs behind its first line; in other classes it is needed too, or text.
+/// What some class needs after its first line; in other classes it is needed too, or text.
 const NEEDED: &str = "mnt-by: A-MNT\nsource: TEST\nauth: CRYPT-PW x\norigin: AS1\n";
 
-/// An attribute: the lines in which it is missing, stands once, twice, without an item, and with a bad value; the
-/// needed lines beside it; and how often it stands in the classes in their order: once, with items, each one an item,
-/// freely, in the key, or as text.
+/// An attribute: the lines in which it is missing, stands once, twice, without an item, and with a
+/// bad value; the needed lines beside it; and how often it stands in the classes in their order:
+/// once, with items, each one an item, freely, in the key, or as text.
 type Row = (&'static [&'static str], &'static str, &'static [u8; 7]);
 
 const TABLE: &[Row] = &[

@@ -103,7 +103,7 @@ fn canonical_text_is_read_again(rt: HostRuntime) -> Result<(), Fail> {
     Ok(())
 }
 
-/// Texts that are no canonical ones.
+/// Texts that are not canonical.
 const OTHERS: &[&str] = &[
     "",
     "descr: x\n",
@@ -167,7 +167,8 @@ fn a_paragraph_has_at_most_65536_bytes(rt: HostRuntime) -> Result<(), Fail> {
     Ok(())
 }
 
-/// How many bytes a paragraph has more, one of them, and its fault: its size decides before its bytes.
+/// How many bytes a paragraph has more, one of them, and its fault: its size decides before its
+/// bytes.
 const SIZES: &[(usize, u8, TextFault)] = &[
     (0, 0, TextFault::BadByte),
     (1, b'a', TextFault::TooLarge),
@@ -186,7 +187,7 @@ fn size_decides_before_other_faults(rt: HostRuntime) -> Result<(), Fail> {
 const FAULTY: &[&str] = &[" x\n", "x\n", "1: x\n"];
 
 #[test]
-fn size_decides_behind_a_faulty_line(rt: HostRuntime) -> Result<(), Fail> {
+fn size_decides_after_a_faulty_line(rt: HostRuntime) -> Result<(), Fail> {
     for line in FAULTY {
         let mut text = line.as_bytes().to_vec(rt.alloc())?;
         text.extend_from_slice(sized(rt.alloc(), 0, b'a')?.as_slice())?;

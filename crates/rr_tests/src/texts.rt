@@ -51,7 +51,8 @@ mnt-by: A-MNT
 source: TEST
 ";
 
-/// A /8 of the root, AS1 of A-MNT, AS2 of B-MNT, a route of the /8 by AS2 and one of a /16 in it by AS1.
+/// A /8 of the root, AS1 of A-MNT, AS2 of B-MNT, a route of the /8 by AS2 and one of a /16 in it by
+/// AS1.
 pub const ROUTED: &str = "\
 password: bc
 password: c
@@ -103,8 +104,8 @@ mnt-by: B-MNT
 source: TEST
 ";
 
-/// With A-MNT's secret, inetnums of A-MNT: one that crosses no other, one that crosses the first, one in the first, one
-/// round the first, and one that ends before it begins.
+/// With A-MNT's secret, inetnums of A-MNT: one that crosses no other, one that crosses the first,
+/// one in the first, one round the first, and one that ends before it begins.
 pub const RANGES: &str = "\
 password: c
 
@@ -140,7 +141,8 @@ mnt-by: A-MNT
 source: TEST
 ";
 
-/// With the secrets of all but the holder, items that would touch the prefix; the holder's secret comes too late.
+/// With the secrets of all but the holder, items that would touch the prefix; the holder's secret
+/// comes too late.
 pub const HOSTILE: &str = "\
 password: abc
 password: bc

@@ -41,7 +41,8 @@ pub fn expect_text<R: Abort + AllocGlobal>(
     Ok(())
 }
 
-/// A query, the limit of expansions, and what is answered: all of it, or of objects their first lines.
+/// A query, the limit of expansions, and what is answered: all of it, or of objects their first
+/// lines.
 pub type Answer = (&'static str, usize, &'static str);
 
 /// Submissions to one registry in turn, and what is answered after them.
@@ -50,7 +51,8 @@ pub struct Asked {
     pub answers: &'static [Answer],
 }
 
-/// Asserts what is answered in each case: by the registry after the submissions, and by that of its dump.
+/// Asserts what is answered in each case: by the registry after the submissions, and by that of its
+/// dump.
 pub fn expect_answers<R: Abort + AllocGlobal>(rt: &R, cases: &[Asked]) -> Result<(), Fail> {
     for case in cases {
         expect_in::<PlainBook, R>(rt, case)?;

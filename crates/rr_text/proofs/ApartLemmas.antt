@@ -117,16 +117,16 @@ kept_all : (t : Bool) (line : List ℕ) (kept : List (List ℕ)) → kept ≢ []
 kept_all t line [] some = absurd (some refl)
 kept_all t line (next ∷ kept) some = kept_some t line next kept
 
-some_behind : (lines : List (List ℕ)) (more : List (List ℕ)) → more ≢ [] → lines ++ more ≢ []
-some_behind [] more some e = some e
-some_behind (line ∷ others) more some e = cc
+some_after : (lines : List (List ℕ)) (more : List (List ℕ)) → more ≢ [] → lines ++ more ≢ []
+some_after [] more some e = some e
+some_after (line ∷ others) more some e = cc
 
 -- behind whatever lines, a closed part is all kept
-pub closed_behind : (lines more : List (List ℕ)) → more ≢ [] → closed_lines more ≡ more → closed_lines (lines ++ more) ≡ lines ++ more
+pub closed_after : (lines more : List (List ℕ)) → more ≢ [] → closed_lines more ≡ more → closed_lines (lines ++ more) ≡ lines ++ more
 unfolding closed_lines
-closed_behind [] more some all = all
-closed_behind (line ∷ others) more some all =
-    ap (kept_before (closes line) line) (closed_behind others more some all) ∙ kept_all (closes line) line (others ++ more) (some_behind others more some)
+closed_after [] more some all = all
+closed_after (line ∷ others) more some all =
+    ap (kept_before (closes line) line) (closed_after others more some all) ∙ kept_all (closes line) line (others ++ more) (some_after others more some)
 
 pub closed_line : (line : List ℕ) → closes line ≡ true → closed_lines (line ∷ []) ≡ line ∷ []
 unfolding closed_lines
@@ -137,7 +137,7 @@ pub whole_closed : (text line : List ℕ) (lines : List (List ℕ)) → text_lin
 unfolding whole_part
 whole_closed text line lines e h =
     ap (λ ls. concat (closed_lines ls)) e
-    ∙ (ap concat (closed_behind lines (line ∷ []) (λ z. cc) (closed_line line h)) ∙ (ap concat (sym e) ∙ concat-text_lines text))
+    ∙ (ap concat (closed_after lines (line ∷ []) (λ z. cc) (closed_line line h)) ∙ (ap concat (sym e) ∙ concat-text_lines text))
 
 -- lines of which the last one closes
 pub record EndsClosed (lines : List (List ℕ)) : Type 0 where
@@ -244,8 +244,8 @@ joins_by [] front back e h = let none : front ≡ [] = no_text front e in rw (no
 joins_by (line ∷ others) front back e h = entries_apart front back (apart front line others e h)
 
 -- a text that counts whole keeps its entries apart from what follows
-pub entries_behind : (front back : List ℕ) → whole_part front ≡ front → entries (front ++ back) ≡ entries front ++ entries back
-entries_behind front back h = joins_by (text_lines front) front back refl h
+pub entries_after : (front back : List ℕ) → whole_part front ≡ front → entries (front ++ back) ≡ entries front ++ entries back
+entries_after front back h = joins_by (text_lines front) front back refl h
 
 whole_by : (lines : List (List ℕ)) (front back : List ℕ) → text_lines front ≡ lines → whole_part front ≡ front → whole_part (front ++ back) ≡ front ++ whole_part back
 unfolding whole_part
@@ -261,6 +261,6 @@ whole_joined front back h = whole_by (text_lines front) front back refl h
 
 pub joins : (front back : List ℕ) → whole_part front ≡ front → (entries (front ++ back) ≡ entries front ++ entries back) × (whole_entries (front ++ back) ≡ entries front ++ whole_entries back)
 joins front back h = (
-  entries_behind front back h,
-  ap entries (whole_joined front back h) ∙ entries_behind front (whole_part back) h,
+  entries_after front back h,
+  ap entries (whole_joined front back h) ∙ entries_after front (whole_part back) h,
 )

@@ -18,7 +18,7 @@ use Rattle.rr_text.specs.PrivateParts.{starts_block, until_blank}
 use Rattle.rr_text.specs.Entries.{entries, block_entry, size_limit}
 use Rattle.rr_text.specs.WholePart.{closes, closed_lines, whole_part, whole_entries}
 use Rattle.rr_text.proofs.LineLemmas.{text_lines-append, are_whole_lines-append}
-use Rattle.rr_text.proofs.LineSoFarLemmas.{or_none, unended, single_behind, whole_behind, line_with-append, EndsSo, ends_so}
+use Rattle.rr_text.proofs.LineSoFarLemmas.{or_none, unended, single_after, whole_after, line_with-append, EndsSo, ends_so}
 use Rattle.rr_text.proofs.BlockLemmas.{blocks_passed, blocks_apart, no_blocks, front_of}
 use Rattle.rr_text.proofs.ApartLemmas.{IsSplit, lines_split, closed_front, closed_before, whole_closed}
 
@@ -124,9 +124,9 @@ taken_end text block line started at more =
     ∙ (ap blocks (sym more.lines) ∙ blocks_one (text_lines (block ++ line)) more.starts more.unbroken))
 
 -- the line that has begun, with a piece behind it
-behind_lines : (text piece line : List ℕ) (passed block : List (List ℕ)) → ((more : List ℕ) → text_lines (text ++ more) ≡ passed ++ (block ++ text_lines (line ++ more)))
+after_lines : (text piece line : List ℕ) (passed block : List (List ℕ)) → ((more : List ℕ) → text_lines (text ++ more) ≡ passed ++ (block ++ text_lines (line ++ more)))
     → (more : List ℕ) → text_lines ((text ++ piece) ++ more) ≡ passed ++ (block ++ text_lines ((line ++ piece) ++ more))
-behind_lines text piece line passed block lines more =
+after_lines text piece line passed block lines more =
     ap text_lines (append_assoc text piece more) ∙ (lines (piece ++ more) ∙ ap (λ t. passed ++ (block ++ text_lines t)) (sym (append_assoc line piece more)))
 
 -- a piece without an LF makes the line longer
@@ -134,7 +134,7 @@ pub cut_more : (text block line piece : List ℕ) (started : Bool) → IsCutSo t
     → IsCutSo (text ++ piece) started block (line ++ piece)
 cut_more text block line piece started cut single h = record {
   passed = cut.passed;
-  lines = behind_lines text piece line cut.passed (text_lines block) cut.lines;
+  lines = after_lines text piece line cut.passed (text_lines block) cut.lines;
   idle = cut.idle;
   starts = cut.starts;
   none = cut.none;
@@ -159,7 +159,7 @@ cut_ended text block line piece started cut single = record {
   none = cut.none;
   unbroken = cut.unbroken;
   whole = cut.whole;
-  single = single_behind line piece cut.begun single;
+  single = single_after line piece cut.begun single;
 }
 
 front_more : (over : Bool) (whole : ℕ) (kept new piece block : List ℕ) → (whole ≤ length kept) × (take whole kept ≡ block) → (over ≡ false → new ≡ kept ++ piece) → (over ≡ true → new ≡ kept)
@@ -282,7 +282,7 @@ record IsAtFeed (text piece : List ℕ) (started : Bool) (block line : List ℕ)
 feed_lines : (text piece block line : List ℕ) (started : Bool) (at : IsAtFeed text piece started block line) (more : List ℕ)
     → text_lines ((text ++ piece) ++ more) ≡ at.cut.passed ++ (text_lines block ++ (line ++ piece) ∷ text_lines more)
 feed_lines text piece block line started at more =
-    behind_lines text piece line at.cut.passed (text_lines block) at.cut.lines more
+    after_lines text piece line at.cut.passed (text_lines block) at.cut.lines more
     ∙ ap (λ ls. at.cut.passed ++ (text_lines block ++ ls)) (text_lines-append (line ++ piece) more at.whole.ended ∙ ap (λ ls. ls ++ text_lines more) at.whole.single)
 
 fed_passed : (text piece block line : List ℕ) (new : Draft) → IsAtFeed text piece false block line → is_paragraph_line (line ++ piece) ≡ false → HasNoText new → IsBegun (text ++ piece) new
@@ -365,7 +365,7 @@ begun_fed text piece old mid new closing begun keeps ends some single h =
     let at : IsAtFeed text piece old.started begun.block begun.line = record {
       cut = begun.cut;
       at = cut_ended text begun.block begun.line piece old.started begun.cut single;
-      whole = record { single = single_behind begun.line piece begun.cut.begun single; ended = whole_behind begun.line piece some h };
+      whole = record { single = single_after begun.line piece begun.cut.begun single; ended = whole_after begun.line piece some h };
       some = omega (arith, some, length-append begun.line piece);
     } in
     fed_by (end_of_line mid.started mid.line) text piece begun.block begun.line old.started closing mid new at

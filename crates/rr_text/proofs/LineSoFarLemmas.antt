@@ -43,22 +43,22 @@ unended (b ∷ []) single h = rw h refl
 unended (b ∷ c ∷ cs) single h = unended_by (is_line_feed b) b c cs refl single (λ one. unended (c ∷ cs) one h)
 
 -- a line goes on up to its LF
-pub single_behind : (line piece : List ℕ) → list_any is_line_feed line ≡ false → text_lines piece ≡ piece ∷ [] → text_lines (line ++ piece) ≡ (line ++ piece) ∷ []
+pub single_after : (line piece : List ℕ) → list_any is_line_feed line ≡ false → text_lines piece ≡ piece ∷ [] → text_lines (line ++ piece) ≡ (line ++ piece) ∷ []
 unfolding text_lines
-single_behind [] piece h single = single
-single_behind (b ∷ bs) piece h single =
+single_after [] piece h single = single
+single_after (b ∷ bs) piece h single =
     let none = or_none (is_line_feed b) (list_any is_line_feed bs) h in
     let first : is_line_feed b ≡ false = none.0 in
-    rw first (ap (onto_first b) (single_behind bs piece none.1 single))
+    rw first (ap (onto_first b) (single_after bs piece none.1 single))
 
 whole_onto : (b : ℕ) (bs : List ℕ) → 0 < length bs → are_whole_lines (b ∷ bs) ≡ are_whole_lines bs
 unfolding are_whole_lines
 whole_onto b [] h = absurd (omega arith)
 whole_onto b (c ∷ cs) h = refl
 
-pub whole_behind : (line piece : List ℕ) → 0 < length piece → are_whole_lines piece ≡ true → are_whole_lines (line ++ piece) ≡ true
-whole_behind [] piece some h = h
-whole_behind (b ∷ bs) piece some h = whole_onto b (bs ++ piece) (omega (arith, length-append bs piece)) ∙ whole_behind bs piece some h
+pub whole_after : (line piece : List ℕ) → 0 < length piece → are_whole_lines piece ≡ true → are_whole_lines (line ++ piece) ≡ true
+whole_after [] piece some h = h
+whole_after (b ∷ bs) piece some h = whole_onto b (bs ++ piece) (omega (arith, length-append bs piece)) ∙ whole_after bs piece some h
 
 with_by : (t u v : Bool) (b : ℕ) (bs more : List ℕ) → is_remark_sign b ≡ t → is_blank_line (b ∷ bs) ≡ u → is_blank_line more ≡ v
     → line_with (line_so_far (b ∷ bs)) more ≡ line_so_far (b ∷ (bs ++ more))

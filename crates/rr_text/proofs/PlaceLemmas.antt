@@ -2,7 +2,7 @@
 use Rattle.std.proofs.Common.{◌≡◌, ℕ, ◌-◌, true, false, List, [], ◌∷◌, length, drop, refl, sym, ap, ◌∙◌, arith}
 use Rattle.std.specs.List.{concat}
 use Rattle.rr_text.specs.Lines.{text_lines, is_paragraph_line}
-use Rattle.rr_text.specs.Blocks.{from_blank, from_block, place_behind}
+use Rattle.rr_text.specs.Blocks.{from_blank, from_block, place_after}
 use Rattle.rr_text.proofs.EntryLemmas.{concat-text_lines}
 
 -- a line that is not of a paragraph is passed
@@ -23,8 +23,8 @@ from_block_none (b ∷ bs) h = absurd (omega arith)
 
 -- what is left behind the first block tells the place
 pub place_of_rest : (from : ℕ) (text left rest after : List ℕ) → left ≡ drop from text → text_lines rest ≡ from_block (text_lines left)
-    → text_lines after ≡ from_blank (text_lines rest) → length text - length after ≡ place_behind from text
-unfolding place_behind
+    → text_lines after ≡ from_blank (text_lines rest) → length text - length after ≡ place_after from text
+unfolding place_after
 place_of_rest from text left rest after cut to_block to_blank =
     let lines : text_lines after ≡ from_blank (from_block (text_lines (drop from text))) =
     to_blank ∙ ap from_blank (to_block ∙ ap (λ t. from_block (text_lines t)) cut) in
@@ -32,7 +32,7 @@ place_of_rest from text left rest after cut to_block to_blank =
 
 -- where no block begins, it is the end
 pub place_of_none : (from : ℕ) (text left rest : List ℕ) → left ≡ drop from text → text_lines rest ≡ from_block (text_lines left)
-    → length rest ≡ 0 → length text ≡ place_behind from text
+    → length rest ≡ 0 → length text ≡ place_after from text
 unfolding text_lines from_blank
 place_of_none from text left [] cut to_block none =
     let all : length text ≡ length text - 0 = omega arith in

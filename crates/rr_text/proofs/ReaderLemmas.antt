@@ -146,11 +146,11 @@ some_front : (front : List ℕ) (entry : Entry) → entries front ≡ entry ∷ 
 some_front [] entry e = let none : entries [] ≡ [] = no_entries in cc
 some_front (b ∷ bs) entry e = omega arith
 
-keeps_behind : (state : ReaderState) (now : Told) (front more left : List ℕ) → whole_part front ≡ front → KeepsApart state now more left → KeepsApart state now (front ++ more) left
-keeps_behind Open now front more left whole keeps = whole_joined front more whole ∙ ap (λ r. front ++ r) keeps
-keeps_behind Ended now front more left whole keeps = keeps
-keeps_behind Broken now front more left whole keeps = absurd keeps
-keeps_behind Endless now front more left whole keeps = absurd keeps
+keeps_after : (state : ReaderState) (now : Told) (front more left : List ℕ) → whole_part front ≡ front → KeepsApart state now more left → KeepsApart state now (front ++ more) left
+keeps_after Open now front more left whole keeps = whole_joined front more whole ∙ ap (λ r. front ++ r) keeps
+keeps_after Ended now front more left whole keeps = keeps
+keeps_after Broken now front more left whole keeps = absurd keeps
+keeps_after Endless now front more left whole keeps = absurd keeps
 
 open_whole : (start now : Told) (p : Paragraphs) (given : List Entry) (has : HasGiven start now p given) → state_of p ≡ Open → whole_part has.front ≡ has.front
 open_whole start now p given has is = subst (λ (state : ReaderState). KeepsApart state now has.front (held p)) is has.apart
@@ -179,7 +179,7 @@ grown start before after old new given front entry has is finds one =
       cut = ap (λ t. t ++ finds.bytes) has.cut
           ∙ (append_assoc has.front (held old) finds.bytes ∙ (ap (λ t. has.front ++ t) finds.cut ∙ sym (append_assoc has.front front (held new))));
       spelled = (joins has.front front whole).0 ∙ (ap (λ es. es ++ entries front) has.spelled ∙ ap (λ es. given ++ es) one);
-      apart = keeps_behind (state_of new) after has.front front (held new) whole finds.apart;
+      apart = keeps_after (state_of new) after has.front front (held new) whole finds.apart;
       counts = subst (λ (n : ℕ). CountsReads start after n) (sym finds.reads) (counts_then _ _ _ (reads_of old) finds.count has.counts finds.counts);
       fruitful = λ open_. let some = finds.fruitful open_ in let before_ = has.fruitful is in omega (arith, some, before_, finds.reads, length-append has.text finds.bytes);
       bounded = omega (arith, has.bounded, finds.bounded, finds.reads, length-append has.text finds.bytes);

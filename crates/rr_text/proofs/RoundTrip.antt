@@ -20,7 +20,7 @@ use Rattle.rr_text.proofs.BlockLemmas.{blocks_front, no_blocks}
 use Rattle.rr_text.proofs.EntryLemmas.{entry_small, entries_joined}
 use Rattle.rr_bytes.proofs.TrimLemmas.{trim_end_blank}
 use Rattle.rr_text.specs.Fields.{Field, IsLine, IsField, AreFields}
-use Rattle.rr_text.specs.CanonicalText.{value_column, ended, opening_line, further_line, behind_blanks, value_text, field_text, canonical}
+use Rattle.rr_text.specs.CanonicalText.{value_column, ended, opening_line, further_line, after_blanks, value_text, field_text, canonical}
 use Rattle.rr_text.proofs.LineLemmas.{text_lines-append, are_whole_lines-append}
 use Rattle.rr_text.proofs.SoundLemmas.{and_left, and_right, or_left, or_right, not_false, any_cons}
 
@@ -91,13 +91,13 @@ any_blanks p h (suc n) = any_cons p 32 (replicate n 32) h (any_blanks p h n)
 any_append : (p : ℕ → Bool) (xs ys : List ℕ) → list_any p xs ≡ false → list_any p ys ≡ false → list_any p (xs ++ ys) ≡ false
 any_append p xs ys h e = list_any-append p xs ys ∙ rw (h, e) refl
 
-any_behind : (p : ℕ → Bool) (n : ℕ) (line : List ℕ) → p 32 ≡ false → list_any p line ≡ false → list_any p (behind_blanks n line) ≡ false
-any_behind p n [] h e = refl
-any_behind p n (b ∷ bs) h e = any_append p (replicate n 32) (b ∷ bs) (any_blanks p h n) e
+any_after : (p : ℕ → Bool) (n : ℕ) (line : List ℕ) → p 32 ≡ false → list_any p line ≡ false → list_any p (after_blanks n line) ≡ false
+any_after p n [] h e = refl
+any_after p n (b ∷ bs) h e = any_append p (replicate n 32) (b ∷ bs) (any_blanks p h n) e
 
 any_opening : (p : ℕ → Bool) (name line : List ℕ) → p 32 ≡ false → p 58 ≡ false → list_any p name ≡ false → list_any p line ≡ false → list_any p (opening_line name line) ≡ false
 any_opening p name line h k e f =
-    any_append p (name ++ 58 ∷ []) _ (any_append p name (58 ∷ []) e (any_cons p 58 [] k refl)) (any_behind p _ line h f)
+    any_append p (name ++ 58 ∷ []) _ (any_append p name (58 ∷ []) e (any_cons p 58 [] k refl)) (any_after p _ line h f)
 
 any_further : (p : ℕ → Bool) (line : List ℕ) → p 32 ≡ false → p 43 ≡ false → list_any p line ≡ false → list_any p (further_line line) ≡ false
 any_further p [] h k e = any_cons p 43 [] k refl
@@ -217,8 +217,8 @@ place_of_colon : (name rest : List ℕ) → list_any is_colon name ≡ false →
 place_of_colon [] rest h = refl
 place_of_colon (b ∷ bs) rest h = place_by b bs rest (or_left (is_colon b) _ h) (place_of_colon bs rest (or_right (is_colon b) (list_any is_colon bs) h))
 
-drop_behind : (name rest : List ℕ) → drop (length name + 1) (name ++ 58 ∷ rest) ≡ rest
-drop_behind name rest =
+drop_after : (name rest : List ℕ) → drop (length name + 1) (name ++ 58 ∷ rest) ≡ rest
+drop_after name rest =
     ap (λ l. drop (length name + 1) l) (sym (append_assoc name (58 ∷ []) rest)) ∙ drop_at (name ++ 58 ∷ []) rest (length name + 1) (length-append name (58 ∷ []))
 
 or_true : (a : Bool) → (a || true) ≡ true
@@ -248,7 +248,7 @@ trim-ended (b ∷ bs) = feed_by (is_blank_or_line_feed b) b bs refl (trim-ended 
 padded : (n : ℕ) (line : List ℕ) → trim is_blank_or_line_feed line ≡ line → trim is_blank_or_line_feed ((replicate n 32 ++ line) ++ 10 ∷ []) ≡ line
 padded n line trimmed = trim-ended (replicate n 32 ++ line) ∙ (ap (trim_end is_blank_or_line_feed) (start_blanks n line) ∙ trimmed)
 
-pub opened_value_is : (n : ℕ) (line : List ℕ) → trim is_blank_or_line_feed line ≡ line → trim is_blank_or_line_feed (behind_blanks n line ++ 10 ∷ []) ≡ line
+pub opened_value_is : (n : ℕ) (line : List ℕ) → trim is_blank_or_line_feed line ≡ line → trim is_blank_or_line_feed (after_blanks n line ++ 10 ∷ []) ≡ line
 unfolding trim_start trim_end
 opened_value_is n [] trimmed = refl
 opened_value_is n (b ∷ bs) trimmed = padded n (b ∷ bs) trimmed
@@ -258,10 +258,10 @@ unfolding trim_start trim_end
 added_value_is [] trimmed = refl
 added_value_is (b ∷ bs) trimmed = padded 15 (b ∷ bs) trimmed
 
-colon_line : (name first : List ℕ) → ended (opening_line name first) ≡ name ++ 58 ∷ (behind_blanks (max 1 (value_column - (length name + 1))) first ++ 10 ∷ [])
+colon_line : (name first : List ℕ) → ended (opening_line name first) ≡ name ++ 58 ∷ (after_blanks (max 1 (value_column - (length name + 1))) first ++ 10 ∷ [])
 colon_line name first =
-    append_assoc (name ++ 58 ∷ []) (behind_blanks (max 1 (value_column - (length name + 1))) first) (10 ∷ [])
-    ∙ append_assoc name (58 ∷ []) (behind_blanks (max 1 (value_column - (length name + 1))) first ++ 10 ∷ [])
+    append_assoc (name ++ 58 ∷ []) (after_blanks (max 1 (value_column - (length name + 1))) first) (10 ∷ [])
+    ∙ append_assoc name (58 ∷ []) (after_blanks (max 1 (value_column - (length name + 1))) first ++ 10 ∷ [])
 
 -- a printed opening line opens the attribute that it was printed for
 pub record IsOpeningOf (name first line : List ℕ) : Type 0 where
@@ -272,11 +272,11 @@ pub record IsOpeningOf (name first line : List ℕ) : Type 0 where
 pub opening_of : (name first : List ℕ) → list_all is_name_byte name ≡ true → trim is_blank_or_line_feed first ≡ first → IsOpeningOf name first (ended (opening_line name first))
 opening_of name first bytes trimmed =
     let n = max 1 (value_column - (length name + 1)) in
-    let rest = behind_blanks n first ++ 10 ∷ [] in
+    let rest = after_blanks n first ++ 10 ∷ [] in
     let free : list_any is_colon name ≡ false = any_none is_colon name_no_colon name bytes in
     let place : position_or_len is_colon (name ++ 58 ∷ rest) ≡ length name = place_of_colon name rest free in
     let before : before_first is_colon (name ++ 58 ∷ rest) ≡ name = ap (λ k. take k (name ++ 58 ∷ rest)) place ∙ take_at name (58 ∷ rest) (length name) refl in
-    let after : after_first is_colon (name ++ 58 ∷ rest) ≡ rest = ap (λ k. drop (k + 1) (name ++ 58 ∷ rest)) place ∙ drop_behind name rest in
+    let after : after_first is_colon (name ++ 58 ∷ rest) ≡ rest = ap (λ k. drop (k + 1) (name ++ 58 ∷ rest)) place ∙ drop_after name rest in
     record {
       colon = ap (list_any is_colon) (colon_line name first) ∙ any_colon name rest;
       name_is = ap written_name (colon_line name first) ∙ (ap (trim_end is_blank_or_line_feed) before ∙ solid_end name (any_none is_blank_or_line_feed name_no_blank name bytes));

@@ -1,12 +1,14 @@
 -- The blocks of a text: its runs of lines between blank ones (RFC 2622, 2).
-use Rattle.std.specs.Prelude.{ℕ, Bool, true, false, ◌-◌, List, [], ◌∷◌, length, drop, filter, map, if◌then◌else◌}
+use Rattle.std.specs.Prelude.{ℕ, Bool, true, false, ◌-◌, List, [], ◌∷◌, length, drop}
+use Rattle.std.specs.Prelude.{filter, map, if◌then◌else◌}
 use Rattle.std.specs.List.{concat, slice_split}
 use Rattle.rr_text.specs.Lines.{text_lines, is_blank_line, is_skipped_line, is_paragraph_line}
 
 -- a run of lines less the skipped ones before its first other line (profile)
 unfoldable pub from_unskipped : List (List ℕ) → List (List ℕ)
 from_unskipped [] = []
-from_unskipped (line ∷ others) = if is_skipped_line line then from_unskipped others else line ∷ others
+from_unskipped (line ∷ others) =
+    if is_skipped_line line then from_unskipped others else line ∷ others
 
 -- a run of lines that is not empty
 abbrev pub has_line : List (List ℕ) → Bool
@@ -28,7 +30,8 @@ unfoldable pub from_block : List (List ℕ) → List (List ℕ)
 from_block [] = []
 from_block (line ∷ others) = if is_paragraph_line line then line ∷ others else from_block others
 
--- the place behind the first block from a place on: that of the blank line that ends it, and else the end of the text
--- (RFC 2622, 2)
-unfoldable pub place_behind : ℕ → List ℕ → ℕ
-place_behind from text = length text - length (concat (from_blank (from_block (text_lines (drop from text)))))
+-- the place after the first block from a place on: that of the blank line that ends it, and else
+-- the end of the text (RFC 2622, 2)
+unfoldable pub place_after : ℕ → List ℕ → ℕ
+place_after from text =
+    length text - length (concat (from_blank (from_block (text_lines (drop from text)))))

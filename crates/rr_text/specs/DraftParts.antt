@@ -1,8 +1,12 @@
 -- What a paragraph that is being read has of the text so far: parts of the reader of paragraphs.
-use Rattle.std.specs.Prelude.{◌≡◌, ℕ, Bool, true, false, ◌+◌, ◌<◌, ◌≤◌, List, [], ◌∷◌, ◌++◌, ◌⊎◌, length, take, Option, Some, None, Result, Ok, Err, if◌then◌else◌}
+use Rattle.std.specs.Prelude.{◌≡◌, ℕ, Bool, true, false, ◌+◌, ◌<◌, ◌≤◌, List}
+use Rattle.std.specs.Prelude.{[], ◌∷◌, ◌++◌, ◌⊎◌, length, take, Option, Some, None}
+use Rattle.std.specs.Prelude.{Result, Ok, Err, if◌then◌else◌}
 use Rattle.std.specs.List.{list_any}
 use Rattle.rr_text.specs.declared.fault.TextFault.{TextFault}
-use Rattle.rr_text.specs.declared.fault.TextFault.TheVariants.{TooLarge, BadByte, FirstContinues, NoColon, BadName, Memory, Read, Endless}
+use Rattle.rr_text.specs.declared.fault.TextFault.TheVariants.{TooLarge, BadByte, FirstContinues}
+use Rattle.rr_text.specs.declared.fault.TextFault.TheVariants.{NoColon, BadName, Memory, Read}
+use Rattle.rr_text.specs.declared.fault.TextFault.TheVariants.{Endless}
 use Rattle.rr_text.specs.declared.draft.Draft.{Draft}
 use Rattle.rr_text.specs.declared.line_so_far.LineSoFar.TheVariants.{Nothing}
 use Rattle.rr_text.specs.declared.line_so_far.LineEnd.{LineEnd}
@@ -15,10 +19,12 @@ use Rattle.rr_text.specs.Fields.{Field, AreFields}
 use Rattle.rr_text.specs.Entries.{entries, block_entry, size_limit}
 use Rattle.rr_text.specs.WholePart.{whole_part}
 
--- the lines of a text, whatever follows it: those that no block has, the block so far, and the line that has begun
+-- the lines of a text, whatever follows it: those that no block has, the block so far, and the line
+-- that has begun
 pub record IsCutSo (text : List ℕ) (started : Bool) (block line : List ℕ) : Type 0 where
   pub passed : List (List ℕ)
-  pub lines : (more : List ℕ) → text_lines (text ++ more) ≡ passed ++ (text_lines block ++ text_lines (line ++ more))
+  pub lines : (more : List ℕ)
+      → text_lines (text ++ more) ≡ passed ++ (text_lines block ++ text_lines (line ++ more))
   pub idle : list_any is_paragraph_line passed ≡ false
   pub starts : starts_block (text_lines block) ≡ started
   pub none : started ≡ false → block ≡ []
@@ -26,7 +32,7 @@ pub record IsCutSo (text : List ℕ) (started : Bool) (block line : List ℕ) : 
   pub whole : are_whole_lines block ≡ true
   pub begun : list_any is_line_feed line ≡ false
 
--- what is kept of a block and of the line behind it, and how many bytes of it are the block's
+-- what is kept of a block and of the line after it, and how many bytes of it are the block's
 pub record KeepsBlock (block line kept : List ℕ) (over : Bool) (whole : ℕ) : Type 0 where
   pub all : over ≡ false → kept ≡ block ++ line
   pub large : over ≡ true → size_limit < length (block ++ line)
@@ -45,11 +51,12 @@ pub record IsBegun (text : List ℕ) (draft : Draft) : Type 0 where
 pub record HasEntry (text : List ℕ) (draft : Draft) : Type 0 where
   pub block : List ℕ
   pub starts : starts_block (text_lines block) ≡ true
-  pub front : draft.whole ≤ size_limit → (draft.whole ≤ length draft.kept.items) × (take draft.whole draft.kept.items ≡ block)
+  pub front : draft.whole ≤ size_limit
+      → (draft.whole ≤ length draft.kept.items) × (take draft.whole draft.kept.items ≡ block)
   pub too_large : size_limit < draft.whole → size_limit < length block
   pub one : entries text ≡ block_entry (text_lines block) ∷ []
 
--- such a text that ends with the blank line behind the block
+-- such a text that ends with the blank line after the block
 pub record IsClosed (text : List ℕ) (draft : Draft) : Type 0 where
   pub entry : HasEntry text draft
   pub apart : whole_part text ≡ text
@@ -79,8 +86,10 @@ pub record HasNoText (draft : Draft) : Type 0 where
 
 -- a piece is kept where it fits, and is of the line that has begun
 pub record KeepsPiece (old new : Draft) (piece : List ℕ) : Type 0 where
-  pub fits : new.over ≡ false → (old.over ≡ false) × (new.kept.items ≡ old.kept.items ++ piece)
-  pub over : new.over ≡ true → (new.kept.items ≡ old.kept.items) × ((old.over ≡ true) ⊎ (size_limit < length old.kept.items + length piece))
+  pub fits : new.over ≡ false
+      → (old.over ≡ false) × (new.kept.items ≡ old.kept.items ++ piece)
+  pub over : new.over ≡ true → (new.kept.items ≡ old.kept.items)
+      × ((old.over ≡ true) ⊎ (size_limit < length old.kept.items + length piece))
   pub whole : new.whole ≡ old.whole
   pub started : new.started ≡ old.started
   pub line : new.line ≡ line_with old.line piece
@@ -99,14 +108,16 @@ EndsLine Passed old new closes = HasNoText new × (closes ≡ false)
 EndsLine Taken old new closes = TakesLine old new × (closes ≡ false)
 EndsLine Closed old new closes = (new ≡ old) × (closes ≡ true)
 
--- the one entry of a text, by the answer: where memory was refused it is not told
+-- the one entry of a text, by the answer: if memory ran out it is not told
 abbrev pub GivesOne : List ℕ → Result (List Field) TextFault → Type 0
-GivesOne text (Ok fields) = (entries text ≡ Ok fields ∷ []) × (0 < length fields) × AreFields fields
+GivesOne text (Ok fields) =
+    (entries text ≡ Ok fields ∷ []) × (0 < length fields) × AreFields fields
 GivesOne text (Err TooLarge) = entries text ≡ Err TooLarge ∷ []
 GivesOne text (Err BadByte) = entries text ≡ Err BadByte ∷ []
 GivesOne text (Err FirstContinues) = entries text ≡ Err FirstContinues ∷ []
 GivesOne text (Err NoColon) = entries text ≡ Err NoColon ∷ []
 GivesOne text (Err BadName) = entries text ≡ Err BadName ∷ []
-GivesOne text (Err Memory) = (entry : Result (List Field) TextFault) × (entries text ≡ entry ∷ [])
+GivesOne text (Err Memory) =
+    (entry : Result (List Field) TextFault) × (entries text ≡ entry ∷ [])
 GivesOne text (Err Read) = ⊥
 GivesOne text (Err Endless) = ⊥

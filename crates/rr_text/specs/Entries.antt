@@ -1,5 +1,6 @@
 -- What a text spells: one entry for each block, a paragraph or a fault (RFC 2622, 2).
-use Rattle.std.specs.Prelude.{ℕ, length, drop, nat_lt, List, [], ◌∷◌, Option, Some, None, Result, Ok, Err, map, if◌then◌else◌}
+use Rattle.std.specs.Prelude.{ℕ, length, drop, nat_lt, List, [], ◌∷◌, Option, Some, None}
+use Rattle.std.specs.Prelude.{Result, Ok, Err, map, if◌then◌else◌}
 use Rattle.std.specs.List.{after_first, concat}
 use Rattle.rr_text.specs.declared.fault.TextFault.{TextFault}
 use Rattle.rr_text.specs.declared.fault.TextFault.TheVariants.{TooLarge}
@@ -14,7 +15,7 @@ use Rattle.rr_text.specs.Blocks.{blocks}
 use Rattle.rr_text.specs.Faults.{written_name, block_fault}
 use Rattle.rr_text.specs.Fields.{Field}
 
--- the line of a value that a line opens with: what stands behind its first colon (RFC 2622, 2)
+-- the line of a value that a line opens with: what stands after its first colon (RFC 2622, 2)
 abbrev pub opened_value : List ℕ → List ℕ
 opened_value line = trim is_blank_or_line_feed (after_first is_colon line)
 
@@ -29,14 +30,17 @@ continued_by line Skipped more = more
 continued_by line Continuation more = added_value line ∷ more
 continued_by line Opening more = []
 
--- the lines that continue a value: of the continuations up to the next line that opens an attribute (RFC 2622, 2)
+-- the lines that continue a value: of the continuations up to the next line that opens an attribute
+-- (RFC 2622, 2)
 unfoldable pub continued : List (List ℕ) → List (List ℕ)
 continued [] = []
 continued (line ∷ others) = continued_by line (line_kind line) (continued others)
 
--- the attribute that a line opens, its name in lower case, with the lines that continue its value (RFC 2622, 2)
+-- the attribute that a line opens, its name in lower case, with the lines that continue its value
+-- (RFC 2622, 2)
 abbrev pub opened_field : List ℕ → List (List ℕ) → Field
-opened_field line more = record { name = lowered (written_name line); lines = opened_value line ∷ more }
+opened_field line more =
+    record { name = lowered (written_name line); lines = opened_value line ∷ more }
 
 -- the attributes from a line on, by its kind
 abbrev pub opened_by : List ℕ → LineKind → List (List ℕ) → List Field → List Field
@@ -48,7 +52,8 @@ opened_by line Opening more fields = opened_field line more ∷ fields
 -- each line that opens an attribute gives one, with the lines that continue its value (RFC 2622, 2)
 unfoldable pub block_fields : List (List ℕ) → List Field
 block_fields [] = []
-block_fields (line ∷ others) = opened_by line (line_kind line) (continued others) (block_fields others)
+block_fields (line ∷ others) =
+    opened_by line (line_kind line) (continued others) (block_fields others)
 
 -- a paragraph has at most 65,536 bytes, the ends of its lines and skipped lines included (profile)
 abbrev pub size_limit : ℕ

@@ -1,9 +1,11 @@
 -- What is wrong with a line or a block, the first fault first (RFC 2622, 2; the order: profile).
-use Rattle.std.specs.Prelude.{ℕ, Bool, true, false, not, List, [], ◌∷◌, Option, Some, None, if◌then◌else◌}
+use Rattle.std.specs.Prelude.{ℕ, Bool, true, false, not, List, [], ◌∷◌, Option, Some, None}
+use Rattle.std.specs.Prelude.{if◌then◌else◌}
 use Rattle.std.specs.List.{list_any, before_first}
 use Rattle.std.specs.Option.{option_or}
 use Rattle.rr_text.specs.declared.fault.TextFault.{TextFault}
-use Rattle.rr_text.specs.declared.fault.TextFault.TheVariants.{BadByte, FirstContinues, NoColon, BadName}
+use Rattle.rr_text.specs.declared.fault.TextFault.TheVariants.{BadByte, FirstContinues, NoColon}
+use Rattle.rr_text.specs.declared.fault.TextFault.TheVariants.{BadName}
 use Rattle.rr_text.specs.declared.line.LineKind.{LineKind}
 use Rattle.rr_text.specs.declared.line.LineKind.TheVariants.{Blank, Skipped, Continuation, Opening}
 use Rattle.rr_bytes.specs.Blanks.{is_blank_or_line_feed}
@@ -12,8 +14,8 @@ use Rattle.rr_bytes.specs.Trims.{trim_end}
 use Rattle.rr_text.specs.Bytes.{is_refused, is_colon}
 use Rattle.rr_text.specs.Lines.{line_kind}
 
--- the name that a line opens with: what stands before its first colon, less the blanks behind it (RFC 2622, 2; the
--- blanks: profile)
+-- the name that a line opens with: what stands before its first colon, less the blanks after it
+-- (RFC 2622, 2; the blanks: profile)
 abbrev pub written_name : List ℕ → List ℕ
 written_name line = trim_end is_blank_or_line_feed (before_first is_colon line)
 
@@ -31,8 +33,10 @@ continuation_fault is_first = if is_first then Some FirstContinues else None
 abbrev pub fault_by_kind : Bool → List ℕ → LineKind → Option TextFault
 fault_by_kind is_first line Blank = None
 fault_by_kind is_first line Skipped = None
-fault_by_kind is_first line Continuation = if list_any is_refused line then Some BadByte else continuation_fault is_first
-fault_by_kind is_first line Opening = if list_any is_refused line then Some BadByte else opening_fault line
+fault_by_kind is_first line Continuation =
+    if list_any is_refused line then Some BadByte else continuation_fault is_first
+fault_by_kind is_first line Opening =
+    if list_any is_refused line then Some BadByte else opening_fault line
 
 -- the first fault of a line, if it has one
 unfoldable pub line_fault : Bool → List ℕ → Option TextFault

@@ -11,7 +11,8 @@ use Rattle.rr_text.specs.Fields.{Field, AreFields}
 use Rattle.rr_text.specs.Entries.{opened_value, added_value, continued}
 use Rattle.rr_text.specs.CanonicalText.{ended, opening_line, further_line, canonical}
 
--- the attribute that a line opens, its name as it is written, with the lines that continue its value
+-- the attribute that a line opens, its name as it is written, with the lines that continue its
+-- value
 abbrev pub kept_field : List ℕ → List (List ℕ) → Field
 kept_field line more = record { name = written_name line; lines = opened_value line ∷ more }
 
@@ -25,7 +26,8 @@ kept_by line Opening more fields = kept_field line more ∷ fields
 -- the attributes of lines, with their names as they are written
 unfoldable pub kept_fields : List (List ℕ) → List Field
 kept_fields [] = []
-kept_fields (line ∷ others) = kept_by line (line_kind line) (continued others) (kept_fields others)
+kept_fields (line ∷ others) =
+    kept_by line (line_kind line) (continued others) (kept_fields others)
 
 -- the attributes of a text
 unfoldable pub fields_in : List ℕ → List Field

@@ -1,5 +1,6 @@
 -- What is true of texts and their entries.
-use Rattle.std.specs.Prelude.{ℕ, true, ◌≡◌, ◌↔◌, ◌<◌, ◌≤◌, length, List, [], ◌∷◌, ◌++◌, Ok}
+use Rattle.std.specs.Prelude.{ℕ, true, ◌≡◌, ◌↔◌, ◌<◌, ◌≤◌, length, List, []}
+use Rattle.std.specs.Prelude.{◌∷◌, ◌++◌, Ok}
 use Rattle.rr_text.specs.Lines.{are_whole_lines, IsWholeLine, is_blank_line, is_skipped_line}
 use Rattle.rr_text.specs.Fields.{Field, AreFields, fields_eq}
 use Rattle.rr_text.specs.Entries.{entries, size_limit}
@@ -8,32 +9,39 @@ use Rattle.rr_text.specs.WholePart.{whole_part, whole_entries}
 
 -- two paragraphs with the same canonical text are the same
 abbrev pub CanonicalDetermines : Type 0
-CanonicalDetermines = (a b : List Field) → AreFields a → AreFields b → canonical a ≡ canonical b → a ≡ b
+CanonicalDetermines =
+    (a b : List Field) → AreFields a → AreFields b → canonical a ≡ canonical b → a ≡ b
 
 -- two paragraphs compare as equal exactly where they have the same canonical text
 abbrev pub EqualAsPrinted : Type 0
-EqualAsPrinted = (a b : List Field) → AreFields a → AreFields b → (fields_eq a b ≡ true) ↔ (canonical a ≡ canonical b)
+EqualAsPrinted = (a b : List Field) → AreFields a → AreFields b
+    → (fields_eq a b ≡ true) ↔ (canonical a ≡ canonical b)
 
 -- canonical text that is not too large spells its paragraph and nothing else
 abbrev pub CanonicalSpells : Type 0
-CanonicalSpells = (fields : List Field) → 0 < length fields → AreFields fields → length (canonical fields) ≤ size_limit → entries (canonical fields) ≡ Ok fields ∷ []
+CanonicalSpells = (fields : List Field) → 0 < length fields → AreFields fields
+    → length (canonical fields) ≤ size_limit → entries (canonical fields) ≡ Ok fields ∷ []
 
 -- whole lines and a blank line keep their entries apart from what follows
 abbrev pub BlankLineJoins : Type 0
-BlankLineJoins = (front blank back : List ℕ) → are_whole_lines front ≡ true → IsWholeLine blank → is_blank_line blank ≡ true
+BlankLineJoins = (front blank back : List ℕ) → are_whole_lines front ≡ true
+    → IsWholeLine blank → is_blank_line blank ≡ true
     → entries (front ++ (blank ++ back)) ≡ entries front ++ entries back
 
--- a dump is canonical texts, each with an empty line behind it
+-- a dump is canonical texts, each with an empty line after it
 abbrev pub CanonicalLeads : Type 0
-CanonicalLeads = (fields : List Field) (rest : List ℕ) → 0 < length fields → AreFields fields → length (canonical fields) ≤ size_limit
+CanonicalLeads = (fields : List Field) (rest : List ℕ) → 0 < length fields → AreFields fields
+    → length (canonical fields) ≤ size_limit
     → entries (canonical fields ++ 10 ∷ rest) ≡ Ok fields ∷ entries rest
 
 -- a skipped line that is no part of a block spells nothing
 abbrev pub SkippedLinePassed : Type 0
-SkippedLinePassed = (line rest : List ℕ) → IsWholeLine line → is_skipped_line line ≡ true → entries (line ++ rest) ≡ entries rest
+SkippedLinePassed = (line rest : List ℕ) → IsWholeLine line → is_skipped_line line ≡ true
+    → entries (line ++ rest) ≡ entries rest
 
--- a text that ends with the last blank line whose LF was read keeps its entries apart from what follows, which may
--- break off
+-- a text that ends with the last blank line whose LF was read keeps its entries apart from what
+-- follows, which may break off
 abbrev pub ClosedTextJoins : Type 0
 ClosedTextJoins = (front back : List ℕ) → whole_part front ≡ front
-    → (entries (front ++ back) ≡ entries front ++ entries back) × (whole_entries (front ++ back) ≡ entries front ++ whole_entries back)
+    → (entries (front ++ back) ≡ entries front ++ entries back)
+    × (whole_entries (front ++ back) ≡ entries front ++ whole_entries back)

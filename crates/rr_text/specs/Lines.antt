@@ -1,5 +1,6 @@
 -- The lines of a text, and what kind of line each is (RFC 2622, 2).
-use Rattle.std.specs.Prelude.{ℕ, Bool, true, not, ◌==◌, ◌≡◌, ◌||◌, ◌&&◌, List, [], ◌∷◌, if◌then◌else◌}
+use Rattle.std.specs.Prelude.{ℕ, Bool, true, not, ◌==◌, ◌≡◌, ◌||◌, ◌&&◌, List}
+use Rattle.std.specs.Prelude.{[], ◌∷◌, if◌then◌else◌}
 use Rattle.std.specs.List.{list_all, onto_first}
 use Rattle.rr_text.specs.declared.line.LineKind.{LineKind}
 use Rattle.rr_text.specs.declared.line.LineKind.TheVariants.{Blank, Skipped, Continuation, Opening}
@@ -9,7 +10,8 @@ use Rattle.rr_bytes.specs.NameBytes.{begins}
 -- a line runs to the next LF and keeps it; the last line may have none (RFC 2622, 2)
 unfoldable pub text_lines : List ℕ → List (List ℕ)
 text_lines [] = []
-text_lines (b ∷ bs) = if is_line_feed b then (b ∷ []) ∷ text_lines bs else onto_first b (text_lines bs)
+text_lines (b ∷ bs) =
+    if is_line_feed b then (b ∷ []) ∷ text_lines bs else onto_first b (text_lines bs)
 
 -- a line of blanks alone (RFC 2622, 2)
 abbrev pub is_blank_line : List ℕ → Bool
@@ -27,7 +29,8 @@ is_skipped_line line = begins is_remark_sign line
 abbrev pub is_continuation_sign : ℕ → Bool
 is_continuation_sign b = is_blank_or_line_feed b || (b == 43)
 
--- the first kind that fits: blank, skipped, continuation, and else a line that opens an attribute (RFC 2622, 2)
+-- the first kind that fits: blank, skipped, continuation, and else a line that opens an attribute
+-- (RFC 2622, 2)
 unfoldable pub line_kind : List ℕ → LineKind
 line_kind line =
     if is_blank_line line then Blank

@@ -10,6 +10,7 @@ use Rattle.rr_text.specs.Bytes.{is_hash}
 abbrev pub uncommented : List ℕ → List ℕ
 uncommented line = trim is_blank_or_line_feed (before_first is_hash line)
 
--- a value means its lines less their comments, joined by one space (RFC 2622, 2; the space: profile)
+-- a value means its lines less their comments, joined by one space (RFC 2622, 2; the space:
+-- profile)
 unfoldable pub value_meaning : List (List ℕ) → List ℕ
 value_meaning lines = trim is_blank_or_line_feed (joined_by_space (map uncommented lines))

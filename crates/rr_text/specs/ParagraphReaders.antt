@@ -1,7 +1,9 @@
 -- The reading of a text paragraph by paragraph: what was given of it so far (profile).
-use Rattle.std.specs.Prelude.{◌≡◌, ℕ, ◌+◌, ◌-◌, ◌*◌, ◌<◌, ◌≤◌, ⊤, List, [], ◌∷◌, ◌++◌, length, take, drop, Option, Some, None, Result, Ok, Err}
+use Rattle.std.specs.Prelude.{◌≡◌, ℕ, ◌+◌, ◌-◌, ◌*◌, ◌<◌, ◌≤◌, ⊤}
+use Rattle.std.specs.Prelude.{List, [], ◌∷◌, ◌++◌, length, take, drop, Option, Some, None}
+use Rattle.std.specs.Prelude.{Result, Ok, Err}
 use Rattle.rr_io.specs.Told.{Told}
-use Rattle.rr_io.specs.Receiving.{Gives, IsSpent, CountsReads, Reads}
+use Rattle.rr_io.specs.Receiving.{Gives, IsSpent, CountsReads, Reads, read_limit}
 use Rattle.rr_io.specs.declared.receiving.ReadEnd.{ReadEnd}
 use Rattle.rr_io.specs.declared.receiving.ReadEnd.TheVariants as end
 use Rattle.rr_text.specs.declared.fault.TextFault.{TextFault}
@@ -26,7 +28,7 @@ state_of p = p.state
 abbrev pub reads_of : Paragraphs → ℕ
 reads_of p = p.reads
 
--- the bytes that were read and stand behind what was given
+-- the bytes that were read and stand after what was given
 abbrev pub held : Paragraphs → List ℕ
 held p = drop p.from (take p.to p.block)
 
@@ -43,8 +45,8 @@ KeepsApart Ended now front left = (left ≡ []) × IsSpent now
 KeepsApart Broken now front left = ⊥
 KeepsApart Endless now front left = ⊥
 
--- of the bytes read from the start on, however they were cut, the entries of a front were given, and the others are
--- held; each read that found bytes gave 1 to 4,096
+-- of the bytes read from the start on, however they were cut, the entries of a front were given,
+-- and the others are held; each read that found bytes gave 1 to 4,096
 pub record HasGiven (start now : Told) (p : Paragraphs) (given : List Entry) : Type 0 where
   pub text : List ℕ
   pub front : List ℕ
@@ -57,8 +59,8 @@ pub record HasGiven (start now : Told) (p : Paragraphs) (given : List Entry) : T
   pub bounded : length text ≤ 4096 * reads_of p
   pub few : length given ≤ length front
 
--- the entries that count of a text, by how its reading ended: after a failed read, or without an end, those that a
--- blank line closes
+-- the entries that count of a text, by how its reading ended: after a failed read, or without an
+-- end, those that a blank line closes
 abbrev pub entries_by : ReadEnd → List ℕ → List Entry
 entries_by end.Whole text = entries text
 entries_by end.Broken text = whole_entries text
@@ -70,29 +72,44 @@ pub record HasEnded (start now : Told) (ended : ReadEnd) (given : List Entry) : 
   pub reads : Reads start now text ended
   pub spelled : entries_by ended text ≡ given
 
--- what was given with an answer: one entry more, or those were all. Where memory was refused the entry is passed untold
-abbrev pub GivesNext : Told → Told → Paragraphs → List Entry → Result (Option (List Field)) TextFault → Type 0
+-- what was given with an answer: one entry more, or those were all. If memory ran out the entry is
+-- passed untold
+abbrev pub GivesNext : Told → Told → Paragraphs → List Entry
+    → Result (Option (List Field)) TextFault → Type 0
 GivesNext start now p given (Ok None) = (state_of p ≡ Ended) × HasEnded start now end.Whole given
 GivesNext start now p given (Ok (Some fields)) = HasGiven start now p (given ++ Ok fields ∷ [])
-GivesNext start now p given (Err fault.TooLarge) = HasGiven start now p (given ++ Err fault.TooLarge ∷ [])
-GivesNext start now p given (Err fault.BadByte) = HasGiven start now p (given ++ Err fault.BadByte ∷ [])
-GivesNext start now p given (Err fault.FirstContinues) = HasGiven start now p (given ++ Err fault.FirstContinues ∷ [])
-GivesNext start now p given (Err fault.NoColon) = HasGiven start now p (given ++ Err fault.NoColon ∷ [])
-GivesNext start now p given (Err fault.BadName) = HasGiven start now p (given ++ Err fault.BadName ∷ [])
-GivesNext start now p given (Err fault.Memory) = (entry : Entry) × HasGiven start now p (given ++ entry ∷ [])
-GivesNext start now p given (Err fault.Read) = (state_of p ≡ Broken) × HasEnded start now end.Broken given
-GivesNext start now p given (Err fault.Endless) = (state_of p ≡ Endless) × HasEnded start now end.Endless given
+GivesNext start now p given (Err fault.TooLarge) =
+    HasGiven start now p (given ++ Err fault.TooLarge ∷ [])
+GivesNext start now p given (Err fault.BadByte) =
+    HasGiven start now p (given ++ Err fault.BadByte ∷ [])
+GivesNext start now p given (Err fault.FirstContinues) =
+    HasGiven start now p (given ++ Err fault.FirstContinues ∷ [])
+GivesNext start now p given (Err fault.NoColon) =
+    HasGiven start now p (given ++ Err fault.NoColon ∷ [])
+GivesNext start now p given (Err fault.BadName) =
+    HasGiven start now p (given ++ Err fault.BadName ∷ [])
+GivesNext start now p given (Err fault.Memory) =
+    (entry : Entry) × HasGiven start now p (given ++ entry ∷ [])
+GivesNext start now p given (Err fault.Read) =
+    (state_of p ≡ Broken) × HasEnded start now end.Broken given
+GivesNext start now p given (Err fault.Endless) =
+    (state_of p ≡ Endless) × HasEnded start now end.Endless given
 
--- at the end, after a failed read or at the limit of reads the answer is the same for good, and nothing is read
-abbrev pub Stays : {R : Type 0} → ReaderState → R → R → Paragraphs → Paragraphs → Result (Option (List Field)) TextFault → Type 0
+-- at the end, after a failed read or at the limit of reads the answer is the same for good, and
+-- nothing is read
+abbrev pub Stays : {R : Type 0} → ReaderState → R → R → Paragraphs → Paragraphs
+    → Result (Option (List Field)) TextFault → Type 0
 Stays Open before after old new answer = ⊤
-Stays Ended before after old new answer = (answer ≡ Ok None) × (after ≡ before) × (new ≡ old)
-Stays Broken before after old new answer = (answer ≡ Err fault.Read) × (after ≡ before) × (new ≡ old)
-Stays Endless before after old new answer = (answer ≡ Err fault.Endless) × (after ≡ before) × (new ≡ old)
+Stays Ended before after old new answer =
+    (answer ≡ Ok None) × (after ≡ before) × (new ≡ old)
+Stays Broken before after old new answer =
+    (answer ≡ Err fault.Read) × (after ≡ before) × (new ≡ old)
+Stays Endless before after old new answer =
+    (answer ≡ Err fault.Endless) × (after ≡ before) × (new ≡ old)
 
 -- a bound on how many answers are left before the last one
 abbrev pub left_of : Paragraphs → ℕ
-left_of p = (16777216 - reads_of p) * 4097 + length (held p)
+left_of p = (read_limit - reads_of p) * 4097 + length (held p)
 
 -- an answer other than the last one leaves fewer of them
 abbrev pub Nearer : ℕ → ℕ → Result (Option (List Field)) TextFault → Type 0

@@ -1,5 +1,6 @@
 -- What private functions alone speak of: no rule of RPSL stands here.
-use Rattle.std.specs.Prelude.{◌≡◌, ◌<◌, ℕ, Bool, true, false, ◌==◌, length, List, [], ◌∷◌, Option, Some, None, if◌then◌else◌}
+use Rattle.std.specs.Prelude.{◌≡◌, ◌<◌, ℕ, Bool, true, false, ◌==◌, length, List}
+use Rattle.std.specs.Prelude.{[], ◌∷◌, Option, Some, None, if◌then◌else◌}
 use Rattle.rr_text.specs.declared.line.LineKind.{LineKind}
 use Rattle.rr_text.specs.declared.line.LineKind.TheVariants.{Blank, Skipped, Continuation, Opening}
 use Rattle.rr_text.specs.Lines.{is_blank_line, is_paragraph_line, line_kind}
@@ -39,8 +40,8 @@ added_lines line Skipped = []
 added_lines line Continuation = added_value line ∷ []
 added_lines line Opening = []
 
--- what stands in a text behind a front, where the text begins with it
-unfoldable pub left_behind : List ℕ → List ℕ → Option (List ℕ)
-left_behind [] text = Some text
-left_behind (b ∷ front) [] = None
-left_behind (b ∷ front) (c ∷ text) = if b == c then left_behind front text else None
+-- what stands in a text after a front, where the text begins with it
+unfoldable pub left_after : List ℕ → List ℕ → Option (List ℕ)
+left_after [] text = Some text
+left_after (b ∷ front) [] = None
+left_after (b ∷ front) (c ∷ text) = if b == c then left_after front text else None

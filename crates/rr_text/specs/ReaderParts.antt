@@ -1,7 +1,8 @@
 -- One call of a reader of paragraphs: parts that its contract does not name.
-use Rattle.std.specs.Prelude.{◌≡◌, ◌≢◌, ℕ, ◌+◌, ◌*◌, ◌<◌, ◌≤◌, List, [], ◌++◌, length, Option, Some, None, Result, Ok, Err}
+use Rattle.std.specs.Prelude.{◌≡◌, ◌≢◌, ℕ, ◌+◌, ◌*◌, ◌<◌, ◌≤◌, List}
+use Rattle.std.specs.Prelude.{[], ◌++◌, length, Option, Some, None, Result, Ok, Err}
 use Rattle.rr_io.specs.Told.{Told, Fails}
-use Rattle.rr_io.specs.Receiving.{Gives, IsSpent, CountsReads, BreaksOff}
+use Rattle.rr_io.specs.Receiving.{Gives, IsSpent, CountsReads, BreaksOff, read_limit}
 use Rattle.rr_text.specs.declared.fault.TextFault.{TextFault}
 use Rattle.rr_text.specs.declared.paragraphs.ReaderState.{ReaderState}
 use Rattle.rr_text.specs.declared.paragraphs.ReaderState.TheVariants.{Open, Ended, Broken, Endless}
@@ -57,9 +58,10 @@ GivesBy Ended before after given = Gives before after given × IsSpent after
 GivesBy Broken before after given = BreaksOff before after given
 GivesBy Endless before after given = Gives before after given
 
--- these bytes were read in a call, behind those that were left from the calls before, and its reads are counted with
--- those made before
-pub record Reading (state : ReaderState) (before after : Told) (left : List ℕ) (made : ℕ) (new : Paragraphs) (given : List ℕ) : Type 0 where
+-- these bytes were read in a call, after those that were left from the calls before, and its reads
+-- are counted with those made before
+pub record Reading (state : ReaderState) (before after : Told) (left : List ℕ) (made : ℕ)
+    (new : Paragraphs) (given : List ℕ) : Type 0 where
   pub gives : GivesBy state before after given
   pub count : ℕ
   pub counts : CountsReads before after count
@@ -68,7 +70,8 @@ pub record Reading (state : ReaderState) (before after : Told) (left : List ℕ)
   pub bounded : length given ≤ 4096 * count
 
 -- the text up to the end of a block was read
-pub record GathersClosed (before after : Told) (left : List ℕ) (made : ℕ) (new : Paragraphs) : Type 0 where
+pub record GathersClosed (before after : Told) (left : List ℕ) (made : ℕ)
+    (new : Paragraphs) : Type 0 where
   pub given : List ℕ
   pub front : List ℕ
   pub reading : Reading Open before after left made new given
@@ -76,7 +79,8 @@ pub record GathersClosed (before after : Told) (left : List ℕ) (made : ℕ) (n
   pub closed : IsClosed front new.draft
 
 -- all of the text was read that there is
-pub record GathersRest (state : ReaderState) (before after : Told) (left : List ℕ) (made : ℕ) (new : Paragraphs) : Type 0 where
+pub record GathersRest (state : ReaderState) (before after : Told) (left : List ℕ) (made : ℕ)
+    (new : Paragraphs) : Type 0 where
   pub given : List ℕ
   pub reading : Reading state before after left made new given
   pub none : held new ≡ []
@@ -86,8 +90,10 @@ pub record GathersRest (state : ReaderState) (before after : Told) (left : List 
 abbrev pub Gathers : ReaderState → Told → Told → List ℕ → ℕ → Paragraphs → Type 0
 Gathers Open before after left made new = GathersClosed before after left made new
 Gathers Ended before after left made new = GathersRest Ended before after left made new
-Gathers Broken before after left made new = GathersRest Broken before after left made new × (reads_of new < 16777216)
-Gathers Endless before after left made new = GathersRest Endless before after left made new × (reads_of new ≡ 16777216)
+Gathers Broken before after left made new =
+    GathersRest Broken before after left made new × (reads_of new < read_limit)
+Gathers Endless before after left made new =
+    GathersRest Endless before after left made new × (reads_of new ≡ read_limit)
 
 -- the answer with the one entry of a text
 abbrev pub GivesFound : List ℕ → Result (Option (List Field)) TextFault → Type 0

@@ -26,6 +26,7 @@ closed_lines (line ∷ others) = kept_before (closes line) line (closed_lines ot
 unfoldable pub whole_part : List ℕ → List ℕ
 whole_part text = concat (closed_lines (text_lines text))
 
--- the entries that count after a read fault: those of the blocks that such a blank line follows (profile)
+-- the entries that count after a read fault: those of the blocks that such a blank line follows
+-- (profile)
 abbrev pub whole_entries : List ℕ → List (Result (List Field) TextFault)
 whole_entries text = entries (whole_part text)

@@ -1,6 +1,8 @@
 //! Attributes: a name, and a value of one line or more.
 
-ghost use Rattle.std.specs.Prelude.{◌≡◌, ◌∷◌, ◌++◌, [], IfOk, IfSome, OnOk, map, false};
+ghost use Rattle.std.specs.Prelude.{◌≡◌, ◌∷◌, ◌++◌, [], IfOk, IfSome, OnOk, map};
+ghost use Rattle.std.specs.Prelude.{OnErr, false};
+ghost use Rattle.std.specs.Io.{StartsWith};
 ghost use Rattle.rr_text.specs.Lines.{text_lines};
 ghost use Rattle.rr_text.specs.Entries.{continued};
 ghost use Rattle.rr_text.specs.PrivateParts.{added_lines};
@@ -10,8 +12,8 @@ use crate::printing::{push_continuations, push_opening};
 use std::alloc::{AllocError, Global};
 use std::marker::Model;
 
-/// An attribute of a paragraph: the line that opens it, and the text after that line, whose first lines continue the
-/// value. It is lent from the text of the paragraph.
+/// An attribute of a paragraph: the line that opens it, and the text after that line, whose first
+/// lines continue the value. It is lent from the text of the paragraph.
 #[derive(Debug, Drop)]
 pub struct Attribute<'a> {
     line: &'a [u8],
@@ -55,7 +57,8 @@ impl<'a> Attribute<'a> {
         self.name() == name
     }
 
-    /// The lines of the value: at least one, each without the blanks round it. The error is out of memory.
+    /// The lines of the value: at least one, each without the blanks round it. The error is out of
+    /// memory.
     pub fn lines(&self, alloc: Global) -> Result<Vec<&'a [u8]>, AllocError>
         ensures { IfOk result (λ lines. map (λ line. line.now) lines.items ≡ self.now.lines) }
     {
@@ -77,7 +80,8 @@ impl<'a> Attribute<'a> {
 
     /// Appends the canonical text of the attribute.
     pub(crate) fn print_onto(&self, out: &mut Vec<u8>) -> Result<(), AllocError>
-        ensures { OnOk result (out.new.items ≡ out.old.items ++ field_text self.now) }
+        ensures ok { OnOk result (out.new.items ≡ out.old.items ++ field_text self.now) }
+        ensures err { OnErr result (StartsWith out.new.items out.old.items) }
     {
         push_opening(out, self.name(), opened_value(self.line))?;
         push_continuations(out, self.after)
@@ -90,7 +94,9 @@ impl<'a> Attribute<'a> {
         name: &[u8],
         line: &[u8],
     ) -> Result<(), AllocError>
-        ensures { OnOk result (out.new.items ≡ out.old.items ++ field_text (with_value name.now line.now self.now)) }
+        ensures ok { OnOk result (out.new.items
+            ≡ out.old.items ++ field_text (with_value name.now line.now self.now)) }
+        ensures err { OnErr result (StartsWith out.new.items out.old.items) }
     {
         if self.has_name(name) {
             push_opening(out, self.name(), line)
@@ -113,7 +119,8 @@ fn continues(text: &[u8]) -> bool
 
 /// Adds the lines that continue a value.
 fn push_continued<'t>(lines: &mut Vec<&'t [u8]>, text: &'t [u8]) -> Result<(), AllocError>
-    ensures { OnOk result (map (λ line. line.now) lines.new.items ≡ map (λ line. line.now) lines.old.items ++ continued (text_lines text.now)) }
+    ensures { OnOk result (map (λ line. line.now) lines.new.items
+        ≡ map (λ line. line.now) lines.old.items ++ continued (text_lines text.now)) }
 {
     let mut rest = text;
     'lines: while !rest.is_empty() {
@@ -134,7 +141,8 @@ fn push_added<'t>(
     line: &'t [u8],
     kind: LineKind,
 ) -> Result<(), AllocError>
-    ensures { OnOk result (map (λ line. line.now) lines.new.items ≡ map (λ line. line.now) lines.old.items ++ added_lines line.now kind) }
+    ensures { OnOk result (map (λ line. line.now) lines.new.items
+        ≡ map (λ line. line.now) lines.old.items ++ added_lines line.now kind) }
 {
     match kind {
         LineKind::Continuation => {

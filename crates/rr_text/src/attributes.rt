@@ -10,7 +10,8 @@ use crate::attribute::Attribute;
 use crate::line::{LineKind, split_line};
 use std::marker::Model;
 
-/// The attributes of a text that are still to come: the line that opens the next one and the text after it, or nothing.
+/// The attributes of a text that are still to come: the line that opens the next one and the text
+/// after it, or nothing.
 #[derive(Debug, Drop)]
 pub struct Attributes<'a> {
     line: &'a [u8],
@@ -61,9 +62,11 @@ impl<'a> Iterator for Attributes<'a> {
     }
 }
 
-/// The first line of a text that opens an attribute and the text after it; nothing where there is none.
+/// The first line of a text that opens an attribute and the text after it; nothing where there is
+/// none.
 fn next_opening(text: &[u8]) -> (&[u8], &[u8])
-    ensures fields { kept_fields (result.0.now ∷ text_lines result.1.now) ≡ kept_fields (text_lines text.now) }
+    ensures fields { kept_fields (result.0.now ∷ text_lines result.1.now)
+        ≡ kept_fields (text_lines text.now) }
     ensures next { OpensOrEnds result.0.now result.1.now }
 {
     let mut rest = text;

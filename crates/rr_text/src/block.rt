@@ -1,8 +1,9 @@
 //! The blocks of a text: runs of lines between blank ones.
 
-ghost use Rattle.std.specs.Prelude.{◌≡◌, ◌<◌, ◌≤◌, ◌∷◌, ◌++◌, ◌⊎◌, ℕ, List, [], length, drop, true, IfSome, IfNone};
+ghost use Rattle.std.specs.Prelude.{◌≡◌, ◌<◌, ◌≤◌, ◌∷◌, ◌++◌, ◌⊎◌};
+ghost use Rattle.std.specs.Prelude.{ℕ, List, [], length, drop, true, IfSome, IfNone};
 ghost use Rattle.rr_text.specs.Lines.{text_lines};
-ghost use Rattle.rr_text.specs.Blocks.{blocks, from_blank, from_block, place_behind};
+ghost use Rattle.rr_text.specs.Blocks.{blocks, from_blank, from_block, place_after};
 ghost use Rattle.rr_text.specs.PrivateParts.{starts_block, until_blank};
 
 use crate::line::{is_blank_only, is_of_paragraph, split_line};
@@ -42,13 +43,13 @@ fn split_block(text: &[u8]) -> (&[u8], &[u8])
     text.split_at(text.len() - rest.len())
 }
 
-/// The first block of the text from a place on, with the place of the blank line after it, or the end of the text where
-/// there is none.
+/// The first block of the text from a place on, with the place of the blank line after it, or the
+/// end of the text where there is none.
 pub(crate) fn take_block(text: &[u8], from: usize) -> Option<(&[u8], usize)>
     requires { from ≤ length text.now }
     ensures none { IfNone result (blocks (text_lines (drop from text.now)) ≡ []) }
-    ensures end { IfNone result (length text.now ≡ place_behind from text.now) }
-    ensures behind { IfSome result (λ taken. taken.1 ≡ place_behind from text.now) }
+    ensures end { IfNone result (length text.now ≡ place_after from text.now) }
+    ensures behind { IfSome result (λ taken. taken.1 ≡ place_after from text.now) }
     ensures found { IfSome result (λ taken. (from < taken.1) × (taken.1 ≤ length text.now)
         × (starts_block (text_lines taken.0.now) ≡ true)
         × (blocks (text_lines (drop from text.now))

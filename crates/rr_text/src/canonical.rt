@@ -1,6 +1,8 @@
 //! Canonical text: printed, and read again.
 
-ghost use Rattle.std.specs.Prelude.{◌≡◌, ◌<◌, ◌++◌, IfOk, OnOk, IfSome, Some, List, length, map, true};
+ghost use Rattle.std.specs.Prelude.{◌≡◌, ◌<◌, ◌++◌, IfOk, OnOk, IfSome, Some, List};
+ghost use Rattle.std.specs.Prelude.{OnErr, length, map, true};
+ghost use Rattle.std.specs.Io.{StartsWith};
 ghost use Rattle.rr_text.specs.Fields.{Field, AreFields, with_value};
 ghost use Rattle.rr_text.specs.CanonicalText as canon;
 ghost use Rattle.rr_text.specs.KeptText.{IsKept, fields_in};
@@ -14,23 +16,27 @@ use crate::paragraph::Paragraph;
 use crate::text::Text;
 use std::alloc::{AllocError, Global};
 
-/// Appends the canonical text of a paragraph (profile). The error is out of memory, and tells nothing of what was appended.
+/// Appends the canonical text of a paragraph (profile). The error is out of memory: then nothing is
+/// appended.
 pub fn print_onto(out: &mut Vec<u8>, paragraph: &Paragraph) -> Result<(), AllocError>
-    ensures { OnOk result (out.new.items ≡ out.old.items ++ canon.canonical paragraph.now) }
+    ensures ok { OnOk result (out.new.items ≡ out.old.items ++ canon.canonical paragraph.now) }
+    ensures err { OnErr result (out.new.items ≡ out.old.items) }
 {
     out.extend_from_slice(paragraph.text())
 }
 
-/// Appends the canonical text of a paragraph in which each attribute of this name, which is given in lower case, has this one
-/// line as its value: that of `Paragraph::with_values`, without the copy. The error is out of memory, and tells nothing of
-/// what was appended.
+/// Appends the canonical text of a paragraph in which each attribute of this name, which is given
+/// in lower case, has this one line as its value: that of `Paragraph::with_values`, without the
+/// copy. The error is out of memory: then some bytes may have been appended.
 pub fn print_onto_with_values(
     out: &mut Vec<u8>,
     paragraph: &Paragraph,
     name: &[u8],
     line: &[u8],
 ) -> Result<(), AllocError>
-    ensures { OnOk result (out.new.items ≡ out.old.items ++ canon.canonical (map (with_value name.now line.now) paragraph.now)) }
+    ensures ok { OnOk result (out.new.items
+        ≡ out.old.items ++ canon.canonical (map (with_value name.now line.now) paragraph.now)) }
+    ensures err { OnErr result (StartsWith out.new.items out.old.items) }
 {
     if !paragraph.has(name) {
         return print_onto(out, paragraph);
@@ -44,7 +50,9 @@ fn push_with_values(
     name: &[u8],
     line: &[u8],
 ) -> Result<(), AllocError>
-    ensures { OnOk result (out.new.items ≡ out.old.items ++ canon.canonical (map (with_value name.now line.now) paragraph.now)) }
+    ensures ok { OnOk result (out.new.items
+        ≡ out.old.items ++ canon.canonical (map (with_value name.now line.now) paragraph.now)) }
+    ensures err { OnErr result (StartsWith out.new.items out.old.items) }
 {
     for attribute in paragraph.attributes() {
         attribute.print_onto_with_value(out, name, line)?;
@@ -62,9 +70,12 @@ pub fn print(alloc: Global, paragraph: &Paragraph) -> Result<Text, AllocError>
 /// The paragraph whose canonical text this is, or `None` where it is that of no paragraph with
 /// an attribute. There is no bound on the size. The error is out of memory.
 pub fn read_canonical(alloc: Global, text: &[u8]) -> Result<Option<Paragraph>, AllocError>
-    ensures found { IfOk result (λ read. IfSome read (λ paragraph. canon.canonical paragraph ≡ text.now)) }
-    ensures fields { IfOk result (λ read. IfSome read (λ paragraph. (0 < length paragraph) × AreFields paragraph)) }
-    ensures only { IfOk result (λ read. (fields : List Field) → 0 < length fields → AreFields fields
+    ensures found { IfOk result
+        (λ read. IfSome read (λ paragraph. canon.canonical paragraph ≡ text.now)) }
+    ensures fields { IfOk result
+        (λ read. IfSome read (λ paragraph. (0 < length paragraph) × AreFields paragraph)) }
+    ensures only { IfOk result
+        (λ read. (fields : List Field) → 0 < length fields → AreFields fields
         → canon.canonical fields ≡ text.now → read ≡ Some fields) }
 {
     if !is_canonical(text) {
@@ -76,7 +87,8 @@ pub fn read_canonical(alloc: Global, text: &[u8]) -> Result<Option<Paragraph>, A
 /// Whether a text is the canonical text of a paragraph with an attribute.
 fn is_canonical(text: &[u8]) -> bool
     ensures yes { result ≡ true → IsKept text.now × (0 < length (fields_in text.now)) }
-    ensures only { (fields : List Field) → 0 < length fields → AreFields fields → canon.canonical fields ≡ text.now → result ≡ true }
+    ensures only { (fields : List Field) → 0 < length fields → AreFields fields
+        → canon.canonical fields ≡ text.now → result ≡ true }
 {
     if !opens(text) {
         return false;

@@ -8,7 +8,7 @@ ghost use Rattle.rr_bytes.specs.LetterCase.{lowered};
 ghost use Rattle.rr_text.specs.Lines.{text_lines};
 ghost use Rattle.rr_text.specs.CanonicalText as canon;
 ghost use Rattle.rr_text.specs.KeptText.{is_printed};
-ghost use Rattle.rr_text.specs.PrivateParts.{left_behind};
+ghost use Rattle.rr_text.specs.PrivateParts.{left_after};
 
 use crate::line::{LineKind, added_value, opened_value, split_line, written_name};
 use crate::printing::{VALUE_COLUMN, blanks, blanks_after};
@@ -16,16 +16,18 @@ use crate::printing::{VALUE_COLUMN, blanks, blanks_after};
 /// What stands in a text after these bytes, where it begins with them.
 #[inline]
 fn after_bytes<'t>(text: &'t [u8], bytes: &[u8]) -> Option<&'t [u8]>
-    ensures { option_map (λ left. left.now) result ≡ left_behind bytes.now text.now }
+    ensures { option_map (λ left. left.now) result ≡ left_after bytes.now text.now }
 {
     text.strip_prefix(bytes)
 }
 
-/// What stands after a line with so many blanks before it, or after nothing where the line is empty.
-#[tactic(auto, using(crate::proofs::ComparingLemmas::left_joined), unfolding(crate::specs::PrivateParts::left_behind))]
-fn after_behind_blanks<'t>(text: &'t [u8], count: usize, line: &[u8]) -> Option<&'t [u8]>
+/// What stands after a line with so many blanks before it, or after nothing where the line is
+/// empty.
+#[tactic(auto, using(crate::proofs::ComparingLemmas::left_joined), unfolding(crate::specs::PrivateParts::left_after))]
+fn after_after_blanks<'t>(text: &'t [u8], count: usize, line: &[u8]) -> Option<&'t [u8]>
     requires { count ≤ 16 }
-    ensures { option_map (λ left. left.now) result ≡ left_behind (canon.behind_blanks count line.now) text.now }
+    ensures { option_map (λ left. left.now) result
+        ≡ left_after (canon.after_blanks count line.now) text.now }
 {
     if line.is_empty() {
         return Some(text);
@@ -36,22 +38,24 @@ fn after_behind_blanks<'t>(text: &'t [u8], count: usize, line: &[u8]) -> Option<
 
 #[tactic(auto, using(crate::proofs::ComparingLemmas::left_joined))]
 fn after_opening<'t>(text: &'t [u8], name: &[u8], line: &[u8]) -> Option<&'t [u8]>
-    ensures { option_map (λ left. left.now) result ≡ left_behind (canon.ended (canon.opening_line name.now line.now)) text.now }
+    ensures { option_map (λ left. left.now) result
+        ≡ left_after (canon.ended (canon.opening_line name.now line.now)) text.now }
 {
     let rest = after_bytes(text, name)?;
     let rest = after_bytes(rest, b":")?;
-    let rest = after_behind_blanks(rest, blanks_after(name.len()), line)?;
+    let rest = after_after_blanks(rest, blanks_after(name.len()), line)?;
     after_bytes(rest, b"\n")
 }
 
 #[tactic(auto, using(crate::proofs::ComparingLemmas::left_joined, crate::proofs::ComparingLemmas::further_is))]
 fn after_further<'t>(text: &'t [u8], line: &[u8]) -> Option<&'t [u8]>
-    ensures { option_map (λ left. left.now) result ≡ left_behind (canon.ended (canon.further_line line.now)) text.now }
+    ensures { option_map (λ left. left.now) result
+        ≡ left_after (canon.ended (canon.further_line line.now)) text.now }
 {
     if line.is_empty() {
         return after_bytes(text, b"+\n");
     }
-    let rest = after_behind_blanks(text, VALUE_COLUMN, line)?;
+    let rest = after_after_blanks(text, VALUE_COLUMN, line)?;
     after_bytes(rest, b"\n")
 }
 

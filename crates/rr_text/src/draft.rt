@@ -1,6 +1,7 @@
 //! A paragraph that is being read piece by piece.
 
 ghost use Rattle.std.specs.Prelude.{◌≤◌, length, vec_capacity};
+ghost use Rattle.rr_text.specs.Entries.{size_limit};
 
 use crate::entry::{SIZE_LIMIT, read_entry};
 use crate::fault::TextFault;
@@ -9,8 +10,8 @@ use crate::line_so_far::{LineEnd, LineSoFar, ends_line};
 use crate::paragraph::Paragraph;
 use std::alloc::{AllocError, Global};
 
-/// The paragraph that is being read: the bytes of its lines so far, and of the line that has begun. A paragraph that is
-/// too large is followed to its end, and no more of it is kept.
+/// The paragraph that is being read: the bytes of its lines so far, and of the line that has begun.
+/// A paragraph that is too large is followed to its end, and no more of it is kept.
 #[derive(Drop)]
 pub(crate) struct Draft {
     kept: Vec<u8>,
@@ -21,17 +22,18 @@ pub(crate) struct Draft {
     /// Whether a line of the paragraph was read.
     started: bool,
     line: LineSoFar,
-    ghost room: { 65536 ≤ vec_capacity kept },
-    ghost most: { length kept.items ≤ 65536 },
+    ghost room: { size_limit ≤ vec_capacity kept },
+    ghost most: { length kept.items ≤ size_limit },
 }
 
 impl Draft {
-    ghost use Rattle.std.specs.Prelude.{◌≡◌, ◌<◌, ◌∷◌, ◌++◌, ℕ, List, [], IfOk, IfSome};
+    ghost use Rattle.std.specs.Prelude.{◌≡◌, ◌<◌, ◌∷◌, ◌++◌, ℕ, List, []};
+    ghost use Rattle.std.specs.Prelude.{IfOk, IfSome};
     ghost use Rattle.rr_text.specs.Lines.{text_lines};
     ghost use Rattle.rr_text.specs.LineParts.{end_of_line};
     ghost use Rattle.rr_text.specs.DraftParts as parts;
 
-    /// The draft of no text, with room for a paragraph; the error is want of memory.
+    /// The draft of no text, with room for a paragraph; the error is that memory ran out.
     pub(crate) fn new(alloc: Global) -> Result<Draft, AllocError>
         ensures { IfOk result (λ draft. parts.HasNoText draft) }
     {
@@ -56,11 +58,13 @@ impl Draft {
         self.line = LineSoFar::Nothing;
     }
 
-    /// Adds a piece of a line that begins where the text so far ends, and says whether it closes the paragraph.
+    /// Adds a piece of a line that begins where the text so far ends, and says whether it closes
+    /// the paragraph.
     pub(crate) fn add(&mut self, piece: &[u8]) -> bool
         requires some { 0 < length piece.now }
         requires single { text_lines piece.now ≡ piece.now ∷ [] }
-        ensures { (text : List ℕ) → parts.IsBegun text self.old → parts.GathersLines result (text ++ piece.now) self.new }
+        ensures { (text : List ℕ) → parts.IsBegun text self.old
+            → parts.GathersLines result (text ++ piece.now) self.new }
     {
         self.keep(piece);
         if ends_line(piece) {
@@ -70,10 +74,11 @@ impl Draft {
         }
     }
 
-    /// Adds the lines of a piece of the text up to the one that closes the paragraph, and says how many bytes these
-    /// are.
+    /// Adds the lines of a piece of the text up to the one that closes the paragraph, and says how
+    /// many bytes these are.
     pub(crate) fn add_lines(&mut self, text: &[u8]) -> Option<usize>
-        ensures adds { (past : List ℕ) → parts.IsBegun past self.old → parts.AddsLines past text.now result self.new }
+        ensures adds { (past : List ℕ) → parts.IsBegun past self.old
+            → parts.AddsLines past text.now result self.new }
         ensures within { IfSome result (λ taken. taken ≤ length text.now) }
     {
         let mut rest = text;
@@ -89,7 +94,8 @@ impl Draft {
 
     /// Ends the text, and says whether it has a paragraph.
     pub(crate) fn finish(&mut self) -> bool
-        ensures { (text : List ℕ) → parts.IsBegun text self.old → parts.Finishes result text self.new }
+        ensures { (text : List ℕ) → parts.IsBegun text self.old
+            → parts.Finishes result text self.new }
     {
         let _closes = self.end_line();
         self.started
@@ -98,7 +104,8 @@ impl Draft {
     /// The entry of the text.
     pub(crate) fn entry(&self, alloc: Global) -> Result<Paragraph, TextFault>
         requires { (text : List ℕ) × parts.HasEntry text self.now }
-        ensures { (text : List ℕ) → parts.HasEntry text self.now → parts.GivesOne text result }
+        ensures { (text : List ℕ) → parts.HasEntry text self.now
+            → parts.GivesOne text result }
     {
         if self.whole > SIZE_LIMIT {
             return Err(TextFault::TooLarge);
@@ -121,7 +128,8 @@ impl Draft {
     }
 
     fn end_line(&mut self) -> bool
-        ensures { parts.EndsLine (end_of_line self.old.started self.old.line) self.old self.new result }
+        ensures { parts.EndsLine
+            (end_of_line self.old.started self.old.line) self.old self.new result }
     {
         match self.line.end(self.started) {
             LineEnd::Passed => {

@@ -1,6 +1,7 @@
 //! Blocks read as paragraphs.
 
-ghost use Rattle.std.specs.Prelude.{◌≡◌, ◌≢◌, ◌<◌, IfOk, IfErr, None, Ok, Err, length, true};
+ghost use Rattle.std.specs.Prelude.{◌≡◌, ◌≢◌, ◌<◌, IfOk, IfErr, None, Ok, Err};
+ghost use Rattle.std.specs.Prelude.{length, true};
 ghost use Rattle.rr_text.specs.Lines.{text_lines};
 ghost use Rattle.rr_text.specs.Faults as faults;
 ghost use Rattle.rr_text.specs.Fields.{AreFields};
@@ -36,7 +37,8 @@ fn printed(alloc: Global, block: &[u8]) -> Result<Vec<u8>, AllocError>
 fn read_paragraph(alloc: Global, block: &[u8]) -> Result<Paragraph, AllocError>
     requires starts { starts_block (text_lines block.now) ≡ true }
     requires good { faults.block_fault (text_lines block.now) ≡ None }
-    ensures value { IfOk result (λ paragraph. paragraph ≡ entries.block_fields (text_lines block.now)) }
+    ensures value { IfOk result
+        (λ paragraph. paragraph ≡ entries.block_fields (text_lines block.now)) }
     ensures fields { IfOk result (λ paragraph. AreFields paragraph) }
 {
     Ok(Paragraph::kept(printed(alloc, block)?))
@@ -47,7 +49,8 @@ pub(crate) fn read_entry(alloc: Global, block: &[u8]) -> Result<Paragraph, TextF
     requires { starts_block (text_lines block.now) ≡ true }
     ensures found { IfOk result (λ paragraph. (0 < length paragraph) × AreFields paragraph
         × (entries.block_entry (text_lines block.now) ≡ Ok paragraph)) }
-    ensures fault { IfErr result (λ fault. fault ≢ TextFault.Memory → entries.block_entry (text_lines block.now) ≡ Err fault) }
+    ensures fault { IfErr result (λ fault. fault ≢ TextFault.Memory
+        → entries.block_entry (text_lines block.now) ≡ Err fault) }
 {
     let size = block.len();
     if size > SIZE_LIMIT {

@@ -30,7 +30,8 @@ pub enum TextFault {
     /// A read of the text failed. It is no fault of a paragraph: a reader of paragraphs has it.
     #[error("a read failed")]
     Read,
-    /// The text had no end within 16,777,216 reads. It is no fault of a paragraph: a reader of paragraphs has it.
+    /// The text had no end within 16,777,216 reads. It is no fault of a paragraph: a reader of
+    /// paragraphs has it.
     #[error("the text has no end")]
     Endless,
 }

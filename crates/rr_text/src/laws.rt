@@ -17,7 +17,7 @@ pub fn canonical_text_spells()
     ensures { laws.CanonicalSpells }
 {}
 
-/// A blank line joins the entries of the texts before and behind it.
+/// A blank line joins the entries of the texts before and after it.
 pub fn blank_line_joins()
     ensures { laws.BlankLineJoins }
 {}

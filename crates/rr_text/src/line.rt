@@ -1,10 +1,12 @@
 //! The lines of a text.
 
-ghost use Rattle.std.specs.Prelude.{◌≡◌, ◌<◌, ◌∷◌, ◌++◌, ◌⊎◌, [], length, true};
+ghost use Rattle.std.specs.Prelude.{◌≡◌, ◌<◌, ◌∷◌, ◌++◌, ◌⊎◌, [], length};
+ghost use Rattle.std.specs.Prelude.{true};
 ghost use Rattle.std.specs.List.{list_any};
 ghost use Rattle.rr_bytes.specs.NameBytes.{begins};
 ghost use Rattle.rr_text.specs.Bytes.{is_refused};
-ghost use Rattle.rr_text.specs.Lines.{is_blank_line, is_skipped_line, is_paragraph_line, is_continuation_sign, line_kind, text_lines, are_whole_lines};
+ghost use Rattle.rr_text.specs.Lines.{is_blank_line, is_skipped_line, is_paragraph_line};
+ghost use Rattle.rr_text.specs.Lines.{is_continuation_sign, line_kind, text_lines, are_whole_lines};
 ghost use Rattle.rr_text.specs.Entries.{added_value, opened_value};
 ghost use Rattle.rr_text.specs.Faults.{written_name};
 ghost use Rattle.rr_text.specs.PrivateParts.{opens_attribute};

@@ -27,7 +27,8 @@ impl LineAttribute {
     ghost use Rattle.rr_text.specs.CanonicalText.{field_text};
     ghost use Rattle.std.specs.Prelude.{◌++◌, OnOk};
 
-    /// The attribute of this name whose value is this line, which are taken as they are; the error is out of memory.
+    /// The attribute of this name whose value is this line, which are taken as they are; the error
+    /// is out of memory.
     pub fn new(alloc: Global, name: &[u8], line: &[u8]) -> Result<LineAttribute, AllocError>
         ensures { IfOk result (λ made. made ≡ one_line name.now line.now) }
     {

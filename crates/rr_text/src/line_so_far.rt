@@ -38,7 +38,7 @@ impl LineSoFar {
         }
     }
 
-    /// What is known with these bytes behind those so far.
+    /// What is known with these bytes after those so far.
     pub(crate) fn with(self, more: &[u8]) -> LineSoFar
         ensures { result ≡ lines.line_with self more.now }
     {

@@ -1,6 +1,7 @@
 //! Paragraphs: attributes in order.
 
-ghost use Rattle.std.specs.Prelude.{◌≡◌, ◌↔◌, ◌<◌, ◌^◌, IsTrue, IfOk, length, not, map, filter};
+ghost use Rattle.std.specs.Prelude.{◌≡◌, ◌↔◌, ◌<◌, ◌^◌, IsTrue, IfOk, length};
+ghost use Rattle.std.specs.Prelude.{not, map, filter};
 ghost use Rattle.std.specs.List.{list_any};
 ghost use Rattle.rr_text.specs.Fields.{AreFields, IsLine, has_name};
 ghost use Rattle.rr_text.specs.Fields as fields;
@@ -13,8 +14,8 @@ use crate::line_attribute::LineAttribute;
 use std::alloc::{AllocError, Global};
 use std::marker::Model;
 
-/// A paragraph: attributes in order, perhaps none. It is kept as its canonical text, in one piece of memory, and contracts
-/// see the list of attributes as plain data.
+/// A paragraph: attributes in order, perhaps none. It is kept as its canonical text, in one piece
+/// of memory, and contracts see the list of attributes as plain data.
 #[derive(Debug, Drop)]
 pub struct Paragraph {
     text: Vec<u8>,
@@ -33,7 +34,8 @@ impl Model for Paragraph {
 }
 
 impl Paragraph {
-    /// The paragraph of these attributes, each of which has a good name and a good value; the error is out of memory.
+    /// The paragraph of these attributes, each of which has a good name and a good value; the error
+    /// is out of memory.
     pub fn new(alloc: Global, attributes: &[LineAttribute]) -> Result<Paragraph, AllocError>
         requires { AreFields attributes.now }
         ensures { IfOk result (λ made. made ≡ attributes.now) }
@@ -83,9 +85,11 @@ impl Paragraph {
         Ok(Paragraph { text })
     }
 
-    /// The paragraph less its attributes of this name, which is given in lower case; the error is out of memory.
+    /// The paragraph less its attributes of this name, which is given in lower case; the error is
+    /// out of memory.
     pub fn without(self, alloc: Global, name: &[u8]) -> Result<Paragraph, AllocError>
-        ensures { IfOk result (λ made. made ≡ filter (λ field. not (has_name name.now field)) self) }
+        ensures { IfOk result
+            (λ made. made ≡ filter (λ field. not (has_name name.now field)) self) }
     {
         if !self.has(name) {
             return Ok(self);
@@ -102,7 +106,8 @@ impl Paragraph {
         line: &[u8],
     ) -> Result<Paragraph, AllocError>
         requires { IsLine line.now }
-        ensures { IfOk result (λ made. made ≡ map (fields.with_value name.now line.now) self.now) }
+        ensures { IfOk result
+            (λ made. made ≡ map (fields.with_value name.now line.now) self.now) }
     {
         let mut text = Vec::new(alloc);
         print_onto_with_values(&mut text, self, name, line)?;
@@ -140,7 +145,8 @@ fn printed(alloc: Global, attributes: &[LineAttribute]) -> Result<Vec<u8>, Alloc
 }
 
 fn printed_without(alloc: Global, paragraph: &Paragraph, name: &[u8]) -> Result<Vec<u8>, AllocError>
-    ensures { IfOk result (λ text. text.items ≡ canonical (filter (λ field. not (has_name name.now field)) paragraph.now)) }
+    ensures { IfOk result (λ text. text.items
+        ≡ canonical (filter (λ field. not (has_name name.now field)) paragraph.now)) }
 {
     let mut text = Vec::new(alloc);
     for attribute in paragraph.attributes() {

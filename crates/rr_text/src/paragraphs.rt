@@ -1,6 +1,7 @@
 //! Paragraphs read piece by piece, from a reader that is lent to each call.
 
 ghost use Rattle.std.specs.Prelude.{◌≡◌, ◌≤◌, length, take, drop};
+ghost use Rattle.rr_io.specs.Receiving.{read_limit};
 
 use crate::draft::Draft;
 use crate::fault::TextFault;
@@ -22,8 +23,9 @@ pub enum ReaderState {
     Endless,
 }
 
-/// The paragraphs of a text that is read in blocks of 4,096 bytes, with at most 16,777,216 reads. It keeps one block
-/// and one paragraph at most, whatever comes, in memory that is taken as it is made.
+/// The paragraphs of a text that is read in blocks of 4,096 bytes, with at most 16,777,216 reads.
+/// It keeps one block and one paragraph at most, whatever comes, in memory that is taken as it is
+/// made.
 #[derive(Drop)]
 pub struct Paragraphs {
     draft: Draft,
@@ -34,7 +36,7 @@ pub struct Paragraphs {
     state: ReaderState,
     ghost within: { from ≤ to },
     ghost room: { to ≤ 4096 },
-    ghost few: { reads ≤ 16777216 },
+    ghost few: { reads ≤ read_limit },
 }
 
 impl Paragraphs {
@@ -43,12 +45,14 @@ impl Paragraphs {
     ghost use Rattle.rr_text.specs.Fields.{AreFields};
     ghost use Rattle.rr_text.specs.DraftParts.{HasEntry, IsBegun};
     ghost use Rattle.rr_text.specs.ReaderParts as parts;
-    ghost use Rattle.rr_text.specs.ParagraphReaders.{Entry, GivesNext, HasGiven, IsNew, Nearer, Stays, held, left_of, reads_of, state_of};
+    ghost use Rattle.rr_text.specs.ParagraphReaders.{Entry, GivesNext, HasGiven, IsNew, Nearer};
+    ghost use Rattle.rr_text.specs.ParagraphReaders.{Stays, held, left_of, reads_of, state_of};
 
-    /// The paragraphs of a text of which nothing was read; the error is want of memory.
+    /// The paragraphs of a text of which nothing was read; the error is that memory ran out.
     pub fn new(alloc: Global) -> Result<Paragraphs, AllocError>
         ensures new { IfOk result (λ paragraphs. IsNew paragraphs) }
-        ensures given { IfOk result (λ paragraphs. (start : Told) → HasGiven start start paragraphs []) }
+        ensures given { IfOk result
+            (λ paragraphs. (start : Told) → HasGiven start start paragraphs []) }
     {
         let draft = Draft::new(alloc)?;
         Ok(Paragraphs {
@@ -61,19 +65,21 @@ impl Paragraphs {
         })
     }
 
-    /// The next paragraph of the text that this reader gives; `None` at its end (RFC 2622, 2). The reader is the same
-    /// in each call. After `Read` and `Endless` the answer is the same for good; after another fault the next paragraph
-    /// follows. `Memory` passes a paragraph.
+    /// The next paragraph of the text that this reader gives; `None` at its end (RFC 2622, 2). The
+    /// reader is the same in each call. After `Read` and `Endless` the answer is the same for good;
+    /// after another fault the next paragraph follows. `Memory` passes a paragraph.
     pub fn next<R: Source>(
         &mut self,
         alloc: Global,
         reader: &mut R,
     ) -> Result<Option<Paragraph>, TextFault>
-        ensures given { (start : Told) (given : List Entry) → HasGiven start (R.told reader.old) self.old given
+        ensures given { (start : Told) (given : List Entry)
+            → HasGiven start (R.told reader.old) self.old given
             → GivesNext start (R.told reader.new) self.new given result }
         ensures stays { Stays (state_of self.old) reader.old reader.new self.old self.new result }
         ensures nearer { Nearer (left_of self.old) (left_of self.new) result }
-        ensures fields { IfOk result (λ next. IfSome next (λ paragraph. (0 < length paragraph) × AreFields paragraph)) }
+        ensures fields { IfOk result
+            (λ next. IfSome next (λ paragraph. (0 < length paragraph) × AreFields paragraph)) }
         ensures aside { R.aside reader.new ≡ R.aside reader.old }
     {
         match self.state {
@@ -90,10 +96,12 @@ impl Paragraphs {
         reader: &mut R,
     ) -> Result<Option<Paragraph>, TextFault>
         requires { state_of self.old ≡ ReaderState.Open }
-        ensures given { (start : Told) (given : List Entry) → HasGiven start (R.told reader.old) self.old given
+        ensures given { (start : Told) (given : List Entry)
+            → HasGiven start (R.told reader.old) self.old given
             → GivesNext start (R.told reader.new) self.new given result }
         ensures nearer { Nearer (left_of self.old) (left_of self.new) result }
-        ensures fields { IfOk result (λ next. IfSome next (λ paragraph. (0 < length paragraph) × AreFields paragraph)) }
+        ensures fields { IfOk result
+            (λ next. IfSome next (λ paragraph. (0 < length paragraph) × AreFields paragraph)) }
         ensures aside { R.aside reader.new ≡ R.aside reader.old }
     {
         let state = self.gather(reader);
@@ -109,7 +117,8 @@ impl Paragraphs {
     /// The entry of the text that was read.
     fn entry(&self, alloc: Global) -> Result<Option<Paragraph>, TextFault>
         requires { (text : List ℕ) × HasEntry text self.now.draft }
-        ensures { (text : List ℕ) → HasEntry text self.now.draft → parts.GivesFound text result }
+        ensures { (text : List ℕ) → HasEntry text self.now.draft
+            → parts.GivesFound text result }
     {
         let paragraph = self.draft.entry(alloc)?;
         Ok(Some(paragraph))
@@ -118,8 +127,10 @@ impl Paragraphs {
     /// The last entry of the text, if it has one.
     fn last(&mut self, alloc: Global) -> Result<Option<Paragraph>, TextFault>
         requires { (text : List ℕ) × IsBegun text self.old.draft }
-        ensures last { (text : List ℕ) → IsBegun text self.old.draft → parts.GivesLast text result }
-        ensures same { (held self.new ≡ held self.old) × (reads_of self.new ≡ reads_of self.old) × (state_of self.new ≡ state_of self.old) }
+        ensures last { (text : List ℕ) → IsBegun text self.old.draft
+            → parts.GivesLast text result }
+        ensures same { (held self.new ≡ held self.old) × (reads_of self.new
+            ≡ reads_of self.old) × (state_of self.new ≡ state_of self.old) }
     {
         if self.draft.finish() {
             self.entry(alloc)
@@ -130,7 +141,8 @@ impl Paragraphs {
 
     /// Reads up to the end of the next paragraph, or of the text.
     fn gather<R: Source>(&mut self, reader: &mut R) -> ReaderState
-        ensures gathers { parts.Gathers result (R.told reader.old) (R.told reader.new) (held self.old) (reads_of self.old) self.new }
+        ensures gathers { parts.Gathers result (R.told reader.old) (R.told reader.new)
+            (held self.old) (reads_of self.old) self.new }
         ensures aside { R.aside reader.new ≡ R.aside reader.old }
     {
         self.draft.restart();
@@ -147,10 +159,13 @@ impl Paragraphs {
         }
     }
 
-    /// Adds what is held to the paragraph, up to the line that closes it, and says whether there is one.
+    /// Adds what is held to the paragraph, up to the line that closes it, and says whether there is
+    /// one.
     fn take_held(&mut self) -> bool
-        ensures closed { (past : List ℕ) → IsBegun past self.old.draft → result ≡ true → parts.TakesClosed past self.old self.new }
-        ensures begun { (past : List ℕ) → IsBegun past self.old.draft → result ≡ false → parts.TakesAll past self.old self.new }
+        ensures closed { (past : List ℕ) → IsBegun past self.old.draft → result ≡ true
+            → parts.TakesClosed past self.old self.new }
+        ensures begun { (past : List ℕ) → IsBegun past self.old.draft → result ≡ false
+            → parts.TakesAll past self.old self.new }
         ensures empty { result ≡ false → self.new.from ≡ self.new.to }
         ensures reads { reads_of self.new ≡ reads_of self.old }
     {
@@ -168,9 +183,10 @@ impl Paragraphs {
 
     /// Reads a block, where nothing is held, and says how the text stands if it does not go on.
     fn fill<R: Source>(&mut self, reader: &mut R) -> Option<ReaderState>
-        requires reads { reads_of self.old < 16777216 }
+        requires reads { reads_of self.old < read_limit }
         requires none { self.old.from ≡ self.old.to }
-        ensures fills { parts.Fills result (R.told reader.old) (R.told reader.new) self.old self.new }
+        ensures fills { parts.Fills result (R.told reader.old)
+            (R.told reader.new) self.old self.new }
         ensures draft { self.new.draft ≡ self.old.draft }
         ensures aside { R.aside reader.new ≡ R.aside reader.old }
     {

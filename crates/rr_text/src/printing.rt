@@ -1,6 +1,8 @@
 //! The lines of canonical text (profile).
 
-ghost use Rattle.std.specs.Prelude.{◌≡◌, ◌≤◌, ◌<◌, ◌+◌, ◌-◌, ◌^◌, ◌∷◌, ◌++◌, [], max, OnOk, replicate};
+ghost use Rattle.std.specs.Prelude.{◌≡◌, ◌≤◌, ◌<◌, ◌+◌, ◌-◌, ◌^◌};
+ghost use Rattle.std.specs.Prelude.{◌∷◌, ◌++◌, [], max, OnOk, OnErr, replicate};
+ghost use Rattle.std.specs.Io.{StartsWith};
 ghost use Rattle.std.specs.List.{flat_map};
 ghost use Rattle.rr_bytes.specs.LetterCase.{lowered};
 ghost use Rattle.rr_text.specs.Lines.{text_lines};
@@ -37,7 +39,9 @@ pub(crate) fn blanks_after(name_len: usize) -> usize
 /// The first line of a value after its blanks, or nothing where it is empty.
 fn push_first_line(out: &mut Vec<u8>, count: usize, line: &[u8]) -> Result<(), AllocError>
     requires { count ≤ 16 }
-    ensures { OnOk result (out.new.items ≡ out.old.items ++ canon.behind_blanks count line.now) }
+    ensures ok { OnOk result
+        (out.new.items ≡ out.old.items ++ canon.after_blanks count line.now) }
+    ensures err { OnErr result (StartsWith out.new.items out.old.items) }
 {
     if line.is_empty() {
         return Ok(());
@@ -49,8 +53,11 @@ fn push_first_line(out: &mut Vec<u8>, count: usize, line: &[u8]) -> Result<(), A
 /// The colon after a name of this length, and the first line of its value.
 fn push_value(out: &mut Vec<u8>, name_len: usize, line: &[u8]) -> Result<(), AllocError>
     requires { name_len < 2 ^ 63 }
-    ensures { OnOk result (out.new.items
-        ≡ out.old.items ++ (58 ∷ canon.behind_blanks (max 1 (canon.value_column - (name_len + 1))) line.now) ++ 10 ∷ []) }
+    ensures ok { OnOk result (out.new.items
+        ≡ out.old.items
+        ++ (58 ∷ canon.after_blanks (max 1 (canon.value_column - (name_len + 1))) line.now)
+        ++ 10 ∷ []) }
+    ensures err { OnErr result (StartsWith out.new.items out.old.items) }
 {
     out.push(b':')?;
     push_first_line(out, blanks_after(name_len), line)?;
@@ -59,7 +66,9 @@ fn push_value(out: &mut Vec<u8>, name_len: usize, line: &[u8]) -> Result<(), All
 }
 
 pub(crate) fn push_opening(out: &mut Vec<u8>, name: &[u8], line: &[u8]) -> Result<(), AllocError>
-    ensures { OnOk result (out.new.items ≡ out.old.items ++ canon.ended (canon.opening_line name.now line.now)) }
+    ensures ok { OnOk result
+        (out.new.items ≡ out.old.items ++ canon.ended (canon.opening_line name.now line.now)) }
+    ensures err { OnErr result (StartsWith out.new.items out.old.items) }
 {
     out.extend_from_slice(name)?;
     push_value(out, name.len(), line)
@@ -76,14 +85,17 @@ fn push_lowered(out: &mut Vec<u8>, name: &[u8]) -> Result<(), AllocError>
 
 /// The same of a name in any letter case.
 fn push_lowered_opening(out: &mut Vec<u8>, name: &[u8], line: &[u8]) -> Result<(), AllocError>
-    ensures { OnOk result (out.new.items ≡ out.old.items ++ canon.ended (canon.opening_line (lowered name.now) line.now)) }
+    ensures { OnOk result (out.new.items
+        ≡ out.old.items ++ canon.ended (canon.opening_line (lowered name.now) line.now)) }
 {
     push_lowered(out, name)?;
     push_value(out, name.len(), line)
 }
 
 fn push_further(out: &mut Vec<u8>, line: &[u8]) -> Result<(), AllocError>
-    ensures { OnOk result (out.new.items ≡ out.old.items ++ canon.ended (canon.further_line line.now)) }
+    ensures ok { OnOk result
+        (out.new.items ≡ out.old.items ++ canon.ended (canon.further_line line.now)) }
+    ensures err { OnErr result (StartsWith out.new.items out.old.items) }
 {
     if line.is_empty() {
         out.extend_from_slice(b"+\n")
@@ -108,7 +120,9 @@ pub(crate) fn push_line(out: &mut Vec<u8>, line: &[u8], kind: LineKind) -> Resul
 
 /// What a line adds to the canonical text of the value before it.
 fn push_continuation(out: &mut Vec<u8>, line: &[u8], kind: LineKind) -> Result<(), AllocError>
-    ensures { OnOk result (out.new.items ≡ out.old.items ++ flat_map (λ line. canon.ended (canon.further_line line)) (added_lines line.now kind)) }
+    ensures ok { OnOk result (out.new.items ≡ out.old.items
+        ++ flat_map (λ line. canon.ended (canon.further_line line)) (added_lines line.now kind)) }
+    ensures err { OnErr result (StartsWith out.new.items out.old.items) }
 {
     match kind {
         LineKind::Continuation => push_further(out, added_value(line)),
@@ -118,7 +132,9 @@ fn push_continuation(out: &mut Vec<u8>, line: &[u8], kind: LineKind) -> Result<(
 
 /// The lines that continue a value.
 pub(crate) fn push_continuations(out: &mut Vec<u8>, text: &[u8]) -> Result<(), AllocError>
-    ensures { OnOk result (out.new.items ≡ out.old.items ++ flat_map (λ line. canon.ended (canon.further_line line)) (continued (text_lines text.now))) }
+    ensures ok { OnOk result (out.new.items ≡ out.old.items ++ flat_map
+        (λ line. canon.ended (canon.further_line line)) (continued (text_lines text.now))) }
+    ensures err { OnErr result (StartsWith out.new.items out.old.items) }
 {
     let mut rest = text;
     'lines: while !rest.is_empty() {

@@ -1,8 +1,9 @@
 //! The paragraphs of a text in turn.
 
-ghost use Rattle.std.specs.Prelude.{◌≡◌, ◌≢◌, ◌<◌, ◌≤◌, IfOk, IfErr, IfSome, None, Ok, Err, [], ◌∷◌, length, drop};
+ghost use Rattle.std.specs.Prelude.{◌≡◌, ◌≢◌, ◌<◌, ◌≤◌, IfOk, IfErr, IfSome};
+ghost use Rattle.std.specs.Prelude.{None, Ok, Err, [], ◌∷◌, length, drop};
 ghost use Rattle.rr_text.specs.Fields.{AreFields};
-ghost use Rattle.rr_text.specs.Blocks.{place_behind};
+ghost use Rattle.rr_text.specs.Blocks.{place_after};
 ghost use Rattle.rr_text.specs.Entries.{entries};
 
 use crate::block::take_block;
@@ -22,9 +23,12 @@ pub fn next_paragraph(
     ensures none { IfOk result (λ next. next ≡ None → entries (drop from text.now) ≡ []) }
     ensures found { IfOk result (λ next. IfSome next (λ found.
         entries (drop from text.now) ≡ Ok found.0 ∷ entries (drop found.1 text.now))) }
-    ensures place { IfOk result (λ next. IfSome next (λ found. (from < found.1) × (found.1 ≤ length text.now))) }
-    ensures behind { IfOk result (λ next. IfSome next (λ found. found.1 ≡ place_behind from text.now)) }
-    ensures fields { IfOk result (λ next. IfSome next (λ found. (0 < length found.0) × AreFields found.0)) }
+    ensures place { IfOk result
+        (λ next. IfSome next (λ found. (from < found.1) × (found.1 ≤ length text.now))) }
+    ensures behind { IfOk result
+        (λ next. IfSome next (λ found. found.1 ≡ place_after from text.now)) }
+    ensures fields { IfOk result
+        (λ next. IfSome next (λ found. (0 < length found.0) × AreFields found.0)) }
     ensures fault { IfErr result (λ fault. fault ≢ TextFault.Memory
         → entries (drop from text.now) ≡ Err fault ∷ drop 1 (entries (drop from text.now))) }
 
@@ -40,12 +44,12 @@ pub fn next_paragraph(
     }
 }
 
-/// The place after the first paragraph of the text from a place on, whether it has a fault or not: the one that
-/// `next_paragraph` gives, and the end of the text where there is no more.
+/// The place after the first paragraph of the text from a place on, whether it has a fault or not:
+/// the one that `next_paragraph` gives, and the end of the text where there is no more.
 pub fn skip_paragraph(text: &[u8], from: usize) -> usize
     requires { from ≤ length text.now }
     ensures others { entries (drop result text.now) ≡ drop 1 (entries (drop from text.now)) }
-    ensures behind { result ≡ place_behind from text.now }
+    ensures behind { result ≡ place_after from text.now }
     ensures within { result ≤ length text.now }
     ensures after { 0 < length (entries (drop from text.now)) → from < result }
 {

@@ -27,7 +27,7 @@ impl Text {
         Text { bytes }
     }
 
-    /// A copy of these bytes; the error is want of memory.
+    /// A copy of these bytes; the error is that memory ran out.
     pub fn from_slice(alloc: Global, bytes: &[u8]) -> Result<Text, AllocError>
         ensures { IfOk result (λ text. text ≡ bytes.now) }
     {
@@ -49,7 +49,7 @@ impl Text {
         self.bytes.as_slice()
     }
 
-    /// An equal text; the error is want of memory.
+    /// An equal text; the error is that memory ran out.
     pub fn copy(&self, alloc: Global) -> Result<Text, AllocError>
         ensures { IfOk result (λ text. text ≡ self.now) }
     {

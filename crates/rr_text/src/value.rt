@@ -18,7 +18,8 @@ fn uncommented(line: &[u8]) -> &[u8]
 
 /// Lines less their comments.
 fn uncommented_lines<'t>(alloc: Global, lines: &[&'t [u8]]) -> Result<Vec<&'t [u8]>, AllocError>
-    ensures { IfOk result (λ said. map (λ line. line.now) said.items ≡ map meanings.uncommented (map (λ line. line.now) lines.now)) }
+    ensures { IfOk result (λ said. map (λ line. line.now) said.items
+        ≡ map meanings.uncommented (map (λ line. line.now) lines.now)) }
 {
     let mut said = Vec::with_capacity(alloc, lines.len())?;
     'lines: for line in lines {
@@ -30,7 +31,8 @@ fn uncommented_lines<'t>(alloc: Global, lines: &[&'t [u8]]) -> Result<Vec<&'t [u
 /// What the lines of a value say.
 #[tactic(auto, unfolding(crate::specs::Meanings::value_meaning))]
 fn lines_meaning(alloc: Global, lines: &[&[u8]]) -> Result<Text, AllocError>
-    ensures { IfOk result (λ text. text ≡ meanings.value_meaning (map (λ line. line.now) lines.now)) }
+    ensures { IfOk result
+        (λ text. text ≡ meanings.value_meaning (map (λ line. line.now) lines.now)) }
 {
     let said = uncommented_lines(alloc, lines)?;
     let joined = joined_by_space(alloc, &said)?;

@@ -1,6 +1,7 @@
 //! Putting prefixes into a tree.
 
-ghost use Rattle.std.specs.Prelude.{◌≡◌, Bool, true, false, None, Some, IfOk, IfErr, IfSome, OnOk, OnErr, if◌then◌else◌};
+ghost use Rattle.std.specs.Prelude.{◌≡◌, Bool, true, false, None, Some, IfOk, IfErr, IfSome};
+ghost use Rattle.std.specs.Prelude.{OnOk, OnErr, if◌then◌else◌};
 ghost use Rattle.std.specs.Option.{option_or};
 ghost use Rattle.std.specs.Ordering.{eq_by_cmp};
 ghost use Rattle.rr_number.specs.Prefixes.{PrefixParts, IsMasked, span_of};
@@ -40,7 +41,8 @@ fn hang<T: Drop>(
 ) -> Tree<T>
     requires { IsFork node.value.prefix lower upper × (IsTree lower × IsTree upper) }
     ensures all { (s : Ends) → standing result s
-        ≡ option_or (own node.value.prefix value s) (option_or (standing lower s) (standing upper s)) }
+        ≡ option_or (own node.value.prefix value s)
+        (option_or (standing lower s) (standing upper s)) }
     ensures tree { IsTree result }
     ensures root { root_of result ≡ Some node.value.prefix }
 {
@@ -78,7 +80,8 @@ fn above<T: Drop>(node: Box<Node<T>>, value: T, root: Prefix, tree: Tree<T>) -> 
     requires covered { covers (span_of node.value.prefix) (span_of root) ≡ true }
     requires short { covers (span_of root) (span_of node.value.prefix) ≡ false }
     ensures all { (s : Ends) → standing result s
-        ≡ (if eq_by_cmp span_cmp s (span_of node.value.prefix) then Some value else standing tree s) }
+        ≡ (if eq_by_cmp span_cmp s (span_of node.value.prefix) then Some value
+        else standing tree s) }
     ensures tree { IsTree result }
     ensures root { root_of result ≡ Some node.value.prefix }
 {
@@ -102,7 +105,8 @@ fn beside<T: Drop>(
     requires root { root_of tree ≡ Some root }
     requires parted { IsParting fork.value.prefix node.value.prefix root }
     ensures all { (s : Ends) → standing result s
-        ≡ (if eq_by_cmp span_cmp s (span_of node.value.prefix) then Some value else standing tree s) }
+        ≡ (if eq_by_cmp span_cmp s (span_of node.value.prefix) then Some value
+        else standing tree s) }
     ensures tree { IsTree result }
     ensures root { root_of result ≡ Some fork.value.prefix }
 {
@@ -115,8 +119,8 @@ fn beside<T: Drop>(
     }
 }
 
-/// The node with a value beside the tree, where neither root covers the other. Where memory is refused, nothing changes
-/// and the value comes back.
+/// The node with a value beside the tree, where neither root covers the other. If memory runs out,
+/// nothing changes and the value comes back.
 fn part<T: Drop>(
     tree: &mut Tree<T>,
     alloc: Global,
@@ -130,11 +134,13 @@ fn part<T: Drop>(
     requires one { covers (span_of node.value.prefix) (span_of root) ≡ false }
     requires other { covers (span_of root) (span_of node.value.prefix) ≡ false }
     ensures all { OnOk result ((s : Ends) → standing tree.new s
-        ≡ (if eq_by_cmp span_cmp s (span_of node.value.prefix) then Some value else standing tree.old s)) }
+        ≡ (if eq_by_cmp span_cmp s (span_of node.value.prefix) then Some value
+        else standing tree.old s)) }
     ensures err { OnErr result (tree.new ≡ tree.old) }
     ensures back { IfErr result (λ given. given ≡ value) }
     ensures tree { IsTree tree.new }
-    ensures root { (p : PrefixParts) (side : Bool) → IsMasked p → lies_on p side (span_of node.value.prefix) ≡ true
+    ensures root { (p : PrefixParts) (side : Bool) → IsMasked p
+        → lies_on p side (span_of node.value.prefix) ≡ true
         → IsRootedOn p side tree.old → IsRootedOn p side tree.new }
 {
     let Some(fork) = bare(alloc, parting(node.prefix, node.prefix, root)) else {
@@ -145,8 +151,8 @@ fn part<T: Drop>(
     Ok(())
 }
 
-/// Puts a value at a prefix that the root does not cover. Where memory is refused, nothing changes and the value comes
-/// back.
+/// Puts a value at a prefix that the root does not cover. If memory runs out, nothing changes and
+/// the value comes back.
 fn place<T: Drop>(tree: &mut Tree<T>, alloc: Global, prefix: Prefix, value: T) -> Result<(), T>
     requires order { IsTree tree.old }
     requires masked { IsMasked prefix }
@@ -156,7 +162,8 @@ fn place<T: Drop>(tree: &mut Tree<T>, alloc: Global, prefix: Prefix, value: T) -
     ensures err { OnErr result (tree.new ≡ tree.old) }
     ensures back { IfErr result (λ given. given ≡ value) }
     ensures tree { IsTree tree.new }
-    ensures root { (p : PrefixParts) (side : Bool) → IsMasked p → lies_on p side (span_of prefix) ≡ true
+    ensures root { (p : PrefixParts) (side : Bool) → IsMasked p
+        → lies_on p side (span_of prefix) ≡ true
         → IsRootedOn p side tree.old → IsRootedOn p side tree.new }
 {
     let Some(node) = bare(alloc, prefix) else {
@@ -174,8 +181,8 @@ fn place<T: Drop>(tree: &mut Tree<T>, alloc: Global, prefix: Prefix, value: T) -
     Ok(())
 }
 
-/// Puts the value at the prefix, and gives back the one that stood there. Where memory is refused, nothing changes and
-/// the value comes back.
+/// Puts the value at the prefix, and gives back the one that stood there. If memory runs out,
+/// nothing changes and the value comes back.
 #[cycle(insertion)]
 pub(super) fn set<T: Drop>(
     tree: &mut Tree<T>,
@@ -191,7 +198,8 @@ pub(super) fn set<T: Drop>(
     ensures err { OnErr result (tree.new ≡ tree.old) }
     ensures back { IfErr result (λ given. given ≡ value) }
     ensures tree { IsTree tree.new }
-    ensures root { (p : PrefixParts) (side : Bool) → IsMasked p → lies_on p side (span_of prefix) ≡ true
+    ensures root { (p : PrefixParts) (side : Bool) → IsMasked p
+        → lies_on p side (span_of prefix) ≡ true
         → IsRootedOn p side tree.old → IsRootedOn p side tree.new }
 {
     if is_above(tree, prefix) {
@@ -220,7 +228,8 @@ fn set_below<T: Drop>(
     ensures err { OnErr result (tree.new ≡ tree.old) }
     ensures back { IfErr result (λ given. given ≡ value) }
     ensures tree { IsTree tree.new }
-    ensures root { (p : PrefixParts) (side : Bool) → IsRootedOn p side tree.old → IsRootedOn p side tree.new }
+    ensures root { (p : PrefixParts) (side : Bool) → IsRootedOn p side tree.old
+        → IsRootedOn p side tree.new }
 {
     match tree {
         Tree::Empty => Err(value),

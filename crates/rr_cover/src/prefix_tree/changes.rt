@@ -12,7 +12,8 @@ use super::{Node, Tree};
 use rr_number::Prefix;
 use std::mem;
 
-/// Whether a node has no value and a prefix on one side at most, so that the tree can do without it.
+/// Whether a node has no value and a prefix on one side at most, so that the tree can do without
+/// it.
 fn is_idle<T>(node: &Node<T>) -> bool
     ensures { result ≡ is_idle node.now.value node.now.lower node.now.upper }
 {
@@ -42,7 +43,8 @@ fn tidy<T: Drop>(tree: Tree<T>) -> Tree<T>
     requires { IsTree tree }
     ensures all { (s : Ends) → standing result s ≡ standing tree s }
     ensures tree { IsTree result }
-    ensures root { (p : PrefixParts) (side : Bool) → IsRootedOn p side tree → IsRootedOn p side result }
+    ensures root { (p : PrefixParts) (side : Bool) → IsRootedOn p side tree
+        → IsRootedOn p side result }
 {
     match tree {
         Tree::Empty => Tree::Empty,
@@ -64,7 +66,8 @@ pub(super) fn take<T: Drop>(tree: &mut Tree<T>, prefix: Prefix) -> Option<T>
     ensures all { (s : Ends) → standing tree.new s
         ≡ (if eq_by_cmp span_cmp s (span_of prefix) then None else standing tree.old s) }
     ensures tree { IsTree tree.new }
-    ensures root { (p : PrefixParts) (side : Bool) → IsRootedOn p side tree.old → IsRootedOn p side tree.new }
+    ensures root { (p : PrefixParts) (side : Bool) → IsRootedOn p side tree.old
+        → IsRootedOn p side tree.new }
 {
     let value = take_below(tree, prefix);
     let whole = mem::replace(tree, Tree::Empty);
@@ -72,7 +75,8 @@ pub(super) fn take<T: Drop>(tree: &mut Tree<T>, prefix: Prefix) -> Option<T>
     value
 }
 
-/// Takes out the value that stands at the prefix. The root stays, even if the tree can do without it.
+/// Takes out the value that stands at the prefix. The root stays, even if the tree can do without
+/// it.
 #[cycle(removal)]
 fn take_below<T: Drop>(tree: &mut Tree<T>, prefix: Prefix) -> Option<T>
     requires { IsTree tree.old }
@@ -80,7 +84,8 @@ fn take_below<T: Drop>(tree: &mut Tree<T>, prefix: Prefix) -> Option<T>
     ensures all { (s : Ends) → standing tree.new s
         ≡ (if eq_by_cmp span_cmp s (span_of prefix) then None else standing tree.old s) }
     ensures tree { IsTree tree.new }
-    ensures root { (p : PrefixParts) (side : Bool) → IsRootedOn p side tree.old → IsRootedOn p side tree.new }
+    ensures root { (p : PrefixParts) (side : Bool) → IsRootedOn p side tree.old
+        → IsRootedOn p side tree.new }
 {
     match tree {
         Tree::Empty => None,

@@ -26,7 +26,8 @@ fn push_if(wanted: bool, prefix: Prefix, out: &mut Vec<Prefix>) -> Result<(), Al
 /// Puts the list in order of first, then last address, each prefix once.
 pub(super) fn put_in_order(prefixes: &mut Vec<Prefix>)
     ensures rising { IsStrictlySortedBy span_cmp (map span_of prefixes.new.items) }
-    ensures same { (u : Ends) → is_listed prefixes.new.items u ≡ is_listed prefixes.old.items u }
+    ensures same { (u : Ends)
+        → is_listed prefixes.new.items u ≡ is_listed prefixes.old.items u }
 {
     prefixes.sort_unstable_by_key(|prefix| prefix.span());
     prefixes.dedup_by_key(|prefix| prefix.span());

@@ -15,7 +15,8 @@ fn shorter(prefix: Prefix) -> Prefix
     Prefix::new(prefix.address(), prefix.length() - 1)
 }
 
-/// The longest prefix that covers a prefix and another one, sought from one on that covers the first alone.
+/// The longest prefix that covers a prefix and another one, sought from one on that covers the
+/// first alone.
 pub(super) fn parting(common: Prefix, prefix: Prefix, other: Prefix) -> Prefix
     requires common { IsMasked common }
     requires masked { IsMasked other }

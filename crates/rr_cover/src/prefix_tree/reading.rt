@@ -29,7 +29,8 @@ pub(super) fn is_upper(prefix: Prefix, span: Span) -> bool
 
 /// The side of a node on which a prefix would stand.
 fn side<T>(node: &Node<T>, prefix: Prefix) -> &Tree<T>
-    ensures { result.now ≡ side_of node.now.prefix node.now.lower node.now.upper (span_of prefix) }
+    ensures { result.now
+        ≡ side_of node.now.prefix node.now.lower node.now.upper (span_of prefix) }
 {
     if is_upper(node.prefix, prefix.span()) {
         &node.upper
@@ -58,7 +59,8 @@ pub(super) fn find<T>(tree: &Tree<T>, prefix: Prefix) -> Option<&T>
 /// The smallest prefix held that covers the prefix.
 pub(super) fn smallest_cover<T>(tree: &Tree<T>, prefix: Prefix) -> Option<(Prefix, &T)>
     requires { IsTree tree.now }
-    ensures found { IfSome result (λ p. IsSmallestCover tree.now (span_of prefix) (span_of p.0) p.1.now) }
+    ensures found { IfSome result
+        (λ p. IsSmallestCover tree.now (span_of prefix) (span_of p.0) p.1.now) }
     ensures none { IfNone result (NoCover tree.now (span_of prefix)) }
 {
     match tree {

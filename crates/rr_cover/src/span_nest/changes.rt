@@ -1,10 +1,12 @@
 //! Changing a search tree and keeping it balanced.
 
-ghost use Rattle.std.specs.Prelude.{◌≡◌, nat_le, None, Some, is_some, IfOk, IfErr, IfSome, IfNone, OnOk, OnErr, if◌then◌else◌};
+ghost use Rattle.std.specs.Prelude.{◌≡◌, nat_le, None, Some, is_some, IfOk, IfErr, IfSome};
+ghost use Rattle.std.specs.Prelude.{IfNone, OnOk, OnErr, if◌then◌else◌};
 ghost use Rattle.std.specs.Option.{option_or};
 ghost use Rattle.std.specs.Ordering.{eq_by_cmp};
 ghost use Rattle.rr_number.specs.Spans.{Ends, IsSpan, span_cmp};
-ghost use Rattle.rr_cover.specs.SpanNests.{at_span, is_ahead, standing, Only, Fits, IsBound, IsNest};
+ghost use Rattle.rr_cover.specs.SpanNests.{at_span, is_ahead, standing, Only, Fits, IsBound};
+ghost use Rattle.rr_cover.specs.SpanNests.{IsNest};
 ghost use Rattle.rr_cover.specs.NestParts.{with_front, with_back, IsTakenApart, Precedes};
 
 use super::bounds::Bounds;
@@ -85,7 +87,8 @@ fn hang<T: Drop>(
     requires bound { IsBound bounds node.value.span before after }
     requires nests { IsNest before × IsNest after }
     ensures all { (s : Ends) → standing result s
-        ≡ option_or (standing before s) (option_or (at_span node.value.span node.value.value s) (standing after s)) }
+        ≡ option_or (standing before s)
+        (option_or (at_span node.value.span node.value.value s) (standing after s)) }
     ensures nest { IsNest result }
 {
     node.height = height;
@@ -100,7 +103,8 @@ fn fork<T: Drop>(node: Box<Node<T>>, before: Nest<T>, after: Nest<T>) -> Nest<T>
     requires fits { Fits node.value.span before after }
     requires nests { IsNest before × IsNest after }
     ensures all { (s : Ends) → standing result s
-        ≡ option_or (standing before s) (option_or (at_span node.value.span node.value.value s) (standing after s)) }
+        ≡ option_or (standing before s)
+        (option_or (at_span node.value.span node.value.value s) (standing after s)) }
     ensures nest { IsNest result }
 {
     let height = height(&before).max(height(&after)).saturating_add(1);
@@ -113,7 +117,8 @@ fn balance<T: Drop>(node: Box<Node<T>>, before: Nest<T>, after: Nest<T>) -> Nest
     requires fits { Fits node.value.span before after }
     requires nests { IsNest before × IsNest after }
     ensures all { (s : Ends) → standing result s
-        ≡ option_or (standing before s) (option_or (at_span node.value.span node.value.value s) (standing after s)) }
+        ≡ option_or (standing before s)
+        (option_or (at_span node.value.span node.value.value s) (standing after s)) }
     ensures nest { IsNest result }
 {
     let (front, back) = (height(&before), height(&after));
@@ -131,7 +136,8 @@ fn lift_before<T: Drop>(node: Box<Node<T>>, before: Nest<T>, after: Nest<T>) -> 
     requires fits { Fits node.value.span before after }
     requires nests { IsNest before × IsNest after }
     ensures all { (s : Ends) → standing result s
-        ≡ option_or (standing before s) (option_or (at_span node.value.span node.value.value s) (standing after s)) }
+        ≡ option_or (standing before s)
+        (option_or (at_span node.value.span node.value.value s) (standing after s)) }
     ensures nest { IsNest result }
 {
     let Some((front, outer, inner)) = open(before) else {
@@ -155,7 +161,8 @@ fn lift_after<T: Drop>(node: Box<Node<T>>, before: Nest<T>, after: Nest<T>) -> N
     requires fits { Fits node.value.span before after }
     requires nests { IsNest before × IsNest after }
     ensures all { (s : Ends) → standing result s
-        ≡ option_or (standing before s) (option_or (at_span node.value.span node.value.value s) (standing after s)) }
+        ≡ option_or (standing before s)
+        (option_or (at_span node.value.span node.value.value s) (standing after s)) }
     ensures nest { IsNest result }
 {
     let Some((back, inner, outer)) = open(after) else {
@@ -186,7 +193,8 @@ fn balanced<T: Drop>(nest: Nest<T>) -> Nest<T>
     balance(root, before, after)
 }
 
-/// Sets the root's height, and tells whether its sides differ by a level at most; else nothing is done.
+/// Sets the root's height, and tells whether its sides differ by a level at most; else nothing is
+/// done.
 fn raise<T>(nest: &mut Nest<T>) -> bool
     requires { IsNest nest.old }
     ensures all { (s : Ends) → standing nest.new s ≡ standing nest.old s }
@@ -240,7 +248,8 @@ fn put<T: Drop>(nest: &mut Nest<T>, leaf: Box<Node<T>>)
     requires ends { IsSpan leaf.value.span }
     requires missing { standing nest.old leaf.value.span ≡ None }
     ensures all { (s : Ends) → standing nest.new s
-        ≡ (if eq_by_cmp span_cmp s leaf.value.span then Some leaf.value.value else standing nest.old s) }
+        ≡ (if eq_by_cmp span_cmp s leaf.value.span then Some leaf.value.value
+        else standing nest.old s) }
     ensures nest { IsNest nest.new }
 {
     if put_below(nest, leaf) {
@@ -248,15 +257,16 @@ fn put<T: Drop>(nest: &mut Nest<T>, leaf: Box<Node<T>>)
     }
 }
 
-/// Hangs a node in whose span is not held, and tells whether a side rose to the root's height: then that is not set
-/// anew yet, and the sides may differ by two levels.
+/// Hangs a node in whose span is not held, and tells whether a side rose to the root's height: then
+/// that is not set anew yet, and the sides may differ by two levels.
 #[cycle(putting)]
 fn put_below<T: Drop>(nest: &mut Nest<T>, leaf: Box<Node<T>>) -> bool
     requires order { IsNest nest.old }
     requires ends { IsSpan leaf.value.span }
     requires missing { standing nest.old leaf.value.span ≡ None }
     ensures all { (s : Ends) → standing nest.new s
-        ≡ (if eq_by_cmp span_cmp s leaf.value.span then Some leaf.value.value else standing nest.old s) }
+        ≡ (if eq_by_cmp span_cmp s leaf.value.span then Some leaf.value.value
+        else standing nest.old s) }
     ensures nest { IsNest nest.new }
 {
     match nest {
@@ -288,7 +298,8 @@ fn split_first<T: Drop>(
     ensures ends { IsSpan result.0.value.span }
     ensures all { (s : Ends)
         → option_or (at_span result.0.value.span result.0.value.value s) (standing result.1 s)
-        ≡ option_or (standing before s) (option_or (at_span root.value.span root.value.value s) (standing after s)) }
+        ≡ option_or (standing before s)
+        (option_or (at_span root.value.span root.value.value s) (standing after s)) }
     ensures behind { Only (λ s. is_ahead result.0.value.span s) result.1 }
     ensures nest { IsNest result.1 }
 {
@@ -304,7 +315,8 @@ fn split_first<T: Drop>(
 fn join<T: Drop>(before: Nest<T>, after: Nest<T>) -> Nest<T>
     requires order { Precedes before after }
     requires nests { IsNest before × IsNest after }
-    ensures all { (s : Ends) → standing result s ≡ option_or (standing before s) (standing after s) }
+    ensures all { (s : Ends)
+        → standing result s ≡ option_or (standing before s) (standing after s) }
     ensures nest { IsNest result }
 {
     let Some((root, low, high)) = open(after) else {
@@ -346,7 +358,8 @@ fn take_out<T: Drop>(nest: Nest<T>, span: Span) -> (Option<T>, Nest<T>)
     }
 }
 
-/// Puts a value in the place of the one that stands at the span; where none stands there it comes back.
+/// Puts a value in the place of the one that stands at the span; where none stands there it comes
+/// back.
 fn replace<T: Drop>(nest: &mut Nest<T>, span: Span, value: T) -> Result<T, T>
     requires { IsNest nest.old }
     ensures ok { IfOk result (λ old. standing nest.old span ≡ Some old) }
@@ -371,7 +384,8 @@ fn replace<T: Drop>(nest: &mut Nest<T>, span: Span, value: T) -> Result<T, T>
     }
 }
 
-/// Puts a value at a span that is not held. Where memory is refused, nothing changes and the value comes back.
+/// Puts a value at a span that is not held. If memory runs out, nothing changes and the value comes
+/// back.
 fn add<T: Drop>(nest: &mut Nest<T>, alloc: Global, span: Span, value: T) -> Result<(), T>
     requires order { IsNest nest.old }
     requires missing { standing nest.old span ≡ None }
@@ -403,8 +417,8 @@ fn add<T: Drop>(nest: &mut Nest<T>, alloc: Global, span: Span, value: T) -> Resu
     }
 }
 
-/// Puts the value at the span, and gives back the one that stood there. Where memory is refused, nothing changes and
-/// the value comes back.
+/// Puts the value at the span, and gives back the one that stood there. If memory runs out, nothing
+/// changes and the value comes back.
 pub(super) fn set<T: Drop>(
     nest: &mut Nest<T>,
     alloc: Global,

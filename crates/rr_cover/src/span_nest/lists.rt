@@ -11,7 +11,8 @@ use crate::in_order::push_if;
 use rr_number::Span;
 use std::alloc::AllocError;
 
-/// Lists the spans that cover the span. A part that reaches its last number and begins in time has one.
+/// Lists the spans that cover the span. A part that reaches its last number and begins in time has
+/// one.
 pub(super) fn push_covering<T>(
     nest: &Nest<T>,
     span: Span,
@@ -19,7 +20,8 @@ pub(super) fn push_covering<T>(
 ) -> Result<(), AllocError>
     requires { IsNest nest.now }
     ensures ok { OnOk result ((u : Ends) → list_any (eq_by_cmp span_cmp u) out.new.items
-        ≡ (list_any (eq_by_cmp span_cmp u) out.old.items || (is_some (standing nest.now u) && covers u span))) }
+        ≡ (list_any (eq_by_cmp span_cmp u) out.old.items
+        || (is_some (standing nest.now u) && covers u span))) }
 {
     match nest {
         Nest::Empty => Ok(()),
@@ -37,7 +39,8 @@ pub(super) fn push_covering<T>(
     }
 }
 
-/// Lists the spans that lie inside the span. A part that begins within it and has a last number within it has one.
+/// Lists the spans that lie inside the span. A part that begins within it and has a last number
+/// within it has one.
 pub(super) fn push_inside<T>(
     nest: &Nest<T>,
     span: Span,
@@ -45,7 +48,8 @@ pub(super) fn push_inside<T>(
 ) -> Result<(), AllocError>
     requires { IsNest nest.now }
     ensures ok { OnOk result ((u : Ends) → list_any (eq_by_cmp span_cmp u) out.new.items
-        ≡ (list_any (eq_by_cmp span_cmp u) out.old.items || (is_some (standing nest.now u) && covers span u))) }
+        ≡ (list_any (eq_by_cmp span_cmp u) out.old.items
+        || (is_some (standing nest.now u) && covers span u))) }
 {
     match nest {
         Nest::Empty => Ok(()),

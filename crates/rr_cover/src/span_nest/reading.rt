@@ -1,11 +1,13 @@
 //! Looking spans up in a search tree.
 
-ghost use Rattle.std.specs.Prelude.{◌≡◌, ◌+◌, true, false, nat_le, is_some, IfSome, IfNone};
+ghost use Rattle.std.specs.Prelude.{◌≡◌, ◌+◌, true, false, nat_le, is_some, IfSome};
+ghost use Rattle.std.specs.Prelude.{IfNone};
 ghost use Rattle.std.specs.Option.{option_copied};
 ghost use Rattle.std.specs.Ordering.{eq_by_cmp};
 ghost use Rattle.rr_number.specs.Spans.{Ends, span_cmp};
 ghost use Rattle.rr_cover.specs.SpanNests.{is_ahead, standing, Only, IsNest, HasNoCrossing};
-ghost use Rattle.rr_cover.specs.NestParts.{ends_in, begins_in, IsLastReaching, NoneReaches, SomeCrosses, NoneCrosses};
+ghost use Rattle.rr_cover.specs.NestParts.{ends_in, begins_in, IsLastReaching, NoneReaches};
+ghost use Rattle.rr_cover.specs.NestParts.{SomeCrosses, NoneCrosses};
 
 use super::{Nest, Node};
 use rr_number::Span;
@@ -43,12 +45,14 @@ pub(super) fn find<T>(nest: &Nest<T>, span: Span) -> Option<&T>
     }
 }
 
-/// The node of the last span in order of those that begin below a number and reach another one. Where all spans of a
-/// part begin below it, the greatest last numbers tell which side to take, so one way down is gone.
+/// The node of the last span in order of those that begin below a number and reach another one.
+/// Where all spans of a part begin below it, the greatest last numbers tell which side to take, so
+/// one way down is gone.
 #[cycle(reaching)]
 pub(super) fn last_reaching<T>(nest: &Nest<T>, below: u64, to: u64) -> Option<&Node<T>>
     requires { IsNest nest.now }
-    ensures found { IfSome result (λ node. IsLastReaching nest.now below to node.now.span node.now.value) }
+    ensures found { IfSome result
+        (λ node. IsLastReaching nest.now below to node.now.span node.now.value) }
     ensures none { IfNone result (NoneReaches nest.now below to) }
 {
     match nest {
@@ -66,7 +70,8 @@ pub(super) fn last_reaching<T>(nest: &Nest<T>, below: u64, to: u64) -> Option<&N
     }
 }
 
-/// The same of a side that has no last number above a greatest one: it is looked at only where that reaches.
+/// The same of a side that has no last number above a greatest one: it is looked at only where that
+/// reaches.
 #[cycle(reaching)]
 pub(super) fn last_reaching_in<T>(
     side: &Nest<T>,
@@ -76,7 +81,8 @@ pub(super) fn last_reaching_in<T>(
 ) -> Option<&Node<T>>
     requires order { IsNest side.now }
     requires bound { Only (λ s. nat_le s.last greatest) side.now }
-    ensures found { IfSome result (λ node. IsLastReaching side.now below to node.now.span node.now.value) }
+    ensures found { IfSome result
+        (λ node. IsLastReaching side.now below to node.now.span node.now.value) }
     ensures none { IfNone result (NoneReaches side.now below to) }
 {
     if u64::from(greatest) < to {
@@ -100,7 +106,7 @@ fn ends_within<T>(nest: &Nest<T>, span: Span) -> bool
     }
 }
 
-/// Whether a span held begins within the span and ends behind it.
+/// Whether a span held begins within the span and ends after it.
 fn begins_within<T>(nest: &Nest<T>, span: Span) -> bool
     requires order { IsNest nest.now }
     requires apart { HasNoCrossing nest.now }
@@ -128,7 +134,8 @@ pub(super) fn crosses_any<T>(nest: &Nest<T>, span: Span) -> bool
 /// The span in order last that covers the span: the smallest one, where no two cross.
 pub(super) fn smallest_cover<T>(nest: &Nest<T>, span: Span) -> Option<(Span, &T)>
     requires order { IsNest nest.now }
-    ensures found { IfSome result (λ p. IsLastReaching nest.now (span.first + 1) span.last p.0 p.1.now) }
+    ensures found { IfSome result
+        (λ p. IsLastReaching nest.now (span.first + 1) span.last p.0 p.1.now) }
     ensures none { IfNone result (NoneReaches nest.now (span.first + 1) span.last) }
 {
     match last_reaching(nest, u64::from(span.first()) + 1, u64::from(span.last())) {

@@ -2,7 +2,10 @@
 
 ghost use Rattle.std.specs.Prelude.{◌≡◌};
 ghost use Rattle.rr_number.specs.Spans.{Ends, span_cmp};
-ghost use Rattle.rr_number.specs.SpanLaws.{CoveringIsInclusion, MeetingIsSharing, CoversItself, CoversFurther, CoversBothWays, CrossesBothWays, ApartOrNested, CoverIsLarger, OneNumber, SizesAdd, SpansAreOrdered};
+ghost use Rattle.rr_number.specs.SpanLaws.{CoveringIsInclusion, MeetingIsSharing, CoversItself};
+ghost use Rattle.rr_number.specs.SpanLaws.{CoversFurther, CoversBothWays, CrossesBothWays};
+ghost use Rattle.rr_number.specs.SpanLaws.{ApartOrNested, CoverIsLarger, OneNumber, SizesAdd};
+ghost use Rattle.rr_number.specs.SpanLaws.{SpansAreOrdered};
 
 use crate::as_span::AsSpan;
 use crate::span::Span;
@@ -33,7 +36,8 @@ pub fn size_counts_numbers()
     ensures larger { CoverIsLarger }
 {}
 
-/// Spans, and blocks of AS numbers, are ordered by their first number, then by their last, and only equal ones tie.
+/// Spans, and blocks of AS numbers, are ordered by their first number, then by their last, and only
+/// equal ones tie.
 pub fn spans_are_ordered()
     ensures derived { (s t : Ends) → ⟦<Span as Ord>⟧.cmp s t ≡ span_cmp s t }
     ensures blocks { (s t : Ends) → ⟦<AsSpan as Ord>⟧.cmp s t ≡ span_cmp s t }

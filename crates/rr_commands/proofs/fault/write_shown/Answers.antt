@@ -17,6 +17,6 @@ pub bytes-preserved : goal.bytes-preserved
 bytes-preserved g c =
     let before = c.bytes.invariant in
     let next = map-next shown c.args.text.now c.bytes.byte-index 0 c.bytes-test.true in
-    let behind = map shown (drop (c.bytes.byte-index + 1) c.args.text.now) in
-    let cut = before.1 ∙ (ap (λ rest. before.0 ++ rest) (next ∙ ap (λ b. b ∷ behind) (sym c.shown.ensures)) ∙ sym (append_assoc before.0 (c.shown.result ∷ []) behind)) in
+    let after = map shown (drop (c.bytes.byte-index + 1) c.args.text.now) in
+    let cut = before.1 ∙ (ap (λ rest. before.0 ++ rest) (next ∙ ap (λ b. b ∷ after) (sym c.shown.ensures)) ∙ sym (append_assoc before.0 (c.shown.result ∷ []) after)) in
     (_, cut, Takes-then _ _ before.2 c.in_ok-write_all.ensures.writes, c.in_ok-write_all.ensures.aside ∙ before.3)

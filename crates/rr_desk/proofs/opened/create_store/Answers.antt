@@ -30,6 +30,7 @@ returns-in-Ok-clause-makes g c =
     let all = subst (λ os. AllByRecursion IsObject (lent os)) c.deref.ensures.value c.are_read.ensures in
     IfOk-weaker c.create.result _ _ (λ store makes. record {
       vacant = makes.vacant;
+      tables = makes.tables;
       crash = left_as _ _ (λ db filled.
           lent_rows c.args.registry.now c.in-Ok.objects.items c.sound.ensures c.in-Ok.ensures all db (subst (λ os. IsFilled (map entry_of (lent os)) db) c.deref-in-Ok.ensures.value filled)) makes.crash;
     }) c.create.ensures.makes

@@ -1,11 +1,14 @@
-use Rattle.std.proofs.Common.{◌≡◌, ℕ, ◌+◌, ◌<◌, List, [], ◌∷◌, ◌++◌, length, map, take, sym, ap, subst, ◌∙◌, arith}
+use Rattle.std.proofs.Common.{◌≡◌, ℕ, ◌+◌, ◌<◌, List, [], ◌∷◌, ◌++◌, length, map, take, refl, sym, ap, subst, ◌∙◌, arith}
 use Rattle.std.proofs.Math.Seq.{take-length}
 use Rattle.std.proofs.lemmas.List.{take_more, map-append}
 use Rattle.sqlite_value.specs.Order.{Row}
 use Rattle.sqlite.specs.Held.{state}
 use Rattle.rr_rows.specs.Contents.{Adds, Alters, named_values}
-use Rattle.rr_store.proofs.AddingLemmas.{HasAltered, added_more}
+use Rattle.rr_store.proofs.AddingLemmas.{HasAltered, added_more, none_added}
 use Rattle.rr_store.proofs.bodies.add_names.Goals as goal
+
+pub loop-name-init : goal.loop-name-init
+loop-name-init g c = (refl, none_added g.S.Store c.args.tx.now.conn.now c.requires)
 
 pub loop-name-preserved : goal.loop-name-preserved
 loop-name-preserved g c =

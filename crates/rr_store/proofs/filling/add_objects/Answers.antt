@@ -1,11 +1,14 @@
-use Rattle.std.proofs.Common.{◌≡◌, ◌+◌, ◌<◌, [], ◌∷◌, ◌++◌, length, map, take, sym, ap, subst, ◌∙◌, arith}
+use Rattle.std.proofs.Common.{◌≡◌, ◌+◌, ◌<◌, [], ◌∷◌, ◌++◌, length, map, take, refl, sym, ap, subst, ◌∙◌, arith}
 use Rattle.std.proofs.Math.Seq.{take-length}
 use Rattle.std.proofs.lemmas.List.{take_more, map-append}
 use Rattle.sqlite.specs.Held.{state}
 use Rattle.rr_rows.specs.Entries.{IsAdded, entry_of}
 use Rattle.rr_store.specs.Lent.{lent}
-use Rattle.rr_store.proofs.FillLemmas.{HasFilled, filled_more}
+use Rattle.rr_store.proofs.FillLemmas.{HasFilled, filled_more, none_filled}
 use Rattle.rr_store.proofs.filling.add_objects.Goals as goal
+
+pub loop-object-init : goal.loop-object-init
+loop-object-init g c = (refl, none_filled g.S.Store c.args.tx.now.conn.now c.requires)
 
 pub loop-object-preserved : goal.loop-object-preserved
 loop-object-preserved g c =

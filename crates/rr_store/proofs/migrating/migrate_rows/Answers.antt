@@ -19,10 +19,10 @@ returns-in_ok-rewrite-clause-migrates g c =
     let old = c.args.conn.now in
     let new = c.rewrite.new.conn in
     let registered : has_mntner root objects ≡ true = cc in
-    let written : Writes g.S.Store (λ _. IsRewritten root source objects) old new c.rewrite.result =
-    writes_then g.S.Store old c.stored_objects.new.conn new c.in_ok-objects.ensures.looks.rests c.in_ok-objects.ensures.looks.same (λ _. IsRewritten root source objects) c.rewrite.result c.rewrite.ensures in
+    let written : Writes g.S.Store (IsRewritten root source objects) old new c.rewrite.result =
+    writes_then g.S.Store old c.stored_objects.new.conn new c.in_ok-objects.ensures.looks.rests c.in_ok-objects.ensures.looks.same (IsRewritten root source objects) c.rewrite.result c.rewrite.ensures in
     let done : Writes g.S.Store (IsMigrated root source) old new c.rewrite.result =
-    writes_as g.S.Store old new (λ _. IsRewritten root source objects) (IsMigrated root source) c.rewrite.result
+    writes_as g.S.Store old new (IsRewritten root source objects) (IsMigrated root source) c.rewrite.result
     (λ clean db rewritten. migrated root source objects (state g.S.Store old).now db (c.in_ok-objects.ensures.stored (omega (arith, clean, c.rewrite.ensures.crash.clean))) registered rewritten) written in
     writes_ok g.S.Store old new (IsMigrated root source) (IsMigrated root source) c.in_ok-rewrite.field-0 c.rewrite.result tt _ c.in_ok-rewrite.was refl done
 
@@ -37,9 +37,9 @@ returns-in_err-rewrite-clause-migrates g c =
     let old = c.args.conn.now in
     let new = c.rewrite.new.conn in
     let registered : has_mntner root objects ≡ true = cc in
-    let written : Writes g.S.Store (λ _. IsRewritten root source objects) old new c.rewrite.result =
-    writes_then g.S.Store old c.stored_objects.new.conn new c.in_ok-objects.ensures.looks.rests c.in_ok-objects.ensures.looks.same (λ _. IsRewritten root source objects) c.rewrite.result c.rewrite.ensures in
+    let written : Writes g.S.Store (IsRewritten root source objects) old new c.rewrite.result =
+    writes_then g.S.Store old c.stored_objects.new.conn new c.in_ok-objects.ensures.looks.rests c.in_ok-objects.ensures.looks.same (IsRewritten root source objects) c.rewrite.result c.rewrite.ensures in
     let done : Writes g.S.Store (IsMigrated root source) old new c.rewrite.result =
-    writes_as g.S.Store old new (λ _. IsRewritten root source objects) (IsMigrated root source) c.rewrite.result
+    writes_as g.S.Store old new (IsRewritten root source objects) (IsMigrated root source) c.rewrite.result
     (λ clean db rewritten. migrated root source objects (state g.S.Store old).now db (c.in_ok-objects.ensures.stored (omega (arith, clean, c.rewrite.ensures.crash.clean))) registered rewritten) written in
     writes_failed g.S.Store old new (IsMigrated root source) (IsMigrated root source) c.rewrite.result c.from_residual-in_err-rewrite.result (rw c.in_err-rewrite.was refl) c.from_residual-in_err-rewrite.ensures.0 done

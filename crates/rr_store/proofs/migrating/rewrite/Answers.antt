@@ -2,7 +2,7 @@ use Rattle.std.proofs.Common.{◌≡◌, ◌++◌, [], ◌∷◌, map, ap, subst
 use Rattle.rr_rows.specs.Entries.{entry_of}
 use Rattle.rr_rows.specs.Maps.{IsFilled}
 use Rattle.rr_store.specs.Lent.{lent}
-use Rattle.rr_store.specs.MigratingParts.{IsRewritten}
+use Rattle.rr_store.specs.MigratingParts.{IsReplaced, IsRewritten}
 use Rattle.rr_store.proofs.CommitLemmas.{writes_as}
 use Rattle.rr_store.proofs.migrating.rewrite.Goals as goal
 
@@ -10,10 +10,11 @@ pub returns : goal.returns
 returns g c =
     let listed : c.deref.result.now ≡ c.args.objects.items ++ c.in_ok-block.block ∷ [] = c.deref.ensures.value ∙ c.in_ok-all.ensures in
     let same : lent c.deref-2.result.now ≡ c.args.objects.items ++ c.in_ok-block.block ∷ [] = ap lent c.deref-2.ensures.value ∙ (c.in_ok-lent.ensures ∙ listed) in
-    writes_as g.S.Store c.args.conn.now c.replace.new.conn (λ _. IsFilled (map entry_of (lent c.deref-2.result.now))) (λ _. IsRewritten c.args.root.now c.args.source.now c.args.objects.items) c.replace.result
-    (λ clean db filled. record {
+    writes_as g.S.Store c.args.conn.now c.replace.new.conn (IsReplaced (map entry_of (lent c.deref-2.result.now))) (IsRewritten c.args.root.now c.args.source.now c.args.objects.items) c.replace.result
+    (λ clean db replaced. record {
       block = c.in_ok-block.block;
       of_source = c.in_ok-block.ensures.of_source;
       read = c.in_ok-block.ensures.read;
-      filled = subst (λ os. IsFilled (map entry_of os) db) same filled;
+      filled = subst (λ os. IsFilled (map entry_of os) db) same replaced.filled;
+      others = replaced.others;
     }) c.replace.ensures

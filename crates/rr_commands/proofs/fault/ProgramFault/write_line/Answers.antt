@@ -20,7 +20,7 @@ returns-in_err-write_about-clause-writes g c =
 pub returns-clause-writes : goal.returns-clause-writes
 unfolding fault_line
 returns-clause-writes g c =
-    let behind = Writes-then _ _ (g.E.Sink.told c.write_trouble.new.errors) _ (trouble_text c.args.self.now.trouble c.args.self.now.written) c.write_trouble.result
+    let after = Writes-then _ _ (g.E.Sink.told c.write_trouble.new.errors) _ (trouble_text c.args.self.now.trouble c.args.self.now.written) c.write_trouble.result
     c.in_ok-write_about.ensures.writes c.write_trouble.ensures.writes in
     Writes-then _ _ (g.E.Sink.told c.write_trouble.new.errors) _ (name_shown c.args.self.now.about ++ trouble_text c.args.self.now.trouble c.args.self.now.written) c.write_trouble.result
-    c.in_ok-write_all.ensures.writes behind
+    c.in_ok-write_all.ensures.writes after

@@ -1,6 +1,6 @@
 use Rattle.std.proofs.Common.{◌≡◌, true, sym, ◌∙◌}
 use Rattle.rr_cover.specs.SpanNests.{is_ahead, at_span, standing}
-use Rattle.rr_cover.proofs.NestTurns.{only_rest, first_of_all, only_made, behind_chain, split_all}
+use Rattle.rr_cover.proofs.NestTurns.{only_rest, first_of_all, only_made, after_chain, split_all}
 use Rattle.rr_cover.proofs.span_nest.changes.+split_first.Goals as goal
 
 pub balance-rest-requires-clause-fits : goal.balance-rest-requires-clause-fits
@@ -27,4 +27,4 @@ returns-clause-behind g t c =
     let first = c.split_first-first.result.0.value in
     let rest = c.split_first-first.result.1 in
     let ahead : is_ahead first.span root.span ≡ true = first_of_all (λ s. is_ahead s root.span) c.args.before first.span first.value rest (record { all = λ s. c.split_first-first.ensures.all s ∙ sym (c.in-Some.ensures.some.all s) }) c.requires.fits.ahead in
-    only_made (λ s. is_ahead first.span s) c.balance-rest.result root.span root.value rest c.args.after (record { all = c.balance-rest.ensures.all }) c.split_first-first.ensures.behind ahead (behind_chain first.span root.span c.args.after ahead c.requires.fits.behind)
+    only_made (λ s. is_ahead first.span s) c.balance-rest.result root.span root.value rest c.args.after (record { all = c.balance-rest.ensures.all }) c.split_first-first.ensures.behind ahead (after_chain first.span root.span c.args.after ahead c.requires.fits.behind)

@@ -114,12 +114,3 @@ class Contained(Machine):
             for folder, _, _ in os.walk(self.group, topdown=False):
                 with contextlib.suppress(OSError):
                     os.rmdir(folder)
-
-    def power_off(self):
-        """As an operator does it: everything is stopped."""
-        self.ended("systemctl poweroff --no-block")
-        try:
-            self.process.wait(240)
-        except subprocess.TimeoutExpired:
-            raise Failure("systemd has not ended within 240 s of `systemctl poweroff`") from None
-        self.cut()

@@ -39,7 +39,9 @@ RECIPE = json.dumps([PACKAGES, SIZE, FILES, QUIET], indent=1)
 AGENT = '''import json, os, subprocess
 port = os.open("/dev/virtio-ports/asked", os.O_RDWR)
 def tell(**told):
-    os.write(port, json.dumps(told).encode() + b"\\n")
+    left = json.dumps(told).encode() + b"\\n"
+    while left:
+        left = left[os.write(port, left):]
 tell(boot=open("/proc/sys/kernel/random/boot_id").read().strip())
 for line in os.fdopen(os.dup(port), "rb"):
     asked = json.loads(line)
@@ -152,6 +154,15 @@ class Machine:
             time.sleep(0.3)
         return ended.printed
 
+    def power_off(self):
+        """As an operator does it: everything is stopped, and unmounted."""
+        self.ended("systemctl poweroff --no-block")
+        try:
+            self.process.wait(240)
+        except subprocess.TimeoutExpired:
+            raise Failure("the machine is not off within 240 s of `systemctl poweroff`") from None
+        self.cut()
+
 
 class Ended:
     """How a command in a machine ended."""
@@ -245,15 +256,6 @@ class Guest(Machine):
         self.process.wait()
         if self.peer:
             self.peer.close()
-
-    def power_off(self):
-        """As an operator does it: everything is stopped, and unmounted."""
-        self.ended("systemctl poweroff --no-block")
-        try:
-            self.process.wait(240)
-        except subprocess.TimeoutExpired:
-            raise Failure("the machine is not off within 240 s of `systemctl poweroff`") from None
-        self.cut()
 
 
 def bring(path, files):

@@ -2,6 +2,7 @@
 import contextlib
 import os
 import time
+from concurrent.futures import ThreadPoolExecutor
 
 from trial.guest import Guest, lines_in
 from trial.running import Failure, expect
@@ -14,32 +15,41 @@ MENDED = "dmesg | grep -q 'EXT4-fs (vda).*recovery complete' || grep -qs recover
 
 
 class Outages:
-    """One machine, which is cut, booted, looked at, and cut again."""
+    """A machine, which is cut, booted, looked at, and cut again."""
 
-    def __init__(self, script, image, package):
-        self.script, self.image, self.folder = script, image, script.place("outages")
+    def __init__(self, script, image, package, number):
+        self.script, self.image, self.folder = script, image, script.place(f"outages-{number}")
+        self.machines, self.is_over = contextlib.ExitStack(), False
         self.disk, self.texts = os.path.join(self.folder, "disk"), changing_items(script.chance("outages"), COUNT, SIZES)
-        self.fronts = summed_fronts(self.texts)
+        self.fronts, self.chance = summed_fronts(self.texts), script.chance(f"moments {number}")
         sums = os.path.join(os.path.dirname(os.path.abspath(__file__)), "sums.py")
         self.given = {"irrdesk.deb": package, "items.rpsl": b"\n".join(self.texts), "sums": sums}
 
-    def on(self, stack):
-        return stack.enter_context(Guest(self.image, self.folder, self.disk, self.given, ports=1))
+    def on(self):
+        if self.is_over:
+            raise Failure("the trial is over")
+        return self.machines.enter_context(Guest(self.image, self.folder, self.disk, self.given, ports=1))
+
+    def end(self):
+        """Ends the machine, also if it is being asked."""
+        self.is_over = True
+        self.machines.close()
 
     def cut(self, count):
-        """So many cuts of a submission, each to a new registry, whose report goes to a port of the machine."""
-        seen, mended, chance = [], 0, self.script.chance("moments")
-        with contextlib.ExitStack() as stack:
-            guest = self.on(stack)
+        """So many cuts of a submission, each to a new registry, whose report goes to a port of the machine: of each, how many lines came, how
+        many items stand, and whether the file system had to be mended."""
+        seen = []
+        try:
+            guest = self.on()
             guest.done(f"apt-get install --yes /run/given/irrdesk.deb; {EDITED}; systemctl enable irrdesk")
             for turn in range(count):
-                told = self.submit(guest, chance.randrange(self.script.pick(1_000, COUNT)))
-                guest = self.on(stack)
-                mended += guest.ended(MENDED).status == 0
-                seen.append((told, self.stands(guest, told, f"cut {turn + 1}, after {told} lines")))
-        between = sum(stands > told for told, stands in seen)
-        return (f"{count} cuts in {COUNT} items, after {min(seen)[0]} to {max(seen)[0]}; {between} between an item and its line;"
-                f" {mended} file systems had to be mended")
+                told = self.submit(guest, self.chance.randrange(self.script.pick(1_000, COUNT)))
+                guest = self.on()
+                mended = guest.ended(MENDED).status == 0
+                seen.append((told, self.stands(guest, told, f"cut {turn + 1}, after {told} lines"), mended))
+        finally:
+            self.end()
+        return seen
 
     def submit(self, guest, wanted):
         """Begins a submission, and cuts the power once so many lines have come; how many came."""
@@ -47,6 +57,8 @@ class Outages:
         guest.done(f"{AS_OWNER} irrdesk submit {SETTINGS} /run/given/items.rpsl > /dev/virtio-ports/told0 2> /root/said < /dev/null &")
         end = time.monotonic() + 900
         while (told := lines_in(guest.told[0])) < wanted:
+            if self.is_over:
+                raise Failure("the trial is over")
             if time.monotonic() > end:
                 raise Failure(f"{told} lines came within 900 s, of {wanted}: {guest.ended('cat /root/said').printed}")
             time.sleep(0.02)
@@ -63,3 +75,23 @@ class Outages:
         if not {told, told + 1} & set(stands):
             raise Failure(f"{what}: the rows are those of {stands} items ({found})")
         return told if told in stands else told + 1
+
+
+class Fleet:
+    """Machines beside one another, which share the cuts."""
+
+    def __init__(self, script, image, package, size, count):
+        self.all = [Outages(script, image, package, number) for number in range(size)]
+        self.pool = ThreadPoolExecutor(size)
+        self.cuts = [self.pool.submit(one.cut, count // size + (number < count % size)) for number, one in enumerate(self.all)]
+
+    def seen(self):
+        """What all of them saw, as words."""
+        seen = [cut for cuts in self.cuts for cut in cuts.result()]
+        return (f"{len(seen)} cuts in {COUNT} items, after {min(seen)[0]} to {max(seen)[0]}; {sum(stands > told for told, stands, _ in seen)}"
+                f" between an item and its line; {sum(mended for _, _, mended in seen)} file systems had to be mended")
+
+    def end(self):
+        for one in self.all:
+            one.end()
+        self.pool.shutdown()

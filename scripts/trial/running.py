@@ -44,7 +44,7 @@ class Ran:
 class Script:
     """A script's words, its folder, which may be in memory where nothing is asked of a disk, and its cases."""
 
-    def __init__(self, about, in_memory=False):
+    def __init__(self, about, in_memory=False, room=MEMORY_ROOM):
         words = argparse.ArgumentParser(description=about)
         words.add_argument("program", nargs="?", help="that of ./irrdesk where none is given")
         words.add_argument("--long", action="store_true", help="the long form, whose figures stand in docs/ATTACK.md")
@@ -52,16 +52,17 @@ class Script:
         words.add_argument("--seed", type=int, default=1)
         words.add_argument("--only", default="", help="those cases alone whose names begin so")
         words.add_argument("--count", type=int, help="how many inputs of chance scripts/fuzz takes, or cuts scripts/machine makes")
-        words.add_argument("--lanes", type=int, help="how many runs of scripts/sweeps go on beside each other")
+        words.add_argument("--lanes", type=int, help="how many runs of scripts/sweeps, or cut machines of the long scripts/machine, go on beside each other")
         words.add_argument("--container", action="store_true", help="scripts/machine by namespaces of this system's kernel, and no qemu")
         words.add_argument("--image", help="the folder in which scripts/machine keeps its disk")
         read = words.parse_args()
         if read.long and read.short:
             words.error("--long and --short: take one")
         self.long, self.seed, self.only, self.count, self.failed = read.long, read.seed, read.only, read.count, 0
+        self.is_chosen = read.long or read.short
         self.lanes, self.image, self.in_container = read.lanes or self.pick(2, 1), read.image, read.container
         self.program = os.path.abspath(read.program or found())
-        self.folder = tempfile.TemporaryDirectory(prefix="irrdesk-", dir=memory_folder() if in_memory else None)
+        self.folder = tempfile.TemporaryDirectory(prefix="irrdesk-", dir=memory_folder(room) if in_memory else None)
         self.work = self.folder.name
         os.chmod(self.work, 0o755)
 
@@ -103,13 +104,13 @@ class Script:
         return run([self.program, *words], folder, **options)
 
 
-def memory_folder():
+def memory_folder(room=MEMORY_ROOM):
     """A folder in memory, where no write waits for a disk; nothing where there is none with room, or TMPDIR names another one."""
     folder = "/dev/shm"
     if "TMPDIR" in os.environ or not os.access(folder, os.W_OK):
         return None
     found = os.statvfs(folder)
-    return folder if found.f_bavail * found.f_frsize >= MEMORY_ROOM else None
+    return folder if found.f_bavail * found.f_frsize >= room else None
 
 
 def found():

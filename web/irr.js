@@ -10,7 +10,7 @@ const CODES = {
     E03: ["The key is bad; for a route also an `origin` that is missing, repeated or bad.",
         "Write four numbers and a length, and name one `origin`."],
     E04: ["An attribute that is required is missing or empty, or one that may be there once is repeated.",
-        "Compare the object with the table of classes, and put a blank line between objects."],
+        "Compare the object with a registered one of its class, and put a blank line between objects."],
     E05: ["An attribute that is read has a bad value.",
         "Look at `mnt-by`, `mnt-lower`, `mnt-routes`, `members`, `mbrs-by-ref`, `member-of`, `auth` and `source`."],
     E06: ["The `source` is not this registry's.",

@@ -25,7 +25,7 @@ TABLE = (
          "Write four numbers and a length, and name one `origin`."),
     Code("E04", "An attribute that is required is missing or empty, or one that may be there once is repeated.",
          "No `mnt-by`, `source` or `auth`; a second `source`, mostly because a blank line is missing between two objects.",
-         "Compare the object with the table of classes, and put a blank line between objects."),
+         "Compare the object with a registered one of its class, and put a blank line between objects."),
     Code("E05", "An attribute that is read has a bad value.",
          "A bad name in a list; `ANY` in `mnt-by`; an `auth` whose hash does not have 64 digits; two operators on a range; an empty `auth`.",
          "Look at `mnt-by`, `mnt-lower`, `mnt-routes`, `members`, `mbrs-by-ref`, `member-of`, `auth` and `source`."),

@@ -10,9 +10,10 @@ EXAMPLES = """
 irr mirror readers                                           one reader of the registry of IRR_SERVER, at port 4345
 irr mirror -s https://irr.example.net --port 4345 --port 4346 --agent 4340 /var/lib/irrdesk-mirror
 
-A reader answers each query as the registry does that it is made of, and goes on while that is stopped. It lets nobody
-submit, and has no hash of a password. Give two ports at least: one reader after the other is started again on new
-objects, so that one always answers. In a proxy each port is a server: see examples/haproxy.cfg.
+A reader answers each query as the registry does that it is made of, and goes on while that is stopped. It has no password
+hashes, so it authorises no holder; new maintainers can register at it, so a proxy sends submissions to the registry. Give
+two ports at least: one reader after the other is started again on new objects, so that one always answers. In a proxy each
+port is a server: see examples/haproxy.cfg.
 """
 
 

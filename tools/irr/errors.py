@@ -13,6 +13,14 @@ class Failure(Exception):
         self.thing, self.what, self.status = thing, what, status
 
 
+class Unreadable(Exception):
+    """What was given is not what is read here."""
+
+
+# What may be raised where a text, an address or a number is not what was looked for. Its words may show what is nobody's business.
+UNREAD = (Unreadable, ValueError, OverflowError, RecursionError, IndexError)
+
+
 def system_words(error: OSError) -> str:
     """What the system says of a fault, without a path or number."""
     return (error.strerror or str(error) or type(error).__name__).lower()

@@ -8,7 +8,7 @@ from typing import NoReturn
 
 from irr import VERSION, texts
 from irr.commands import BY_NAME, GROUPS, TABLE, Command
-from irr.errors import ARGUMENTS, DONE, Failure, system_words
+from irr.errors import ARGUMENTS, DONE, UNREAD, Failure, system_words
 
 
 class Parser(argparse.ArgumentParser):
@@ -90,9 +90,13 @@ def main(words: list[str] | None = None) -> int:
     for number in (signal.SIGTERM, signal.SIGHUP):
         # A command tidies up before it ends: it may have files that are nobody else's to read.
         signal.signal(number, lambda number, _: sys.exit(128 + number))
+    if sys.stdout is None:
+        say(Failure("standard output", "it is closed; give the command one"), words)
+        return Failure("", "").status
     for stream in sys.stdout, sys.stderr:
         # A terminal that lacks a letter gets its number.
-        stream.reconfigure(errors="backslashreplace")  # type: ignore[union-attr]
+        if stream is not None:
+            stream.reconfigure(errors="backslashreplace")  # type: ignore[union-attr]
     try:
         status = do(words)
         sys.stdout.flush()
@@ -108,6 +112,10 @@ def main(words: list[str] | None = None) -> int:
     except OSError as error:
         failure = Failure(str(error.filename or "standard output"), f"{system_words(error)}; look where it goes to")
         close_output()
+        say(failure, words)
+        return failure.status
+    except UNREAD as error:
+        failure = Failure("", f"an argument, a file or an answer can't be read ({type(error).__name__}); look at what was given")
         say(failure, words)
         return failure.status
     except MemoryError:

@@ -5,6 +5,8 @@ All of it is bytes, since a registry's text is in no one encoding. Lines end in 
 import re
 from typing import BinaryIO, Iterable, Iterator, NamedTuple
 
+from irr.errors import Unreadable
+
 BLANKS = b" \t\r"
 LARGEST = 65_536
 NAME = re.compile(rb"[A-Za-z][A-Za-z0-9_-]{0,63}")
@@ -17,7 +19,7 @@ SKIPPED = re.compile(rb"(?:[#%][^\n]*\n)+")
 CHUNK = 1 << 20
 
 
-class TextFault(Exception):
+class TextFault(Unreadable):
     """What keeps a block from being a paragraph: the code that the program gives it, and a sentence."""
 
     def __init__(self, code: str, sentence: str) -> None:

@@ -227,7 +227,7 @@ class Server:
 def seconds_of(retry_after: str) -> int | None:
     """The seconds that the field asks to wait for, as a number or as a date (RFC 9110, 10.2.3); at least one."""
     if retry_after.isascii() and retry_after.isdecimal():
-        return max(1, int(retry_after))
+        return max(1, int(retry_after[:9]))
     from email.utils import parsedate_to_datetime
     try:
         return max(1, round(parsedate_to_datetime(retry_after).timestamp() - time.time()))
@@ -236,7 +236,6 @@ def seconds_of(retry_after: str) -> int | None:
 
 
 def shown_url(url: str) -> str:
-    """An address without a user and password in it."""
+    """An address without a user and password in it, also where a slash is in the password."""
     scheme, mark, rest = url.partition("://")
-    place, slash, path = (rest if mark else url).partition("/")
-    return (scheme + mark if mark else "") + place.rpartition("@")[2] + slash + path.partition("?")[0]
+    return (scheme + mark if mark else "") + (rest if mark else url).partition("?")[0].rpartition("@")[2]

@@ -103,6 +103,7 @@ class Addresses(unittest.TestCase):
             self.assertRaises(Failure, Server, url)
         self.assertFalse(Server("http://irr.example.net", plain=True).is_private)
         self.assertEqual(shown_url("https://u:p@irr.example.net/x?y"), "https://irr.example.net/x")
+        self.assertEqual(shown_url("https://u:p/q@irr.example.net/x"), "https://irr.example.net/x")
 
 
 if __name__ == "__main__":

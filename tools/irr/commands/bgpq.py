@@ -4,7 +4,7 @@ import io
 import time
 
 from irr import connecting, irrd, peers, server, texts
-from irr.errors import DONE, REFUSED, Failure
+from irr.errors import DONE, REFUSED, UNREAD, Failure
 
 EXAMPLES = """
 socat TCP4-LISTEN:4344,bind=127.0.0.1,reuseaddr,fork,max-children=64 EXEC:"irr bgpq"
@@ -62,4 +62,6 @@ def answer(answerer: irrd.Answerer, line: bytes) -> bytes:
             return answerer.reply(line[1:].decode("latin-1"))
     except Failure as failure:
         texts.note(f"irr bgpq: {failure}")
-        return irrd.fault(irrd.TRIED_LATER)
+    except UNREAD as error:
+        texts.note(f"irr bgpq: the question or its answer can't be read ({type(error).__name__})")
+    return irrd.fault(irrd.TRIED_LATER)

@@ -6,6 +6,7 @@ ghost use Rattle.std.specs.List.{cons_option, filter_map};
 ghost use Rattle.std.specs.Option.{option_copied};
 ghost use Rattle.rr_number.specs.Prefixes.{span_of};
 ghost use Rattle.rr_object.specs.Objects.{object_names};
+ghost use Rattle.rr_auth.specs.Registries.{Sound};
 ghost use Rattle.rr_object.specs.declared.key.Key.TheVariants as key;
 ghost use Rattle.rr_sets.specs.Lists.{lent};
 ghost use Rattle.rr_answer.specs.declared.query.Query.TheVariants as query;
@@ -57,8 +58,8 @@ fn exact<B: Book>(alloc: Global, book: &B, prefix: Prefix) -> Result<Vec<&Object
     ensures { IfOk result
         (λ found. lent found.items ≡ select.asked (query.Exact prefix) (B.contents book.now)) }
 {
-    book.sound();
-    prefix.length();
+    // its length is one of a prefix
+    let _length = prefix.length();
     let routes = routes_of(alloc, book, prefix)?;
     before(alloc, inetnum_of(book, prefix), &routes)
 }
@@ -142,10 +143,10 @@ fn routes_closest<B: Book>(
 /// The routes of the prefix.
 #[tactic(auto, using(crate::proofs::Routes::routes_of_origins))]
 fn routes_of<B: Book>(alloc: Global, book: &B, prefix: Prefix) -> Result<Vec<&Object>, AllocError>
-    ensures { IfOk result (λ found. lent found.items
+    ensures routes { IfOk result (λ found. lent found.items
         ≡ filter (select.is_route_of prefix) (values (B.contents book.now))) }
+    ensures sound { Sound (B.contents book.now) }
 {
-    book.sound();
     let origins = book.origins(alloc, prefix)?;
     routes_from(alloc, book, prefix, &origins)
 }

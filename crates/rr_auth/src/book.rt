@@ -20,13 +20,10 @@ pub trait Book {
 
     ghost contents: { Self → Reg };
 
-    /// Tells a caller's proof that the registry is sound.
-    fn sound(&self)
-        ensures { Sound (contents self.now) };
-
     /// The object of the key.
     fn get(&self, key: &Key) -> Option<&Object>
-        ensures { option_copied result ≡ get (contents self.now) key.now };
+        ensures found { option_copied result ≡ get (contents self.now) key.now }
+        ensures sound { Sound (contents self.now) };
 
     /// The mntner of the name.
     fn maintainer(&self, name: &Name) -> Option<&Object>
@@ -47,7 +44,8 @@ pub trait Book {
     /// The origins of the routes of exactly this prefix, ascending; the error is out of memory.
     fn origins(&self, alloc: Global, prefix: Prefix) -> Result<Vec<AsNumber>, AllocError>
         ensures value { IfOk result (λ v. v.items ≡ origins (contents self.now) prefix) }
-        ensures ascending { IfOk result (λ v. IsStrictlySortedBy nat_cmp v.items) };
+        ensures ascending { IfOk result (λ v. IsStrictlySortedBy nat_cmp v.items) }
+        ensures sound { Sound (contents self.now) };
 
     /// Whether an inetnum or as-block of the registry crosses the key, being of its class
     /// (profile).

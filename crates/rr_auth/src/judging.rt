@@ -5,9 +5,11 @@ ghost use Rattle.std.specs.List.{list_any};
 ghost use Rattle.std.specs.Option.{option_and_then, option_copied};
 ghost use Rattle.std.specs.FinMap.{get};
 ghost use Rattle.rr_number.specs.Prefixes.{span_of};
+ghost use Rattle.rr_object.specs.KeyOrders.{IsKeyValue};
 ghost use Rattle.rr_auth.specs.Closest.{closest_inetnum};
 ghost use Rattle.rr_auth.specs.Authority.{lower_passes, routes_pass};
 ghost use Rattle.rr_auth.specs.Conditions.{is_in_use, lacks_origin, origin_refuses, route_passes};
+ghost use Rattle.rr_auth.specs.Laws.{IsItem};
 ghost use Rattle.rr_auth.specs.Private.{below, below_parent, below_space};
 ghost use Rattle.rr_auth.specs.SetParents.{parent_key};
 ghost use Rattle.rr_auth.specs.Verdicts.{addition, change, deletion, submission, verdict};
@@ -24,7 +26,7 @@ use rr_object::{Code, Key, Object};
 use std::alloc::{AllocError, Global};
 
 /// The verdict on an item over the book's registry (RFC 2725, 9; profile); the error is out of
-/// memory.
+/// memory. The key of an object that is submitted is well formed.
 pub fn judge<B: Book>(
     alloc: Global,
     book: &B,
@@ -32,6 +34,7 @@ pub fn judge<B: Book>(
     item: &Item,
 ) -> Result<Verdict, AllocError>
     ensures verdict { IfOk result (λ v. v ≡ verdict (B.contents book.now) secrets.old item.now) }
+    ensures formed { IsItem item.now }
     ensures same_secrets { secrets.new ≡ secrets.old }
 {
     match item {
@@ -49,6 +52,7 @@ fn judge_object<B: Book>(
 ) -> Result<Verdict, AllocError>
     ensures verdict { IfOk result (λ v. v ≡ submission
         (get (B.contents book.now) object.now.key) (B.contents book.now) secrets.old object.now) }
+    ensures formed { IsKeyValue object.now.key }
     ensures same_secrets { secrets.new ≡ secrets.old }
 {
     match book.get(object.key()) {

@@ -2,6 +2,7 @@
 
 ghost use Rattle.std.specs.Prelude.{◌≡◌, IfOk};
 ghost use Rattle.std.specs.FinMap.{values};
+ghost use Rattle.rr_auth.specs.Registries.{Sound};
 ghost use Rattle.rr_sets.specs.Lists.{IsReferrer, ListsOnce};
 
 use crate::closest::{closest, closest_routes};
@@ -48,7 +49,9 @@ impl PlainBook {
         alloc: Global,
         name: &SetName,
     ) -> Result<Vec<&Object>, AllocError>
-        ensures { IfOk result (λ found. ListsOnce (IsReferrer self.now name.now) found.items) }
+        ensures lists { IfOk result
+            (λ found. ListsOnce (IsReferrer self.now name.now) found.items) }
+        ensures sound { Sound self.now }
     {
         match self.referrers.keys(name) {
             Some(keys) => objects_of(alloc, &self.objects, keys),
@@ -59,7 +62,8 @@ impl PlainBook {
     /// The objects in the order of class and key.
     #[tactic(auto, using(crate::proofs::Order::values_of_book))]
     pub(crate) fn as_slice(&self) -> &[Object]
-        ensures { result.now ≡ values self.now }
+        ensures objects { result.now ≡ values self.now }
+        ensures sound { Sound self.now }
     {
         self.objects.as_slice()
     }
@@ -67,10 +71,6 @@ impl PlainBook {
 
 impl Book for PlainBook {
     ghost contents = { λ b. b };
-
-    fn sound(&self) {
-        let _objects = &self.objects;
-    }
 
     fn get(&self, key: &Key) -> Option<&Object> {
         lists::find_key(&self.objects, key)

@@ -16,12 +16,10 @@ use std::alloc::{AllocError, Global};
 
 impl SetBook for PlainBook {
     fn aut_nums(&self, alloc: Global) -> Result<Vec<&Object>, AllocError> {
-        self.sound();
         objects_of_class(alloc, self.as_slice(), Class::AutNum)
     }
 
     fn routes(&self, alloc: Global) -> Result<Vec<&Object>, AllocError> {
-        self.sound();
         objects_of_class(alloc, self.as_slice(), Class::Route)
     }
 
@@ -34,7 +32,6 @@ impl SetBook for PlainBook {
     }
 
     fn referrers(&self, alloc: Global, name: &SetName) -> Result<Vec<&Object>, AllocError> {
-        self.sound();
         self.objects_that_name(alloc, name)
     }
 }

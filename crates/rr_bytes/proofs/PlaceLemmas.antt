@@ -76,3 +76,5 @@ place_found test bs (Some k) h =
     let at : position_or_len test bs ≡ k =
     position_or_len_is test bs k 0 (omega arith) (λ j lt. untrue (test (get_or bs j 0)) (h.0.before j (omega arith) lt)) (λ lt. h.1)
     in grind (arith, nat_tests)
+
+pub ruleset placed = (place_is, position_within)

@@ -33,3 +33,7 @@ pub trim_end_kept : (p : ℕ → Bool) (b : ℕ) (bs : List ℕ) → p b ≡ fal
 unfolding trim_end
 trim_end_kept p b [] h = rw h refl
 trim_end_kept p b (c ∷ cs) h = ap (before_trimmed p c) (trim_end_kept p b cs h) ∙ before_some p c b cs
+
+pub ruleset start_trimmed = (trim_start_blank, trim_start_kept, trim_start_none)
+
+pub ruleset end_trimmed = (trim_end_blank, trim_end_kept, trim_end_none)

@@ -56,7 +56,7 @@ pub fn cut_around(text: &[u8], byte: u8) -> (&[u8], &[u8])
 
 /// The place of the first such byte of the text, or the text's length where it has none.
 #[inline]
-#[tactic(auto, using(crate::proofs::PlaceLemmas::place_is, crate::proofs::PlaceLemmas::position_within))]
+#[tactic(auto, using(crate::proofs::PlaceLemmas::placed))]
 fn end_of_front(text: &[u8], byte: u8) -> usize
     ensures place { result ≡ position_or_len (λ b. b == byte) text.now }
     ensures within { result ≤ length text.now }

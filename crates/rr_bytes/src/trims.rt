@@ -8,7 +8,7 @@ use crate::byte_set::ByteSet;
 
 /// The text less the bytes of the set before it.
 #[inline(never)]
-#[tactic(auto, using(crate::proofs::TrimLemmas::trim_start_blank, crate::proofs::TrimLemmas::trim_start_kept, crate::proofs::TrimLemmas::trim_start_none))]
+#[tactic(auto, using(crate::proofs::TrimLemmas::start_trimmed))]
 pub fn trim_start(text: &[u8], blanks: ByteSet) -> &[u8]
     ensures { result.now ≡ trims.trim_start (is_in blanks) text.now }
 {
@@ -24,7 +24,7 @@ pub fn trim_start(text: &[u8], blanks: ByteSet) -> &[u8]
 
 /// The text less the bytes of the set after it.
 #[inline(never)]
-#[tactic(auto, using(crate::proofs::TrimLemmas::trim_end_blank, crate::proofs::TrimLemmas::trim_end_kept, crate::proofs::TrimLemmas::trim_end_none))]
+#[tactic(auto, using(crate::proofs::TrimLemmas::end_trimmed))]
 pub fn trim_end(text: &[u8], blanks: ByteSet) -> &[u8]
     ensures { result.now ≡ trims.trim_end (is_in blanks) text.now }
 {

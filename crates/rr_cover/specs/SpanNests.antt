@@ -36,6 +36,23 @@ standing Empty s = None
 standing (Fork' p span value height bounds before after) s =
     option_or (standing before s) (option_or (at_span span value s) (standing after s))
 
+-- A tree holds what stands before a span, the value at it, and what stands after it.
+abbrev pub HoldsAll : {T : Type 0} → Nest T → Ends → T → Nest T → Nest T → Type 0
+HoldsAll before span value after nest =
+    (s : Ends) → standing nest s
+    ≡ option_or (standing before s) (option_or (at_span span value s) (standing after s))
+
+-- A tree holds the value at the span, and at any other what another holds.
+abbrev pub HoldsWith : {T : Type 0} → Nest T → Ends → T → Nest T → Type 0
+HoldsWith old span value new =
+    (s : Ends) → standing new s
+    ≡ (if eq_by_cmp span_cmp s span then Some value else standing old s)
+
+-- A tree holds nothing at the span, and at any other what another holds.
+abbrev pub HoldsWithout : {T : Type 0} → Nest T → Ends → Nest T → Type 0
+HoldsWithout old span new =
+    (s : Ends) → standing new s ≡ (if eq_by_cmp span_cmp s span then None else standing old s)
+
 -- Each span held passes a test.
 pub record Only {T : Type 0} (p : Ends → Bool) (nest : Nest T) : Type 0 where
   pub each : (s : Ends) → is_some (standing nest s) ≡ true → p s ≡ true

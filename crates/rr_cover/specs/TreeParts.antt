@@ -20,6 +20,12 @@ standing Empty s = None
 standing (Fork' p prefix value lower upper) s =
     option_or (own prefix value s) (option_or (standing lower s) (standing upper s))
 
+-- A tree holds the value at the span, and at any other what another holds.
+abbrev pub HoldsWith : {T : Type 0} → Tree T → Ends → T → Tree T → Type 0
+HoldsWith old span value new =
+    (s : Ends) → standing new s
+    ≡ (if eq_by_cmp span_cmp s span then Some value else standing old s)
+
 -- The side of a node on which a span would stand.
 abbrev pub side_of : {T : Type 0} → PrefixParts → Tree T → Tree T → Ends → Tree T
 side_of prefix lower upper s = if in_upper prefix s then upper else lower

@@ -133,6 +133,7 @@ impl<T: Drop> PrefixTree<T> {
         ensures err { OnErr result (self.new ≡ self.old) }
         ensures back { IfErr result (λ fault. fault ≡ Memory value) }
     {
+        // its length is one of a prefix
         let _length = prefix.length();
         let alloc = self.alloc;
         match set(&mut self.root, alloc, prefix, value) {

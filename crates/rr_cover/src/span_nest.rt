@@ -4,6 +4,7 @@ ghost use Rattle.std.specs.Prelude.{◌≡◌, ◌↔◌, false, true, IfOk, IfE
 ghost use Rattle.std.specs.Prelude.{OnOk, OnErr};
 ghost use Rattle.std.specs.Option.{option_copied};
 ghost use Rattle.std.specs.FinMap as span_map;
+ghost use Rattle.rr_number.specs.Spans.{IsSpan};
 ghost use Rattle.rr_cover.specs.InsertFaults.{value_of};
 ghost use Rattle.rr_cover.specs.SpanMaps.{crosses_some, covering, inside, NoneCross, IsClosest};
 ghost use Rattle.rr_cover.specs.SpanMaps.{NoneCovers};
@@ -103,8 +104,8 @@ impl<T> SpanNest<T> {
     pub fn closest(&self, span: Span) -> Option<(Span, &T)>
         ensures found { IfSome result (λ p. IsClosest self.now span p.0 p.1.now) }
         ensures none { IfNone result (NoneCovers self.now span) }
+        ensures ordered { IsSpan span }
     {
-        span.ordered();
         smallest_cover(&self.root, span)
     }
 

@@ -1,5 +1,5 @@
 -- What an item does to the registry, and how the rows follow it.
-use Rattle.std.proofs.Common.{◌≡◌, ℕ, Bool, true, false, cond, List, Ok, Err, Result, OnOk, IsTrue, inl, inr, refl, sym, ap, subst, ◌∙◌, arith}
+use Rattle.std.proofs.Common.{◌≡◌, ℕ, Bool, true, false, cond, List, Ok, Err, Result, OnOk, inl, inr, refl, sym, ap, subst, ◌∙◌, arith}
 use Rattle.std.specs.Prelude.{None, Some, is_some, if◌then◌else◌}
 use Rattle.std.proofs.lemmas.Bool.{true≢false}
 use Rattle.std.specs.FinMap.{get, insert, get-insert}
@@ -131,6 +131,7 @@ module _ {S X E : Type 0} (g : Ghosts S) (P Q : Database → Database → Type 0
     opened = writes.opened;
     done = λ clean. then_ok result (writes.done clean) (f (database g new));
     is_open = writes.is_open;
+    settled = writes.settled;
     kept = writes.kept;
     crash = survives_weaker _ _ _ _ (λ clean trees made. trees_of f trees made) writes.crash;
   }
@@ -139,16 +140,15 @@ module _ {S X E : Type 0} (g : Ghosts S) (P Q : Database → Database → Type 0
   pub writes_follow : Writes g P old new result → FollowsIn g Q old new result
   writes_follow writes =
       let made = writes_as writes in
-      record { done = made.done; is_open = λ clean on. made.is_open clean; kept = made.kept; crash = made.crash }
+      record { done = made.done; is_open = λ clean on. made.is_open clean; settled = λ clean. then_ok result (made.settled clean) (λ settled before. settled); kept = made.kept; crash = made.crash }
 
 -- where the rows followed the registry, the store holds the rows of the one after the item
 pub still_held : {S X E : Type 0} (g : Ghosts S) (old new : Held S) (before after : Reg) (key : Key) (outcome : Outcome) (x : X) → (HasCleanDisk (state g old) → Holds before (state g old)) → LeadsTo before key outcome after
-    → FollowsIn {E = E} g (Follows key outcome after) old new (Ok x)
-    → (IsTrue (state g new).is_open → (trees : Trees) → (state g new).may_leave trees → trees ≡ (database g new).trees) → HasCleanDisk (state g new) → Holds after (state g new)
-still_held g old new before after key outcome x held leading follows settled clean =
+    → FollowsIn {E = E} g (Follows key outcome after) old new (Ok x) → HasCleanDisk (state g new) → Holds after (state g new)
+still_held g old new before after key outcome x held leading follows clean =
     let was = held (let kept = follows.crash.clean in omega (arith, kept)) in
     let on = follows.is_open clean was.is_open in
-    record { is_open = on; rows = follows.done clean before leading was.rows; leaves = settled on }
+    record { is_open = on; rows = follows.done clean before leading was.rows; leaves = follows.settled clean was.leaves }
 
 -- where they could not follow, those of the registry before the item stand
 pub halts_there : {S X E : Type 0} (g : Ghosts S) (held_before held_after : Held S) (before after : Reg) (secrets : List (List ℕ)) (item : Item) (key : Key) (outcome : Outcome) (e : E) → key ≡ key_about item → IsStep before secrets item outcome after → changes outcome ≡ true

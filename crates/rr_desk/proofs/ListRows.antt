@@ -16,6 +16,7 @@ use Rattle.rr_registry.specs.Loading.{IsTaken, gathered}
 use Rattle.rr_rows.specs.Entries.{TreesOf, entry_of}
 use Rattle.rr_rows.specs.Maps.{AreStored, HasRows, IsFilled, IsObject}
 use Rattle.rr_rows.proofs.MapLists.{put_all, stored_rows}
+use Rattle.rr_store.specs.Creating.{IsStoreOf}
 use Rattle.rr_store.specs.Lent.{lent}
 use Rattle.rr_load.proofs.Sources.{one_found}
 use Rattle.sqlite_trees.specs.declared.store.Store.{Ghosts}
@@ -46,9 +47,9 @@ registry_rows r db sound all filled = record {
 }
 
 -- and so with those that are lent
-pub lent_rows : (r : Reg) (objects : List (Bor Obj)) → Sound r → lent objects ≡ values r → AllByRecursion IsObject (lent objects) → (db : Database) → IsFilled (map entry_of (lent objects)) db → HasRows r db
-lent_rows r objects sound same all db filled =
-    registry_rows r db sound (subst (AllByRecursion IsObject) same all) (subst (λ os. IsFilled (map entry_of os) db) same filled)
+pub lent_rows : (r : Reg) (objects : List (Bor Obj)) → Sound r → lent objects ≡ values r → (db : Database) → IsStoreOf (lent objects) db → HasRows r db
+lent_rows r objects sound same db store =
+    registry_rows r db sound (subst (AllByRecursion IsObject) same store.read) (subst (λ os. IsFilled (map entry_of os) db) same store.filled)
 
 -- a stop that may leave such a database may leave one of which more is said
 pub left_as : {P Q : Database → Type 0} (old new : State) → ((db : Database) → P db → Q db) → Survives old new (TreesOf P) → Survives old new (TreesOf Q)

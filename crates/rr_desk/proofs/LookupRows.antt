@@ -1,8 +1,8 @@
 -- What a look at the rows leaves of them.
 use Rattle.std.specs.Prelude.{is_some}
-use Rattle.std.proofs.Common.{◌≡◌, false, Ok, Err, Result, OnOk, OnErr, IfErr, IsTrue, inl, inr, refl, sym, subst, arith}
+use Rattle.std.proofs.Common.{◌≡◌, false, Ok, Err, Result, OnOk, OnErr, IfErr, IsTrue, inl, inr, refl, sym, ap, subst, ◌∙◌, arith}
 use Rattle.std.proofs.lemmas.Bool.{true≢false}
-use Rattle.sqlite_trees.specs.Tree.{Trees}
+use Rattle.sqlite.specs.Effect.{Database}
 use Rattle.sqlite.specs.State.{State, HasCleanDisk, IsUnchanged}
 use Rattle.rr_auth.specs.Registries.{Reg}
 use Rattle.rr_store.specs.declared.fault.StoreFault.{StoreFault}
@@ -33,19 +33,23 @@ look_keeps old new r held same survives =
     }
 
 -- where nothing changed, the store holds them still
-unchanged_holds : (old new : State) (r : Reg) → Holds r old → IsUnchanged old new → (IsTrue new.is_open → (trees : Trees) → new.may_leave trees → trees ≡ new.now.trees) → Holds r new
-unchanged_holds old new r was same settled = record {
+unchanged_holds : (old new : State) (r : Reg) → Holds r old → OnlyLooks old new → HasCleanDisk new → IsUnchanged old new → Holds r new
+unchanged_holds old new r was survives clean same = record {
   is_open = same.0.is_open;
   rows = subst (HasRows r) (sym same.0.now_is) was.rows;
-  leaves = settled same.0.is_open;
+  leaves = λ trees may.
+      elim (survives.crash clean trees may) [
+        | inl first ↦ was.leaves trees first ∙ ap (λ (d : Database). d.trees) (sym same.0.now_is)
+        | inr none ↦ absurd none
+      ];
 }
 
 -- and so it does behind a look that the database did not refuse
 pub look_holds : {X : Type 0} (old new : State) (r : Reg) (found : Result X StoreFault) → (HasCleanDisk old → Holds r old) → OnlyLooks old new → (HasCleanDisk new → OnOk found (IsUnchanged old new))
-    → (HasCleanDisk new → IfErr found (λ fault. fault ≡ unread.Memory → IsUnchanged old new)) → (IsTrue new.is_open → (trees : Trees) → new.may_leave trees → trees ≡ new.now.trees) → is_some (refusal found) ≡ false → HasCleanDisk new → Holds r new
-look_holds old new r (Ok x) held survives same memory settled kept clean = unchanged_holds old new r (held (omega (arith, survives.clean))) (same clean) settled
-look_holds old new r (Err unread.Memory) held survives same memory settled kept clean = unchanged_holds old new r (held (omega (arith, survives.clean))) (memory clean refl) settled
-look_holds old new r (Err (unread.Store error)) held survives same memory settled kept clean = absurd (true≢false kept)
+    → (HasCleanDisk new → IfErr found (λ fault. fault ≡ unread.Memory → IsUnchanged old new)) → is_some (refusal found) ≡ false → HasCleanDisk new → Holds r new
+look_holds old new r (Ok x) held survives same memory kept clean = unchanged_holds old new r (held (omega (arith, survives.clean))) survives clean (same clean)
+look_holds old new r (Err unread.Memory) held survives same memory kept clean = unchanged_holds old new r (held (omega (arith, survives.clean))) survives clean (memory clean refl)
+look_holds old new r (Err (unread.Store error)) held survives same memory kept clean = absurd (true≢false kept)
 
 -- whether it was refused or not, what stands while the store is open is what stood
 pub look_same : {X : Type 0} (old new : State) (found : Result X StoreFault) → (HasCleanDisk new → OnOk found (IsUnchanged old new)) → (HasCleanDisk new → IsTrue new.is_open → OnErr found (new.now ≡ old.now))

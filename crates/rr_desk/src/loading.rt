@@ -158,6 +158,5 @@ fn read_registry<R: Source>(
 {
     let objects = read_dump(alloc, reader, source)?;
     let registry = Registry::from_objects(alloc, objects)?;
-    registry.sound();
     Ok(registry)
 }

@@ -139,10 +139,7 @@ fn check_registry(alloc: Global, objects: &[Object]) -> Result<(), MigrateFault>
     let copies = copies(alloc, objects)?;
     let made: Result<Registry<IndexedBook>, LoadFault> = Registry::from_objects(alloc, copies);
     match made {
-        Ok(registry) => {
-            registry.sound();
-            Ok(())
-        }
+        Ok(_registry) => Ok(()),
         Err(fault) => Err(told_as(fault, MigrateFault::BadRow)),
     }
 }
@@ -174,10 +171,7 @@ fn with_block(
     let block = four_octets_object(alloc, settings)?;
     let objects = with_object(objects, block)?;
     match Registry::from_objects(alloc, objects) {
-        Ok(registry) => {
-            registry.sound();
-            Ok(registry)
-        }
+        Ok(registry) => Ok(registry),
         Err(fault) => Err(told_as(fault, MigrateFault::NoRoot)),
     }
 }

@@ -5,7 +5,7 @@ ghost use Rattle.std.specs.Prelude.{◌≡◌, false, IfErr, IfOk, IsTrue};
 ghost use Rattle.sqlite.specs.Held.{state};
 ghost use Rattle.rr_auth.specs.Sources.{IsRegistryOf};
 ghost use Rattle.rr_rows.specs.Maps.{HasRows};
-ghost use Rattle.rr_store.specs.Calls.{OnCleanDisk, database};
+ghost use Rattle.rr_store.specs.Calls.{IsSettled, OnCleanDisk, database};
 ghost use Rattle.rr_store.specs.declared.fault.CreateFault.TheVariants.{NotEmpty};
 ghost use Rattle.rr_desk.specs.Opened.{IsOccupied, MakesNone, MakesTables, OpensTables};
 ghost use Rattle.rr_desk.specs.Opened.{OpensNone, RefusesRegistry};
@@ -16,7 +16,7 @@ use crate::stored::Stored;
 use rr_index::IndexedBook;
 use rr_number::Name;
 use rr_registry::{LoadFault, Registry};
-use rr_store::{CreateFault, OpenFault, Store, are_read};
+use rr_store::{CreateFault, OpenFault, Store};
 use sqlite::{Alter, Connection};
 use std::alloc::Global;
 
@@ -37,10 +37,7 @@ pub(crate) fn open_stored<S: Alter>(
 {
     match Store::open_all(alloc, conn, source) {
         Ok((store, objects)) => match Registry::from_objects(alloc, objects) {
-            Ok(registry) => {
-                registry.sound();
-                Ok(Stored::of(registry, store))
-            }
+            Ok(registry) => Ok(Stored::of(registry, store)),
             Err(fault) => Err((refused(fault), store.close())),
         },
         Err(unopened) => Err(unopened),
@@ -92,17 +89,15 @@ fn create_store<S: Alter>(
         OnCleanDisk S.Store store (HasRows registry.now (database S.Store store))) }
     ensures is_open { IfOk result (λ store.
         OnCleanDisk S.Store store (IsTrue (state S.Store store).is_open)) }
+    ensures settled { IfOk result (λ store.
+        OnCleanDisk S.Store store (IsSettled S.Store store)) }
     ensures makes { IfOk result (MakesTables S.Store (HasRows registry.now) conn) }
     ensures fails { IfErr result (λ e. MakesNone S.Store (HasRows registry.now) conn e.1) }
     ensures not_empty { IfErr result (λ e. e.0 ≡ NotEmpty
         → OnCleanDisk S.Store e.1 (IsOccupied (database S.Store conn))) }
 {
-    registry.sound();
     match registry.objects(alloc) {
-        Ok(objects) => {
-            are_read(&objects);
-            Store::create(alloc, conn, &objects)
-        }
+        Ok(objects) => Store::create(alloc, conn, &objects),
         Err(_) => Err((CreateFault::Memory, conn)),
     }
 }

@@ -58,10 +58,7 @@ pub fn opening_registry(
     let _ = settings.source();
     let objects = opening_objects(alloc, settings)?;
     match Registry::from_objects(alloc, objects) {
-        Ok(registry) => {
-            registry.sound();
-            Ok(registry)
-        }
+        Ok(registry) => Ok(registry),
         Err(LoadFault::Memory) => Err(AllocError),
         Err(_) => unreachable!(),
     }

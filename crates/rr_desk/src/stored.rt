@@ -9,7 +9,7 @@ ghost use Rattle.rr_answer.specs.Selections.{asked};
 ghost use Rattle.rr_auth.specs.Laws.{key_about};
 ghost use Rattle.rr_registry.specs.Runs.{IsStep};
 ghost use Rattle.rr_rows.specs.Maps.{HasRows, IsObjectOf};
-ghost use Rattle.rr_store.specs.Calls.{OnCleanDisk, Writes, database};
+ghost use Rattle.rr_store.specs.Calls.{IsSettled, OnCleanDisk, Writes, database};
 ghost use Rattle.rr_desk.specs.Halts.{IsHalted, changes};
 ghost use Rattle.rr_desk.specs.LookupParts.{cause_of, refusal};
 ghost use Rattle.rr_desk.specs.Private.{Follows, FollowsGain, FollowsIn, FollowsNew, puts_one};
@@ -52,13 +52,13 @@ impl<S: Alter> Stored<S> {
     /// A registry with a store that holds its rows.
     pub(crate) fn of(registry: Registry<IndexedBook>, store: Store<S>) -> Stored<S>
         requires is_open { OnCleanDisk S.Store store (IsTrue (state S.Store store).is_open) }
+        requires settled { OnCleanDisk S.Store store (IsSettled S.Store store) }
         requires rows { OnCleanDisk S.Store store (HasRows registry (database S.Store store)) }
         ensures registry { result.registry ≡ registry }
         ensures store { result.store ≡ store }
         ensures running { result.stopped ≡ false }
         ensures held { IsHeld S.Store result }
     {
-        store.settled();
         Stored {
             registry,
             store,
@@ -113,7 +113,6 @@ impl<S: Alter> Stored<S> {
             (state S.Store self.old.store) (state S.Store self.new.store) }
     {
         let found = self.store.naming(alloc, source, name);
-        self.store.settled();
         self.cause = refusal(&found);
         found
     }
@@ -137,10 +136,7 @@ impl<S: Alter> Stored<S> {
     {
         let outcome = self.registry.apply(alloc, secrets, item);
         match follow(alloc, &self.registry, &mut self.store, key, outcome) {
-            Ok(()) => {
-                self.store.settled();
-                Ok(outcome)
-            }
+            Ok(()) => Ok(outcome),
             Err(fault) => {
                 self.cause = Some(cause_of(fault));
                 Err(Halted)
@@ -169,7 +165,7 @@ impl<S: Alter> Ledger for Stored<S> {
         new.stopped (state S.Store old.store) (state S.Store new.store) };
 
     fn sound(&self) {
-        self.registry.sound();
+        let _book = self.registry.book();
     }
 
     fn decide(

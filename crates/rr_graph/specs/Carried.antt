@@ -1,7 +1,7 @@
 -- Values that labelled edges carry back. What is found at the node to which an edge leads is found
 -- at the node that it leaves too, once the edge's label has passed it.
-use Rattle.std.specs.Prelude.{◌≡◌, ℕ, ◌⊎◌, List, [], ◌∷◌, Option, Some}
-use Rattle.std.specs.Prelude.{option_and_then}
+use Rattle.std.specs.Prelude.{◌≡◌, ◌↔◌, ◌⊎◌, ◌∷◌, ℕ, List, [], Option}
+use Rattle.std.specs.Prelude.{Contains, Some, option_and_then}
 use Rattle.rr_graph.specs.Chain.{IsReached, MoreThan}
 use Rattle.rr_graph.specs.declared.labels.Edge.{Edge}
 
@@ -20,6 +20,10 @@ module _ {N L : Type 0} (edge : N → N → L → Type 0) where
   abbrev pub IsNamed : N → N → Type 0
   IsNamed start node = IsReached Leads (start ∷ []) node
 
+  -- The nodes are those to which edges lead from the start.
+  abbrev pub AreNamed : N → List N → Type 0
+  AreNamed start nodes = (node : N) → Contains nodes node ↔ IsNamed start node
+
 -- What becomes of a value that is put through the labels of a chain, the last first, unless a label
 -- drops it. (profile)
 abbrev pub put_through : {N L V : Type 0} → (L → V → Option V) → List (Edge N L) → V
@@ -36,11 +40,19 @@ module _ {N L V : Type 0} (edge : N → N → L → Type 0) (own : N → V → T
       (chain : List (Edge N L)) × (b : N) × (begun : V) × IsLabelledChain edge a chain b
       × own b begun × (put_through passed chain begun ≡ Some value)
 
+  -- The values are those that are found at the node.
+  abbrev pub AreFound : N → List V → Type 0
+  AreFound node values = (value : V) → Contains values value ↔ IsFound node value
+
   -- A node that is reached from the start, with a value that is found at it.
   abbrev pub IsFoundPair : N → N × V → Type 0
   IsFoundPair start p = IsNamed edge start p.0 × IsFound p.0 p.1
 
+  -- There are more than `limit` such pairs.
+  abbrev pub HasManyPairs : ℕ → N → Type 0
+  HasManyPairs limit start = MoreThan limit (IsFoundPair start)
+
   -- More than `limit` nodes are reached, or more than `limit` pairs of a reached node and a value
   -- found at it. (profile)
   abbrev pub IsTooMany : ℕ → N → Type 0
-  IsTooMany limit start = MoreThan limit (IsNamed edge start) ⊎ MoreThan limit (IsFoundPair start)
+  IsTooMany limit start = MoreThan limit (IsNamed edge start) ⊎ HasManyPairs limit start

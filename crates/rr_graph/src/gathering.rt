@@ -3,7 +3,8 @@
 ghost use Rattle.std.specs.Prelude.{◌≡◌, ◌↔◌, Contains, IfOk, OnOk, map};
 ghost use Rattle.rr_graph.specs.Chain.{HasNoRepeats, MoreThan};
 ghost use Rattle.std.specs.List.Sorted.{IsStrictlySortedBy};
-ghost use Rattle.rr_graph.specs.Carried.{IsFound, IsFoundPair, IsNamed, IsTooMany, Leads};
+ghost use Rattle.rr_graph.specs.Carried.{AreFound, AreNamed, HasManyPairs, IsNamed, IsTooMany};
+ghost use Rattle.rr_graph.specs.Carried.{Leads};
 ghost use Rattle.rr_graph.specs.ReversedParts.{IsCarriedPair};
 
 use crate::backward::reversed;
@@ -52,8 +53,8 @@ fn named<G: Labelled>(
     start: &G::Node,
     limit: usize,
 ) -> Result<Vec<G::Node>, ReachFault>
-    ensures found { IfOk result (λ nodes. (node : G.Node)
-        → Contains nodes.items node ↔ IsNamed (G.edge graph.now) start.now node) }
+    ensures found { IfOk result
+        (λ nodes. AreNamed (G.edge graph.now) start.now nodes.items) }
     ensures once { IfOk result (λ nodes. HasNoRepeats nodes.items) }
     ensures few { OnOk result (¬ MoreThan limit (IsNamed (G.edge graph.now) start.now)) }
     ensures many { result ≡ Err ReachFault.TooMany
@@ -90,11 +91,11 @@ pub fn gather<G: Labelled>(
     start: &G::Node,
     limit: usize,
 ) -> Result<Gathered<G::Node, G::Value>, ReachFault>
-    ensures nodes { IfOk result (λ gathered. (node : G.Node)
-        → Contains gathered.nodes.items node ↔ IsNamed (G.edge graph.now) start.now node) }
+    ensures nodes { IfOk result
+        (λ gathered. AreNamed (G.edge graph.now) start.now gathered.nodes.items) }
     ensures once { IfOk result (λ gathered. HasNoRepeats gathered.nodes.items) }
-    ensures values { IfOk result (λ gathered. (value : G.Value) → Contains gathered.values.items
-        value ↔ IsFound (G.edge graph.now) (G.own graph.now) G.passed start.now value) }
+    ensures values { IfOk result (λ gathered. AreFound
+        (G.edge graph.now) (G.own graph.now) G.passed start.now gathered.values.items) }
     ensures sorted { IfOk result
         (λ gathered. IsStrictlySortedBy G.Value.cmp gathered.values.items) }
     ensures few { OnOk result
@@ -116,16 +117,15 @@ fn found_among<G: Labelled>(
     start: &G::Node,
     limit: usize,
 ) -> Result<Vec<G::Value>, ReachFault>
-    requires named { (node : G.Node)
-        → Contains nodes.now node ↔ IsNamed (G.edge graph.now) start.now node }
+    requires named { AreNamed (G.edge graph.now) start.now nodes.now }
     requires once { HasNoRepeats nodes.now }
-    ensures found { IfOk result (λ values. (value : G.Value) → Contains values.items value
-        ↔ IsFound (G.edge graph.now) (G.own graph.now) G.passed start.now value) }
+    ensures found { IfOk result (λ values. AreFound
+        (G.edge graph.now) (G.own graph.now) G.passed start.now values.items) }
     ensures sorted { IfOk result (λ values. IsStrictlySortedBy G.Value.cmp values.items) }
     ensures few { OnOk result
-        (¬ MoreThan limit (IsFoundPair (G.edge graph.now) (G.own graph.now) G.passed start.now)) }
+        (¬ HasManyPairs (G.edge graph.now) (G.own graph.now) G.passed limit start.now) }
     ensures many { result ≡ Err ReachFault.TooMany
-        → MoreThan limit (IsFoundPair (G.edge graph.now) (G.own graph.now) G.passed start.now) }
+        → HasManyPairs (G.edge graph.now) (G.own graph.now) G.passed limit start.now }
 {
     let numbered = Numbered::new(alloc, graph, nodes)?;
     let places = numbered.all(alloc)?;
@@ -144,15 +144,14 @@ fn found_at<G: Labelled>(
     start: &G::Node,
     limit: usize,
 ) -> Result<Vec<G::Value>, ReachFault>
-    requires { (node : G.Node)
-        → Contains nodes.now node ↔ IsNamed (G.edge graph.now) start.now node }
-    ensures found { IfOk result (λ values. (value : G.Value) → Contains values.items value
-        ↔ IsFound (G.edge graph.now) (G.own graph.now) G.passed start.now value) }
+    requires { AreNamed (G.edge graph.now) start.now nodes.now }
+    ensures found { IfOk result (λ values. AreFound
+        (G.edge graph.now) (G.own graph.now) G.passed start.now values.items) }
     ensures sorted { IfOk result (λ values. IsStrictlySortedBy G.Value.cmp values.items) }
     ensures few { OnOk result
-        (¬ MoreThan limit (IsFoundPair (G.edge graph.now) (G.own graph.now) G.passed start.now)) }
+        (¬ HasManyPairs (G.edge graph.now) (G.own graph.now) G.passed limit start.now) }
     ensures many { result ≡ Err ReachFault.TooMany
-        → MoreThan limit (IsFoundPair (G.edge graph.now) (G.own graph.now) G.passed start.now) }
+        → HasManyPairs (G.edge graph.now) (G.own graph.now) G.passed limit start.now }
 {
     let settled = settled(alloc, graph, nodes, limit)?;
     match settled.into_values(nodes, start) {
@@ -169,15 +168,14 @@ fn walked<G: Labelled>(
     start: &G::Node,
     limit: usize,
 ) -> Result<Vec<G::Value>, ReachFault>
-    requires { (node : G.Node)
-        → Contains nodes.now node ↔ IsNamed (G.edge graph.now) start.now node }
-    ensures found { IfOk result (λ values. (value : G.Value) → Contains values.items value
-        ↔ IsFound (G.edge graph.now) (G.own graph.now) G.passed start.now value) }
+    requires { AreNamed (G.edge graph.now) start.now nodes.now }
+    ensures found { IfOk result (λ values. AreFound
+        (G.edge graph.now) (G.own graph.now) G.passed start.now values.items) }
     ensures sorted { IfOk result (λ values. IsStrictlySortedBy G.Value.cmp values.items) }
     ensures few { OnOk result
-        (¬ MoreThan limit (IsFoundPair (G.edge graph.now) (G.own graph.now) G.passed start.now)) }
+        (¬ HasManyPairs (G.edge graph.now) (G.own graph.now) G.passed limit start.now) }
     ensures many { result ≡ Err ReachFault.TooMany
-        → MoreThan limit (IsFoundPair (G.edge graph.now) (G.own graph.now) G.passed start.now) }
+        → HasManyPairs (G.edge graph.now) (G.own graph.now) G.passed limit start.now }
 {
     let pairs = found_pairs(alloc, graph, nodes, limit)?;
     let values = values_at::<G>(alloc, &pairs, start)?;

@@ -11,7 +11,7 @@ use Rattle.rr_submission.specs.declared.submission.Done.{Done}
 use Rattle.rr_submission.specs.declared.submission.DeskFault.{DeskFault}
 use Rattle.rr_submission.specs.declared.submission.DeskFault.TheVariants as fault
 use Rattle.rr_submission.specs.SubmissionLaws.{ConfinesTexts}
-use Rattle.rr_submission.specs.Submissions.{Sides, Submits, UnlessStoreFault}
+use Rattle.rr_submission.specs.Submissions.{Sides, Submits, UnlessStoreFault, sides}
 use Rattle.rr_desk.specs.declared.dumping.DeskDumpFault.{DeskDumpFault}
 use Rattle.rr_desk.specs.declared.dumping.DeskDumpFault.TheVariants as dump_fault
 use Rattle.rr_desk.specs.declared.peers.ConnFault.TheVariants as conn_fault
@@ -92,14 +92,9 @@ in_memory bytes faults reads = record { bytes = Some bytes; faults = faults; rea
 abbrev pub body_sides : {D : Type 0} → ledger.Ghosts D → List ℕ → List ℕ → ℕ → ℕ
     → D → D
     → Told → Told → Sides
-body_sides g body rest faults reads before after old new = record {
-  reader_before = in_memory body 0 0;
-  reader_after = in_memory rest faults reads;
-  writer_before = old;
-  writer_after = new;
-  before = g.registry before;
-  after = g.registry after;
-}
+body_sides g body rest faults reads before after old new =
+    sides (in_memory body 0 0) (in_memory rest faults reads) old new
+    (g.registry before) (g.registry after)
 
 -- what was read of a body ends with a blank line, so that its entries are the first of the body
 -- whatever follows, or with the body, and then no byte of it is missing (profile)

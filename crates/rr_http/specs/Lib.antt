@@ -4,7 +4,6 @@ pub mod Lines
 pub mod HeadParts
 pub mod Requests
 pub mod Replies
-pub mod Sides
 pub mod Wants
 pub mod Bodies
 pub mod BodyParts

@@ -5,10 +5,9 @@ ghost use Rattle.rr_io.specs.Sending.{Writes};
 ghost use Rattle.rr_submission.specs.declared.ledger.Ledger.{Ghosts};
 ghost use Rattle.rr_auth.specs.Sources.{IsRegistryOf};
 ghost use Rattle.rr_submission.specs.SubmissionLaws.{ConfinesTexts};
-ghost use Rattle.rr_submission.specs.Submissions.{Submits, UnlessStoreFault};
+ghost use Rattle.rr_submission.specs.Submissions.{Submits, UnlessStoreFault, sides};
 ghost use Rattle.rr_desk.specs.Dumping.{Dumps};
 ghost use Rattle.rr_desk.specs.Settings.{SettingsParts};
-ghost use Rattle.rr_http.specs.Sides.{sides};
 
 use rr_desk::{Answered, DeskDumpFault, DeskFault, Done, WriteFault};
 use rr_io::{Sink, Source};
@@ -66,8 +65,9 @@ pub trait Registrar {
         writer: &mut W,
     ) -> Result<Done, DeskFault>
         ensures submits { stops self.old ≡ false → Submits ledger (settings self.old).source
-            (sides R.Source W.Sink reader.old reader.new writer.old writer.new
-            (ledger.registry self.old) (ledger.registry self.new)) self.old self.new result }
+            (sides (R.told reader.old) (R.told reader.new) (W.told writer.old)
+            (W.told writer.new) (ledger.registry self.old) (ledger.registry self.new))
+            self.old self.new result }
         ensures runs { stops self.old ≡ false
             → UnlessStoreFault result (stops self.new ≡ false) }
         ensures confined { stops self.old ≡ false

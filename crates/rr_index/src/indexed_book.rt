@@ -85,10 +85,6 @@ impl IndexedBook {
 impl Book for IndexedBook {
     ghost contents = { λ b. b };
 
-    fn sound(&self) {
-        let _objects = &self.objects;
-    }
-
     fn get(&self, key: &Key) -> Option<&Object> {
         self.objects.get(key)
     }
@@ -101,7 +97,6 @@ impl Book for IndexedBook {
     }
 
     fn closest_inetnum(&self, span: Span) -> Option<&Object> {
-        span.ordered();
         match self.indexes.spans.closest_inetnum(span) {
             Some(own) => self.objects.get(&Key::Inetnum(own)),
             None => None,
@@ -109,7 +104,6 @@ impl Book for IndexedBook {
     }
 
     fn closest_block(&self, span: Span) -> Option<&Object> {
-        span.ordered();
         match self.indexes.spans.closest_block(span) {
             Some(own) => self.objects.get(&Key::AsBlock(block_of(own))),
             None => None,
@@ -135,12 +129,10 @@ impl Book for IndexedBook {
 
 impl SetBook for IndexedBook {
     fn aut_nums(&self, alloc: Global) -> Result<Vec<&Object>, AllocError> {
-        self.sound();
         self.objects.aut_nums(alloc)
     }
 
     fn routes(&self, alloc: Global) -> Result<Vec<&Object>, AllocError> {
-        self.sound();
         self.objects.routes(alloc)
     }
 
@@ -209,6 +201,5 @@ impl Keeper for IndexedBook {
 fn block_of(span: Span) -> AsSpan
     ensures { result ≡ span }
 {
-    span.ordered();
     AsSpan::new(AsNumber::new(span.first()), AsNumber::new(span.last()))
 }

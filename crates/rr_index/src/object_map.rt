@@ -291,7 +291,8 @@ impl ObjectMap {
             (contains key_cmp keys.old k
             || (contains_key self.now k && is_chosen [] (span_of prefix ∷ []) k))) }
     {
-        prefix.length();
+        // its length is one of a prefix
+        let _length = prefix.length();
         for (key, _) in self.between(first_of(prefix), last_of(prefix)) {
             keys.insert(key.copy(alloc)?)?;
         }

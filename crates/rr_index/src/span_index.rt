@@ -3,6 +3,7 @@
 ghost use Rattle.std.specs.Prelude.{◌≡◌, OnErr, OnOk, IfSome, IfNone, false};
 ghost use Rattle.std.specs.FinMap.{empty, insert, remove};
 ghost use Rattle.rr_number.specs.Prefixes.{span_of};
+ghost use Rattle.rr_number.specs.Spans.{IsSpan};
 ghost use Rattle.rr_cover.specs.SpanMaps.{IsClosest, NoneCovers, crosses_some};
 ghost use Rattle.rr_object.specs.Objects.{Obj};
 ghost use Rattle.rr_auth.specs.Registries.{Reg, Sound};
@@ -51,7 +52,8 @@ impl SpanIndex {
             Key::Inetnum(span) => hold(&mut self.inetnums, *span),
             Key::AsBlock(block) => hold(&mut self.blocks, block.span()),
             Key::Route(prefix, _) => {
-                prefix.length();
+                // its length is one of a prefix
+                let _length = prefix.length();
                 hold_prefix(&mut self.routes, *prefix)
             }
             _ => Ok(()),
@@ -73,7 +75,8 @@ impl SpanIndex {
                 self.blocks.remove(block.span());
             }
             Key::Route(prefix, _) => {
-                prefix.length();
+                // its length is one of a prefix
+                let _length = prefix.length();
                 if !is_routed {
                     self.routes.remove(*prefix);
                 }
@@ -86,6 +89,7 @@ impl SpanIndex {
     pub(crate) fn closest_inetnum(&self, span: Span) -> Option<Span>
         ensures found { IfSome result (λ own. IsClosest self.now.inetnums span own tt) }
         ensures none { IfNone result (NoneCovers self.now.inetnums span) }
+        ensures ordered { IsSpan span }
     {
         match self.inetnums.closest(span) {
             Some((own, _)) => Some(own),
@@ -97,6 +101,7 @@ impl SpanIndex {
     pub(crate) fn closest_block(&self, span: Span) -> Option<Span>
         ensures found { IfSome result (λ own. IsClosest self.now.blocks span own tt) }
         ensures none { IfNone result (NoneCovers self.now.blocks span) }
+        ensures ordered { IsSpan span }
     {
         match self.blocks.closest(span) {
             Some((own, _)) => Some(own),
@@ -111,7 +116,8 @@ impl SpanIndex {
     {
         match closest_prefix(&self.routes, prefix) {
             Some(own) => {
-                own.length();
+                // its length is one of a prefix
+                let _length = own.length();
                 Some(own)
             }
             None => None,

@@ -5,7 +5,8 @@ use Rattle.std.specs.List.{before_first}
 use Rattle.std.specs.Option.{option_and_then, option_map}
 use Rattle.rr_number.specs.Bounds.{Bounds}
 use Rattle.rr_bytes.specs.Cuts.{from_first}
-use Rattle.rr_number.specs.Operators.{IsOperator, caret, lengths_under, operator_of, operator_text}
+use Rattle.rr_number.specs.Operators.{IsOperator, caret, operator_of, operator_text}
+pub use Rattle.rr_number.specs.Operators.{lengths_under}
 use Rattle.rr_number.specs.Prefixes.{PrefixParts, IsPrefix, prefix_of, prefix_text}
 use Rattle.rr_number.specs.Ranges.{RangeParts, bare, bounds_of, range_of}
 use Rattle.rr_number.specs.declared.operator.Operator.{Operator}

@@ -93,7 +93,6 @@ impl AsSpan {
     }
 }
 
-#[tactic(auto, unfolding(crate::specs::AsSpans::as_span_of), using(crate::proofs::AsSpanLemmas::ends_are_numbers))]
 fn read_block(text: &[u8]) -> Option<AsSpan>
     ensures { result ≡ as_span_of text.now }
 {

@@ -105,7 +105,7 @@ impl Operator {
 
     /// What the operator makes of the range; none where it drops it, as `^8` a range of lengths
     /// from 16 (RFC 2622, 2).
-    #[tactic(auto, unfolding(crate::specs::Applied::applied, crate::specs::Operators::lengths_under))]
+    #[tactic(auto, unfolding(crate::specs::Applied::applied, crate::specs::Applied::lengths_under))]
     pub fn apply(self, range: Range) -> Option<Range>
         ensures { result ≡ applied self range }
     {

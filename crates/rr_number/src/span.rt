@@ -52,18 +52,12 @@ impl Span {
         self.first
     }
 
-    /// The last number of the span.
+    /// The last number of the span, which is not below the first.
     pub fn last(self) -> u32
-        ensures { result ≡ self.last }
+        ensures value { result ≡ self.last }
+        ensures ordered { IsSpan self }
     {
         self.last
-    }
-
-    /// Tells a caller's proof that the ends are in order and have 32 bits.
-    pub fn ordered(self)
-        ensures { IsSpan self }
-    {
-        let _first = self.first;
     }
 
     /// How many numbers the span has: 1 to 2^32.

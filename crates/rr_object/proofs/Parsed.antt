@@ -141,3 +141,5 @@ key_first fields rest first e = rw e refl
 pub key_none : (fields : List Field) → fields ≡ [] → key_of fields ≡ Err UnknownClass
 unfolding key_of
 key_none fields e = rw e refl
+
+pub ruleset what_is_said = (obj_read, miscounted, bad_text, bad_authority, bad_membership)

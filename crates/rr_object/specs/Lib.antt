@@ -13,6 +13,8 @@ pub mod KeyTexts
 pub mod Keys
 pub mod Kinds
 pub mod Members
+pub mod ObjectParts
+pub mod ObjectViews
 pub mod Objects
 pub mod OldKeys
 pub mod Parts

@@ -17,7 +17,6 @@ use std::alloc::{AllocError, Global};
 
 /// Whether an attribute that an object of the class needs is missing or has no item, or one that
 /// stands once is repeated; the values of `source` and the items of `mnt-by` were read.
-#[tactic(auto, unfolding(crate::specs::Readings::is_miscounted, crate::specs::Readings::items_read, crate::specs::Kinds::occurs))]
 pub(crate) fn is_miscounted(
     alloc: Global,
     class: Class,

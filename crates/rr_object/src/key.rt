@@ -1,7 +1,6 @@
 //! Keys of objects.
 
 ghost use Rattle.std.specs.Prelude.{◌≡◌, IfOk};
-ghost use Rattle.rr_object.specs.KeyOrders.{HasKeyParts};
 ghost use Rattle.rr_object.specs.Keys.{class_of, is_mntner_of, key_of_kind};
 
 use crate::class::Class;
@@ -62,31 +61,6 @@ impl Key {
         match self {
             Key::Mntner(own) => own == name,
             _ => false,
-        }
-    }
-
-    /// Tells a caller's proof that the parts of the key are names, spans, prefixes and AS numbers.
-    pub fn is_within_bounds(&self)
-        ensures { HasKeyParts self.now }
-    {
-        match self {
-            Key::Mntner(name) => {
-                let _bytes = name.as_bytes();
-            }
-            Key::AsBlock(block) => {
-                let _span = block.span();
-            }
-            Key::AutNum(number) => {
-                let _number = number.number();
-            }
-            Key::Inetnum(span) => span.ordered(),
-            Key::Route(prefix, origin) => {
-                let _length = prefix.length();
-                let _number = origin.number();
-            }
-            Key::AsSet(name) | Key::RouteSet(name) => {
-                let _bytes = name.as_bytes();
-            }
         }
     }
 

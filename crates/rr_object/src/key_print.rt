@@ -6,6 +6,8 @@ ghost use Rattle.std.specs.Option.{option_map};
 ghost use Rattle.rr_io.specs.Sending.{Writes};
 ghost use Rattle.rr_number.specs.AsNumbers.{as_number_text};
 ghost use Rattle.rr_number.specs.Prefixes.{prefix_text};
+ghost use Rattle.rr_number.specs.Spans.{IsSpan};
+ghost use Rattle.rr_object.specs.KeyOrders.{HasKeyParts, IsRoute};
 ghost use Rattle.rr_object.specs.KeyTexts.{bytes_with, eight_digits, key_bytes, key_text};
 ghost use Rattle.rr_object.specs.KeyTexts.{length_bytes, route_bytes, span_bytes};
 ghost use Rattle.rr_object.specs.OldKeys.{four_digits, has_two_octets, numbers_among, numbers_in};
@@ -45,7 +47,8 @@ impl Key {
     /// The bytes by which the keys of a class are ordered and stored; the error is that memory ran
     /// out.
     pub fn bytes(&self, alloc: Global) -> Result<Vec<u8>, AllocError>
-        ensures { IfOk result (λ bytes. bytes.items ≡ key_bytes self.now) }
+        ensures value { IfOk result (λ bytes. bytes.items ≡ key_bytes self.now) }
+        ensures parts { HasKeyParts self.now }
     {
         bytes_with(alloc, Digits::Eight, self)
     }
@@ -75,7 +78,8 @@ pub(crate) enum Digits {
 
 /// The bytes of a key, with so many digits for an AS number.
 fn bytes_with(alloc: Global, digits: Digits, key: &Key) -> Result<Vec<u8>, AllocError>
-    ensures { IfOk result (λ bytes. bytes.items ≡ bytes_with (digits_of digits) key.now) }
+    ensures value { IfOk result (λ bytes. bytes.items ≡ bytes_with (digits_of digits) key.now) }
+    ensures parts { HasKeyParts key.now }
 {
     match key {
         Key::Mntner(name) => Vec::from_slice(alloc, name.as_bytes()),
@@ -183,12 +187,14 @@ fn number_bytes(alloc: Global, digits: Digits, number: u32) -> Result<Vec<u8>, A
 }
 
 fn span_bytes(alloc: Global, digits: Digits, span: Span) -> Result<Vec<u8>, AllocError>
-    ensures { IfOk result (λ bytes. bytes.items ≡ span_bytes (digits_of digits) span) }
+    ensures value { IfOk result (λ bytes. bytes.items ≡ span_bytes (digits_of digits) span) }
+    ensures ordered { IsSpan span }
 {
+    let last = span.last();
     let mut bytes = Vec::with_capacity(alloc, SPAN_LENGTH)?;
     push_digits(&mut bytes, digits, span.first())?;
     bytes.push(b'-')?;
-    push_digits(&mut bytes, digits, span.last())?;
+    push_digits(&mut bytes, digits, last)?;
     Ok(bytes)
 }
 
@@ -198,13 +204,17 @@ fn route_bytes(
     prefix: Prefix,
     origin: AsNumber,
 ) -> Result<Vec<u8>, AllocError>
-    ensures { IfOk result (λ bytes. bytes.items ≡ route_bytes (digits_of digits) prefix origin) }
+    ensures value { IfOk result
+        (λ bytes. bytes.items ≡ route_bytes (digits_of digits) prefix origin) }
+    ensures parts { IsRoute prefix origin }
 {
+    let length = prefix.length();
+    let number = origin.number();
     let mut bytes = Vec::with_capacity(alloc, ROUTE_LENGTH)?;
     push_digits(&mut bytes, Digits::Eight, prefix.address().to_bits())?;
     bytes.push(b'/')?;
-    push_length(&mut bytes, prefix.length())?;
+    push_length(&mut bytes, length)?;
     bytes.push(b'-')?;
-    push_digits(&mut bytes, digits, origin.number())?;
+    push_digits(&mut bytes, digits, number)?;
     Ok(bytes)
 }

@@ -5,8 +5,8 @@ ghost use Rattle.std.specs.Prelude.{◌≡◌, ◌<◌, List, Ok, Some, length, 
 ghost use Rattle.rr_text.specs.Fields.{Field};
 ghost use Rattle.rr_object.specs.FirstFaults.{FirstFaultIsTold, ObjectsSayTheirParagraphs};
 ghost use Rattle.rr_object.specs.GrantTexts.{ReadGrantsAreSpelled, SpelledGrantsAreRead};
-ghost use Rattle.rr_object.specs.KeyOrders.{BytesTellKeys, IsKeyValue, class_and_bytes_cmp};
-ghost use Rattle.rr_object.specs.KeyOrders.{key_cmp};
+ghost use Rattle.rr_object.specs.KeyOrders.{BytesTellKeys, HasKeyParts, IsKeyValue};
+ghost use Rattle.rr_object.specs.KeyOrders.{class_and_bytes_cmp, key_cmp};
 ghost use Rattle.rr_object.specs.KeySpellings.{key_of, key_of_text};
 ghost use Rattle.rr_object.specs.KeyTexts.{key_bytes};
 ghost use Rattle.rr_object.specs.Keys.{class_of};
@@ -64,6 +64,33 @@ pub fn keys_compare_as_their_bytes()
     ensures told { BytesTellKeys }
 {}
 
+/// The parts of a key are names, spans, prefixes and AS numbers.
+pub fn a_key_has_its_parts(key: &Key)
+    ensures { HasKeyParts key.now }
+{
+    match key {
+        Key::Mntner(name) => {
+            let _bytes = name.as_bytes();
+        }
+        Key::AsBlock(block) => {
+            let _span = block.span();
+        }
+        Key::AutNum(number) => {
+            let _number = number.number();
+        }
+        Key::Inetnum(span) => {
+            let _last = span.last();
+        }
+        Key::Route(prefix, origin) => {
+            let _length = prefix.length();
+            let _number = origin.number();
+        }
+        Key::AsSet(name) | Key::RouteSet(name) => {
+            let _bytes = name.as_bytes();
+        }
+    }
+}
+
 /// The same of any two keys.
 pub fn any_two_keys_compare_as_their_bytes(key: &Key, other: &Key)
     ensures order { ⟦<Key as Ord>⟧.cmp key.now other.now
@@ -71,8 +98,8 @@ pub fn any_two_keys_compare_as_their_bytes(key: &Key, other: &Key)
     ensures told { class_of key.now ≡ class_of other.now
         → key_bytes key.now ≡ key_bytes other.now → key.now ≡ other.now }
 {
-    key.is_within_bounds();
-    other.is_within_bounds();
+    a_key_has_its_parts(key);
+    a_key_has_its_parts(other);
 }
 
 /// Two keys of a class have equal old bytes only if they are equal, and keys that have old bytes

@@ -3,6 +3,7 @@
 ghost use Rattle.std.specs.Prelude.{◌≡◌, ◌≢◌, Err, IfErr, IfOk, Ok, Some};
 ghost use Rattle.rr_object.specs.KeyOrders.{IsKeyValue};
 ghost use Rattle.rr_object.specs.KeySpellings.{key_of};
+ghost use Rattle.rr_object.specs.ObjectParts.{said};
 ghost use Rattle.rr_object.specs.Readings.{obj_of, object_of, source_of};
 ghost use Rattle.rr_object.specs.declared.fault.ObjectFault.TheVariants.{Memory};
 
@@ -46,34 +47,12 @@ impl Model for Object {
 
     ghost Value = { Obj };
 
-    ghost view = { λ o. record {
-      key = o.key;
-      paragraph = o.paragraph;
-      maintainers =
-          o.maintainers.items;
-      lower = o.lower.items;
-      routes = o.routes.items;
-      auths = o.auths.items;
-      members = o.members.items;
-      by_ref = o.by_ref;
-      member_of = o.member_of.items;
-    } };
+    ghost use Rattle.rr_object.specs.ObjectViews.{parts_of};
+
+    ghost view = { parts_of };
 
     // the fields are those that are read from the paragraph
-    ghost invariant = { λ o. obj_of o.paragraph ≡ Ok
-        (record {
-          key = o.key;
-          paragraph = o.paragraph;
-          maintainers = o.maintainers.items;
-          lower =
-              o.lower.items;
-          routes = o.routes.items;
-          auths = o.auths.items;
-          members =
-              o.members.items;
-          by_ref = o.by_ref;
-          member_of = o.member_of.items;
-        }) };
+    ghost invariant = { λ o. obj_of o.paragraph ≡ Ok (parts_of o) };
 }
 
 impl Object {
@@ -111,21 +90,6 @@ impl Object {
         }
     }
 
-    /// Tells a caller's proof that the fields are those that are read from the paragraph.
-    pub fn is_read_from_its_paragraph(&self)
-        ensures { obj_of self.now.paragraph ≡ Ok self.now }
-    {
-        let _paragraph = &self.paragraph;
-    }
-
-    /// Tells a caller's proof that the key is well formed, that of a set one of its kind.
-    #[tactic(auto, using(crate::proofs::KeyBounds::obj_key_formed))]
-    pub fn key_is_well_formed(&self)
-        ensures { IsKeyValue self.now.key }
-    {
-        self.is_read_from_its_paragraph();
-    }
-
     /// An equal object; the error is that memory ran out.
     #[tactic(auto, using(crate::proofs::Parsed::kept_its_key))]
     pub fn copy(&self, alloc: Global) -> Result<Object, AllocError>
@@ -139,16 +103,19 @@ impl Object {
         }
     }
 
-    /// What names the object.
+    /// What names the object; the name of a set is one of its kind.
+    #[tactic(auto, using(crate::proofs::KeyBounds::obj_key_formed))]
     pub fn key(&self) -> &Key
-        ensures { result.now ≡ self.now.key }
+        ensures value { result.now ≡ self.now.key }
+        ensures formed { IsKeyValue self.now.key }
     {
         &self.key
     }
 
-    /// The whole paragraph.
+    /// The whole paragraph, from which the object was read.
     pub fn paragraph(&self) -> &Paragraph
-        ensures { result.now ≡ self.now.paragraph }
+        ensures value { result.now ≡ self.now.paragraph }
+        ensures read { obj_of self.now.paragraph ≡ Ok self.now }
     {
         &self.paragraph
     }
@@ -232,25 +199,12 @@ struct Said {
     membership: Membership,
 }
 
-#[tactic(auto, using(crate::proofs::Parsed::obj_read, crate::proofs::Parsed::miscounted, crate::proofs::Parsed::bad_text, crate::proofs::Parsed::bad_authority, crate::proofs::Parsed::bad_membership))]
+#[tactic(auto, using(crate::proofs::Parsed::what_is_said))]
 fn read_said(alloc: Global, key: &Key, paragraph: &Paragraph) -> Result<Said, ObjectFault>
     requires { key_of paragraph.now ≡ Ok key.now }
-    ensures ok { IfOk result (λ said. obj_of paragraph.now ≡ Ok (record {
-      key =
-          key.now;
-      paragraph = paragraph.now;
-      maintainers = said.authority.maintainers.items;
-      lower =
-          said.authority.lower.items;
-      routes = said.authority.routes.items;
-      auths =
-          said.authority.auths.items;
-      members = said.membership.members.items;
-      by_ref =
-          said.membership.by_ref;
-      member_of = said.membership.member_of.items;
-    })) }
-    ensures source { IfOk result (λ said. source_of paragraph.now ≡ Some said.source) }
+    ensures ok { IfOk result (λ read. obj_of paragraph.now
+        ≡ Ok (said key.now paragraph.now read.authority read.membership)) }
+    ensures source { IfOk result (λ read. source_of paragraph.now ≡ Some read.source) }
     ensures fault { IfErr result
         (λ fault. fault ≢ Memory → obj_of paragraph.now ≡ Err fault) }
 {
@@ -273,19 +227,7 @@ fn read_said(alloc: Global, key: &Key, paragraph: &Paragraph) -> Result<Said, Ob
 
 /// The object that is made of what was read.
 fn made_of(key: Key, paragraph: Paragraph, authority: Authority, membership: Membership) -> Object
-    requires { obj_of paragraph ≡ Ok (record {
-      key = key;
-      paragraph = paragraph;
-      maintainers =
-          authority.maintainers.items;
-      lower = authority.lower.items;
-      routes = authority.routes.items;
-      auths = authority.auths.items;
-      members = membership.members.items;
-      by_ref =
-          membership.by_ref;
-      member_of = membership.member_of.items;
-    }) }
+    requires { obj_of paragraph ≡ Ok (said key paragraph authority membership) }
     ensures { obj_of paragraph ≡ Ok result }
 {
     let Authority {

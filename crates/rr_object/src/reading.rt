@@ -157,7 +157,6 @@ pub(crate) fn read_membership(
 }
 
 /// The text in which the items of an attribute stand, empty where the class does not read it.
-#[tactic(auto, unfolding(crate::specs::Readings::items_read, crate::specs::Readings::items_of, crate::specs::Items::items), using(crate::proofs::Listed::items_among_list))]
 pub(crate) fn text_read(
     alloc: Global,
     class: Class,

@@ -43,3 +43,5 @@ module _ (r : Reg) (secrets : List (List ℕ)) (judged : Verdict) where
   judged_step i outcome then (inl is) done = subst (λ (v : Verdict). IsCarriedOut r v i outcome then) is done
   judged_step i outcome then (inr want) (inl done) = inr (record { outcome_is = done.outcome_is ∙ ap outcome_of want; effect = done.effect ∙ ap (λ v. after v r i) want })
   judged_step i outcome then (inr want) (inr wanting) = inr wanting
+
+pub ruleset carried_out = (added_is_sound, changed_is_sound, removed_is_sound, judged_is_met, judged_step)

@@ -1,4 +1,5 @@
 pub mod Confined
+pub mod Empty
 pub mod Gathering
 pub mod Held
 pub mod Judged

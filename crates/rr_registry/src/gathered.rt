@@ -54,7 +54,6 @@ impl Gathered {
         ensures err { IfErr result (λ fault. (fault ≡ LoadFault.Memory)
             ⊎ (clash_of (objects_of self.old) n object ≡ Some fault)) }
     {
-        object.key_is_well_formed();
         match self.enter(alloc, n, object.key()) {
             Ok(key) => put(&mut self.objects, key, object),
             Err(fault) => Err(fault),

@@ -87,7 +87,6 @@ fn none_cross(alloc: Global, objects: &[Object]) -> Result<bool, AllocError>
 {
     let mut passed = Passed::new(alloc);
     for object in objects {
-        object.key_is_well_formed();
         if !passed.pass(object.key())? {
             return Ok(false);
         }

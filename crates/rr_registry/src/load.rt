@@ -56,6 +56,7 @@ impl<T: Drop> From<AllocFailed<T>> for LoadFault {
 }
 
 impl<B: Keeper> Registry<B> {
+    ghost use Rattle.rr_auth.specs.Registries.{Sound};
     ghost use Rattle.rr_registry.specs.Loading.{IsFaultOf, IsTaken};
 
     /// The registry of these objects. The fault is the first key that stands twice or span that
@@ -63,7 +64,8 @@ impl<B: Keeper> Registry<B> {
     /// list, or that memory ran out (profile).
     #[tactic(auto, using(crate::proofs::Gathering::clash_is_fault))]
     pub fn from_objects(alloc: Global, objects: Vec<Object>) -> Result<Registry<B>, LoadFault>
-        ensures { MatchResult result (IsTaken objects.items) (IsFaultOf objects.items) }
+        ensures taken { MatchResult result (IsTaken objects.items) (IsFaultOf objects.items) }
+        ensures sound { IfOk result Sound }
     {
         let unnamed = first_unnamed(alloc, &objects)?;
         match gather(alloc, objects) {

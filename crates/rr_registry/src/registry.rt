@@ -21,7 +21,7 @@ use std::marker::Model;
 /// sound.
 #[derive(Drop)]
 pub struct Registry<B: Keeper> {
-    book: B,
+    pub(crate) book: B,
 }
 
 impl<B: Keeper> Model for Registry<B> {
@@ -35,6 +35,10 @@ impl<B: Keeper> Model for Registry<B> {
     ghost coded = { map.code (key.the_row).coded (object.the_row).coded };
 
     ghost view = { λ a. B.contents a.book };
+
+    ghost use Rattle.rr_auth.specs.Registries.{Sound};
+
+    ghost invariant = { λ a. Sound (B.contents a.book) };
 }
 
 impl<B: Keeper> Registry<B> {
@@ -53,6 +57,7 @@ impl<B: Keeper> Registry<B> {
 
     /// The registry of this book.
     pub(crate) fn of(book: B) -> Registry<B>
+        requires { Sound (B.contents book) }
         ensures { result ≡ B.contents book }
     {
         Registry { book }
@@ -60,14 +65,16 @@ impl<B: Keeper> Registry<B> {
 
     /// The book of the registry, over which other questions can be asked.
     pub fn book(&self) -> &B
-        ensures { B.contents result.now ≡ self.now }
+        ensures same { B.contents result.now ≡ self.now }
+        ensures sound { Sound self.now }
     {
         &self.book
     }
 
     /// The objects in the order of class and key; the error is that memory ran out.
     pub fn objects(&self, alloc: Global) -> Result<Vec<&Object>, AllocError>
-        ensures { IfOk result (λ objects. lent objects.items ≡ values self.now) }
+        ensures all { IfOk result (λ objects. lent objects.items ≡ values self.now) }
+        ensures sound { Sound self.now }
     {
         self.book.objects(alloc)
     }
@@ -88,39 +95,29 @@ impl<B: Keeper> Registry<B> {
         self.book.inside(alloc, span)
     }
 
-    /// Tells a caller's proof that the registry is sound.
-    pub fn sound(&self)
-        ensures { Sound self.now }
-    {
-        self.book.sound();
-    }
-
     /// Does with the item what its verdict says, over this registry and these secrets (RFC 2725, 9;
     /// profile). If memory runs out the item is refused with E90 and nothing changes. What the
     /// holders of a prefix hold stays as it was where none of the secrets is theirs.
     pub fn apply(&mut self, alloc: Global, secrets: &mut Secrets, item: Item) -> Outcome
         ensures step { IsStep self.old secrets.old item result self.new }
         ensures leaves { LeavesOthers self.old secrets.old self.new }
+        ensures formed { IsItem item }
         ensures same_secrets { secrets.new ≡ secrets.old }
     {
-        self.sound();
-        is_well_formed(&item);
         self.carry_out(alloc, secrets, item)
     }
 
     /// Does with the item what its verdict says.
-    #[tactic(auto, using(crate::proofs::Judged::added_is_sound, crate::proofs::Judged::changed_is_sound, crate::proofs::Judged::removed_is_sound, crate::proofs::Judged::judged_is_met, crate::proofs::Judged::judged_step))]
+    #[tactic(auto, using(crate::proofs::Judged::carried_out))]
     fn carry_out(&mut self, alloc: Global, secrets: &mut Secrets, item: Item) -> Outcome
         ensures step { IsStep self.old secrets.old item result self.new }
+        ensures sound { Sound self.old }
+        ensures formed { IsItem item }
         ensures same_secrets { secrets.new ≡ secrets.old }
     {
-        self.sound();
         let verdict = self.verdict(alloc, secrets, &item);
         match item {
-            Item::Submit(object) => {
-                object.key_is_well_formed();
-                self.submit(alloc, verdict, object)
-            }
+            Item::Submit(object) => self.submit(alloc, verdict, object),
             Item::Delete(key) => self.delete(verdict, &key),
         }
     }
@@ -128,6 +125,8 @@ impl<B: Keeper> Registry<B> {
     /// The verdict on the item, which is a refusal with E90 if memory runs out.
     fn verdict(&self, alloc: Global, secrets: &mut Secrets, item: &Item) -> Verdict
         ensures judged { IsJudged self.now secrets.old item.now result }
+        ensures sound { Sound self.now }
+        ensures formed { IsItem item.now }
         ensures same_secrets { secrets.new ≡ secrets.old }
     {
         match judge(alloc, &self.book, secrets, item) {
@@ -178,14 +177,5 @@ impl<B: Keeper> Registry<B> {
             Verdict::Refuse(code) => Outcome::Refused(code),
             Verdict::Add | Verdict::Change | Verdict::Same => unreachable!(),
         }
-    }
-}
-
-/// Tells a caller's proof that the key of an object that is submitted is well formed.
-pub(crate) fn is_well_formed(item: &Item)
-    ensures { IsItem item.now }
-{
-    if let Item::Submit(object) = item {
-        object.key_is_well_formed();
     }
 }

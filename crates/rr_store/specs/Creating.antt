@@ -1,25 +1,34 @@
 -- What becomes of a call that makes a store.
 use Rattle.std.specs.Prelude.{◌≡◌, false, List, map, IsTrue}
+use Rattle.std.specs.List.{AllByRecursion}
 use Rattle.sqlite_trees.specs.declared.store.Store.{Ghosts}
+use Rattle.sqlite.specs.Effect.{Database}
 use Rattle.sqlite.specs.Held.{Held, state}
 use Rattle.sqlite.specs.State.{Survives}
 use Rattle.rr_object.specs.Objects.{Obj}
 use Rattle.rr_rows.specs.Entries.{TreesOf, entry_of}
 use Rattle.rr_rows.specs.Made.{HasItsTables, HasRow, IsVacant}
-use Rattle.rr_rows.specs.Maps.{IsFilled}
+use Rattle.rr_rows.specs.Maps.{IsFilled, IsObject}
 use Rattle.rr_rows.specs.Tables.{HasTables}
-use Rattle.rr_store.specs.Calls.{OnCleanDisk, WhileOpen, database}
+use Rattle.rr_store.specs.Calls.{IsSettled, OnCleanDisk, WhileOpen, database}
 use Rattle.rr_store.specs.declared.fault.CreateFault.{CreateFault}
 use Rattle.rr_store.specs.declared.fault.CreateFault.TheVariants.{NotEmpty}
+
+-- the tables hold the rows of these objects, which are such as readers make, and no others, and are
+-- of version 2 (profile)
+pub record IsStoreOf (objects : List Obj) (db : Database) : Type 0 where
+  pub read : AllByRecursion IsObject objects
+  pub filled : IsFilled (map entry_of objects) db
 
 module _ {S : Type 0} (g : Ghosts S) (objects : List Obj) (conn : Held S) where
   -- a database that had room for it is the store of the objects (profile)
   pub record MakesStore (store : Held S) : Type 0 where
-    pub filled : OnCleanDisk g store (IsFilled (map entry_of objects) (database g store))
+    pub filled : OnCleanDisk g store (IsStoreOf objects (database g store))
     pub tables : OnCleanDisk g store (HasItsTables (database g conn) (database g store))
     pub is_open : OnCleanDisk g store (IsTrue (state g store).is_open)
+    pub settled : OnCleanDisk g store (IsSettled g store)
     pub vacant : OnCleanDisk g store (IsVacant (database g conn))
-    pub crash : Survives (state g conn) (state g store) (TreesOf (IsFilled (map entry_of objects)))
+    pub crash : Survives (state g conn) (state g store) (TreesOf (IsStoreOf objects))
     pub crash_tables : Survives (state g conn) (state g store)
         (TreesOf (HasItsTables (database g conn)))
 
@@ -29,6 +38,6 @@ module _ {S : Type 0} (g : Ghosts S) (objects : List Obj) (conn : Held S) where
     pub kept : WhileOpen g left (database g left ≡ database g conn)
     pub not_empty : fault ≡ NotEmpty
         → OnCleanDisk g left (HasTables (database g conn).schema × HasRow (database g conn))
-    pub crash : Survives (state g conn) (state g left) (TreesOf (IsFilled (map entry_of objects)))
+    pub crash : Survives (state g conn) (state g left) (TreesOf (IsStoreOf objects))
     pub crash_tables : Survives (state g conn) (state g left)
         (TreesOf (HasItsTables (database g conn)))

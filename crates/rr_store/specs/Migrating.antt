@@ -14,7 +14,7 @@ use Rattle.rr_rows.specs.Contents.{KeepsOthers}
 use Rattle.rr_rows.specs.Entries.{TreesOf}
 use Rattle.rr_rows.specs.Maps.{AreOldStored, AreStored}
 use Rattle.rr_rows.specs.Tables.{HasTables}
-use Rattle.rr_store.specs.Calls.{OnCleanDisk, WhileOpen, database}
+use Rattle.rr_store.specs.Calls.{IsSettled, OnCleanDisk, WhileOpen, database}
 use Rattle.rr_store.specs.Opening.{HoldNone, IsNotOld, IsOfNoneButOld}
 use Rattle.rr_store.specs.declared.version.Version.TheVariants.{Old}
 use Rattle.rr_store.specs.declared.fault.MigrateFault.{MigrateFault}
@@ -71,6 +71,7 @@ module _ {S : Type 0} (g : Ghosts S) (root source : List ℕ) (conn : Held S) wh
   pub record MigratesStore (store : Held S) : Type 0 where
     pub migrated : OnCleanDisk g store (IsMigrated root source (database g conn) (database g store))
     pub is_open : OnCleanDisk g store (IsTrue (state g store).is_open)
+    pub settled : OnCleanDisk g store (IsSettled g store)
     pub crash : Survives (state g conn) (state g store)
         (TreesOf (IsMigrated root source (database g conn)))
 

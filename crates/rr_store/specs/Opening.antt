@@ -9,7 +9,7 @@ use Rattle.rr_object.specs.Objects.{Obj}
 use Rattle.rr_rows.specs.Contents.{settings}
 use Rattle.rr_rows.specs.Maps.{AreInOrder, AreStored, AreStoredIn, IsObjectOf}
 use Rattle.rr_rows.specs.Tables.{HasTables}
-use Rattle.rr_store.specs.Calls.{OnCleanDisk, Rests, database}
+use Rattle.rr_store.specs.Calls.{IsSettled, OnCleanDisk, Rests, database}
 use Rattle.rr_store.specs.Versions.{SaysVersion, form_of, version_number, version_text}
 use Rattle.rr_store.specs.declared.fault.OpenFault.{OpenFault}
 use Rattle.rr_store.specs.declared.fault.OpenFault.TheVariants.{WrongVersion, BadRow, Store, Memory}
@@ -86,6 +86,7 @@ module _ {S : Type 0} (g : Ghosts S) (source : List ℕ) (conn : Held S) where
     pub of_source : AllByRecursion (IsObjectOf source) objects
     pub same : OnCleanDisk g store (database g store ≡ database g conn)
     pub is_open : OnCleanDisk g store (IsTrue (state g store).is_open)
+    pub settled : OnCleanDisk g store (IsSettled g store)
     pub crash : Survives (state g conn) (state g store) (λ _. ⊥)
 
   -- the rows are as they were, and the fault says why they are not read

@@ -1,11 +1,10 @@
 //! A new store, made in one transaction.
 
-ghost use Rattle.std.specs.Prelude.{◌≡◌, false, map, IfErr, OnOk};
-ghost use Rattle.rr_rows.specs.Entries.{entry_of};
+ghost use Rattle.std.specs.Prelude.{◌≡◌, false, IfErr, OnOk};
 ghost use Rattle.rr_rows.specs.Made.{HasItsTables, HasRow, IsBare, IsVacant, no_schema};
-ghost use Rattle.rr_rows.specs.Maps.{IsFilled};
 ghost use Rattle.rr_rows.specs.Tables.{HasTables};
 ghost use Rattle.rr_store.specs.Calls.{OnCleanDisk, WhileOpen, Writes, database};
+ghost use Rattle.rr_store.specs.Creating.{IsStoreOf};
 ghost use Rattle.rr_store.specs.Lent.{lent};
 ghost use Rattle.rr_store.specs.declared.fault.CreateFault.TheVariants.{NotEmpty};
 
@@ -25,7 +24,7 @@ fn create_in_blank<S: Alter>(
 ) -> Result<(), StoreFault>
     requires autocommit { conn.old.in_transaction ≡ false }
     requires blank { WhileOpen S.Store conn.old (conn.old.schema ≡ no_schema) }
-    ensures makes { Writes S.Store (λ _. IsFilled (map entry_of (lent objects.now)))
+    ensures makes { Writes S.Store (λ _. IsStoreOf (lent objects.now))
         conn.old conn.new result }
     ensures tables { Writes S.Store HasItsTables conn.old conn.new result }
 {
@@ -43,7 +42,7 @@ fn create_in_bare<S: Alter>(
 ) -> Result<(), StoreFault>
     requires autocommit { conn.old.in_transaction ≡ false }
     requires bare { WhileOpen S.Store conn.old (IsBare (database S.Store conn.old)) }
-    ensures makes { Writes S.Store (λ _. IsFilled (map entry_of (lent objects.now)))
+    ensures makes { Writes S.Store (λ _. IsStoreOf (lent objects.now))
         conn.old conn.new result }
     ensures tables { Writes S.Store HasItsTables conn.old conn.new result }
 {
@@ -62,7 +61,7 @@ fn create_in_tables<S: Alter>(
 ) -> Result<(), CreateFault>
     requires autocommit { conn.old.in_transaction ≡ false }
     requires tables { OnCleanDisk S.Store conn.old (HasTables conn.old.schema) }
-    ensures makes { Writes S.Store (λ _. IsFilled (map entry_of (lent objects.now)))
+    ensures makes { Writes S.Store (λ _. IsStoreOf (lent objects.now))
         conn.old conn.new result }
     ensures tables { Writes S.Store HasItsTables conn.old conn.new result }
     ensures bare { OnCleanDisk S.Store conn.new (OnOk result
@@ -84,7 +83,7 @@ pub(crate) fn create_where_vacant<S: Alter>(
     objects: &[&Object],
 ) -> Result<(), CreateFault>
     requires autocommit { conn.old.in_transaction ≡ false }
-    ensures makes { Writes S.Store (λ _. IsFilled (map entry_of (lent objects.now)))
+    ensures makes { Writes S.Store (λ _. IsStoreOf (lent objects.now))
         conn.old conn.new result }
     ensures tables { Writes S.Store HasItsTables conn.old conn.new result }
     ensures vacant { OnCleanDisk S.Store conn.new (OnOk result

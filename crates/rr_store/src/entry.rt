@@ -1,12 +1,14 @@
 //! What the tables keep of an object.
 
 ghost use Rattle.std.specs.Prelude.{◌≡◌, IfOk};
+ghost use Rattle.rr_object.specs.KeyOrders.{IsKeyValue};
 ghost use Rattle.rr_rows.specs.Entries.{entry_of};
+ghost use Rattle.rr_rows.specs.Maps.{IsObject};
 
 use crate::names::maintainers_of;
 use rr_number::Name;
 use rr_object::Object;
-use rr_text::{Text, print};
+use rr_text::Text;
 use std::alloc::{AllocError, Global};
 use std::marker::Model;
 
@@ -33,13 +35,16 @@ impl Model for Entry {
 }
 
 impl Entry {
-    /// The entry of an object.
+    /// The entry of an object, which is such as readers make.
     pub(crate) fn of(alloc: Global, object: &Object) -> Result<Entry, AllocError>
-        ensures { IfOk result (λ entry. entry ≡ entry_of object.now) }
+        ensures entry { IfOk result (λ entry. entry ≡ entry_of object.now) }
+        ensures object { IsObject object.now }
+        ensures formed { IsKeyValue object.now.key }
     {
+        let text = object.paragraph().text();
         let class = object.key().class().number();
         let key = object.key().bytes(alloc)?;
-        let body = print(alloc, object.paragraph())?;
+        let body = Text::from_slice(alloc, text)?;
         let names = maintainers_of(alloc, object)?;
         Ok(Entry {
             class,

@@ -1,12 +1,14 @@
 //! The rows of a list of objects, as a transaction adds them to tables without a row.
 
 ghost use Rattle.std.specs.Prelude.{◌≡◌, map, IsTrue, OnOk};
+ghost use Rattle.std.specs.List.{AllByRecursion};
 ghost use Rattle.rr_rows.specs.Contents.{IsTidy, KeepsOthers};
 ghost use Rattle.rr_rows.specs.Entries.{IsAdded, entry_of};
 ghost use Rattle.rr_rows.specs.Made.{HasItsTables, IsBare, no_schema};
-ghost use Rattle.rr_rows.specs.Maps.{IsFilled};
-ghost use Rattle.rr_store.specs.Lent.{lent};
+ghost use Rattle.rr_rows.specs.Maps.{IsObject};
 ghost use Rattle.rr_store.specs.Calls.{WhileOpen, database};
+ghost use Rattle.rr_store.specs.Creating.{IsStoreOf};
+ghost use Rattle.rr_store.specs.Lent.{lent};
 ghost use Rattle.rr_store.specs.StepParts.{CommitsNothing, GoesOn, GoesOnOpen, LeavesAll};
 ghost use Rattle.rr_store.specs.StepParts.{Made, MadeOpen};
 
@@ -28,6 +30,7 @@ pub(crate) fn add_objects<S: Alter>(
     ensures same_reference { tx.new.conn.ghost_name ≡ tx.old.conn.ghost_name }
     ensures ok { MadeOpen S.Store (IsAdded (map entry_of (lent objects.now)))
         tx.old.conn.now tx.new.conn.now result }
+    ensures read { OnOk result (AllByRecursion IsObject (lent objects.now)) }
     ensures step { GoesOnOpen S.Store tx.old.conn.now tx.new.conn.now result }
     ensures kept { CommitsNothing S.Store tx.old.conn.now tx.new.conn.now }
     ensures survives { LeavesAll S.Store tx.old.conn.now tx.new.conn.now }
@@ -47,7 +50,7 @@ pub(crate) fn fill<S: Alter>(
 ) -> Result<(), StoreFault>
     requires { WhileOpen S.Store tx.old.conn.now (IsBare (database S.Store tx.old.conn.now)) }
     ensures same_reference { tx.new.conn.ghost_name ≡ tx.old.conn.ghost_name }
-    ensures ok { Made S.Store (λ _. IsFilled (map entry_of (lent objects.now)))
+    ensures ok { Made S.Store (λ _. IsStoreOf (lent objects.now))
         tx.old.conn.now tx.new.conn.now result }
     ensures others { Made S.Store KeepsOthers tx.old.conn.now tx.new.conn.now result }
     ensures step { GoesOn S.Store tx.old.conn.now tx.new.conn.now result }
@@ -67,7 +70,7 @@ pub(crate) fn make_filled<S: Alter>(
     requires { WhileOpen S.Store tx.old.conn.now
         ((database S.Store tx.old.conn.now).schema ≡ no_schema) }
     ensures same_reference { tx.new.conn.ghost_name ≡ tx.old.conn.ghost_name }
-    ensures ok { Made S.Store (λ _. IsFilled (map entry_of (lent objects.now)))
+    ensures ok { Made S.Store (λ _. IsStoreOf (lent objects.now))
         tx.old.conn.now tx.new.conn.now result }
     ensures tables { Made S.Store HasItsTables tx.old.conn.now tx.new.conn.now result }
     ensures step { GoesOn S.Store tx.old.conn.now tx.new.conn.now result }

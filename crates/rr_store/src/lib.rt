@@ -29,6 +29,6 @@ mod version;
 mod writes;
 
 pub use fault::{CreateFault, MigrateFault, OpenFault, StoreFault};
-pub use objects::{are_read, lent};
+pub use objects::lent;
 pub use store::Store;
 pub use upper::upper_object;

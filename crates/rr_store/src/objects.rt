@@ -3,7 +3,6 @@
 ghost use Rattle.std.specs.Prelude.{◌≡◌, ◌++◌, [], ◌∷◌, IfErr, IfOk, IfSome};
 ghost use Rattle.std.specs.Prelude.{IsPermutation, IsSome};
 ghost use Rattle.std.specs.Prelude.{IsSorted, IsTrue, OnOk, Some, ℕ};
-ghost use Rattle.std.specs.List.{AllByRecursion};
 ghost use Rattle.sqlite.specs.declared.error.Error.{Error};
 ghost use Rattle.rr_text.specs.CanonicalText.{canonical};
 ghost use Rattle.rr_object.specs.Classes.{class_number};
@@ -11,7 +10,7 @@ ghost use Rattle.rr_object.specs.Keys.{class_of};
 ghost use Rattle.rr_object.specs.Objects.{Obj};
 ghost use Rattle.rr_object.specs.Readings.{ReadsAs};
 ghost use Rattle.rr_rows.specs.Contents.{columns, object_values};
-ghost use Rattle.rr_rows.specs.Maps.{AreApart, AreInOrder, IsObject, IsObjectOf};
+ghost use Rattle.rr_rows.specs.Maps.{AreApart, AreInOrder, IsObjectOf};
 ghost use Rattle.rr_store.specs.Lent.{lent};
 ghost use Rattle.rr_store.specs.ReadingParts.{IsRowOf, by_key, is_below};
 ghost use Rattle.rr_store.specs.Versions.{form_of};
@@ -131,23 +130,6 @@ pub(crate) fn take_object(
         },
         Ok(None) => Err(OpenFault::BadRow),
         Err(_) => Err(OpenFault::Memory),
-    }
-}
-
-/// Tells a caller's proof that the object is such as readers make.
-pub(crate) fn is_read(object: &Object)
-    ensures { IsObject object.now }
-{
-    object.is_read_from_its_paragraph();
-    let _attributes = object.paragraph().attributes();
-}
-
-/// Tells a caller's proof that the objects are such as readers make.
-pub fn are_read(objects: &[&Object])
-    ensures { AllByRecursion IsObject (lent objects.now) }
-{
-    for object in objects {
-        is_read(object);
     }
 }
 

@@ -1,16 +1,17 @@
 //! The store.
 
-ghost use Rattle.std.specs.Prelude.{◌≡◌, [], ◌∷◌, false, List, IfErr, IfOk, IsTrue};
+ghost use Rattle.std.specs.Prelude.{◌≡◌, [], ◌∷◌, false, List, IfErr, IfOk};
 ghost use Rattle.std.specs.List.{AllByRecursion};
 ghost use Rattle.sqlite.specs.Held.{state};
 ghost use Rattle.sqlite.specs.State.{IsUnchanged};
-ghost use Rattle.sqlite_trees.specs.Tree.{Trees};
 ghost use Rattle.rr_object.specs.Classes.{class_number};
+ghost use Rattle.rr_object.specs.KeyOrders.{HasKeyParts, IsKeyValue};
 ghost use Rattle.rr_object.specs.Keys.{class_of};
 ghost use Rattle.rr_object.specs.KeyTexts.{key_bytes};
 ghost use Rattle.rr_object.specs.Objects.{Obj};
 ghost use Rattle.rr_rows.specs.Entries.{IsAdded, IsPut, IsTakenOut, entry_of};
-ghost use Rattle.rr_rows.specs.Maps.{AreInOrder, AreOldStored, IsObjectOf, Puts, TakesOut};
+ghost use Rattle.rr_rows.specs.Maps.{AreInOrder, AreOldStored, IsObject, IsObjectOf};
+ghost use Rattle.rr_rows.specs.Maps.{Puts, TakesOut};
 ghost use Rattle.rr_store.specs.Adding.{AddsTo};
 ghost use Rattle.rr_store.specs.Calls.{Looks, OnCleanDisk, Writes, database};
 ghost use Rattle.rr_store.specs.Creating.{FailsToMake, MakesStore};
@@ -26,7 +27,6 @@ use crate::creating::create_where_vacant;
 use crate::entry::Entry;
 use crate::fault::{CreateFault, MigrateFault, OpenFault, StoreFault};
 use crate::migrating::migrate_rows;
-use crate::objects::{are_read, is_read};
 use crate::opening::stored_objects;
 use crate::version::Version;
 use crate::writes::{insert_entry, put_entry, remove_entry};
@@ -69,7 +69,6 @@ impl<S: Alter> Store<S> {
         ensures makes { IfOk result (MakesStore S.Store (lent objects.now) conn) }
         ensures fails { IfErr result (λ e. FailsToMake S.Store (lent objects.now) conn e.1 e.0) }
     {
-        are_read(objects);
         match create_where_vacant(&mut conn, alloc, objects) {
             Ok(()) => Ok(Store { conn }),
             Err(fault) => Err((fault, conn)),
@@ -88,6 +87,8 @@ impl<S: Alter> Store<S> {
         ensures opens { IfOk result (λ s. OpensStore S.Store source.now conn s.0 s.1.items) }
         ensures fails { IfErr result (λ e. FailsToOpen S.Store source.now conn e.1 e.0) }
     {
+        // outside a transaction the database is as it was last committed
+        let _settled = conn.is_autocommit();
         match stored_objects(&mut conn, alloc, source, Version::This) {
             Ok(objects) => Ok((Store { conn }, objects)),
             Err(fault) => Err((fault, conn)),
@@ -158,15 +159,14 @@ impl<S: Alter> Store<S> {
         ensures rows { Writes S.Store (IsPut (entry_of object.now)) self.old self.new result }
         ensures puts { Writes S.Store (Puts object.now.key object.now) self.old self.new result }
     {
-        object.key_is_well_formed();
-        is_read(object);
         self.put_rows_of(alloc, object)
     }
 
     fn put_rows_of(&mut self, alloc: Global, object: &Object) -> Result<(), StoreFault>
-        ensures { Writes S.Store (IsPut (entry_of object.now)) self.old self.new result }
+        ensures rows { Writes S.Store (IsPut (entry_of object.now)) self.old self.new result }
+        ensures object { IsObject object.now }
+        ensures formed { IsKeyValue object.now.key }
     {
-        is_read(object);
         let entry = Entry::of(alloc, object)?;
         put_entry(&mut self.conn, alloc, &entry)
     }
@@ -179,15 +179,15 @@ impl<S: Alter> Store<S> {
             self.old self.new result }
         ensures adds { Writes S.Store (AddsTo object.now.key object.now) self.old self.new result }
     {
-        object.key_is_well_formed();
-        is_read(object);
         self.add_rows_of(alloc, object)
     }
 
     fn add_rows_of(&mut self, alloc: Global, object: &Object) -> Result<(), StoreFault>
-        ensures { Writes S.Store (IsAdded (entry_of object.now ∷ [])) self.old self.new result }
+        ensures rows { Writes S.Store (IsAdded (entry_of object.now ∷ []))
+            self.old self.new result }
+        ensures object { IsObject object.now }
+        ensures formed { IsKeyValue object.now.key }
     {
-        is_read(object);
         let entry = Entry::of(alloc, object)?;
         insert_entry(&mut self.conn, &entry)
     }
@@ -200,13 +200,14 @@ impl<S: Alter> Store<S> {
             self.old self.new result }
         ensures takes { Writes S.Store (TakesOut key.now) self.old self.new result }
     {
-        key.is_within_bounds();
         self.remove_rows_of(alloc, key)
     }
 
     fn remove_rows_of(&mut self, alloc: Global, key: &Key) -> Result<(), StoreFault>
-        ensures { Writes S.Store (IsTakenOut (class_number (class_of key.now)) (key_bytes key.now))
+        ensures rows { Writes S.Store
+            (IsTakenOut (class_number (class_of key.now)) (key_bytes key.now))
             self.old self.new result }
+        ensures parts { HasKeyParts key.now }
     {
         let class = key.class().number();
         let bytes = key.bytes(alloc)?;
@@ -241,16 +242,6 @@ impl<S: Alter> Store<S> {
             IsUnchanged (state S.Store self.old) (state S.Store self.new))) }
     {
         Ok(naming_objects(&mut self.conn, alloc, source, name)?)
-    }
-
-    /// Tells a caller's proof that a stop leaves just the rows that stand.
-    pub fn settled(&self)
-        ensures { IsTrue (state S.Store self.now).is_open → (trees : Trees) →
-            (state S.Store self.now).may_leave trees
-            → trees ≡ (database S.Store self.now).trees }
-    {
-        // outside a transaction the database is as it was last committed
-        let _settled = self.conn.is_autocommit();
     }
 
     /// The connection, whose rows stay.

@@ -1,9 +1,10 @@
 //! The block of AS numbers that tables of version 1 did not know.
 
 ghost use Rattle.std.specs.Prelude.{◌≡◌, ◌≢◌, IfErr, IfOk};
-ghost use Rattle.rr_rows.specs.Maps.{IsObjectOf};
+ghost use Rattle.rr_text.specs.Fields.{AreFields};
 ghost use Rattle.rr_object.specs.Objects.{Obj};
 ghost use Rattle.rr_object.specs.Readings.{ReadsAs};
+ghost use Rattle.rr_rows.specs.Maps.{IsObjectOf};
 ghost use Rattle.rr_store.specs.Migrating.{upper_block};
 ghost use Rattle.rr_store.specs.declared.fault.StoreFault.TheVariants.{Memory};
 
@@ -16,12 +17,15 @@ use std::alloc::{AllocError, Global};
 /// The AS numbers of more than two octets (RFC 6793).
 const UPPER: &[u8] = b"AS65536 - AS4294967295";
 
+#[tactic(auto, using(crate::proofs::UpperLemmas::upper_fields))]
 fn upper_attributes(
     alloc: Global,
     root: &Name,
     source: &Name,
 ) -> Result<Vec<LineAttribute>, AllocError>
-    ensures { IfOk result (λ attributes. attributes.items ≡ upper_block root.now source.now) }
+    ensures value { IfOk result (λ attributes.
+        attributes.items ≡ upper_block root.now source.now) }
+    ensures fields { IfOk result (λ attributes. AreFields attributes.items) }
 {
     let mut attributes = Vec::with_capacity(alloc, 3)?;
     attributes.push(LineAttribute::new(alloc, b"as-block", UPPER)?)?;
@@ -30,12 +34,10 @@ fn upper_attributes(
     Ok(attributes)
 }
 
-#[tactic(auto, using(crate::proofs::UpperLemmas::upper_fields))]
 fn upper_paragraph(alloc: Global, root: &Name, source: &Name) -> Result<Paragraph, AllocError>
-    ensures { IfOk result (λ paragraph. paragraph ≡ upper_block root.now source.now) }
+    ensures value { IfOk result (λ paragraph. paragraph ≡ upper_block root.now source.now) }
+    ensures fields { IfOk result AreFields }
 {
-    let _root = root.as_bytes();
-    let _source = source.as_bytes();
     let attributes = upper_attributes(alloc, root, source)?;
     Paragraph::new(alloc, &attributes)
 }
@@ -50,10 +52,7 @@ pub fn upper_object(alloc: Global, root: &Name, source: &Name) -> Result<Object,
 {
     let paragraph = upper_paragraph(alloc, root, source)?;
     match Object::read(alloc, paragraph, source) {
-        Ok(object) => {
-            let _attributes = object.paragraph().attributes();
-            Ok(object)
-        }
+        Ok(object) => Ok(object),
         Err(ObjectFault::Memory) => Err(StoreFault::Memory),
         Err(_) => Err(StoreFault::Store(BAD_ROWS)),
     }

@@ -71,6 +71,8 @@ refusal_code_short Same = lit≤ tt
 refusal_code_short Deleted = lit≤ tt
 refusal_code_short (Refused code) = code_name_short code
 
+pub ruleset outcome_short = (outcome_word_short, refusal_code_short)
+
 pub before_count_short : (ending : Ending) → length (before_count ending) ≤ 19
 before_count_short Complete = lit≤ tt
 before_count_short ReadFault = lit≤ tt

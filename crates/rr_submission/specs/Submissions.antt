@@ -32,6 +32,16 @@ pub record Sides : Type 0 where
   pub before : Reg
   pub after : Reg
 
+abbrev pub sides : Told → Told → Told → Told → Reg → Reg → Sides
+sides reader_old reader_new writer_old writer_new before after = record {
+  reader_before = reader_old;
+  reader_after = reader_new;
+  writer_before = writer_old;
+  writer_after = writer_new;
+  before = before;
+  after = after;
+}
+
 -- the text was read to its end, each item was decided, and the whole report was written
 pub record IsDone (source : List ℕ) (sides : Sides) (done : Done) : Type 0 where
   pub text : List ℕ

@@ -54,7 +54,6 @@ pub fn write_last_line<W: Sink>(writer: &mut W, ending: Ending, items: u64) -> i
 }
 
 /// The last line.
-#[tactic(auto, unfolding(crate::specs::Endings::last_line), using(crate::proofs::LineSizes::before_count_short, crate::proofs::LineSizes::after_count_short))]
 fn last_line(ending: Ending, items: u64) -> ShortText
     ensures { result ≡ last_line ending items }
 {

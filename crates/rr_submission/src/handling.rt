@@ -10,7 +10,7 @@ ghost use Rattle.rr_submission.specs.Reports.{stop_lines};
 ghost use Rattle.rr_submission.specs.Handled.{HaltsAt};
 ghost use Rattle.rr_submission.specs.HandledParts.{HandlesItems, HandlesOne, UnlessHalted};
 ghost use Rattle.rr_submission.specs.SubmissionLaws.{ConfinesTexts};
-ghost use Rattle.rr_submission.specs.Submissions.{Submits, UnlessStoreFault};
+ghost use Rattle.rr_submission.specs.Submissions.{Submits, UnlessStoreFault, sides};
 
 use crate::ending::{Ending, write_last_line};
 use crate::items::next_item;
@@ -43,14 +43,9 @@ pub fn submit<L: Ledger, R: Source, W: Sink>(
     writer: &mut W,
 ) -> Result<Done, DeskFault>
     requires { L.Ready ledger.old }
-    ensures submits { Submits L.Ledger source.now (record {
-      reader_before = R.told reader.old;
-      reader_after = R.told reader.new;
-      writer_before = W.told writer.old;
-      writer_after = W.told writer.new;
-      before = L.registry ledger.old;
-      after = L.registry ledger.new;
-    }) ledger.old ledger.new result }
+    ensures submits { Submits L.Ledger source.now (sides (R.told reader.old)
+        (R.told reader.new) (W.told writer.old) (W.told writer.new) (L.registry ledger.old)
+        (L.registry ledger.new)) ledger.old ledger.new result }
     ensures ready { UnlessStoreFault result (L.Ready ledger.new) }
     ensures confined { ConfinesTexts source.now (L.registry ledger.old) }
     ensures reader_aside { R.aside reader.new ≡ R.aside reader.old }
@@ -77,14 +72,9 @@ fn report<L: Ledger, R: Source, W: Sink>(
 ) -> Result<Done, DeskFault>
     requires ready { L.Ready ledger.old }
     requires unread { HasGiven (R.told reader.old) (R.told reader.old) paragraphs.old [] }
-    ensures submits { Submits L.Ledger source.now (record {
-      reader_before = R.told reader.old;
-      reader_after = R.told reader.new;
-      writer_before = W.told writer.old;
-      writer_after = W.told writer.new;
-      before = L.registry ledger.old;
-      after = L.registry ledger.new;
-    }) ledger.old ledger.new result }
+    ensures submits { Submits L.Ledger source.now (sides (R.told reader.old)
+        (R.told reader.new) (W.told writer.old) (W.told writer.new) (L.registry ledger.old)
+        (L.registry ledger.new)) ledger.old ledger.new result }
     ensures ready { UnlessStoreFault result (L.Ready ledger.new) }
     ensures reader_aside { R.aside reader.new ≡ R.aside reader.old }
     ensures writer_aside { W.aside writer.new ≡ W.aside writer.old }

@@ -74,7 +74,7 @@ fn push_class(line: &mut ShortText, class: Class)
 }
 
 /// What stands after the subject.
-#[tactic(auto, using(crate::proofs::LineSizes::outcome_word_short, crate::proofs::LineSizes::refusal_code_short))]
+#[tactic(auto, using(crate::proofs::LineSizes::outcome_short))]
 fn push_outcome(line: &mut ShortText, outcome: Outcome)
     requires { length line.old ≤ 286 }
     ensures { line.new ≡ line.old ++ outcome_part outcome }

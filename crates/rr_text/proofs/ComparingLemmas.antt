@@ -83,3 +83,5 @@ all_left (b ∷ form) (c ∷ text) = all_first b c form text (b == c) (all_left 
 pub further_is : (line : List ℕ) → 0 < length line → further_line line ≡ after_blanks value_column line
 further_is [] some = absurd (omega arith)
 further_is (b ∷ bs) some = refl
+
+pub ruleset further_left = (left_joined, further_is)

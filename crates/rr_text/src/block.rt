@@ -49,7 +49,7 @@ pub(crate) fn take_block(text: &[u8], from: usize) -> Option<(&[u8], usize)>
     requires { from ≤ length text.now }
     ensures none { IfNone result (blocks (text_lines (drop from text.now)) ≡ []) }
     ensures end { IfNone result (length text.now ≡ place_after from text.now) }
-    ensures behind { IfSome result (λ taken. taken.1 ≡ place_after from text.now) }
+    ensures after { IfSome result (λ taken. taken.1 ≡ place_after from text.now) }
     ensures found { IfSome result (λ taken. (from < taken.1) × (taken.1 ≤ length text.now)
         × (starts_block (text_lines taken.0.now) ≡ true)
         × (blocks (text_lines (drop from text.now))

@@ -23,7 +23,6 @@ fn after_bytes<'t>(text: &'t [u8], bytes: &[u8]) -> Option<&'t [u8]>
 
 /// What stands after a line with so many blanks before it, or after nothing where the line is
 /// empty.
-#[tactic(auto, using(crate::proofs::ComparingLemmas::left_joined), unfolding(crate::specs::PrivateParts::left_after))]
 fn after_after_blanks<'t>(text: &'t [u8], count: usize, line: &[u8]) -> Option<&'t [u8]>
     requires { count ≤ 16 }
     ensures { option_map (λ left. left.now) result
@@ -47,7 +46,7 @@ fn after_opening<'t>(text: &'t [u8], name: &[u8], line: &[u8]) -> Option<&'t [u8
     after_bytes(rest, b"\n")
 }
 
-#[tactic(auto, using(crate::proofs::ComparingLemmas::left_joined, crate::proofs::ComparingLemmas::further_is))]
+#[tactic(auto, using(crate::proofs::ComparingLemmas::further_left))]
 fn after_further<'t>(text: &'t [u8], line: &[u8]) -> Option<&'t [u8]>
     ensures { option_map (λ left. left.now) result
         ≡ left_after (canon.ended (canon.further_line line.now)) text.now }

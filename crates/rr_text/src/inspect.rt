@@ -9,7 +9,6 @@ use crate::line::{LineKind, has_refused_byte, split_line};
 use rr_bytes::{ByteSet, is_attribute_name, place_of, trim_end};
 
 /// The fault of a line that opens an attribute and has no refused byte.
-#[tactic(auto, using(crate::proofs::FaultLemmas::not_found, crate::proofs::FaultLemmas::found_at), unfolding(crate::specs::Faults::opening_fault))]
 fn opening_fault(line: &[u8]) -> Option<TextFault>
     ensures { result ≡ faults.opening_fault line.now }
 {

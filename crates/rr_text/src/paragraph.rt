@@ -55,7 +55,8 @@ impl Paragraph {
 
     /// The canonical text of the paragraph (profile).
     pub fn text(&self) -> &[u8]
-        ensures { result.now ≡ canonical self.now }
+        ensures canonical { result.now ≡ canonical self.now }
+        ensures fields { AreFields self.now }
     {
         &self.text
     }
@@ -111,6 +112,7 @@ impl Paragraph {
     {
         let mut text = Vec::new(alloc);
         print_onto_with_values(&mut text, self, name, line)?;
+        // they are fields, as those that are printed have to be
         let _attributes = self.attributes();
         Ok(Paragraph::kept(text))
     }

@@ -25,7 +25,7 @@ pub fn next_paragraph(
         entries (drop from text.now) ≡ Ok found.0 ∷ entries (drop found.1 text.now))) }
     ensures place { IfOk result
         (λ next. IfSome next (λ found. (from < found.1) × (found.1 ≤ length text.now))) }
-    ensures behind { IfOk result
+    ensures after { IfOk result
         (λ next. IfSome next (λ found. found.1 ≡ place_after from text.now)) }
     ensures fields { IfOk result
         (λ next. IfSome next (λ found. (0 < length found.0) × AreFields found.0)) }
@@ -49,7 +49,7 @@ pub fn next_paragraph(
 pub fn skip_paragraph(text: &[u8], from: usize) -> usize
     requires { from ≤ length text.now }
     ensures others { entries (drop result text.now) ≡ drop 1 (entries (drop from text.now)) }
-    ensures behind { result ≡ place_after from text.now }
+    ensures place { result ≡ place_after from text.now }
     ensures within { result ≤ length text.now }
     ensures after { 0 < length (entries (drop from text.now)) → from < result }
 {

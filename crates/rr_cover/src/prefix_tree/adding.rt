@@ -1,13 +1,12 @@
 //! Putting prefixes into a tree.
 
 ghost use Rattle.std.specs.Prelude.{◌≡◌, Bool, true, false, None, Some, IfOk, IfErr, IfSome};
-ghost use Rattle.std.specs.Prelude.{OnOk, OnErr, if◌then◌else◌};
+ghost use Rattle.std.specs.Prelude.{OnOk, OnErr};
 ghost use Rattle.std.specs.Option.{option_or};
-ghost use Rattle.std.specs.Ordering.{eq_by_cmp};
 ghost use Rattle.rr_number.specs.Prefixes.{PrefixParts, IsMasked, span_of};
-ghost use Rattle.rr_number.specs.Spans.{Ends, covers, span_cmp};
+ghost use Rattle.rr_number.specs.Spans.{Ends, covers};
 ghost use Rattle.rr_cover.specs.PrefixTrees.{lies_on, IsFork, IsRootedOn, IsTree};
-ghost use Rattle.rr_cover.specs.TreeParts.{own, standing, is_above, root_of, IsParting};
+ghost use Rattle.rr_cover.specs.TreeParts.{own, standing, is_above, root_of, HoldsWith, IsParting};
 
 use super::parting::parting;
 use super::reading::{is_same, is_upper};
@@ -79,9 +78,7 @@ fn above<T: Drop>(node: Box<Node<T>>, value: T, root: Prefix, tree: Tree<T>) -> 
     requires root { root_of tree ≡ Some root }
     requires covered { covers (span_of node.value.prefix) (span_of root) ≡ true }
     requires short { covers (span_of root) (span_of node.value.prefix) ≡ false }
-    ensures all { (s : Ends) → standing result s
-        ≡ (if eq_by_cmp span_cmp s (span_of node.value.prefix) then Some value
-        else standing tree s) }
+    ensures all { HoldsWith tree (span_of node.value.prefix) value result }
     ensures tree { IsTree result }
     ensures root { root_of result ≡ Some node.value.prefix }
 {
@@ -104,9 +101,7 @@ fn beside<T: Drop>(
     requires tree { IsTree tree }
     requires root { root_of tree ≡ Some root }
     requires parted { IsParting fork.value.prefix node.value.prefix root }
-    ensures all { (s : Ends) → standing result s
-        ≡ (if eq_by_cmp span_cmp s (span_of node.value.prefix) then Some value
-        else standing tree s) }
+    ensures all { HoldsWith tree (span_of node.value.prefix) value result }
     ensures tree { IsTree result }
     ensures root { root_of result ≡ Some fork.value.prefix }
 {
@@ -133,9 +128,8 @@ fn part<T: Drop>(
     requires root { root_of tree.old ≡ Some root }
     requires one { covers (span_of node.value.prefix) (span_of root) ≡ false }
     requires other { covers (span_of root) (span_of node.value.prefix) ≡ false }
-    ensures all { OnOk result ((s : Ends) → standing tree.new s
-        ≡ (if eq_by_cmp span_cmp s (span_of node.value.prefix) then Some value
-        else standing tree.old s)) }
+    ensures all { OnOk result
+        (HoldsWith tree.old (span_of node.value.prefix) value tree.new) }
     ensures err { OnErr result (tree.new ≡ tree.old) }
     ensures back { IfErr result (λ given. given ≡ value) }
     ensures tree { IsTree tree.new }
@@ -157,8 +151,7 @@ fn place<T: Drop>(tree: &mut Tree<T>, alloc: Global, prefix: Prefix, value: T) -
     requires order { IsTree tree.old }
     requires masked { IsMasked prefix }
     requires short { is_above tree.old (span_of prefix) ≡ false }
-    ensures all { OnOk result ((s : Ends) → standing tree.new s
-        ≡ (if eq_by_cmp span_cmp s (span_of prefix) then Some value else standing tree.old s)) }
+    ensures all { OnOk result (HoldsWith tree.old (span_of prefix) value tree.new) }
     ensures err { OnErr result (tree.new ≡ tree.old) }
     ensures back { IfErr result (λ given. given ≡ value) }
     ensures tree { IsTree tree.new }
@@ -193,8 +186,7 @@ pub(super) fn set<T: Drop>(
     requires order { IsTree tree.old }
     requires masked { IsMasked prefix }
     ensures stood { IfOk result (λ old. old ≡ standing tree.old (span_of prefix)) }
-    ensures all { OnOk result ((s : Ends) → standing tree.new s
-        ≡ (if eq_by_cmp span_cmp s (span_of prefix) then Some value else standing tree.old s)) }
+    ensures all { OnOk result (HoldsWith tree.old (span_of prefix) value tree.new) }
     ensures err { OnErr result (tree.new ≡ tree.old) }
     ensures back { IfErr result (λ given. given ≡ value) }
     ensures tree { IsTree tree.new }
@@ -223,8 +215,7 @@ fn set_below<T: Drop>(
     requires masked { IsMasked prefix }
     requires over { is_above tree.old (span_of prefix) ≡ true }
     ensures stood { IfOk result (λ old. old ≡ standing tree.old (span_of prefix)) }
-    ensures all { OnOk result ((s : Ends) → standing tree.new s
-        ≡ (if eq_by_cmp span_cmp s (span_of prefix) then Some value else standing tree.old s)) }
+    ensures all { OnOk result (HoldsWith tree.old (span_of prefix) value tree.new) }
     ensures err { OnErr result (tree.new ≡ tree.old) }
     ensures back { IfErr result (λ given. given ≡ value) }
     ensures tree { IsTree tree.new }

@@ -1,12 +1,11 @@
 //! Changing a search tree and keeping it balanced.
 
 ghost use Rattle.std.specs.Prelude.{◌≡◌, nat_le, None, Some, is_some, IfOk, IfErr, IfSome};
-ghost use Rattle.std.specs.Prelude.{IfNone, OnOk, OnErr, if◌then◌else◌};
+ghost use Rattle.std.specs.Prelude.{IfNone, OnOk, OnErr};
 ghost use Rattle.std.specs.Option.{option_or};
-ghost use Rattle.std.specs.Ordering.{eq_by_cmp};
-ghost use Rattle.rr_number.specs.Spans.{Ends, IsSpan, span_cmp};
+ghost use Rattle.rr_number.specs.Spans.{Ends, IsSpan};
 ghost use Rattle.rr_cover.specs.SpanNests.{at_span, is_ahead, standing, Only, Fits, IsBound};
-ghost use Rattle.rr_cover.specs.SpanNests.{IsNest};
+ghost use Rattle.rr_cover.specs.SpanNests.{HoldsAll, HoldsWith, HoldsWithout, IsNest};
 ghost use Rattle.rr_cover.specs.NestParts.{with_front, with_back, IsTakenApart, Precedes};
 
 use super::bounds::Bounds;
@@ -86,9 +85,7 @@ fn hang<T: Drop>(
     requires fits { Fits node.value.span before after }
     requires bound { IsBound bounds node.value.span before after }
     requires nests { IsNest before × IsNest after }
-    ensures all { (s : Ends) → standing result s
-        ≡ option_or (standing before s)
-        (option_or (at_span node.value.span node.value.value s) (standing after s)) }
+    ensures all { HoldsAll before node.value.span node.value.value after result }
     ensures nest { IsNest result }
 {
     node.height = height;
@@ -102,9 +99,7 @@ fn hang<T: Drop>(
 fn fork<T: Drop>(node: Box<Node<T>>, before: Nest<T>, after: Nest<T>) -> Nest<T>
     requires fits { Fits node.value.span before after }
     requires nests { IsNest before × IsNest after }
-    ensures all { (s : Ends) → standing result s
-        ≡ option_or (standing before s)
-        (option_or (at_span node.value.span node.value.value s) (standing after s)) }
+    ensures all { HoldsAll before node.value.span node.value.value after result }
     ensures nest { IsNest result }
 {
     let height = height(&before).max(height(&after)).saturating_add(1);
@@ -116,9 +111,7 @@ fn fork<T: Drop>(node: Box<Node<T>>, before: Nest<T>, after: Nest<T>) -> Nest<T>
 fn balance<T: Drop>(node: Box<Node<T>>, before: Nest<T>, after: Nest<T>) -> Nest<T>
     requires fits { Fits node.value.span before after }
     requires nests { IsNest before × IsNest after }
-    ensures all { (s : Ends) → standing result s
-        ≡ option_or (standing before s)
-        (option_or (at_span node.value.span node.value.value s) (standing after s)) }
+    ensures all { HoldsAll before node.value.span node.value.value after result }
     ensures nest { IsNest result }
 {
     let (front, back) = (height(&before), height(&after));
@@ -135,9 +128,7 @@ fn balance<T: Drop>(node: Box<Node<T>>, before: Nest<T>, after: Nest<T>) -> Nest
 fn lift_before<T: Drop>(node: Box<Node<T>>, before: Nest<T>, after: Nest<T>) -> Nest<T>
     requires fits { Fits node.value.span before after }
     requires nests { IsNest before × IsNest after }
-    ensures all { (s : Ends) → standing result s
-        ≡ option_or (standing before s)
-        (option_or (at_span node.value.span node.value.value s) (standing after s)) }
+    ensures all { HoldsAll before node.value.span node.value.value after result }
     ensures nest { IsNest result }
 {
     let Some((front, outer, inner)) = open(before) else {
@@ -160,9 +151,7 @@ fn lift_before<T: Drop>(node: Box<Node<T>>, before: Nest<T>, after: Nest<T>) -> 
 fn lift_after<T: Drop>(node: Box<Node<T>>, before: Nest<T>, after: Nest<T>) -> Nest<T>
     requires fits { Fits node.value.span before after }
     requires nests { IsNest before × IsNest after }
-    ensures all { (s : Ends) → standing result s
-        ≡ option_or (standing before s)
-        (option_or (at_span node.value.span node.value.value s) (standing after s)) }
+    ensures all { HoldsAll before node.value.span node.value.value after result }
     ensures nest { IsNest result }
 {
     let Some((back, inner, outer)) = open(after) else {
@@ -247,9 +236,7 @@ fn put<T: Drop>(nest: &mut Nest<T>, leaf: Box<Node<T>>)
     requires order { IsNest nest.old }
     requires ends { IsSpan leaf.value.span }
     requires missing { standing nest.old leaf.value.span ≡ None }
-    ensures all { (s : Ends) → standing nest.new s
-        ≡ (if eq_by_cmp span_cmp s leaf.value.span then Some leaf.value.value
-        else standing nest.old s) }
+    ensures all { HoldsWith nest.old leaf.value.span leaf.value.value nest.new }
     ensures nest { IsNest nest.new }
 {
     if put_below(nest, leaf) {
@@ -264,9 +251,7 @@ fn put_below<T: Drop>(nest: &mut Nest<T>, leaf: Box<Node<T>>) -> bool
     requires order { IsNest nest.old }
     requires ends { IsSpan leaf.value.span }
     requires missing { standing nest.old leaf.value.span ≡ None }
-    ensures all { (s : Ends) → standing nest.new s
-        ≡ (if eq_by_cmp span_cmp s leaf.value.span then Some leaf.value.value
-        else standing nest.old s) }
+    ensures all { HoldsWith nest.old leaf.value.span leaf.value.value nest.new }
     ensures nest { IsNest nest.new }
 {
     match nest {
@@ -338,8 +323,7 @@ fn into_value<T: Drop>(node: Node<T>) -> T
 fn take_out<T: Drop>(nest: Nest<T>, span: Span) -> (Option<T>, Nest<T>)
     requires { IsNest nest }
     ensures value { result.0 ≡ standing nest span }
-    ensures all { (s : Ends) → standing result.1 s
-        ≡ (if eq_by_cmp span_cmp s span then None else standing nest s) }
+    ensures all { HoldsWithout nest span result.1 }
     ensures nest { IsNest result.1 }
 {
     let Some((root, before, after)) = open(nest) else {
@@ -363,8 +347,7 @@ fn take_out<T: Drop>(nest: Nest<T>, span: Span) -> (Option<T>, Nest<T>)
 fn replace<T: Drop>(nest: &mut Nest<T>, span: Span, value: T) -> Result<T, T>
     requires { IsNest nest.old }
     ensures ok { IfOk result (λ old. standing nest.old span ≡ Some old) }
-    ensures all { OnOk result ((s : Ends) → standing nest.new s
-        ≡ (if eq_by_cmp span_cmp s span then Some value else standing nest.old s)) }
+    ensures all { OnOk result (HoldsWith nest.old span value nest.new) }
     ensures err { OnErr result ((nest.new ≡ nest.old) × (standing nest.old span ≡ None)) }
     ensures back { IfErr result (λ given. given ≡ value) }
     ensures kept { (s : Ends) → is_some (standing nest.new s) ≡ is_some (standing nest.old s) }
@@ -389,13 +372,11 @@ fn replace<T: Drop>(nest: &mut Nest<T>, span: Span, value: T) -> Result<T, T>
 fn add<T: Drop>(nest: &mut Nest<T>, alloc: Global, span: Span, value: T) -> Result<(), T>
     requires order { IsNest nest.old }
     requires missing { standing nest.old span ≡ None }
-    ensures all { OnOk result ((s : Ends) → standing nest.new s
-        ≡ (if eq_by_cmp span_cmp s span then Some value else standing nest.old s)) }
+    ensures all { OnOk result (HoldsWith nest.old span value nest.new) }
     ensures err { OnErr result (nest.new ≡ nest.old) }
     ensures back { IfErr result (λ given. given ≡ value) }
     ensures nest { IsNest nest.new }
 {
-    span.ordered();
     let node = Node {
         span,
         value,
@@ -427,8 +408,7 @@ pub(super) fn set<T: Drop>(
 ) -> Result<Option<T>, T>
     requires { IsNest nest.old }
     ensures stood { IfOk result (λ old. old ≡ standing nest.old span) }
-    ensures all { OnOk result ((s : Ends) → standing nest.new s
-        ≡ (if eq_by_cmp span_cmp s span then Some value else standing nest.old s)) }
+    ensures all { OnOk result (HoldsWith nest.old span value nest.new) }
     ensures err { OnErr result (nest.new ≡ nest.old) }
     ensures back { IfErr result (λ given. given ≡ value) }
     ensures nest { IsNest nest.new }
@@ -447,8 +427,7 @@ pub(super) fn set<T: Drop>(
 pub(super) fn take<T: Drop>(nest: &mut Nest<T>, span: Span) -> Option<T>
     requires { IsNest nest.old }
     ensures value { result ≡ standing nest.old span }
-    ensures all { (s : Ends) → standing nest.new s
-        ≡ (if eq_by_cmp span_cmp s span then None else standing nest.old s) }
+    ensures all { HoldsWithout nest.old span nest.new }
     ensures nest { IsNest nest.new }
 {
     let whole = mem::replace(nest, Nest::Empty);

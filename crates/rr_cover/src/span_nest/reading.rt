@@ -4,7 +4,7 @@ ghost use Rattle.std.specs.Prelude.{◌≡◌, ◌+◌, true, false, nat_le, is_
 ghost use Rattle.std.specs.Prelude.{IfNone};
 ghost use Rattle.std.specs.Option.{option_copied};
 ghost use Rattle.std.specs.Ordering.{eq_by_cmp};
-ghost use Rattle.rr_number.specs.Spans.{Ends, span_cmp};
+ghost use Rattle.rr_number.specs.Spans.{Ends, IsSpan, span_cmp};
 ghost use Rattle.rr_cover.specs.SpanNests.{is_ahead, standing, Only, IsNest, HasNoCrossing};
 ghost use Rattle.rr_cover.specs.NestParts.{ends_in, begins_in, IsLastReaching, NoneReaches};
 ghost use Rattle.rr_cover.specs.NestParts.{SomeCrosses, NoneCrosses};
@@ -137,6 +137,7 @@ pub(super) fn smallest_cover<T>(nest: &Nest<T>, span: Span) -> Option<(Span, &T)
     ensures found { IfSome result
         (λ p. IsLastReaching nest.now (span.first + 1) span.last p.0 p.1.now) }
     ensures none { IfNone result (NoneReaches nest.now (span.first + 1) span.last) }
+    ensures ordered { IsSpan span }
 {
     match last_reaching(nest, u64::from(span.first()) + 1, u64::from(span.last())) {
         Some(node) => Some((node.span, &node.value)),

@@ -18,7 +18,7 @@ returns-then-is_same c =
     let place = place_of c.args.key.now os in
     let object = c.in-Some.object.now in
     let there = rw c.place.ensures.value at c.in-Some.ensures.lookup in
-    let own = rw c.key.ensures at c.is_same.ensures in
+    let own = rw c.key.ensures.value at c.is_same.ensures in
     sym (found_there c.args.key.now os object true c.requires (slice_get_read os (length os) place object refl (ltb-true place (length os) (sym there.0)) there.1) (sym c.if-is_same.true ∙ own))
 
 pub returns-else-is_same : goal.returns-else-is_same
@@ -27,5 +27,5 @@ returns-else-is_same c =
     let place = place_of c.args.key.now os in
     let object = c.in-Some.object.now in
     let there = rw c.place.ensures.value at c.in-Some.ensures.lookup in
-    let own = rw c.key.ensures at c.is_same.ensures in
+    let own = rw c.key.ensures.value at c.is_same.ensures in
     sym (found_there c.args.key.now os object false c.requires (slice_get_read os (length os) place object refl (ltb-true place (length os) (sym there.0)) there.1) (sym c.if-is_same.false ∙ own))

@@ -19,7 +19,7 @@ returns-then-is_mntner_of c =
     let place = place_of (Mntner c.args.name.now) os in
     let object = c.in-Some.object.now in
     let there = rw c.place_of_mntner.ensures at c.in-Some.ensures.lookup in
-    let own = rw c.key.ensures at c.is_mntner_of.ensures in
+    let own = rw c.key.ensures.value at c.is_mntner_of.ensures in
     sym (mntner_there c.args.name.now os object true c.requires (slice_get_read os (length os) place object refl (ltb-true place (length os) (sym there.0)) there.1) (sym c.if-is_mntner_of.true ∙ own))
 
 pub returns-else-is_mntner_of : goal.returns-else-is_mntner_of
@@ -28,5 +28,5 @@ returns-else-is_mntner_of c =
     let place = place_of (Mntner c.args.name.now) os in
     let object = c.in-Some.object.now in
     let there = rw c.place_of_mntner.ensures at c.in-Some.ensures.lookup in
-    let own = rw c.key.ensures at c.is_mntner_of.ensures in
+    let own = rw c.key.ensures.value at c.is_mntner_of.ensures in
     sym (mntner_there c.args.name.now os object false c.requires (slice_get_read os (length os) place object refl (ltb-true place (length os) (sym there.0)) there.1) (sym c.if-is_mntner_of.false ∙ own))

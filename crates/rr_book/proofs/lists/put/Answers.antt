@@ -7,8 +7,8 @@ pub returns-then-stands_at-clause-old : goal.returns-then-stands_at-clause-old
 returns-then-stands_at-clause-old c =
     let os = c.args.objects.now.items in
     let at = c.place-at.result in
-    let place = rw (c.deref.ensures.value, c.key.ensures) at c.place-at.ensures.value in
-    let stands = rw (c.deref-2.ensures.value, c.key-2.ensures) at c.stands_at.ensures.value in
+    let place = rw (c.deref.ensures.value, c.key.ensures.value) at c.place-at.ensures.value in
+    let stands = rw (c.deref-2.ensures.value, c.key-2.ensures.value) at c.stands_at.ensures.value in
     let inside : at < length os = rw c.deref-2.ensures.value at (c.if-stands_at.ensures.within refl) in
     let found = found_standing c.args.object.key os at c.requires place (sym stands ∙ c.if-stands_at.true) in
     let there = slice_get_read os (length os) at c.index_mut.result.now refl inside c.index_mut.ensures.value in
@@ -17,6 +17,6 @@ returns-then-stands_at-clause-old c =
 pub returns-clause-old : goal.returns-clause-old
 returns-clause-old c =
     let os = c.args.objects.now.items in
-    let place = rw (c.deref.ensures.value, c.key.ensures) at c.place-at.ensures.value in
-    let stands = rw (c.deref-2.ensures.value, c.key-2.ensures) at c.stands_at.ensures.value in
+    let place = rw (c.deref.ensures.value, c.key.ensures.value) at c.place-at.ensures.value in
+    let stands = rw (c.deref-2.ensures.value, c.key-2.ensures.value) at c.stands_at.ensures.value in
     sym (found_not_standing c.args.object.key os c.place-at.result c.requires place (sym stands ∙ c.if-stands_at.false))

@@ -16,7 +16,7 @@ returns-in_err-objects-clause-unasked g c =
 pub returns-in_err-registry-clause-why : goal.returns-in_err-registry-clause-why
 returns-in_err-registry-clause-why g c =
     let exit = err_from_is_err_and c.from_residual-in_err-registry.result c.from_residual-in_err-registry.ensures.1 in
-    rw (exit.1, exit.2) (untaken_fails _ _ _ _ _ c.in_ok-objects.ensures.reads c.in_err-registry.ensures)
+    rw (exit.1, exit.2) (untaken_fails _ _ _ _ _ c.in_ok-objects.ensures.reads c.in_err-registry.ensures.taken)
 
 pub returns-in_err-registry-clause-unasked : goal.returns-in_err-registry-clause-unasked
 returns-in_err-registry-clause-unasked g c =
@@ -24,9 +24,9 @@ returns-in_err-registry-clause-unasked g c =
     rw (exit.1, exit.2) (untaken_unasked _)
 
 pub returns-clause-loaded : goal.returns-clause-loaded
-returns-clause-loaded g c = taken_loads _ _ _ _ _ c.in_ok-objects.ensures.reads c.in_ok-registry.ensures
+returns-clause-loaded g c = taken_loads _ _ _ _ _ c.in_ok-objects.ensures.reads c.in_ok-registry.ensures.taken
 
 pub returns-clause-of_source : goal.returns-clause-of_source
 returns-clause-of_source g c =
-    let loaded = taken_loads _ _ _ _ _ c.in_ok-objects.ensures.reads c.in_ok-registry.ensures in
-    dumps_of_source _ _ _ loaded.dump c.sound.ensures
+    let loaded = taken_loads _ _ _ _ _ c.in_ok-objects.ensures.reads c.in_ok-registry.ensures.taken in
+    dumps_of_source _ _ _ loaded.dump c.in_ok-registry.ensures.sound

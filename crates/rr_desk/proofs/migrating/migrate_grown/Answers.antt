@@ -9,6 +9,9 @@ migrate-requires g c = record { autocommit = c.requires.autocommit }
 pub of-requires-clause-is_open : goal.of-requires-clause-is_open
 of-requires-clause-is_open g c = c.in-Ok.ensures.migrates.is_open
 
+pub of-requires-clause-settled : goal.of-requires-clause-settled
+of-requires-clause-settled g c = c.in-Ok.ensures.migrates.settled
+
 pub of-requires-clause-rows : goal.of-requires-clause-rows
 of-requires-clause-rows g c = λ clean.
     let kept = c.in-Ok.ensures.migrates.crash.clean in

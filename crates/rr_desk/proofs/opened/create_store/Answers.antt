@@ -1,9 +1,7 @@
-use Rattle.std.proofs.Common.{map, subst}
-use Rattle.std.specs.List.{AllByRecursion}
+use Rattle.std.proofs.Common.{subst}
 use Rattle.std.proofs.lemmas.Result.{IfErr-weaker, IfOk-weaker}
-use Rattle.rr_rows.specs.Entries.{entry_of}
-use Rattle.rr_rows.specs.Maps.{IsFilled, IsObject}
 use Rattle.rr_store.specs.Calls.{database}
+use Rattle.rr_store.specs.Creating.{IsStoreOf}
 use Rattle.rr_store.specs.Lent.{lent}
 use Rattle.rr_desk.proofs.ListRows.{left_as, lent_rows, untouched_back}
 use Rattle.rr_desk.proofs.opened.create_store.Goals as goal
@@ -16,33 +14,33 @@ returns-in-Err-clause-not_empty g c = λ is clean. absurd (cc)
 
 pub returns-in-Ok-clause-rows : goal.returns-in-Ok-clause-rows
 returns-in-Ok-clause-rows g c =
-    let all = subst (λ os. AllByRecursion IsObject (lent os)) c.deref.ensures.value c.are_read.ensures in
     IfOk-weaker c.create.result _ _ (λ store makes clean.
-    lent_rows c.args.registry.now c.in-Ok.objects.items c.sound.ensures c.in-Ok.ensures all _
-    (subst (λ os. IsFilled (map entry_of (lent os)) (database g.S.Store store)) c.deref-in-Ok.ensures.value (makes.filled clean)))
+    lent_rows c.args.registry.now c.in-Ok.objects.items c.objects.ensures.sound c.in-Ok.ensures.all _
+    (subst (λ os. IsStoreOf (lent os) (database g.S.Store store)) c.deref.ensures.value (makes.filled clean)))
     c.create.ensures.makes
 
 pub returns-in-Ok-clause-is_open : goal.returns-in-Ok-clause-is_open
 returns-in-Ok-clause-is_open g c = IfOk-weaker c.create.result _ _ (λ store makes. makes.is_open) c.create.ensures.makes
 
+pub returns-in-Ok-clause-settled : goal.returns-in-Ok-clause-settled
+returns-in-Ok-clause-settled g c = IfOk-weaker c.create.result _ _ (λ store makes. makes.settled) c.create.ensures.makes
+
 pub returns-in-Ok-clause-makes : goal.returns-in-Ok-clause-makes
 returns-in-Ok-clause-makes g c =
-    let all = subst (λ os. AllByRecursion IsObject (lent os)) c.deref.ensures.value c.are_read.ensures in
     IfOk-weaker c.create.result _ _ (λ store makes. record {
       vacant = makes.vacant;
       tables = makes.tables;
-      crash = left_as _ _ (λ db filled.
-          lent_rows c.args.registry.now c.in-Ok.objects.items c.sound.ensures c.in-Ok.ensures all db (subst (λ os. IsFilled (map entry_of (lent os)) db) c.deref-in-Ok.ensures.value filled)) makes.crash;
+      crash = left_as _ _ (λ db store.
+          lent_rows c.args.registry.now c.in-Ok.objects.items c.objects.ensures.sound c.in-Ok.ensures.all db (subst (λ os. IsStoreOf (lent os) db) c.deref.ensures.value store)) makes.crash;
     }) c.create.ensures.makes
 
 pub returns-in-Ok-clause-fails : goal.returns-in-Ok-clause-fails
 returns-in-Ok-clause-fails g c =
-    let all = subst (λ os. AllByRecursion IsObject (lent os)) c.deref.ensures.value c.are_read.ensures in
     IfErr-weaker c.create.result _ _ (λ e fails. record {
       autocommit = fails.autocommit;
       kept = fails.kept;
-      crash = left_as _ _ (λ db filled.
-          lent_rows c.args.registry.now c.in-Ok.objects.items c.sound.ensures c.in-Ok.ensures all db (subst (λ os. IsFilled (map entry_of (lent os)) db) c.deref-in-Ok.ensures.value filled)) fails.crash;
+      crash = left_as _ _ (λ db store.
+          lent_rows c.args.registry.now c.in-Ok.objects.items c.objects.ensures.sound c.in-Ok.ensures.all db (subst (λ os. IsStoreOf (lent os) db) c.deref.ensures.value store)) fails.crash;
     }) c.create.ensures.fails
 
 pub returns-in-Ok-clause-not_empty : goal.returns-in-Ok-clause-not_empty

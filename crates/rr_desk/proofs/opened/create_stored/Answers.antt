@@ -6,6 +6,9 @@ create_store-requires g c = record { autocommit = c.requires.autocommit }
 pub of-requires-clause-is_open : goal.of-requires-clause-is_open
 of-requires-clause-is_open g c = c.in-Ok.ensures.is_open
 
+pub of-requires-clause-settled : goal.of-requires-clause-settled
+of-requires-clause-settled g c = c.in-Ok.ensures.settled
+
 pub of-requires-clause-rows : goal.of-requires-clause-rows
 of-requires-clause-rows g c = c.in-Ok.ensures.rows
 

@@ -12,15 +12,18 @@ open_all-requires g c = record { autocommit = c.requires.autocommit }
 pub of-requires-clause-is_open : goal.of-requires-clause-is_open
 of-requires-clause-is_open g c = c.in-Ok.ensures.opens.is_open
 
+pub of-requires-clause-settled : goal.of-requires-clause-settled
+of-requires-clause-settled g c = c.in-Ok.ensures.opens.settled
+
 pub of-requires-clause-rows : goal.of-requires-clause-rows
-of-requires-clause-rows g c = λ clean. opened_rows c.args.source.now _ _ _ (c.in-Ok.ensures.opens.stored clean) c.in-Ok-from_objects.ensures
+of-requires-clause-rows g c = λ clean. opened_rows c.args.source.now _ _ _ (c.in-Ok.ensures.opens.stored clean) c.in-Ok-from_objects.ensures.taken
 
 pub returns-in-Ok-from_objects-clause-running : goal.returns-in-Ok-from_objects-clause-running
 returns-in-Ok-from_objects-clause-running g c = c.of.ensures.running
 
 pub returns-in-Ok-from_objects-clause-of_source : goal.returns-in-Ok-from_objects-clause-of_source
 returns-in-Ok-from_objects-clause-of_source g c =
-    rw c.of.ensures.registry (taken_of_source c.args.source.now _ _ c.in-Ok-from_objects.ensures c.sound.ensures c.in-Ok.ensures.opens.of_source)
+    rw c.of.ensures.registry (taken_of_source c.args.source.now _ _ c.in-Ok-from_objects.ensures.taken c.in-Ok-from_objects.ensures.sound c.in-Ok.ensures.opens.of_source)
 
 pub returns-in-Ok-from_objects-clause-holds : goal.returns-in-Ok-from_objects-clause-holds
 returns-in-Ok-from_objects-clause-holds g c = c.of.ensures.held
@@ -29,7 +32,7 @@ pub returns-in-Ok-from_objects-clause-opens : goal.returns-in-Ok-from_objects-cl
 returns-in-Ok-from_objects-clause-opens g c =
     let opens = c.in-Ok.ensures.opens in record {
       rows = rw (c.of.ensures.registry, c.of.ensures.store)
-          (λ clean. subst (HasRows c.in-Ok-from_objects.registry) (opens.same clean) (opened_rows c.args.source.now _ _ _ (opens.stored clean) c.in-Ok-from_objects.ensures));
+          (λ clean. subst (HasRows c.in-Ok-from_objects.registry) (opens.same clean) (opened_rows c.args.source.now _ _ _ (opens.stored clean) c.in-Ok-from_objects.ensures.taken));
       same = rw c.of.ensures.store opens.same;
       crash = rw c.of.ensures.store opens.crash;
     }
@@ -49,7 +52,7 @@ returns-in-Err-from_objects-clause-why g c =
     (λ clean.
     let stored = rw (opens.same clean) at opens.stored clean in record {
       wrong_version = λ number is. absurd (no_version c.in-Err-from_objects.fault number is);
-      bad_row = λ is. bad_objects c.args.source.now _ _ _ c.in-Err-from_objects.ensures is stored;
+      bad_row = λ is. bad_objects c.args.source.now _ _ _ c.in-Err-from_objects.ensures.taken is stored;
       no_other_said = λ is. stored_says_it _ c.args.source.now _ _ stored;
       tables = λ of. stored.rows.tidy.has;
     })

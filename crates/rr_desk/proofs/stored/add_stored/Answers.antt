@@ -5,5 +5,5 @@ use Rattle.rr_desk.proofs.stored.add_stored.Goals as goal
 
 pub returns : goal.returns
 returns g c =
-    let found = ap (λ r. get r c.args.key.now) (sym c.book.ensures) ∙ sym c.in-Some.ensures in
+    let found = ap (λ r. get r c.args.key.now) (sym c.book.ensures.same) ∙ sym c.in-Some.ensures.found in
     writes_as _ _ _ _ _ _ (λ db. new_follows c.args.key.now c.args.registry.now _ _ db found) c.add.ensures.adds

@@ -13,7 +13,7 @@ pub returns : goal.returns
 returns g c =
     let r = g.B.Book.contents c.args.book.now in
     let lists : ListsOnce (IsReferrer r c.args.name.now) c.deref.result.now =
-    subst (ListsOnce (IsReferrer r c.args.name.now)) (sym c.deref.ensures.value) c.in_ok-referrers.ensures in
+    subst (ListsOnce (IsReferrer r c.args.name.now)) (sym c.deref.ensures.value) c.in_ok-referrers.ensures.lists in
     IfOk-weaker c.taken.result _ _
     (λ objects is. those_belong r c.args.name.now c.args.by_ref.now c.deref.result.now objects.items lists is)
     c.taken.ensures

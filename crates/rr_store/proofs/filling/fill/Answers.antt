@@ -3,7 +3,7 @@ use Rattle.sqlite.specs.Held.{state}
 use Rattle.rr_rows.specs.Entries.{entry_of}
 use Rattle.rr_rows.proofs.OtherLemmas.{others_then}
 use Rattle.rr_store.specs.Lent.{lent}
-use Rattle.rr_store.proofs.BodyLemmas.{then_ok, filled_so}
+use Rattle.rr_store.proofs.BodyLemmas.{both_ok, then_ok, filled_so}
 use Rattle.rr_store.proofs.filling.fill.Goals as goal
 
 pub returns-clause-ok : goal.returns-clause-ok
@@ -11,9 +11,11 @@ returns-clause-ok g c clean =
     let last = c.add_objects.ensures.survives.clean in
     let first = c.in_ok-_version.ensures.survives.clean in
     let mid = c.in_ok-_version.ensures.step (omega (arith, last)) in
-    then_ok c.add_objects.result (c.add_objects.ensures.ok clean mid.is_open)
-    (filled_so (map entry_of (lent c.args.objects.now)) (state g.S.Store c.args.tx.now.conn.now).now (state g.S.Store c.add_setting.new.tx.conn.now).now (state g.S.Store c.add_objects.new.tx.conn.now).now
-    (c.requires (omega (arith, last, first)) ((c.in_ok-_version.ensures.kept (omega (arith, last))).was_open mid.is_open)) (c.in_ok-_version.ensures.ok (omega (arith, last))))
+    both_ok c.add_objects.result c.add_objects.ensures.read (c.add_objects.ensures.ok clean mid.is_open) (λ read added. record {
+      read = read;
+      filled = filled_so (map entry_of (lent c.args.objects.now)) (state g.S.Store c.args.tx.now.conn.now).now (state g.S.Store c.add_setting.new.tx.conn.now).now (state g.S.Store c.add_objects.new.tx.conn.now).now
+          (c.requires (omega (arith, last, first)) ((c.in_ok-_version.ensures.kept (omega (arith, last))).was_open mid.is_open)) (c.in_ok-_version.ensures.ok (omega (arith, last))) added;
+    })
 
 pub returns-clause-others : goal.returns-clause-others
 returns-clause-others g c clean =

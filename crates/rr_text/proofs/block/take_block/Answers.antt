@@ -23,5 +23,5 @@ returns-then-is_empty-clause-end c =
     let none : length c.skip_to_block-rest.result.now ≡ 0 = grind (arith, nat_tests) in
     place_of_none _ _ _ _ c.split_at.ensures.back c.skip_to_block-rest.ensures.lines none
 
-pub returns-clause-behind : goal.returns-clause-behind
-returns-clause-behind c = place_of_rest _ _ _ _ _ c.split_at.ensures.back c.skip_to_block-rest.ensures.lines c.split_block.ensures.after
+pub returns-clause-after : goal.returns-clause-after
+returns-clause-after c = place_of_rest _ _ _ _ _ c.split_at.ensures.back c.skip_to_block-rest.ensures.lines c.split_block.ensures.after

@@ -18,7 +18,7 @@ use Rattle.rr_book.proofs.plain_book.PlainBookKeeper.insert.Goals as goal
 
 pub enter-requires : goal.enter-requires
 enter-requires c =
-    let found = rw (c.deref.ensures.value, c.key.ensures) at c.find_key-standing.ensures in
+    let found = rw (c.deref.ensures.value, c.key.ensures.value) at c.find_key-standing.ensures in
     fresh c.self.inside.objects.items c.self.inside.referrers.keys c.self.invariant c.args.object (λ n. option_map_or (names_set n) (option_copied c.find_key-standing.result) false)
     (λ n. ap (λ x. option_map_or (names_set n) x false) found)
 
@@ -28,7 +28,7 @@ invariant_of-self c = indexed_same c.self.inside.objects.items c.self.inside.ref
 pub invariant_of-self-in-Ok-Some : goal.invariant_of-self-in-Ok-Some
 invariant_of-self-in-Ok-Some c =
     let o = c.args.object in
-    let found = rw (c.deref.ensures.value, c.key.ensures) at c.find_key-standing.ensures in
+    let found = rw (c.deref.ensures.value, c.key.ensures.value) at c.find_key-standing.ensures in
     let before : (n : List ℕ) → contains (slice_cmp nat_cmp) c.in_ok-sets.sets.before n ≡ option_map_or (names_set n) (find (λ x. eq_by_cmp key_cmp o.key x.key) c.self.inside.objects.items) false =
     λ n. c.in_ok-sets.ensures.before n ∙ ap (λ x. option_map_or (names_set n) x false) found in
     indexed_change c.self.inside.objects.items c.self.inside.referrers.keys c.self.invariant c.put.new.objects.items o c.in-Ok-Some.old
@@ -46,7 +46,7 @@ returns-in-Ok-Some-clause-ok c =
 pub invariant_of-self-in-Ok-None : goal.invariant_of-self-in-Ok-None
 invariant_of-self-in-Ok-None c =
     let o = c.args.object in
-    let found = rw (c.deref.ensures.value, c.key.ensures) at c.find_key-standing.ensures in
+    let found = rw (c.deref.ensures.value, c.key.ensures.value) at c.find_key-standing.ensures in
     let before : (n : List ℕ) → contains (slice_cmp nat_cmp) c.in_ok-sets.sets.before n ≡ option_map_or (names_set n) (find (λ x. eq_by_cmp key_cmp o.key x.key) c.self.inside.objects.items) false =
     λ n. c.in_ok-sets.ensures.before n ∙ ap (λ x. option_map_or (names_set n) x false) found in
     indexed_first c.self.inside.objects.items c.self.inside.referrers.keys c.self.invariant c.put.new.objects.items o
@@ -64,7 +64,7 @@ returns-in-Ok-None-clause-ok c =
 pub invariant_of-self-in-Err : goal.invariant_of-self-in-Err
 invariant_of-self-in-Err c =
     let o = c.args.object in
-    let found = rw (c.deref.ensures.value, c.key.ensures) at c.find_key-standing.ensures in
+    let found = rw (c.deref.ensures.value, c.key.ensures.value) at c.find_key-standing.ensures in
     let before : (n : List ℕ) → contains (slice_cmp nat_cmp) c.in_ok-sets.sets.before n ≡ option_map_or (names_set n) (find (λ x. eq_by_cmp key_cmp o.key x.key) c.self.inside.objects.items) false =
     λ n. c.in_ok-sets.ensures.before n ∙ ap (λ x. option_map_or (names_set n) x false) found in
     subst (λ (os : List Obj). IsIndexed os c.give_up-in-Err.new.self.keys) (sym c.in-Err.ensures.err)

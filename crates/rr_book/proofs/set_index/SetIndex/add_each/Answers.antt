@@ -24,7 +24,7 @@ loop-name-preserved c =
       | then-not-contains+in_ok-add_under w ↦
           subst (λ (r : SetIndex). AddsFront out names key (i + 1) c.args.self.now.keys r.keys) (sym w.self-is)
           (added_more out names key i c.name-item.result c.args.self.now.keys c.loop-name.self.keys w.add_under.new.self.keys c.loop-name-test.true c.name-item.is
-          (sym c.contains.ensures ∙ w.if-not-contains.true) before (rw w.key.ensures at w.in_ok-add_under.ensures.ok))
+          (sym c.contains.ensures ∙ w.if-not-contains.true) before (rw w.key.ensures.value at w.in_ok-add_under.ensures.ok))
       | else-not-contains w ↦
           subst (λ (r : SetIndex). AddsFront out names key (i + 1) c.args.self.now.keys r.keys) (sym w.self-is)
           (passed_more out names key i c.name-item.result c.args.self.now.keys c.loop-name.self.keys c.loop-name-test.true c.name-item.is

@@ -9,7 +9,7 @@ pub invariant_of-self : goal.invariant_of-self
 invariant_of-self g c = λ running.
     still_held g.S.Store c.self.inside.store c.follow.new.store c.self.inside.registry c.apply-outcome.new.self c.args.key.now c.apply-outcome.result _ (c.self.invariant running)
     (subst (λ k. LeadsTo c.self.inside.registry k c.apply-outcome.result c.apply-outcome.new.self) (sym c.requires.key) (leads _ _ _ _ _ c.apply-outcome.ensures.step))
-    c.in-Ok.ensures.follows c.settled.ensures
+    c.in-Ok.ensures.follows
 
 pub follow-requires : goal.follow-requires
 follow-requires g c =

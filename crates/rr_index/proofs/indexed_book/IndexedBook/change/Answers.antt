@@ -24,13 +24,13 @@ use Rattle.rr_index.proofs.indexed_book.IndexedBook.change.Goals as goal
 
 pub enter_names-requires : goal.enter_names-requires
 enter_names-requires c =
-    let found = rw c.key.ensures at c.get-standing.ensures in
+    let found = rw c.key.ensures.value at c.get-standing.ensures in
     fresh c.self.inside.objects c.self.inside.indexes.referrers.keys c.self.invariant.indexes.keys.referrers c.args.object (is_named_by (option_copied c.get-standing.result))
     (λ n. ap (λ x. option_map_or (names_set n) x false) found)
 
 pub invariant_of-self : goal.invariant_of-self
 invariant_of-self c =
-    let found = rw c.key.ensures at c.get-standing.ensures in
+    let found = rw c.key.ensures.value at c.get-standing.ensures in
     record {
       sound = c.self.invariant.sound;
       indexes = c.in_err-sets.ensures.err c.self.inside.objects c.self.invariant.indexes found;
@@ -43,7 +43,7 @@ invariant_of-self-in-Ok c =
     let x = c.in-Ok.old in
     let kept = c.self.invariant.indexes.keys in
     let stood : get r o.key ≡ Some x = c.in-Ok.ensures.old in
-    let found = rw c.key.ensures at c.get-standing.ensures in
+    let found = rw c.key.ensures.value at c.get-standing.ensures in
     let named = c.in_ok-sets.ensures.ok in
     let left = c.leave_names.ensures in
     record {

@@ -6,8 +6,8 @@ use Rattle.rr_sets.specs.KeyParts.{prefix_from}
 use Rattle.rr_index.proofs.Originated.{prefixes_listed}
 use Rattle.rr_index.proofs.indexed_book.IndexedBookSetBook.prefixes_of.Goals as goal
 
-pub returns : goal.returns
-returns c =
+pub returns-clause-found : goal.returns-clause-found
+returns-clause-found c =
     IfOk-weaker c.prefixes_of.result _ _
     (λ found is. is
     ∙ prefixes_listed c.self.inside.objects c.self.invariant.sound c.self.inside.indexes.origins.routes c.self.invariant.indexes.keys.origins c.args.origin c.prefixes_of.ensures.ordered

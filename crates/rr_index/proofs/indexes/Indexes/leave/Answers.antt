@@ -12,7 +12,7 @@ use Rattle.rr_index.proofs.indexes.Indexes.leave.Goals as goal
 
 pub returns : goal.returns
 returns c = λ r has stood rest.
-    let left : c.args.objects.now ≡ remove r c.key-key.result.now = rest ∙ ap (remove r) (sym c.key-key.ensures) in
+    let left : c.args.objects.now ≡ remove r c.key-key.result.now = rest ∙ ap (remove r) (sym c.key-key.ensures.value) in
     record {
       keys = record {
         spans = subst (λ (m : Reg). HasSpans m c.take.new.self.inetnums c.take.new.self.blocks c.take.new.self.routes) (sym left) (c.take.ensures r has.keys.spans (c.is_routed-is_routed.ensures r left));

@@ -13,7 +13,7 @@ pub loop-name-preserved : goal.loop-name-preserved
 loop-name-preserved c =
     let o = c.args.object.now in
     counts_on (names_of o) c.loop-name.name-iterator c.next.new.self o.key c.loop-name.counted c.in-Some-checked_add.more c.in-Some.name.now c.args.self.now.counts c.loop-name.self.counts c.raise.new.self.counts
-    c.loop-name.invariant c.in-Some.ensures.steps c.in-Some-checked_add.ensures.1 (rw c.key.ensures at c.in-Ok.ensures.ok)
+    c.loop-name.invariant c.in-Some.ensures.steps c.in-Some-checked_add.ensures.1 (rw c.key.ensures.value at c.in-Ok.ensures.ok)
 
 pub returns-in_default-clause-some : goal.returns-in_default-clause-some
 returns-in_default-clause-some c =

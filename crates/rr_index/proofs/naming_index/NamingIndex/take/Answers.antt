@@ -14,7 +14,7 @@ pub loop-name-preserved : goal.loop-name-preserved
 loop-name-preserved c =
     let o = c.args.object.now in
     takes_on (names_of o) c.loop-name.name-iterator c.next.new.self o.key c.in-Some.name.now c.args.self.now.counts c.loop-name.self.counts c.lower.new.self.counts
-    c.loop-name.invariant c.in-Some.ensures.steps (rw c.key.ensures at c.lower.ensures)
+    c.loop-name.invariant c.in-Some.ensures.steps (rw c.key.ensures.value at c.lower.ensures)
 
 pub returns : goal.returns
 returns c =

@@ -15,7 +15,7 @@ loop-name-preserved c =
     let o = c.args.object.now in
     takes_on (take c.args.counted (names_of o)) (take c.loop-name.left c.loop-name.name-iterator) (take (c.loop-name.left - 1) c.next.new.self) o.key c.in-Some.name.now
     c.args.self.now.counts c.loop-name.self.counts c.lower.new.self.counts
-    c.loop-name.invariant (ap (take c.loop-name.left) c.in-Some.ensures.steps ∙ front_on c.loop-name.left c.in-Some.name.now c.next.new.self c.if-left-eq0.false) (rw c.key.ensures at c.lower.ensures)
+    c.loop-name.invariant (ap (take c.loop-name.left) c.in-Some.ensures.steps ∙ front_on c.loop-name.left c.in-Some.name.now c.next.new.self c.if-left-eq0.false) (rw c.key.ensures.value at c.lower.ensures)
 
 pub returns-then-left-eq0 : goal.returns-then-left-eq0
 returns-then-left-eq0 c =

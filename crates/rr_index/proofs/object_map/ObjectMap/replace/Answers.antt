@@ -31,7 +31,7 @@ returns-clause-ok c = elim c.match-get_mut.branch [
       subst (λ (r : Result Obj Obj). OnOk r (registry_of c.match-get_mut.self-inside.entries ≡ insert c.args.self.now o.key o)) (sym w.result-is)
       (ap (λ (x : Inside). registry_of x.entries) w.self-inside-is
       ∙ registry_replaced c.self.inside.entries after c.key.result.now o.key w.replace.new.self o c.self.invariant (rising after (c.get_mut.follows.holds w.replace.new.self).4)
-      c.key.ensures w.replace.ensures.after ((c.get_mut.follows.holds w.replace.new.self).3 (subst IsSome w.in-Some.ensures.value refl)).0
+      c.key.ensures.value w.replace.ensures.after ((c.get_mut.follows.holds w.replace.new.self).3 (subst IsSome w.in-Some.ensures.value refl)).0
       ∙ ap (λ r. insert r o.key o) c.self.view_is)
   | in-None w ↦
       let o = c.args.object in
@@ -45,7 +45,7 @@ returns-clause-old c = elim c.match-get_mut.branch [
       subst (λ (r : Result Obj Obj). IfOk r (λ old. get c.args.self.now o.key ≡ Some old)) (sym w.result-is)
       (ap (λ r. get r o.key) (sym c.self.view_is)
       ∙ sym (looked_up c.self.inside.entries o.key c.self.invariant)
-      ∙ sym (ap (λ (k : Key). at_key (derived.ghosts).cmp c.self.inside.entries k) c.key.ensures)
+      ∙ sym (ap (λ (k : Key). at_key (derived.ghosts).cmp c.self.inside.entries k) c.key.ensures.value)
       ∙ sym w.in-Some.ensures.value
       ∙ ap Some (sym w.replace.ensures.old))
   | in-None w ↦
@@ -63,7 +63,7 @@ returns-clause-none c = elim c.match-get_mut.branch [
       subst (λ (r : Result Obj Obj). OnErr r (get c.args.self.now o.key ≡ None)) (sym w.result-is)
       (ap (λ r. get r o.key) (sym c.self.view_is)
       ∙ sym (looked_up c.self.inside.entries o.key c.self.invariant)
-      ∙ sym (ap (λ (k : Key). at_key (derived.ghosts).cmp c.self.inside.entries k) c.key.ensures)
+      ∙ sym (ap (λ (k : Key). at_key (derived.ghosts).cmp c.self.inside.entries k) c.key.ensures.value)
       ∙ sym w.in-None.ensures.value)
 ]
 

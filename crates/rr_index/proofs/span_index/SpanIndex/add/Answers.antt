@@ -32,7 +32,7 @@ pub returns-in-Route-clause-ok : goal.returns-in-Route-clause-ok
 returns-in-Route-clause-ok c =
     on_ok_weaker c.hold_prefix.result (λ grown r o has.
     subst (λ (k : Key). HasSpans (insert r k o) c.args.self.now.inetnums c.args.self.now.blocks c.hold_prefix.new.tree) (sym c.in-Route.is)
-    (subst (λ (m : SpanMap (Unit {0})). HasSpans (insert r (Route c.in-Route.prefix c.in-Route.field-1) o) c.args.self.now.inetnums c.args.self.now.blocks m) (sym grown) (added_route r _ _ _ has c.in-Route.prefix c.in-Route.field-1 o c.length.ensures.masked))) c.hold_prefix.ensures.ok
+    (subst (λ (m : SpanMap (Unit {0})). HasSpans (insert r (Route c.in-Route.prefix c.in-Route.field-1) o) c.args.self.now.inetnums c.args.self.now.blocks m) (sym grown) (added_route r _ _ _ has c.in-Route.prefix c.in-Route.field-1 o c.length-length.ensures.masked))) c.hold_prefix.ensures.ok
 
 pub returns-in_default : goal.returns-in_default
 returns-in_default c = record {

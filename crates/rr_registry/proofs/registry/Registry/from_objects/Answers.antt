@@ -1,4 +1,5 @@
-use Rattle.std.proofs.Common.{sym, ◌∙◌, inr}
+use Rattle.std.proofs.Common.{subst, sym, ◌∙◌, inr}
+use Rattle.rr_auth.specs.Registries.{Sound}
 use Rattle.rr_registry.proofs.Gathering.{gathered_is_book, found_fault, fault_after}
 use Rattle.rr_registry.proofs.registry.Registry.from_objects.Goals as goal
 
@@ -8,14 +9,20 @@ of-requires g c =
     let place = rw c.deref.ensures.value at c.in_ok-unnamed.ensures.value in
     gathered_is_book os c.in-Ok.gathered.items c.in-Ok.ensures (found_fault os _ (sym c.in-None.is ∙ place))
 
-pub returns-in-Some : goal.returns-in-Some
-returns-in-Some g c =
+pub of-requires-in-None : goal.of-requires-in-None
+of-requires-in-None g c =
+    let os = c.args.objects.items in
+    let place = rw c.deref.ensures.value at c.in_ok-unnamed.ensures.value in
+    subst Sound (sym c.in_ok-of-in-None.ensures) (gathered_is_book os c.in-Ok.gathered.items c.in-Ok.ensures (found_fault os _ (sym c.in-None.is ∙ place))).sound
+
+pub returns-in-Some-clause-taken : goal.returns-in-Some-clause-taken
+returns-in-Some-clause-taken g c =
     let os = c.args.objects.items in
     let place = rw c.deref.ensures.value at c.in_ok-unnamed.ensures.value in
     inr (fault_after os c.in-Ok.gathered.items _ c.in-Ok.ensures (found_fault os _ (sym c.in-Some.is ∙ place)))
 
-pub returns-in_ok-of-in-None : goal.returns-in_ok-of-in-None
-returns-in_ok-of-in-None g c =
+pub returns-in_ok-of-in-None-clause-taken : goal.returns-in_ok-of-in-None-clause-taken
+returns-in_ok-of-in-None-clause-taken g c =
     let os = c.args.objects.items in
     let place = rw c.deref.ensures.value at c.in_ok-unnamed.ensures.value in
     record {

@@ -1,11 +1,24 @@
-use Rattle.std.proofs.Common.{sym, subst}
+use Rattle.std.proofs.Common.{not, sym, ap, subst, ◌∙◌, rules}
 use Rattle.sqlite.specs.Held.{state}
 use Rattle.rr_rows.specs.Maps.{AreOfObjects}
 use Rattle.rr_rows.proofs.ObjectRows.{stored_held}
+use Rattle.rr_store.proofs.SettledLemmas.{still_settled}
 use Rattle.rr_store.proofs.store.Store.open_all.Goals as goal
 
 pub invariant_of-result : goal.invariant_of-result
 invariant_of-result g c = record {
   autocommit = c.stored_objects.ensures.looks.rests.autocommit;
   held = λ clean on. subst AreOfObjects (sym (c.in-Ok.ensures.looks.same clean).0.now_is) (stored_held c.args.source.now c.in-Ok.objects.items (state g.S.Store c.args.conn).now (c.in-Ok.ensures.stored clean));
+}
+
+pub returns-in-Ok-clause-opens : goal.returns-in-Ok-clause-opens
+returns-in-Ok-clause-opens g c = record {
+  stored = search rules;
+  in_order = c.in-Ok.ensures.in_order;
+  of_source = c.in-Ok.ensures.of_source;
+  same = search rules;
+  is_open = search rules;
+  settled = λ clean.
+      still_settled g.S.Store g.met.S.Store.settled c.args.conn c.stored_objects.new.conn (c.is_autocommit-settled.ensures.settled (c.is_autocommit-settled.ensures.value ∙ ap not c.requires.autocommit)) (c.in-Ok.ensures.looks.same clean);
+  crash = c.in-Ok.ensures.looks.rests.crash;
 }

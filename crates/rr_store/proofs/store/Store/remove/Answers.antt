@@ -10,4 +10,4 @@ use Rattle.rr_store.proofs.store.Store.remove.Goals as goal
 pub returns-clause-takes : goal.returns-clause-takes
 returns-clause-takes g c =
     writes_as g.S.Store _ _ (IsTakenOut (class_number (class_of c.args.key.now)) (key_bytes c.args.key.now)) (TakesOut c.args.key.now) c.remove_rows_of.result
-    (λ clean db. takes c.args.key.now c.is_within_bounds.ensures _ db) c.remove_rows_of.ensures
+    (λ clean db. takes c.args.key.now c.remove_rows_of.ensures.parts _ db) c.remove_rows_of.ensures.rows

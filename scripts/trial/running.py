@@ -58,7 +58,8 @@ class Script:
         read = words.parse_args()
         if read.long and read.short:
             words.error("--long and --short: take one")
-        self.long, self.seed, self.only, self.count, self.failed = read.long, read.seed, read.only, read.count, 0
+        self.long, self.seed, self.only, self.count = read.long, read.seed, read.only, read.count
+        self.failed, self.has_run = 0, False
         self.is_chosen = read.long or read.short
         self.lanes, self.image, self.in_container = read.lanes or self.pick(2, 1), read.image, read.container
         self.program = os.path.abspath(read.program or found())
@@ -83,6 +84,7 @@ class Script:
         """Runs a case, which gives words for its line, and prints that line."""
         if not name.startswith(self.only):
             return
+        self.has_run = True
         start = time.monotonic()
         try:
             told = function(*given)
@@ -96,9 +98,22 @@ class Script:
             self.failed += 1
             print(f"not ok: {name}: seed {self.seed}: {error!r}", flush=True)
 
+    def need(self, name, function, *given):
+        """Runs a case on which others stand, whichever are chosen."""
+        only, has_run, self.only = self.only, self.has_run, ""
+        self.case(name, function, *given)
+        self.only, self.has_run = only, has_run
+
+    def skip(self, name, reason):
+        """Says why cases are left out."""
+        self.has_run = True
+        print(f"skipped: {name}: {reason}", flush=True)
+
     def end(self):
         self.folder.cleanup()
-        sys.exit(1 if self.failed else 0)
+        if self.only and not self.has_run:
+            print(f"not ok: --only: no case was run whose name begins with {self.only!r}")
+        sys.exit(1 if self.failed or self.only and not self.has_run else 0)
 
     def run(self, folder, *words, **options):
         return run([self.program, *words], folder, **options)

@@ -1,9 +1,11 @@
-"""What the registry answers: objects, lines of an expansion, one of the lines that begin with `% `, reports, and the end of a dump."""
+"""What the registry answers: objects, lines of an expansion, one of the lines that begin with `% `, reports, and dumps."""
+import functools
 import re
 from typing import Iterable, Iterator, NamedTuple
 
-from irr import keys, rpsl
+from irr import asked, keys, rpsl
 from irr.errors import Failure
+from irr.keys import Key, Range
 from irr.rpsl import Paragraph
 
 ERRORS = {
@@ -17,25 +19,34 @@ ERRORS = {
 ERROR = re.compile(rb"% error ([1-6])\n")
 EXPANSION = re.compile(rb"AS[0-9]{1,10}|[0-9.]{7,15}/[0-9]{1,2}(?:\^(?:[+-]|[0-9]{1,2}(?:-[0-9]{1,2})?))?")
 MISSING = b"% missing "
-ITEM = re.compile(r"([0-9]+) (-|[a-z-]+ [A-Za-z0-9./:_ -]+): (added|changed|unchanged|deleted|refused (E[0-9]{2}))")
-END = re.compile(r"% (?:items ([0-9]+)|read fault after ([0-9]+) items|stopped after ([0-9]+) items|memory after (0) items)")
+ITEM = re.compile(r"([0-9]{1,18}) (-|[a-z-]+ [A-Za-z0-9./:_ -]+): (added|changed|unchanged|deleted|refused (E[0-9]{2}))")
+END = re.compile(r"% (?:items ([0-9]{1,18})|read fault after ([0-9]{1,18}) items|stopped after ([0-9]{1,18}) items|memory after (0) items)")
 # A name has 255 bytes at most.
 LONGEST_LINE = 1_024
-STRANGE = "the server answers what no registry of irrdesk answers; correct the address"
+# An object of 65,536 bytes, whose lines are three bytes each, has six times as many when it is printed.
+LONGEST_OBJECT = 1 << 20
+NO_REGISTRY = "answers what no registry of irrdesk answers"
 DUMP_END = re.compile(rb"% end ([0-9]+)\n")
 
 
-class Answer:
-    """The whole answer to a query. One that is none of a registry's, or whose end is missing, is a Failure; that one was cut between
-    two objects or two lines can't be seen in it (`Server.query_surely` asks twice)."""
+class Strange(Failure):
+    """What was asked answers what no registry of irrdesk answers."""
 
-    def __init__(self, text: bytes, place: str = "the answer") -> None:
+    def __init__(self, place: str, who: str = "it") -> None:
+        super().__init__(place, f"{who} {NO_REGISTRY}; correct the address")
+
+
+class Answer:
+    """The whole answer to a query: one that this query can have, exactly. Any other one, or one whose end is missing, is a Failure; that
+    one was cut between two objects or two lines can't be seen in it (`Server.query_surely` asks twice)."""
+
+    def __init__(self, text: bytes, query: bytes | str, place: str = "the answer") -> None:
         self.text = text
         self.kind = kind_of(text)
         if self.kind == "cut":
             raise Failure(place, "the answer was cut off; ask again")
-        if self.kind == "strange":
-            raise Failure(place, "it answers what no registry of irrdesk answers; correct the address")
+        # The keys of its objects: where they are enough, the objects are not read again.
+        self.keys = checked(text, self.kind, query.encode() if isinstance(query, str) else query, place)
 
     @property
     def error(self) -> int:
@@ -46,12 +57,12 @@ class Answer:
     @property
     def has_none(self) -> bool:
         """`% no entries`: there is no such object, or the set is not registered."""
-        return self.text == b"% no entries\n"
+        return self.kind == "none"
 
     @property
     def is_empty(self) -> bool:
         """`% empty`: the set is registered, and gives nothing."""
-        return self.text == b"% empty\n"
+        return self.kind == "empty"
 
     def objects(self) -> list[Paragraph]:
         """The objects of the answer, none if it is another one."""
@@ -59,13 +70,11 @@ class Answer:
 
     def lines(self) -> list[str]:
         """The AS numbers or ranges of an expansion, without the names that are missing."""
-        lines = self.text.split(b"\n")[:-1] if self.kind == "expansion" else []
-        return [line.decode("ascii") for line in lines if not line.startswith(b"%")]
+        return split_lines(self.text)[0] if self.kind == "expansion" else []
 
     def missing(self) -> list[str]:
         """The names of sets that the expansion reached and that are not registered."""
-        lines = self.text.split(b"\n")[:-1] if self.kind == "expansion" else []
-        return [line[len(MISSING):].decode("ascii") for line in lines if line.startswith(MISSING)]
+        return split_lines(self.text)[1] if self.kind == "expansion" else []
 
     def words(self) -> str:
         """An error or a lack in words; nothing for an answer that has something."""
@@ -83,22 +92,113 @@ class Answer:
 
 
 def kind_of(text: bytes) -> str:
-    """What an answer is: `error`, `none`, `objects` or `expansion`; `cut` if its end is missing, `strange` if no registry says so."""
+    """What an answer is: `error n`, `none`, `empty`, `objects` or `expansion`; `cut` if its end is missing, `strange` if no registry
+    says so."""
     if not text.endswith(b"\n"):
         return "cut" if not text or looks_like_objects(text) or text[:1] in (b"%", b"A") or text[:1].isdigit() else "strange"
     if text in (b"% no entries\n", b"% empty\n"):
-        return "none"
+        return "none" if text == b"% no entries\n" else "empty"
     if ERROR.fullmatch(text):
-        return "error"
+        return text[2:-1].decode()
     if looks_like_objects(text):
         return "objects" if text.endswith(b"\n\n") else "cut"
     lines = text.split(b"\n")[:-1]
-    good = all(EXPANSION.fullmatch(line) or is_missing(line) for line in lines)
+    good = all(EXPANSION.fullmatch(line) or line.startswith(MISSING) for line in lines)
     return "expansion" if good else "strange"
 
 
-def is_missing(line: bytes) -> bool:
-    return line.startswith(MISSING) and keys.read_set(line[len(MISSING):]) is not None
+@functools.lru_cache(1)
+def checked(text: bytes, kind: str, query: bytes, place: str) -> list[Key]:
+    """The keys of an answer's objects; a Failure unless the query can have it. One that is asked for twice is looked at once."""
+    wanted = asked.read(query)
+    if kind not in wanted.kinds:
+        raise Strange(place)
+    if kind == "expansion" and not is_expansion(*split_lines(text), wanted):
+        raise Strange(place)
+    found = []
+    for key, paragraph in registered([text] if kind == "objects" else [], place):
+        if not wanted.fits or not wanted.fits(key, paragraph):
+            raise Strange(place)
+        found.append(key)
+    # The closest inetnum is one, and the closest routes have one prefix.
+    if wanted.is_closest and len({key.text.partition(" AS")[0] for key in found}) > len({key.kind for key in found}):
+        raise Strange(place)
+    return found
+
+
+def split_lines(text: bytes) -> tuple[list[str], list[str]]:
+    """The lines of an expansion, and the names of what is missing, in the order in which they came where the missing ones are last."""
+    lines = text.decode("ascii", "replace").split("\n")[:-1]
+    first = next((place for place, line in enumerate(lines) if line.startswith("%")), len(lines))
+    return lines[:first], [line.removeprefix(MISSING.decode()) for line in lines[first:]]
+
+
+def is_expansion(lines: list[str], missing: list[str], wanted: asked.Asked) -> bool:
+    """Whether a set can have these lines: each as it is printed, in order, and once."""
+    is_as_set = keys.set_class(wanted.name) == "as-set"
+    found: list = [keys.read_range(line) if wanted.has_ranges else keys.read_as(line) for line in lines]
+    for line, one in zip(lines, found):
+        if isinstance(one, Range):
+            # No operator stands in an as-set, and neither of these has one.
+            if one.low > one.high or (is_as_set or wanted.name == "RS-ANY") and one.high > one.prefix.length or one.text() != line:
+                return False
+        elif one is None or f"AS{one}" != line:
+            return False
+    for name in missing:
+        if keys.read_set(name) != name or name in (*asked.ANY, wanted.name) or is_as_set and keys.set_class(name) != "as-set":
+            return False
+    return is_ascending(found) and is_ascending(missing) and not (missing and wanted.name in asked.ANY)
+
+
+def is_ascending(values: list) -> bool:
+    return all(first < second for first, second in zip(values, values[1:]))
+
+
+def registered(pieces: Iterable[bytes], place: str, is_dump: bool = False) -> Iterator[tuple[Key, Paragraph]]:
+    """The objects of an answer or a dump, each in canonical text, and in order; a Failure at what no registry has, and after the last
+    one where bytes are left over."""
+    size, count, source, before = 0, 0, b"", (0, [], "")
+
+    def counted() -> Iterator[bytes]:
+        nonlocal size
+        for piece in pieces:
+            size += len(piece)
+            yield piece
+    for block in rpsl.blocks(counted()):
+        paragraph = read(block.text, place)
+        key = keys.key_of(paragraph)
+        if key is None or paragraph.text() != block.text or not asked.is_sound(key, paragraph):
+            raise Strange(place)
+        own, order = paragraph.value(b"source").upper(), keys.order(key)
+        if count and (own != source or before >= order):
+            raise Strange(place)
+        source, before, count = own, order, count + 1
+        # Objects are followed by one empty line each, and nothing stands between them: what is skipped in RPSL neither.
+        size -= len(block.text) + 1
+        yield key, paragraph
+    if size != (len(b"%% end %d\n" % count) if is_dump else 0):
+        raise Strange(place)
+
+
+def dumped(pieces: Iterable[bytes], place: str) -> Iterator[tuple[Key, Paragraph]]:
+    """The objects of a dump that `whole_dump` gives."""
+    return registered(pieces, place, True)
+
+
+def read(text: bytes, place: str) -> Paragraph:
+    """An object that the registry at a place answered, of which no more is known than that it can be read."""
+    try:
+        return rpsl.read_any(text)
+    except rpsl.TextFault:
+        raise Strange(place) from None
+
+
+def source_of(text: bytes, place: str) -> str:
+    """The name of the registry at a place, as an object of it has it."""
+    source = keys.as_text(read(text, place).value(b"source"))
+    if keys.read_source(source) is None:
+        raise Strange(place)
+    return source
 
 
 def looks_like_objects(text: bytes) -> bool:
@@ -137,7 +237,7 @@ class Report:
         """The items whose lines end in this piece, numbered through all parts."""
         text, newline, self.rest = (self.rest + piece).rpartition(b"\n")
         if len(self.rest) > LONGEST_LINE:
-            raise Failure("the report", STRANGE)
+            raise Strange("the report", "the server")
         for line in text.decode("latin-1").split("\n") if newline else []:
             found = None if self.end else ITEM.fullmatch(line)
             if found:
@@ -152,7 +252,7 @@ class Report:
         """Takes the line that ends the report."""
         found = None if self.end else END.fullmatch(line)
         if not found:
-            raise Failure("the report", STRANGE)
+            raise Strange("the report", "the server")
         self.end = line[2:].split(" after")[0].split(" items")[0].rstrip("0123456789 ")
         self.count = int(next(number for number in found.groups() if number is not None))
 
@@ -163,14 +263,20 @@ class Report:
 
 
 def whole_dump(pieces: Iterable[bytes], place: str) -> Iterator[bytes]:
-    """A dump in pieces, as it comes; a Failure after the last one unless it ends with the number of its objects."""
-    tail, objects, first = b"", 0, True
+    """A dump in pieces, as it comes; a Failure after the last one unless it ends with the number of its objects. Each registry has some."""
+    tail, objects, size, has_begun = b"", 0, 0, False
     for piece in pieces:
-        if first and (b"\n" in piece or len(piece) > 16) and not (looks_like_objects(piece) or piece.startswith(b"% end")):
-            raise Failure(place, "it answers what no registry of irrdesk answers; correct the address")
-        first = False
+        if not has_begun and (b"\n" in piece or len(tail + piece) > 16):
+            if not looks_like_objects(tail + piece):
+                raise Strange(place)
+            has_begun = True
         # Each object is followed by an empty line, and has none in it.
-        objects += (tail[-1:] + piece).count(b"\n\n")
+        joined = tail[-1:] + piece
+        objects += joined.count(b"\n\n")
+        last = joined.rfind(b"\n\n")
+        size = size + len(piece) if last < 0 else len(joined) - last
+        if size > LONGEST_OBJECT:
+            raise Strange(place)
         tail = (tail + piece)[-64:]
         yield piece
     end = DUMP_END.fullmatch(tail[tail.rfind(b"\n", 0, -1) + 1:])

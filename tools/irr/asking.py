@@ -1,12 +1,14 @@
 """Passwords that are asked for without echo, at the terminal and nowhere else."""
 import os
 
+from irr import texts
 from irr.errors import ARGUMENTS, Failure
 
 
 def ask(prompt: str) -> str:
     """What is typed at the terminal, which does not show it."""
     import getpass
+    prompt = texts.shown_line(prompt)
     try:
         os.close(os.open("/dev/tty", os.O_RDWR | os.O_NOCTTY))
     except OSError:
@@ -16,6 +18,9 @@ def ask(prompt: str) -> str:
         return getpass.getpass(prompt)
     except EOFError:
         raise Failure("", "no password was given; try again", ARGUMENTS) from None
+    except UnicodeDecodeError:
+        raise Failure("", f"the {prompt.rstrip(': ')} is not text in the encoding of the locale; give the file that has it, or correct LC_ALL",
+                      ARGUMENTS) from None
 
 
 def ask_twice(prompt: str) -> str:

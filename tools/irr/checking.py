@@ -7,7 +7,7 @@ from typing import BinaryIO, Iterator
 from irr import rpsl
 from irr.errors import Failure
 from irr.rpsl import Attribute, Paragraph
-from irr.scratch import Scratch, own_files, said
+from irr.scratch import Scratch, own_files, trouble
 
 
 def public(source: BinaryIO) -> Iterator[bytes]:
@@ -20,13 +20,13 @@ def public(source: BinaryIO) -> Iterator[bytes]:
 def check(path: str | Path, source: str, root: str, auth: str, count: int) -> None:
     """Loads a dump into a scratch registry and compares the public dump of that, object by object; a Failure at the first difference."""
     with Scratch(source, root, auth) as scratch:
-        scratch.load(path)
+        scratch.load(path, "the result")
         dumped = scratch.folder / "public.rpsl"
         with open(dumped, "wb") as out:
             done = subprocess.run([scratch.program, "dump", "irr.toml"], cwd=scratch.folder, stdin=subprocess.DEVNULL, stdout=out,
                                   stderr=subprocess.PIPE, check=False, preexec_fn=own_files)
         if done.returncode:
-            raise Failure("the scratch registry", said(done))
+            raise trouble(done, "the scratch registry")
         with open(path, "rb") as wanted, open(dumped, "rb") as found:
             place = 0
             texts = (block.text for block in rpsl.blocks(rpsl.chunks(found)))

@@ -8,7 +8,7 @@ import contextlib
 from itertools import chain
 from typing import Iterable, Iterator
 
-from irr import answers, asking, files, hashes, holders, keys, rpsl, submissions, texts
+from irr import answers, asking, hashes, holders, keys, rpsl, submissions, texts
 from irr.errors import ARGUMENTS, Failure
 from irr.keys import Key
 from irr.rpsl import Attribute, Paragraph
@@ -20,24 +20,20 @@ UNKNOWN = "changed or unchanged"
 HIDDEN_LINES = [b"# filtered"]
 
 
-def run(place: Server, sources: list[Source], names: list[str], whose: list[str], printer_of) -> int:
+def run(place: Server, sources: list[Source], names: list[str], whose: list[list[str]], printer_of) -> int:
     """Does it, with a printer for the registry that is asked about refusals, and gives the status."""
     asked = [(name, submissions.password_item(asking.ask(f"password of {name}: "), name)) for name in names]
     items = [item for source in sources for item in source.items()]
     passwords = owners(asked, items, whose)
     blocks = rpsl.blocks(place.dump())
-    first = next(blocks, None)
-    if first is None:
-        raise Failure(place.url, "the registry has no objects; nothing can be tried on it")
-    source = rpsl.read_any(first.text).value(b"source").decode("latin-1")
+    first = next(blocks)
+    source = answers.source_of(first.text, place.url)
     hidden: dict[Key, bytes] = {}
-    pieces = (block.text + b"\n" for block in noted(chain([first], blocks), hidden))
+    pieces = (block.text + b"\n" for block in noted(chain([first], blocks), hidden, place.url))
     auths = {name: [hashes.auth_of(secret, hashes.new_salt()).encode() for secret in held] for name, held in passwords.items()}
     with contextlib.ExitStack() as stack:
         scratch = stack.enter_context(Scratch(source))
-        dump = scratch.folder / "dump.rpsl"
-        files.put(dump, loadable(pieces, auths), files.PRIVATE)
-        scratch.load(dump)
+        scratch.load(scratch.put("dump.rpsl", loadable(pieces, auths, place.url)), f"the dump of {place.url}")
         printer = printer_of(Served(scratch, stack))
         size = sum(len(item.text()) + 1 for item in items) + rpsl.LARGEST * (len(asked) + 1)
         sender = Sender(lambda text: [scratch.submit(text)], size, size)
@@ -47,29 +43,28 @@ def run(place: Server, sources: list[Source], names: list[str], whose: list[str]
     return status
 
 
-def owners(asked: list[tuple[str, Item]], items: list[Item], whose: list[str]) -> dict[str, list[bytes]]:
+def owners(asked: list[tuple[str, Item]], items: list[Item], whose: list[list[str]]) -> dict[str, list[bytes]]:
     """The passwords that are taken as those of each maintainer."""
     found: dict[str, list[bytes]] = {}
     for name, item in asked:
-        found.setdefault(name.upper(), []).extend(map(submissions.secret_of, item.passwords()))
+        found.setdefault(name, []).extend(map(submissions.secret_of, item.passwords()))
     given = list(dict.fromkeys(submissions.secret_of(attribute) for item in items for attribute in item.passwords()))
     if len(whose) > len(given):
         raise Failure("--whose", f"it is given {len(whose)} times, and the files have {texts.counted(len(given), 'password')}", ARGUMENTS)
     everybody = [name for item in items if (held := item.object()) for name in holders.by(held) if keys.read_maintainer(name)]
     everybody = [name for name in dict.fromkeys(everybody) if name not in found]
     for number, secret in enumerate(given):
-        chosen = [name.upper() for name in whose[number].split(",")] if number < len(whose) else everybody
-        for name in chosen:
+        for name in whose[number] if number < len(whose) else everybody:
             if name != "-":
                 found.setdefault(name, []).append(secret)
     return found
 
 
-def noted(blocks: Iterable[rpsl.Block], hidden: dict[Key, bytes]) -> Iterator[rpsl.Block]:
+def noted(blocks: Iterable[rpsl.Block], hidden: dict[Key, bytes], place: str) -> Iterator[rpsl.Block]:
     """The blocks of a public dump, of which those with an `auth` are kept by their keys."""
     for block in blocks:
         if b"auth:" in block.text:
-            key = keys.key_of(rpsl.read_any(block.text))
+            key = keys.key_of(answers.read(block.text, place))
             if key:
                 hidden[key] = block.text
         yield block
@@ -106,6 +101,8 @@ def public(paragraph: Paragraph) -> Paragraph:
 class Served:
     """The scratch registry as reasons ask it, served once something is asked."""
 
+    url = "the scratch registry"
+
     def __init__(self, scratch: Scratch, stack: contextlib.ExitStack) -> None:
         self.scratch, self.stack = scratch, stack
         self.server: Server | None = None
@@ -113,6 +110,7 @@ class Served:
     def served(self) -> Server:
         if self.server is None:
             self.server = Server(self.stack.enter_context(self.scratch.serve()))
+            self.server.url = self.url
         return self.server
 
     def query(self, *words: str) -> answers.Answer:

@@ -2,11 +2,12 @@
 import contextlib
 import fcntl
 import os
+import sys
 import tempfile
 from pathlib import Path
 from typing import BinaryIO, Iterable, Iterator
 
-from irr.errors import FAILED, Failure, system_words
+from irr.errors import ARGUMENTS, FAILED, Failure, system_words
 
 PUBLIC, PRIVATE = 0o644, 0o600
 
@@ -14,8 +15,12 @@ PUBLIC, PRIVATE = 0o644, 0o600
 @contextlib.contextmanager
 def written(path: str | os.PathLike[str], mode: int = PUBLIC) -> Iterator[BinaryIO]:
     """A new file beside `path` that takes its place in one step, once all is written and on the disk. If anything fails before,
-    `path` stays as it was. Only the owner reads the file until then."""
+    `path` stays as it was. Only the owner reads the file until then. What is no file, such as /dev/null, is never replaced."""
     target = Path(path)
+    if not str(path):
+        raise Failure("", "the name of the file to write is empty; give its path", ARGUMENTS)
+    if os.path.exists(path) and not os.path.isfile(path) or os.path.realpath(target.parent) == "/dev":
+        raise Failure(str(path), "it is not a file that can be replaced; give the path of another one")
     try:
         number, name = tempfile.mkstemp(prefix=f".{target.name}.", dir=target.parent)
     except OSError as error:
@@ -87,8 +92,29 @@ def keep_last(paths: Iterable[Path], count: int) -> list[Path]:
 def opened(path: str) -> BinaryIO:
     """A file for reading, `-` for standard input."""
     if path == "-":
+        need_input()
         return open(0, "rb", closefd=False)
     try:
         return open(path, "rb")
     except OSError as error:
         raise Failure(path, f"it cannot be opened: {system_words(error)}; correct the path") from None
+
+
+def need_input() -> None:
+    """That there is a standard input: where it was closed, its number is that of the next file that is opened."""
+    if sys.stdin is None:
+        raise Failure("standard input", "it is closed; give the command one")
+
+
+def read(path: str) -> bytes:
+    """All of a file, `-` for standard input."""
+    with opened(path) as file:
+        try:
+            return file.read()
+        except OSError as error:
+            raise Failure(name_of(path), f"it cannot be read: {system_words(error)}; give another file") from None
+
+
+def name_of(path: str) -> str:
+    """A file of the command line as people call it."""
+    return "standard input" if path == "-" else path

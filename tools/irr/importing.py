@@ -32,9 +32,9 @@ def pieces_of(path: str) -> Iterator[bytes]:
                 yield piece.removeprefix(MARK) if is_first else piece
                 is_first = False
     except (EOFError, zlib.error, gzip.BadGzipFile):
-        raise Failure(path, "it is cut off, or not what gzip makes; fetch it again") from None
+        raise Failure(files.name_of(path), "it is cut off, or not what gzip makes; fetch it again") from None
     except OSError as error:
-        raise Failure(path, f"it cannot be read: {system_words(error)}; correct the path, or fetch it again") from None
+        raise Failure(files.name_of(path), f"it cannot be read: {system_words(error)}; correct the path, or fetch it again") from None
 
 
 def unpacked(plain: BinaryIO) -> BinaryIO:

@@ -5,7 +5,8 @@ with words if something is wrong. bgpq4 1.9 goes on after an `F`, prints a list 
 even if the connection ends there. So a client that calls itself bgpq gets a line `%` before the `F`: then it prints no list, says what
 the `F` says, and ends with status 1.
 """
-from irr import VERSION, keys, rpsl, sets, texts
+from irr import VERSION, keys, sets, texts
+from irr.answers import NO_REGISTRY
 from irr.errors import REFUSED, Failure
 from irr.keys import Prefix, Range
 from irr.reasons import source_of
@@ -16,6 +17,7 @@ NOTHING, NOT_FOUND = b"C\n", b"D\n"
 # bgpq4 asks `!a` alone, and takes just this reply for the word that the question is known.
 KNOWN = b"F Missing required set name for A query\n"
 TRIED_LATER = "the registry does not answer; ask again later"
+STRANGE = f"the registry {NO_REGISTRY}; tell its operator"
 
 
 def data(words: str | bytes) -> bytes:
@@ -62,7 +64,7 @@ class Answerer:
             return KNOWN
         name = read_set(word)
         lines = sets.expansion(self.place, "prefixes", name).whole(name)
-        return data(" ".join(map(spelled, sets.ranges(lines, self.place.url))))
+        return data(" ".join(map(spelled, sets.ranges(lines))))
 
     def of_origin(self, word: str) -> bytes:
         """`!gAS`: the route prefixes of an origin."""
@@ -81,7 +83,7 @@ class Answerer:
             return data(" ".join(self.direct_members(name)))
         lines = sets.expansion(self.place, "expand", name).whole(name)
         if keys.set_class(name) == "route-set":
-            lines = list(map(spelled, sets.ranges(lines, self.place.url)))
+            lines = list(map(spelled, sets.ranges(lines)))
         return data(" ".join(lines))
 
     def direct_members(self, name: str) -> list[str]:
@@ -91,7 +93,7 @@ class Answerer:
         found = self.objects(f"object {keys.set_class(name)} {name}")
         if not found:
             raise Failure(name, "the set is not registered; correct the name, or register it", REFUSED)
-        listed = {}
+        listed: dict[str, None] = {}
         for item in found[0].items(b"members"):
             one = keys.read_range(item)
             # Nothing is left of a range as 192.0.2.0/32^-.
@@ -102,7 +104,10 @@ class Answerer:
         for maintainer in found[0].items(b"mbrs-by-ref"):
             if maintainer.upper() == b"ANY":
                 raise Failure(name, f"it takes members of anybody by reference; ask `!i{name},1` for all of them", REFUSED)
-            for other in self.objects(f"inverse mnt {keys.as_text(maintainer)}"):
+            named = self.objects(f"inverse mnt {keys.as_text(maintainer)}")
+            if not any(other.text() == found[0].text() for other in named):
+                raise Failure(self.place.url, "two answers differ: one lacks the set, or the registry has changed; ask again")
+            for other in named:
                 names = [one.upper() for one in other.items(b"mnt-by")]
                 if other.name == kind and maintainer.upper() in names and name in map(keys.read_set, other.items(b"member-of")):
                     by_reference.add(keys.read_prefix(other.value(kind)) or keys.read_as(other.value(kind)))
@@ -125,7 +130,7 @@ class Answerer:
         if not found:
             return NOT_FOUND
         if option == "o":
-            numbers = sorted({keys.read_as(one.value(b"origin")) or 0 for _, one in found})
+            numbers = sorted({keys.read_as(one.value(b"origin")) for _, one in found})
             return data(" ".join(f"AS{number}" for number in numbers))
         return data(b"\n".join(one.text() for _, one in found).removesuffix(b"\n"))
 
@@ -150,9 +155,10 @@ class Answerer:
 
     def wait(self, word: str) -> bytes:
         """`!tSECONDS`: how long the connection may be silent."""
-        if not word.isdecimal() or not 1 <= int(word) <= 1_000:
+        seconds = keys.read_number(word, 1, 1_000)
+        if seconds is None:
             raise Failure(word, "this is not a number of seconds from 1 to 1000", REFUSED)
-        self.seconds = int(word)
+        self.seconds = seconds
         return NOTHING
 
     def named(self, client: str) -> bytes:
@@ -172,8 +178,7 @@ class Answerer:
 
     def objects(self, query: str) -> list[Paragraph]:
         """The objects that a query gives."""
-        answer = self.place.query_surely(query).or_failure(query)
-        return list(rpsl.paragraphs([answer.text])) if answer.kind == "objects" else []
+        return self.place.query_surely(query).or_failure(query).objects()
 
 
 # What a question begins with, and what answers it. There is nothing of IPv6.

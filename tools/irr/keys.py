@@ -5,6 +5,7 @@ What is read may be bytes, as values are, or text; what is printed is text, sinc
 import re
 from typing import NamedTuple
 
+from irr.errors import ARGUMENTS, Failure
 from irr.rpsl import Paragraph
 
 CLASSES = ("mntner", "as-block", "aut-num", "inetnum", "route", "as-set", "route-set")
@@ -17,6 +18,8 @@ LENGTH = re.compile("[0-9]{1,2}")
 DASHED = re.compile("([^- \t\r]+)[ \t\r]*-[ \t\r]*([^- \t\r]+)")
 NAME = re.compile("[A-Za-z](?:[A-Za-z0-9_-]{0,78}[A-Za-z0-9])?")
 LENGTHS = re.compile("([0-9]{1,2})(?:-([0-9]{1,2}))?")
+DIGITS = re.compile("[0-9]+")
+NUMBER, DECIMAL = re.compile("[0-9]{1,18}"), re.compile(r"[0-9]{1,18}(?:\.[0-9]{1,18})?")
 
 
 class Span(NamedTuple):
@@ -101,6 +104,26 @@ def as_text(value: bytes | str) -> str:
     return value.decode("ascii", "replace") if isinstance(value, bytes) else value
 
 
+def number(text: str) -> int:
+    """A number of ASCII digits alone, as an option takes it; ValueError for another spelling."""
+    if not NUMBER.fullmatch(text):
+        raise ValueError(text)
+    return int(text)
+
+
+def decimal(text: str) -> float:
+    """The same with a part after a point."""
+    if not DECIMAL.fullmatch(text):
+        raise ValueError(text)
+    return float(text)
+
+
+def read_number(text: str, least: int, most: int) -> int | None:
+    """A number within bounds."""
+    found = number(text) if NUMBER.fullmatch(text) else -1
+    return found if least <= found <= most else None
+
+
 def read_address(value: bytes | str) -> int | None:
     found = ADDRESS.fullmatch(as_text(value))
     parts = [int(part) for part in found.groups()] if found else [256]
@@ -113,11 +136,9 @@ def address_text(number: int) -> str:
 
 def read_prefix(value: bytes | str) -> Prefix | None:
     """A prefix; bits past its length are read as zero."""
-    front, slash, length = as_text(value).partition("/")
-    first = read_address(front)
-    if first is None or not slash or not LENGTH.fullmatch(length) or int(length) > 32:
-        return None
-    return Prefix(first >> 32 - int(length) << 32 - int(length), int(length))
+    front, _, rest = as_text(value).partition("/")
+    first, length = read_address(front), int(rest) if LENGTH.fullmatch(rest) else 33
+    return Prefix(first >> 32 - length << 32 - length, length) if first is not None and length <= 32 else None
 
 
 def read_place(value: bytes | str) -> Prefix | None:
@@ -169,12 +190,26 @@ def read_range(value: bytes | str) -> Range | None:
 def read_name(value: bytes | str) -> str | None:
     """The name of an object that is none of the reserved words, in capital letters."""
     text = as_text(value)
-    return text.upper() if NAME.fullmatch(text) and text.lower() not in RESERVED else None
+    return read_source(text) if text.lower() not in RESERVED else None
+
+
+def read_source(value: bytes | str) -> str | None:
+    """The name of a registry, which may be a reserved word, in capital letters."""
+    text = as_text(value)
+    return text.upper() if NAME.fullmatch(text) else None
 
 
 def read_maintainer(value: bytes | str) -> str | None:
     name = read_name(value)
     return name if name and not name.startswith(("AS-", "RS-")) else None
+
+
+def need_maintainer(word: str) -> str:
+    """The maintainer that a word of the command line names."""
+    name = read_maintainer(word)
+    if name is None:
+        raise Failure(word, "this is not a maintainer's name; give one of letters, digits, - and _, such as EXAMPLE-MNT", ARGUMENTS)
+    return name
 
 
 def read_set(value: bytes | str) -> str | None:
@@ -212,6 +247,18 @@ def set_parent(name: str) -> Key | None:
     return Key(set_class(parent), parent) if parent else None
 
 
+def is_member(kind: str, item: bytes | str) -> bool:
+    """Whether a set of this class may list the item."""
+    text = as_text(item)
+    if kind == "route-set":
+        front, hat, operator = text.partition("^")
+        if read_range("0.0.0.0/0" + hat + operator) is None:
+            return False
+        return read_prefix(front) is not None or read_as(front) is not None or read_set(front) is not None
+    name = read_set(text)
+    return read_as(text) is not None or (name is not None and set_class(name) == "as-set")
+
+
 def read_key(kind: str, value: bytes | str, origin: bytes | str | None = None) -> Key | None:
     """The key that a text spells in a class; that of a route is a prefix with the origin beside it."""
     if kind == "mntner":
@@ -232,6 +279,12 @@ def read_key(kind: str, value: bytes | str, origin: bytes | str | None = None) -
         name = read_set(value) if kind in CLASSES else None
         text = name if name and name not in ("AS-ANY", "RS-ANY") and set_class(name) == kind else None
     return Key(kind, text) if text is not None else None
+
+
+def order(key: Key) -> tuple[int, list[int], str]:
+    """What objects are in order of in answers and dumps: the class, then the numbers or the name of the key."""
+    is_name = key.kind in ("mntner", "as-set", "route-set")
+    return CLASSES.index(key.kind), [] if is_name else list(map(int, DIGITS.findall(key.text))), key.text if is_name else ""
 
 
 def key_of(paragraph: Paragraph) -> Key | None:

@@ -11,11 +11,27 @@ from irr.commands import BY_NAME, GROUPS, TABLE, Command
 from irr.errors import ARGUMENTS, DONE, UNREAD, Failure, system_words
 
 
+# The modules that know what they read.
+READERS = {"irr.server": "the server's answer", "irr.answers": "the server's answer", "irr.replies": "the server's answer",
+           "irr.submissions": "a file", "irr.importing": "a file", "irr.making": "a file", "irr.stores": "a file of the registry",
+           "irr.past": "the history", "argparse": "an argument"}
+
+
+class Helped(Exception):
+    """The help was asked for, and is printed."""
+
+
 class Parser(argparse.ArgumentParser):
-    """A parser whose faults are `Failure`s, so that they end as one line like any other."""
+    """A parser whose faults are `Failure`s, so that they end as one line like any other, also where its help can't be written."""
 
     def error(self, message: str) -> NoReturn:
         raise Failure("", f"{message}; see `{self.prog} --help`", ARGUMENTS)
+
+    def print_help(self, file=None) -> None:
+        print(self.format_help(), end="", file=file)
+
+    def exit(self, status: int = 0, message: str | None = None) -> NoReturn:
+        raise Helped
 
 
 def parser_of(command: Command) -> Parser:
@@ -53,16 +69,28 @@ def find(name: str) -> Command:
 
 def do(words: list[str]) -> int:
     """Does what the words say, and gives the status."""
-    if not words or words[0] in ("-h", "--help") or words == ["help"]:
+    if words[:1] == ["help"]:
+        if len(words) > 2:
+            raise Failure("help", "it takes one command at most; write `irr help COMMAND`", ARGUMENTS)
+        words = ["--help"] if words[1:] in ([], ["help"], ["-h"], ["--help"]) else [words[1], "--help"]
+    if not words or words in (["-h"], ["--help"]):
         print(overview(), end="")
         return DONE if words else ARGUMENTS
-    if words[0] == "--version":
+    if words == ["--version"]:
         print(f"irr {VERSION}")
         return DONE
-    if words[0] == "help":
-        words = [words[1], "--help"]
-    options = parser_of(find(words[0])).parse_args(words[1:])
+    if words[0] in ("-h", "--help", "--version"):
+        raise Failure(words[0], "nothing goes with it; write `irr COMMAND --help` for the words of a command", ARGUMENTS)
+    try:
+        options = parser_of(find(words[0])).parse_args(words[1:])
+    except Helped:
+        return DONE
     return options.run(options)
+
+
+def leave(number: int, _: object) -> NoReturn:
+    """Ends the process by a signal, through all that tidies up."""
+    sys.exit(128 + number)
 
 
 def end_by(number: int) -> NoReturn:
@@ -77,19 +105,41 @@ def close_output() -> None:
     os.dup2(os.open(os.devnull, os.O_WRONLY), sys.stdout.fileno())
 
 
+def end_output() -> None:
+    """Writes what is left for standard output where something else ended the command, whose line was said."""
+    try:
+        sys.stdout.flush()
+    except OSError:
+        close_output()
+
+
 def say(failure: Failure, words: list[str]) -> None:
     """The one line of a failure, on standard error."""
     name = words[0] if words and words[0] in BY_NAME else ""
     line = f"irr {name}: {failure}" if name else f"irr: {failure}"
-    print(texts.shown_line(line), file=sys.stderr)
+    texts.note(line)
+
+
+def notes(error: BaseException) -> list[str]:
+    """What a command has to say of a fault of the system."""
+    return getattr(error, "__notes__", [])
+
+
+def unread(error: BaseException) -> Failure:
+    """What can't be read and is named nowhere else, by the first module on the way to it that knows what it reads."""
+    import traceback
+    frames = [frame.f_globals.get("__name__", "") for frame, _ in traceback.walk_tb(error.__traceback__)]
+    what = next((READERS[name] for name in frames if name in READERS), "an argument, a file or an answer")
+    return Failure("", f"{what} can't be read ({type(error).__name__}); look at what was given")
 
 
 def main(words: list[str] | None = None) -> int:
     """Runs `irr` with these words, or those of the command line."""
     words = sys.argv[1:] if words is None else words
-    for number in (signal.SIGTERM, signal.SIGHUP):
-        # A command tidies up before it ends: it may have files that are nobody else's to read.
-        signal.signal(number, lambda number, _: sys.exit(128 + number))
+    for number, tidied in (signal.SIGTERM, leave), (signal.SIGHUP, leave), (signal.SIGINT, signal.default_int_handler):
+        # A command tidies up before it ends: it may have files that are nobody else's to read. What nohup ignores stays so.
+        if signal.getsignal(number) == signal.SIG_DFL:
+            signal.signal(number, tidied)
     if sys.stdout is None:
         say(Failure("standard output", "it is closed; give the command one"), words)
         return Failure("", "").status
@@ -103,20 +153,26 @@ def main(words: list[str] | None = None) -> int:
         return status
     except Failure as failure:
         say(failure, words)
+        end_output()
         return failure.status
-    except BrokenPipeError:
+    except BrokenPipeError as error:
         close_output()
+        for note in notes(error):
+            say(Failure("standard output", f"nobody reads it; {note}"), words)
         end_by(signal.SIGPIPE)
     except KeyboardInterrupt:
         end_by(signal.SIGINT)
     except OSError as error:
-        failure = Failure(str(error.filename or "standard output"), f"{system_words(error)}; look where it goes to")
+        is_file = error.filename is not None
+        advice = ["look at it, or give another one" if is_file else "look where it goes to", *notes(error)]
+        failure = Failure(str(error.filename) if is_file else "standard output", "; ".join([system_words(error), *advice]))
         close_output()
         say(failure, words)
         return failure.status
     except UNREAD as error:
-        failure = Failure("", f"an argument, a file or an answer can't be read ({type(error).__name__}); look at what was given")
+        failure = unread(error)
         say(failure, words)
+        end_output()
         return failure.status
     except MemoryError:
         say(Failure("", "out of memory; give the machine more, or take a smaller file"), words)

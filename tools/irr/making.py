@@ -47,16 +47,14 @@ def make_all(path: str) -> int:
 
 def read(path: str) -> tuple[list[Filter], float]:
     """The filters of a settings file, and the hours after which one is stale."""
-    with files.opened(path) as opened:
-        text = opened.read()
     try:
-        settings = tomllib.loads(text.decode())
-    except ValueError as error:
+        settings = tomllib.loads(files.read(path).decode())
+    except (ValueError, RecursionError) as error:
         raise Failure(path, f"this is not TOML: {error}; correct it", SETTINGS) from None
     listed, hours = settings.pop("filter", []), settings.pop("stale", STALE)
     if settings:
         raise Failure(path, f"there is no key {next(iter(settings))}; write `stale` and tables [[filter]]", SETTINGS)
-    if not isinstance(hours, (int, float)) or isinstance(hours, bool) or hours <= 0:
+    if not isinstance(hours, (int, float)) or isinstance(hours, bool) or not 0 < hours <= 1e9:
         raise Failure(path, "`stale` is not a number of hours; write one, such as 24", SETTINGS)
     if not isinstance(listed, list) or not listed:
         raise Failure(path, "it has no filter; write a table [[filter]] for each", SETTINGS)
@@ -64,7 +62,7 @@ def read(path: str) -> tuple[list[Filter], float]:
 
 
 def read_filter(path: str, table: object) -> Filter:
-    if not isinstance(table, dict) or set(table) != KEYS or not all(isinstance(value, str) and value for value in table.values()):
+    if not isinstance(table, dict) or set(table) != KEYS or not all(map(is_text, table.values())):
         raise Failure(path, "a [[filter]] has the texts `file`, `router` and `make`, and no others; correct it", SETTINGS)
     if table["router"] not in ROUTERS:
         raise Failure(path, f"{table['router']} is not a router whose parser is known; write {', '.join(ROUTERS)}", SETTINGS)
@@ -72,9 +70,16 @@ def read_filter(path: str, table: object) -> Filter:
         words = shlex.split(table["make"])
     except ValueError as error:
         raise Failure(path, f"`make` of {table['file']}: {str(error).lower()}; correct it", SETTINGS) from None
+    if not words or not words[0]:
+        raise Failure(path, f"`make` of {table['file']} has no command; correct it", SETTINGS)
     if not os.path.isabs(table["file"]) or "\"" in table["file"]:
         raise Failure(path, f"{table['file']} is not a whole path; begin it with /", SETTINGS)
     return Filter(table["file"], table["router"], words)
+
+
+def is_text(value: object) -> bool:
+    """Whether a path or a command can be made of it."""
+    return isinstance(value, str) and bool(value.strip()) and "\0" not in value
 
 
 def make(one: Filter) -> str:

@@ -76,16 +76,7 @@ def is_range(item: bytes) -> bool:
 
 @functools.lru_cache(1 << 16)
 def is_member(number: int, item: bytes) -> bool:
-    """Whether a set of this class may list the item."""
-    if number == ROUTE_SET:
-        front, hat, operator = item.partition(b"^")
-        if keys.read_range(b"0.0.0.0/0" + hat + operator) is None:
-            return False
-        return is_range(item) or keys.read_as(front) is not None or keys.read_set(front) is not None
-    if keys.read_as(item) is not None:
-        return True
-    name = keys.read_set(item)
-    return name is not None and keys.set_class(name) == "as-set"
+    return keys.is_member(keys.CLASSES[number - 1], item)
 
 
 def with_items(attribute: Attribute, pattern: re.Pattern[bytes], change: Callable[[bytes], bytes | None]) -> Attribute | None:

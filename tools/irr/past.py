@@ -7,7 +7,7 @@ from datetime import datetime, timezone
 from pathlib import Path
 from typing import Iterable, Iterator, NamedTuple
 
-from irr import keys, rpsl, texts
+from irr import answers, keys, rpsl, texts
 from irr.errors import ARGUMENTS, Failure
 from irr.keys import CLASSES, Key
 
@@ -39,9 +39,9 @@ def read_time(text: str) -> int:
     """A time as ISO 8601 writes it, in UTC if no zone is given."""
     try:
         found = datetime.fromisoformat(text)
-    except ValueError:
+        return int((found if found.tzinfo else found.replace(tzinfo=timezone.utc)).timestamp())
+    except (ValueError, OverflowError):
         raise Failure(text, "this is not a time; write it as 2026-11-26 or 2026-11-26T12:00:00Z", ARGUMENTS) from None
-    return int((found if found.tzinfo else found.replace(tzinfo=timezone.utc)).timestamp())
 
 
 def path_of(key: Key) -> str:
@@ -115,16 +115,16 @@ class Repository:
             yield out[end + 1:end + 1 + size]
             place = end + size + 2
 
-    def record(self, blocks: Iterable[rpsl.Block], digest, now: int) -> str:
+    def record(self, blocks: Iterable[rpsl.Block], digest, now: int, name: str = "the dump") -> str:
         """Commits a public dump, whose digest is known once its blocks have been read. What was changed in words, nothing where
         nothing was."""
         self.begin()
         last = self.state()
         known, seen, changes, added = self.blobs(last), set(), [], 0
         for block in blocks:
-            key = keys.key_of(rpsl.read_any(block.text))
+            key = keys.key_of(answers.read(block.text, name))
             if key is None:
-                raise Failure("the dump", "it has an object of no class or key of this irr; take a newer one")
+                raise Failure(name, "it has an object of no class or key of this irr; take a newer one")
             path = path_of(key)
             seen.add(path)
             if known.get(path) != blob_of(block.text):

@@ -4,6 +4,7 @@ import os
 import signal
 from typing import BinaryIO, Iterator, NoReturn
 
+from irr import files
 from irr.errors import Failure
 
 # Seconds for the peer to take what it gets: these, and one for each 16 KiB of it.
@@ -19,6 +20,7 @@ class Peer:
     """The peer. It sends lines of at most `longest` bytes."""
 
     def __init__(self, longest: int) -> None:
+        files.need_input()
         self.longest, self.held, self.has_ended = longest, b"", False
 
     def line(self, seconds: float) -> bytes:

@@ -11,7 +11,7 @@ import threading
 import time
 from pathlib import Path
 
-from irr import files, rpsl, scratch, stores, texts
+from irr import answers, files, rpsl, scratch, stores, texts
 from irr.errors import Failure
 from irr.server import Server
 from irr.stores import Copy
@@ -45,11 +45,10 @@ def make(place: Server, limit: int, work: Path, known: str) -> Made | None:
     files.put(made.dump, place.dump(), files.PRIVATE)
     if made.digest() == known:
         return None
-    source = next((rpsl.read_any(piece[:-1]).value(b"source") for piece in stores.blocks_of(made.dump)), b"").decode("latin-1")
-    if not source:
-        raise Failure(place.url, "the registry has no objects; nothing is made of that")
+    first = next(stores.blocks_of(made.dump))
+    source = answers.source_of(first[:-1], place.url)
     loadable, seen = work / "loadable.rpsl", work / "seen.rpsl"
-    files.put(loadable, scratch.loadable(block.text + b"\n" for block in blocks(made.dump)), files.PRIVATE)
+    files.put(loadable, scratch.loadable((block.text + b"\n" for block in blocks(made.dump)), place=place.url), files.PRIVATE)
     copy = Copy(work, scratch.SETTINGS.format(source=source, root="ROOT-MNT", auth=scratch.AUTH, limit=limit))
     copy.load(loadable)
     copy.dump(seen)

@@ -1,7 +1,7 @@
 """Why an item was refused, as the registry stands now: what decided, and who may add below it."""
 from typing import Iterator, Protocol
 
-from irr import answers, holders, keys, rpsl
+from irr import answers, holders, keys
 from irr.errors import Failure
 from irr.keys import Key, Span
 from irr.rpsl import Paragraph
@@ -13,6 +13,8 @@ MOST_LISTED = 5
 
 class Registry(Protocol):
     """What is asked: a served registry."""
+
+    url: str
 
     def query(self, *words: str) -> answers.Answer: ...
 
@@ -140,10 +142,10 @@ class Reasons:
         """The as-blocks of the dump, since queries know of none."""
         if self.blocks is None:
             self.blocks = []
-            for block in rpsl.blocks(self.registry.dump()):
-                if block.text.startswith(b"as-block:"):
-                    self.blocks.append(rpsl.read_any(block.text))
-                elif not block.text.startswith(b"mntner:"):
+            for key, paragraph in answers.dumped(self.registry.dump(), self.registry.url):
+                if key.kind == "as-block":
+                    self.blocks.append(paragraph)
+                elif key.kind != "mntner":
                     break
         return self.blocks
 
@@ -183,5 +185,5 @@ def listed(names: list[str]) -> str:
 
 
 def source_of(objects: list[Paragraph]) -> str:
-    """The registry's name, as an object has it."""
-    return objects[0].value(b"source").decode("latin-1") if objects else ""
+    """The registry's name, as the objects of an answer have it; nothing where there are none."""
+    return keys.as_text(objects[0].value(b"source")) if objects else ""

@@ -11,14 +11,15 @@ import time
 from pathlib import Path
 from typing import Iterable, Iterator, Mapping
 
-from irr import keys, rpsl
-from irr.errors import Failure
+from irr import answers, files, keys, rpsl
+from irr.errors import DATABASE, Failure, system_words
 
 # The digest of no password that anybody knows: the root of a scratch registry is that of the dump that is loaded.
 AUTH = "SHA256-PW x:" + "0" * 64
 SETTINGS = 'source = "{source}"\nroot = "{root}"\nauth = "{auth}"\nlimit = {limit}\nstore = "irr.db"\n'
 # What a public dump shows of an `auth`, and one that lets nobody in.
 HIDDEN, NOBODY = re.compile(rb"^auth:           # filtered$", re.M), b"auth:           FILTERED"
+TEMPORARY, ROOM = "the temporary folder", "make room, or give another folder by TMPDIR"
 OPENING = 600
 MOST_CONNECTIONS = 1_000_000
 
@@ -26,6 +27,8 @@ MOST_CONNECTIONS = 1_000_000
 def find_program() -> str:
     """The path of `irrdesk`: that of IRRDESK, else the one beside the tool, else the one on the path."""
     given = os.environ.get("IRRDESK")
+    if given and os.path.isdir(given):
+        raise Failure(given, "it is a folder; give the program's path by IRRDESK")
     beside = Path(sys.argv[0]).resolve().parent / "irrdesk"
     found = given or (str(beside) if os.access(beside, os.X_OK) and beside.is_file() else shutil.which("irrdesk"))
     if not found or not os.access(found, os.X_OK):
@@ -41,9 +44,12 @@ class Scratch:
         self.settings = SETTINGS.format(source=source, root=root, auth=auth, limit=limit)
 
     def __enter__(self) -> "Scratch":
-        self.temporary = tempfile.TemporaryDirectory(prefix="irr-")
+        try:
+            self.temporary = tempfile.TemporaryDirectory(prefix="irr-")
+        except OSError as error:
+            raise Failure(TEMPORARY, f"it cannot be made: {system_words(error)}; {ROOM}") from None
         self.folder = Path(self.temporary.name)
-        (self.folder / "irr.toml").write_text(self.settings, encoding="ascii")
+        self.put("irr.toml", self.settings.encode("ascii"))
         return self
 
     def __exit__(self, *_: object) -> None:
@@ -55,31 +61,46 @@ class Scratch:
         return subprocess.run([self.program, command, "irr.toml", *words], cwd=self.folder, capture_output=True, check=False,
                               preexec_fn=own_files, **given)
 
-    def load(self, dump: str | os.PathLike[str]) -> None:
-        """Makes the registry from a full dump; a Failure with the program's words if it refuses that."""
-        done = self.run("load", os.path.abspath(dump))
+    def put(self, name: str, pieces: bytes | Iterable[bytes]) -> Path:
+        """A new file in the folder, which nobody knows by its path."""
+        path = self.folder / name
+        try:
+            files.put(path, pieces, files.PRIVATE)
+        except Failure as failure:
+            if failure.thing != str(path):
+                raise
+            raise Failure(TEMPORARY, f"{failure.what.partition(';')[0]}; {ROOM}") from None
+        return path
+
+    def load(self, dump: str | os.PathLike[str], name: str) -> None:
+        """Makes the registry from a full dump; a Failure with the program's words and the name that people have for it if it is
+        refused."""
+        path = os.path.abspath(dump)
+        done = self.run("load", path)
         if done.returncode:
-            raise Failure(str(dump), f"it is not loaded: {said(done)}")
+            raise trouble(done, name, path, "irrdesk does not load it")
 
     def submit(self, text: bytes) -> bytes:
         """The report of a submission. Its text, which has passwords, is on no disk."""
         done = self.run("submit", "/dev/stdin", stdin=text)
         if done.returncode > 1:
-            raise Failure("the scratch registry", said(done))
+            raise trouble(done, "the scratch registry", "/dev/stdin", "the submission")
+        if not answers.END.fullmatch(done.stdout.decode("latin-1").removesuffix("\n").rpartition("\n")[2]):
+            raise Failure(self.program, "the program answers no report; give the path of irrdesk by IRRDESK")
         return done.stdout
 
     def query(self, *words: str) -> bytes:
         """The answer to a query."""
         done = self.run("query", *words)
         if done.returncode > 1:
-            raise Failure("the scratch registry", said(done))
+            raise trouble(done, "the scratch registry")
         return done.stdout
 
     def dump(self, full: bool = False) -> bytes:
         """The public dump, or the full one."""
         done = self.run("dump", *(["--full"] if full else []))
         if done.returncode:
-            raise Failure("the scratch registry", said(done))
+            raise trouble(done, "the scratch registry")
         return done.stdout
 
     @contextlib.contextmanager
@@ -96,27 +117,27 @@ class Scratch:
             process.communicate()
 
 
-def loadable(pieces: Iterable[bytes], auths: Mapping[str, list[bytes]] | None = None) -> Iterator[bytes]:
+def loadable(pieces: Iterable[bytes], auths: Mapping[str, list[bytes]] | None = None, place: str = "the dump") -> Iterator[bytes]:
     """A dump that `irrdesk load` takes, made of a public one in pieces. The registry of it answers each query as the one that was
     dumped does. The maintainers of `auths` have these values of `auth`; the others have one that lets nobody in."""
     for block in rpsl.blocks(pieces):
-        text = with_auths(block.text, auths or {}) if b"auth:" in block.text else block.text
-        yield (text if len(text) <= rpsl.LARGEST else short_text(text)) + b"\n"
+        text = with_auths(block.text, auths or {}, place) if b"auth:" in block.text else block.text
+        yield (text if len(text) <= rpsl.LARGEST else short_text(text, place)) + b"\n"
 
 
-def with_auths(text: bytes, auths: Mapping[str, list[bytes]]) -> bytes:
+def with_auths(text: bytes, auths: Mapping[str, list[bytes]], place: str) -> bytes:
     """A public object with an `auth` for each one that is hidden."""
     if auths and text.startswith(b"mntner:"):
-        values = auths.get(keys.read_maintainer(rpsl.read_any(text).value(b"mntner")) or "")
+        values = auths.get(keys.read_maintainer(answers.read(text, place).value(b"mntner")) or "")
         if values:
             lines = b"\n".join(b"auth:           " + value for value in values)
             text = HIDDEN.sub(lambda _: lines, text, 1)
     return HIDDEN.sub(NOBODY, text)
 
 
-def short_text(text: bytes) -> bytes:
+def short_text(text: bytes, place: str) -> bytes:
     """An object in as few bytes as can be. It came to the registry in one paragraph, so it fits into one again."""
-    return b"".join(attribute.short_text() for attribute in rpsl.read_any(text.replace(NOBODY, b"auth:x")).attributes)
+    return b"".join(attribute.short_text() for attribute in answers.read(text.replace(NOBODY, b"auth:x"), place).attributes)
 
 
 def own_files() -> None:
@@ -128,6 +149,15 @@ def said(done: "subprocess.CompletedProcess[bytes]") -> str:
     """What the program said, in one line."""
     words = done.stderr.decode("utf-8", "replace").strip() or f"irrdesk ended with status {done.returncode}"
     return words.removeprefix("irrdesk: ")
+
+
+def trouble(done: "subprocess.CompletedProcess[bytes]", name: str, path: str = "", known: str = "") -> Failure:
+    """What the program said, in the names that people know: of the thing that it read, in place of its path, and of the folder, where
+    the database failed."""
+    words = said(done)
+    if done.returncode == DATABASE:
+        return Failure(TEMPORARY, f"{words.removeprefix('irr.db: ').partition(': ')[0]}; {ROOM}")
+    return Failure(name, f"{known}: {words.removeprefix(path).lstrip(',: ')}" if known else words)
 
 
 def free_port() -> int:

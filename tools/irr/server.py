@@ -3,23 +3,32 @@ import argparse
 import contextlib
 import http.client
 import os
+import re
 import time
 from typing import Iterator
 from urllib.parse import quote, urlsplit
 
-from irr import answers, keys, texts
+from irr import answers, asked, keys, replies, texts
 from irr.connecting import CONNECTING, persistently
 from irr.errors import ARGUMENTS, Failure, system_words
+from irr.replies import Beyond, Bounds, Reply
 
 DEFAULT = "http://127.0.0.1:4343"
-# Seconds until the next bytes come: others may be served first.
-WAITING = 150
-LONGEST_QUERY = 1_024
 # Seconds until a report is looked at again, if fewer bytes of it than these had come.
 GATHERING, GATHERED = 0.02, 1 << 13
 # Seconds for which a submission waits in all, each time that the server is too busy for it.
 BUSY = 600
+# The longest time after which it is told to ask again.
+DAY = 86_400
 LOOPBACK = ("localhost", "::1")
+PATH = re.compile("[!-~]*")
+# What to do where a submission may have been taken.
+LOOK = "look by `irr diff FILE`, and send the whole text again: what is registered is `unchanged`"
+SENT = f"the text was sent, and items of it may be registered: {LOOK}"
+# Statuses of a proxy that had the request, and does not know what came of it.
+UNSURE = (500, 502, 504)
+BAD_LENGTH = "the answer is not as long as the server says"
+NO_ADDRESS = "this is not an address; write it as https://HOST or http://HOST:PORT"
 REMEDIES = {
     400: "the server does not take the request; is it https that it wants?",
     401: "the server asks for a user and a password; write `machine HOST login USER password PASSWORD` into ~/.netrc",
@@ -48,6 +57,10 @@ class Busy(Failure):
         self.seconds = seconds
 
 
+class Lost(Failure):
+    """The request was sent, and what came of it is not known."""
+
+
 def add_options(parser: argparse.ArgumentParser) -> None:
     """The options of each command that asks a server: `options.server` and `options.plain`."""
     parser.add_argument("-s", "--server", metavar="URL", help=f"the registry's address, otherwise that of IRR_SERVER, otherwise {DEFAULT}")
@@ -65,10 +78,13 @@ class Server:
         try:
             parts = urlsplit(url)
             self.host, port = parts.hostname or "", parts.port
+            # What the system is asked for: a name with an empty part, or a letter that no name has, is none.
+            is_name = PATH.fullmatch(self.host.encode("idna").decode("ascii"))
         except ValueError:
-            raise Failure(shown_url(url), "this is not an address; write it as https://HOST or http://HOST:PORT", ARGUMENTS) from None
-        if parts.scheme not in ("http", "https") or not self.host or parts.query or parts.fragment:
-            raise Failure(shown_url(url), "this is not an address; write it as https://HOST or http://HOST:PORT", ARGUMENTS)
+            raise Failure(shown_url(url), NO_ADDRESS, ARGUMENTS) from None
+        is_good = self.host and is_name and PATH.fullmatch(parts.path) and port != 0
+        if parts.scheme not in ("http", "https") or not is_good or parts.query or parts.fragment:
+            raise Failure(shown_url(url), NO_ADDRESS, ARGUMENTS)
         if "@" in parts.netloc:
             raise Failure(shown_url(url), "a password does not belong into an address; write it into ~/.netrc", ARGUMENTS)
         self.url, self.scheme = url.rstrip("/"), parts.scheme
@@ -89,13 +105,9 @@ class Server:
         if not text:
             raise Failure("", "the query is empty; see `irr query --help`", ARGUMENTS)
         # Of a longer one this much is enough for the registry to say so; all of it would not fit into a head.
-        reply, pieces, size = self.ask("GET", "/query/" + quote(text[:LONGEST_QUERY + 1], safe="")), [], 0
-        for piece in self.body_of(reply):
-            pieces.append(piece)
-            size += len(piece)
-            if self.most is not None and size > self.most:
-                raise Failure(self.url, f"the answer has over {self.most:,} bytes; ask for less")
-        return answers.Answer(b"".join(pieces), self.url)
+        bounds = replies.ANSWER._replace(most=self.most or replies.ANSWER.most)
+        reply = self.ask("GET", "/query/" + quote(text[:asked.LONGEST + 1], safe=""), bounds)
+        return answers.Answer(b"".join(self.body_of(reply)), text, self.url)
 
     def query_surely(self, *words: str | bytes) -> answers.Answer:
         """The answer to a query, asked twice: an answer has no end mark, so one that was cut differs from the next one."""
@@ -106,8 +118,11 @@ class Server:
 
     def submit(self, text: bytes) -> Iterator[bytes]:
         """The report of a submission that the server takes at once, in pieces as it comes. What came of it before the connection failed
-        is its report too, which is then not whole."""
-        reply = self.ask_patiently("POST", "/submissions", text)
+        is its report too, which is then not whole. A registry judges a text that came whole, also if nobody waits for the report."""
+        try:
+            reply = self.ask_patiently("POST", "/submissions", replies.REPORT, text)
+        except Lost as lost:
+            raise Lost(lost.thing, f"{lost.what.partition(';')[0]}; {SENT}") from None
         with contextlib.suppress(Failure):
             for piece in self.body_of(reply):
                 yield piece
@@ -117,79 +132,109 @@ class Server:
 
     def dump(self) -> Iterator[bytes]:
         """The public dump in pieces; a Failure after the last one if it is not whole."""
-        return answers.whole_dump(self.body_of(self.ask("GET", "/dump")), self.url)
+        return answers.whole_dump(self.body_of(self.ask("GET", "/dump", replies.DUMP)), self.url)
 
-    def ask(self, method: str, path: str, body: bytes | None = None) -> http.client.HTTPResponse:
+    def ask(self, method: str, path: str, bounds: Bounds, body: bytes | None = None) -> Reply:
         """The reply to a request, once its status is known to be 200."""
         fields = {"Connection": "close", "User-Agent": "irr"} | self.credentials()
         try:
-            connection = self.connect()
+            connection = self.connect(bounds)
+        except OSError as error:
+            raise Failure(self.url, self.trouble(error)) from None
+        try:
             # A server that takes no body of this length may answer, and close, before all of it is there.
             with contextlib.suppress(BrokenPipeError, ConnectionResetError):
                 connection.request(method, self.path + path, body, fields)
-            reply = connection.getresponse()
+            reply = self.reply_of(connection)
         except OSError as error:
-            raise Failure(self.url, self.trouble(error)) from None
-        except http.client.HTTPException:
-            raise Failure(self.url, "the server does not speak HTTP; correct the address") from None
+            raise Lost(self.url, self.trouble(error)) from None
+        except Beyond as beyond:
+            raise Lost(self.url, str(beyond)) from None
+        except (http.client.HTTPException, ValueError):
+            raise Lost(self.url, "the server does not speak HTTP; correct the address") from None
         if reply.status != 200:
             self.refuse(reply)
         if reply.headers.get_content_type() != "text/plain":
             reply.close()
             raise Failure(self.url, "the server is not a registry of irrdesk; correct the address")
+        if not reply.has_good_length():
+            reply.close()
+            raise Lost(self.url, f"{BAD_LENGTH}; ask again, or tell its operator")
         return reply
 
-    def ask_patiently(self, method: str, path: str, body: bytes) -> http.client.HTTPResponse:
+    def ask_patiently(self, method: str, path: str, bounds: Bounds, body: bytes) -> Reply:
         """The same of a server that may ask to be asked again later."""
         end = time.monotonic() + BUSY
         while True:
             try:
-                return self.ask(method, path, body)
+                return self.ask(method, path, bounds, body)
             except Busy as busy:
                 if time.monotonic() + busy.seconds > end:
                     raise
                 texts.note(f"irr: {busy.thing}: the server is busy; it is asked again after {texts.counted(busy.seconds, 'second')}")
                 time.sleep(busy.seconds)
 
-    def connect(self) -> http.client.HTTPConnection:
-        """A connection that stands."""
+    def connect(self, bounds: Bounds) -> http.client.HTTPConnection:
+        """A connection that stands, whose reply has these bounds."""
         if self.scheme == "https":
             import ssl
             connection = http.client.HTTPSConnection(self.host, self.port, timeout=CONNECTING, context=ssl.create_default_context())
         else:
             connection = http.client.HTTPConnection(self.host, self.port, timeout=CONNECTING)
         persistently(connection.connect, self.patience)
-        connection.sock.settimeout(WAITING)
+        connection.sock.settimeout(replies.WAITING)
+        connection.response_class = lambda sock, method: Reply(sock, method, bounds)
         return connection
+
+    def reply_of(self, connection: http.client.HTTPConnection) -> Reply:
+        """The head of a reply; a connection that gives none is closed."""
+        try:
+            return connection.getresponse()  # type: ignore[return-value]
+        except BaseException:
+            connection.close()
+            raise
 
     def credentials(self) -> dict[str, str]:
         """The field for the user and password that ~/.netrc (or the file of NETRC) has for the host."""
-        path = os.environ.get("NETRC") or os.path.expanduser("~/.netrc")
-        if not os.path.exists(path):
+        given = os.environ.get("NETRC")
+        path = given or os.path.expanduser("~/.netrc")
+        if not given and not os.path.exists(path):
             return {}
         import base64
         import netrc
+        import stat
         try:
-            if os.stat(path).st_mode & 0o077:
+            # The module looks who may read a file only where it is told no path.
+            mode = os.stat(path).st_mode
+            if not stat.S_ISREG(mode):
+                raise OSError("not a file")
+            if mode & 0o077:
                 raise Failure(path, "others can read it; chmod 600 it")
             found = netrc.netrc(path).authenticators(self.host)
-        except (netrc.NetrcParseError, OSError, UnicodeDecodeError):
+        except (netrc.NetrcParseError, UnicodeDecodeError):
             raise Failure(path, "it cannot be read; write lines `machine HOST login USER password PASSWORD`") from None
+        except OSError as error:
+            remedy = "correct NETRC" if given else "look at it"
+            raise Failure(path, f"it cannot be opened: {system_words(error)}; {remedy}") from None
         if not found:
             return {}
         both = f"{found[0]}:{found[2]}".encode()
         return {"Authorization": "Basic " + base64.b64encode(both).decode()}
 
-    def body_of(self, reply: http.client.HTTPResponse) -> Iterator[bytes]:
-        """The body of a reply in pieces; a Failure if the connection breaks, or fewer bytes come than were announced."""
+    def body_of(self, reply: Reply) -> Iterator[bytes]:
+        """The body of a reply in pieces; a Failure if the connection breaks, or if fewer or more bytes come than were announced."""
         with reply:
             try:
                 while piece := reply.read1(1 << 16):
                     yield piece
                 if reply.length:
                     raise http.client.IncompleteRead(b"", reply.length)
+                if reply.length == 0 and reply.has_more():
+                    raise Beyond(f"{BAD_LENGTH}; ask again, or tell its operator")
             except TimeoutError as error:
                 raise Failure(self.url, self.trouble(error)) from None
+            except Beyond as beyond:
+                raise Failure(self.url, str(beyond)) from None
             except (OSError, http.client.HTTPException):
                 raise Failure(self.url, "the answer was cut off; ask again") from None
 
@@ -203,7 +248,7 @@ class Server:
         seconds = seconds_of(reply.headers.get("Retry-After", "")) if status in (429, 503) else None
         if seconds is not None:
             raise Busy(self.url, f"status {status}: {words}", seconds)
-        kind = TooLarge if status == 413 else Failure
+        kind = TooLarge if status == 413 else Lost if status in UNSURE else Failure
         raise kind(self.url, f"status {status}: {words}")
 
     def trouble(self, error: OSError) -> str:
@@ -225,14 +270,15 @@ class Server:
 
 
 def seconds_of(retry_after: str) -> int | None:
-    """The seconds that the field asks to wait for, as a number or as a date (RFC 9110, 10.2.3); at least one."""
-    if retry_after.isascii() and retry_after.isdecimal():
-        return max(1, int(retry_after[:9]))
-    from email.utils import parsedate_to_datetime
-    try:
-        return max(1, round(parsedate_to_datetime(retry_after).timestamp() - time.time()))
-    except ValueError:
-        return None
+    """The seconds that the field asks to wait for, as a number or as a date (RFC 9110, 10.2.3), at least one; None for over a day."""
+    seconds = keys.read_number(retry_after, 0, DAY)
+    if seconds is None:
+        from email.utils import parsedate_to_datetime
+        try:
+            seconds = round(parsedate_to_datetime(retry_after).timestamp() - time.time())
+        except (ValueError, OverflowError, OSError):
+            return None
+    return max(1, seconds) if seconds <= DAY else None
 
 
 def shown_url(url: str) -> str:

@@ -1,7 +1,7 @@
 """What a set or an AS number stands for, as filters want it: whole, or a Failure."""
 from typing import NamedTuple
 
-from irr import keys, rpsl
+from irr import keys
 from irr.errors import REFUSED, Failure
 from irr.keys import Prefix, Range
 from irr.server import Server
@@ -30,30 +30,20 @@ def expansion(place: Server, query: str, name: str) -> Expansion:
         raise Failure(name, f"% error {answer.error}: {answer.words()}", REFUSED)
     if answer.has_none:
         raise Failure(name, "the set is not registered; correct the name, or register it", REFUSED)
-    if not answer.is_empty and answer.kind != "expansion":
-        raise Failure(place.url, "it answers what no registry of irrdesk answers; correct the address")
     return Expansion(answer.lines(), answer.missing())
 
 
-def ranges(lines: list[str], place: str) -> list[Range]:
-    """The ranges of an expansion. Each has a prefix in it."""
-    found = [keys.read_range(line) for line in lines]
-    if not all(one and one.low <= one.high for one in found):
-        raise Failure(place, "it answers what no registry of irrdesk answers; correct the address")
-    return [one for one in found if one]
+def ranges(lines: list[str]) -> list[Range]:
+    """The ranges of an expansion, which an answer has looked at."""
+    return [keys.read_range(line) for line in lines]  # type: ignore[misc]
 
 
 def routes(place: Server, number: int) -> list[Prefix]:
     """The prefixes of the routes of an origin, each once and in order."""
     query = f"inverse origin AS{number}"
     answer = place.query_surely(query).or_failure(query)
-    found = set()
-    for paragraph in rpsl.paragraphs([answer.text] if answer.kind == "objects" else []):
-        prefix = keys.read_prefix(paragraph.value(b"route"))
-        if prefix is None or keys.read_as(paragraph.value(b"origin")) != number:
-            raise Failure(place.url, "it answers what no registry of irrdesk answers; correct the address")
-        found.add(prefix)
-    return sorted(found)
+    # Those of one origin differ in their prefixes, by which they are in order.
+    return [keys.read_prefix(key.text.partition(" ")[0]) for key in answer.keys]  # type: ignore[misc]
 
 
 def listed(names: list[str]) -> str:

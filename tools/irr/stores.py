@@ -23,6 +23,7 @@ LOCKED, LOCKED_LENGTH = 0x4000_0000, 512
 EMPTY_LOG = 32 + 24
 # Clones a file where the file system can.
 FICLONE = 0x4004_9409
+AUTH = re.compile("[ !#-Z^-~]+")
 END = re.compile(rb"% end [0-9]+\n")
 
 
@@ -46,11 +47,15 @@ class Settings(NamedTuple):
             raise Failure(path, f"the settings cannot be read: {system_words(error)}; correct the path", SETTINGS) from None
         except KeyError as error:
             raise Failure(path, f"the settings lack `{error.args[0]}`; put it in", SETTINGS) from None
-        except (tomllib.TOMLDecodeError, UnicodeDecodeError):
+        except (ValueError, RecursionError):
             raise Failure(path, "these are not settings of irrdesk; correct the path", SETTINGS) from None
         source, root, auth, limit, store = fields
-        if not all(isinstance(field, str) for field in (source, root, auth, store)) or not isinstance(limit, int):
+        if not all(isinstance(field, str) for field in (source, root, auth, store)) or type(limit) is not int or "\0" in store:
             raise Failure(path, "these are not settings of irrdesk; correct the path", SETTINGS)
+        # They are written again, for copies of the registry.
+        for name, is_good in [("source", keys.read_source(source)), ("root", keys.read_maintainer(root)), ("auth", AUTH.fullmatch(auth))]:
+            if not is_good:
+                raise Failure(path, f"`{name}` is not what irrdesk takes; correct it, see irr.toml(5)", SETTINGS)
         return cls(Path(path).resolve(), source, root, auth, limit, Path(os.path.abspath(store)))
 
     def text(self) -> str:

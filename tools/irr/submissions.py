@@ -6,7 +6,7 @@ import threading
 from typing import Callable, Iterable, Iterator, NamedTuple
 
 from irr import answers, files, rpsl, texts
-from irr.errors import ARGUMENTS, Failure, system_words
+from irr.errors import ARGUMENTS, Failure
 from irr.rpsl import Attribute, Paragraph
 from irr.server import TooLarge
 
@@ -81,7 +81,7 @@ class Source:
     """A file of a submission, opened; `-` is standard input. What is no text at all is a Failure before anything is sent."""
 
     def __init__(self, path: str) -> None:
-        self.name = "standard input" if path == "-" else path
+        self.name = files.name_of(path)
         self.file = files.opened(path)
         if self.file.isatty():
             texts.note("irr: reading a submission from the terminal; control-D ends it")
@@ -96,9 +96,14 @@ class Source:
 
     def items(self) -> Iterator[Item]:
         """Its blocks, none of which is waited for longer than needed."""
-        with self.file:
-            for block in rpsl.blocks(rpsl.chunks(self.file), rpsl.LARGEST + 1):
-                yield Item(self.name, block)
+        try:
+            with self.file:
+                for block in rpsl.blocks(rpsl.chunks(self.file), rpsl.LARGEST + 1):
+                    yield Item(self.name, block)
+        except OSError as error:
+            # Whoever shows it names the file.
+            error.filename = self.name
+            raise
 
 
 def password_item(secret: str, name: str) -> Item:
@@ -181,7 +186,8 @@ class Sender:
         self.post, self.part, self.most = post, part, most
         # How many items are decided, how the report ends, and whether a password was given before the item that is told.
         self.count, self.end, self.has_password = 0, "items", False
-        self.read_fault = ""
+        # What keeps a file from being read on, which has its name.
+        self.read_fault: OSError | None = None
 
     def send(self, items: Iterable[Item]) -> Iterator[Reported]:
         """The report, item by item, as it comes; `end` and `count` say then how it ends. A file that can't be read on ends the
@@ -191,7 +197,7 @@ class Sender:
             if self.end != "items":
                 return
         if self.read_fault:
-            self.end = f"read fault ({self.read_fault})"
+            self.end = "read fault"
 
     def parts(self, items: Iterable[Item]) -> Iterator[Part]:
         """The items in parts, each with the passwords before it."""
@@ -202,7 +208,7 @@ class Sender:
             try:
                 item = next(source, None)
             except OSError as error:
-                self.read_fault, item = system_words(error), None
+                self.read_fault, item = error, None
             length = len(item.text()) + 1 if item else 0
             if waiting and (item is None or size + length > self.part):
                 yield Part(waiting, passwords)
@@ -263,4 +269,4 @@ class Sender:
         """The line that ends the report; nothing if it was cut off."""
         if self.end == "items":
             return f"% items {self.count}"
-        return f"% {self.end.partition(' (')[0]} after {self.count} items" if self.end else ""
+        return f"% {self.end} after {self.count} items" if self.end else ""

@@ -1,4 +1,5 @@
 """What goes to people: no control character gets to a terminal, and colours go to a terminal alone."""
+import contextlib
 import os
 import re
 import sys
@@ -36,9 +37,9 @@ def shown_line(data: bytes | str) -> str:
     return shown(data).replace("\n", "\\x0a")
 
 
-def is_terminal(stream: IO[str]) -> bool:
+def is_terminal(stream: IO[str] | None) -> bool:
     try:
-        return stream.isatty()
+        return stream is not None and stream.isatty()
     except ValueError:
         return False
 
@@ -76,8 +77,10 @@ def put_all(pieces: Iterable[bytes]) -> None:
 
 
 def note(words: str) -> None:
-    """A line on standard error that is no failure."""
-    print(shown_line(words), file=sys.stderr)
+    """A line on standard error, if there is one that takes it."""
+    if sys.stderr is not None:
+        with contextlib.suppress(OSError):
+            print(shown_line(words), file=sys.stderr)
 
 
 def columns(rows: Iterable[Iterable[str]], gap: int = 2) -> list[str]:

@@ -11,17 +11,19 @@ OBJECT = b"aut-num:        AS1\nmnt-by:         A-MNT\nsource:         TEST\n\n"
 
 class Answers(unittest.TestCase):
     def test_kinds(self):
-        self.assertEqual(len(Answer(OBJECT * 2).objects()), 2)
-        self.assertTrue(Answer(b"% no entries\n").has_none)
-        self.assertTrue(Answer(b"% empty\n").is_empty)
-        self.assertEqual(Answer(b"% error 3\n").error, 3)
-        expansion = Answer(b"AS1\n10.0.0.0/8^9-24\n10.0.0.0/8^-\n% missing AS1:AS-X\n")
-        self.assertEqual((expansion.lines(), expansion.missing()), (["AS1", "10.0.0.0/8^9-24", "10.0.0.0/8^-"], ["AS1:AS-X"]))
+        self.assertEqual(len(Answer(OBJECT, "AS1").objects()), 1)
+        self.assertTrue(Answer(b"% no entries\n", "as1").has_none)
+        self.assertTrue(Answer(b"% empty\n", "expand AS-X").is_empty)
+        self.assertEqual(Answer(b"% error 3\n", "expand AS-X").error, 3)
+        self.assertEqual(Answer(b"% error 1\n", "hello world").error, 1)
+        expansion = Answer(b"10.0.0.0/8^9-24\n10.0.0.0/8^-\n% missing AS1:AS-X\n% missing RS-Y\n", "Expand rs-x")
+        self.assertEqual((expansion.lines(), expansion.missing()), (["10.0.0.0/8^9-24", "10.0.0.0/8^-"], ["AS1:AS-X", "RS-Y"]))
 
     def test_cut_or_strange(self):
         for text in [b"", OBJECT[:-1], OBJECT[:-2], b"AS1\nAS", b"% no entr", b"10.0.0.0/8", b"<html>", b"<html>\n", b"% hello\n",
                      b"% missing \x1b[31m\n"]:
-            self.assertRaises(Failure, Answer, text)
+            for query in "AS1", "expand AS-Y", "prefixes RS-Y", "inverse origin AS1":
+                self.assertRaises(Failure, Answer, text, query)
 
     def test_json(self):
         line = answers.json_text(rpsl.read(b"route: 10.0.0.0/8\norigin: AS1\ndescr: \xe9\n+\n+ x\ndescr: y"))
@@ -57,6 +59,12 @@ class Reports(unittest.TestCase):
         for text in [b"<html>\n", b"% items 0\n% items 0\n", b"1 aut-num AS1: \x1b\n", b"x" * 2_000]:
             self.assertRaises(Failure, read, text)
 
+    def test_long_numbers(self):
+        """Python reads no number of so many digits."""
+        for line in b"9" * 5_000 + b" mntner A-MNT: added\n", b"% items " + b"9" * 5_000 + b"\n":
+            with self.assertRaisesRegex(Failure, "^the report: the server answers what no registry"):
+                list(Report().read(line))
+
 
 class Dumps(unittest.TestCase):
     def test_whole(self):
@@ -64,11 +72,25 @@ class Dumps(unittest.TestCase):
         for size in (1, 5, 1_000):
             pieces = [text[place:place + size] for place in range(0, len(text), size)]
             self.assertEqual(b"".join(answers.whole_dump(pieces, "x")), text)
-        self.assertEqual(list(answers.whole_dump([b"% end 0\n"], "x")), [b"% end 0\n"])
+
+    def test_no_objects(self):
+        for text in b"% end 0\n", b"#x\n\n% end 1\n", b"hello\n":
+            for pieces in [text], [text[:1], text[1:]], [text[place:place + 1] for place in range(len(text))]:
+                self.assertRaisesRegex(Failure, "^x: it answers what no registry", list, answers.whole_dump(pieces, "x"))
 
     def test_cut(self):
         for text in [b"", OBJECT, OBJECT + b"% end 2\n", OBJECT + b"% end 1", OBJECT[:-1] + b"% end 1\n", b"<html>............\n"]:
             self.assertRaises(Failure, list, answers.whole_dump([text], "x"))
+
+    def test_endless_object(self):
+        """An object that does not end is not kept for ever; one is as long as the longest that a registry prints."""
+        longest = b"a:x\n" + b"".join(b" " * 16 + b"x\n" for _ in range(65_536 // 3 - 2)) + b"\n"
+        for size in 3, 1 << 16:
+            text = OBJECT.replace(b"\n\n", b"\n" + longest) * 2 + b"% end 2\n"
+            pieces = [text[place:place + size] for place in range(0, len(text), size)]
+            self.assertEqual(b"".join(answers.whole_dump(pieces, "x")), text)
+            endless = (piece for piece in [OBJECT[:-1], *[b"remarks:        x\n" * 4_096] * 1_000])
+            self.assertRaisesRegex(Failure, "^x: it answers what no registry", list, answers.whole_dump(endless, "x"))
 
 
 if __name__ == "__main__":

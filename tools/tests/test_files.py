@@ -1,8 +1,10 @@
 """Files put in place, folders held, dumps made loadable, and maps drawn."""
 import os
+import shutil
 import tempfile
 import unittest
 from pathlib import Path
+from unittest import mock
 
 from irr import files, hashes, hilbert, rpsl, scratch
 from irr.errors import Failure
@@ -38,6 +40,23 @@ class Files(unittest.TestCase):
         (self.folder / "taken").mkdir()
         self.assertRaises(Failure, files.put, self.folder / "taken", b"x")
 
+    def test_put_in_place_of_no_file(self):
+        pipe, link = self.folder / "pipe", self.folder / "link"
+        os.mkfifo(pipe)
+        link.symlink_to(pipe)
+        for path in pipe, link, self.folder:
+            with self.assertRaisesRegex(Failure, "not a file that can be replaced; give"):
+                files.put(path, b"x")
+        # Where it is a link to a file it is not replaced either.
+        self.assertRaises(Failure, files.put, "/dev/stdout", b"x")
+        self.assertEqual(sorted(os.listdir(self.folder)), ["link", "pipe"])
+        self.assertTrue(pipe.is_fifo() and link.is_symlink())
+
+    def test_put_nowhere(self):
+        with self.assertRaisesRegex(Failure, "^the name of the file to write is empty; give its path$") as raised:
+            files.put("", b"x")
+        self.assertEqual(raised.exception.status, 2)
+
     def test_locked(self):
         with files.locked(self.folder):
             with self.assertRaises(Failure), files.locked(self.folder):
@@ -67,6 +86,19 @@ class Loadable(unittest.TestCase):
         made = b"".join(scratch.loadable([text]))
         self.assertLess(len(made), rpsl.LARGEST)
         self.assertEqual(rpsl.read(made.removesuffix(b"\n")).text(), text.replace(b"# filtered", b"x").removesuffix(b"\n"))
+
+
+class Programs(unittest.TestCase):
+    def test_folder(self):
+        with mock.patch.dict(os.environ, {"IRRDESK": "/usr"}):
+            self.assertRaisesRegex(Failure, "^/usr: it is a folder; give the program's path by IRRDESK$", scratch.find_program)
+
+    def test_no_report(self):
+        """Of a program that is not irrdesk, which says nothing or something else."""
+        for name in "true", "echo":
+            program = shutil.which(name)
+            with mock.patch.dict(os.environ, {"IRRDESK": program}), scratch.Scratch("TEST") as registry:
+                self.assertRaisesRegex(Failure, f"^{program}: the program answers no report; give .* IRRDESK$", registry.submit, b"mntner: A\n")
 
 
 class Hashes(unittest.TestCase):

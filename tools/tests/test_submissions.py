@@ -3,10 +3,12 @@ import io
 import os
 import tempfile
 import unittest
+from types import SimpleNamespace
 
 from irr import rpsl, submissions
+from irr.commands import submit
 from irr.errors import Failure
-from irr.server import TooLarge
+from irr.server import SENT, Lost, TooLarge
 from irr.submissions import Item, Sender, Source
 
 
@@ -113,6 +115,33 @@ class Parts(unittest.TestCase):
         self.assertEqual(seen, [b"a\n\nb\n", "1 -: refused E01", "more", "2 -: refused E02",
                                 b"c\n\nd\n", "3 -: refused E01", "more", "4 -: refused E02"])
         self.assertEqual((sender.end, sender.count), ("", 4))
+
+    def test_lost_in_the_middle(self):
+        """What was decided before is told, and that the rest may be registered."""
+        registry = Registry()
+
+        def post(text):
+            if registry.parts:
+                raise Lost("the server", "the connection was cut off; the text was sent")
+            return registry.post(text)
+        printer = SimpleNamespace(show=lambda reported: None)
+        for part, words in [(1, "the server: after 1 item: the connection was cut off; the text was sent"),
+                            (1 << 20, "the server: the connection was cut off; the text was sent")]:
+            with self.assertRaises(Failure) as raised:
+                submit.send(Sender(post, part), items_of(b"mntner: A\n\nmntner: B\n"), printer)
+            self.assertEqual(str(raised.exception), words)
+
+    def test_unprinted(self):
+        """A report that can't be printed is of a text that was sent."""
+        def full(_):
+            raise OSError(28, "No space left on device")
+        for printer in SimpleNamespace(show=full), SimpleNamespace(show=lambda _: None, end=full):
+            with self.assertRaises(OSError) as raised:
+                submit.send(Sender(Registry().post), items_of(b"mntner: A\n"), printer)
+            self.assertEqual(raised.exception.__notes__, [SENT])
+        with self.assertRaises(OSError) as raised:
+            submit.send(Sender(Registry().post), [], printer)
+        self.assertFalse(hasattr(raised.exception, "__notes__"))
 
     def test_read_fault(self):
         def broken():

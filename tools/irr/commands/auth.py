@@ -26,16 +26,14 @@ def arguments(parser: argparse.ArgumentParser) -> None:
 
 def run(options: argparse.Namespace) -> int:
     mntner = None
+    if options.source is not None and keys.read_source(options.source) is None:
+        raise Failure("--source", f"{options.source} is not a registry's name; write letters, digits, - and _, such as EXAMPLE", ARGUMENTS)
     if options.name:
-        name = keys.read_maintainer(options.name)
-        if name is None:
-            raise Failure(options.name, "this is not a maintainer's name; give one of letters, digits, - and _, such as EXAMPLE-MNT",
-                          ARGUMENTS)
-        mntner = name, options.source or registered_source(options)
+        mntner = keys.need_maintainer(options.name), keys.read_source(options.source or registered_source(options))
     password = asking.ask_twice("new password") if options.ask else hashes.new_password()
     item = submissions.password_item(password, "new password")
     secret = submissions.secret_of(item.passwords()[0])
-    if options.save:
+    if options.save is not None:
         save(options.save, item.block.text + b"\n")
     elif not options.ask:
         show(password)

@@ -7,7 +7,7 @@ import tempfile
 import time
 from pathlib import Path
 
-from irr import files, stores, texts
+from irr import files, keys, stores, texts
 from irr.errors import ARGUMENTS, DATABASE, DONE, Failure
 from irr.stores import Copy, Settings
 
@@ -24,8 +24,8 @@ NAME = re.compile("[0-9]{8}T[0-9]{6}Z")
 
 def arguments(parser: argparse.ArgumentParser) -> None:
     parser.add_argument("--settings", metavar="FILE", default=stores.DEFAULT, help=f"those of the registry; {stores.DEFAULT} otherwise")
-    parser.add_argument("--keep", metavar="COUNT", type=int, default=7, help="how many backups are kept, 7 otherwise")
-    parser.add_argument("--hold", metavar="SECONDS", type=float, default=30,
+    parser.add_argument("--keep", metavar="COUNT", type=keys.number, default=7, help="how many backups are kept, 7 otherwise")
+    parser.add_argument("--hold", metavar="SECONDS", type=keys.decimal, default=30,
                         help="how long a server may be held still while its database is copied, 30 otherwise")
     parser.add_argument("--copy", metavar="FILE", help="take this database and the log beside it, of a snapshot of the file system")
     parser.add_argument("folder", metavar="FOLDER", help="where the backups are kept, each in a folder named after its time")

@@ -3,7 +3,7 @@ import argparse
 import io
 import time
 
-from irr import connecting, irrd, peers, server, texts
+from irr import answers, connecting, irrd, peers, server, texts
 from irr.errors import DONE, REFUSED, UNREAD, Failure
 
 EXAMPLES = """
@@ -62,6 +62,9 @@ def answer(answerer: irrd.Answerer, line: bytes) -> bytes:
             return answerer.reply(line[1:].decode("latin-1"))
     except Failure as failure:
         texts.note(f"irr bgpq: {failure}")
+        if isinstance(failure, answers.Strange):
+            return irrd.fault(irrd.STRANGE)
     except UNREAD as error:
-        texts.note(f"irr bgpq: the question or its answer can't be read ({type(error).__name__})")
+        question = line.decode("latin-1")
+        texts.note(f"irr bgpq: {question}: the question, or what {answerer.place.url} answers, can't be read ({type(error).__name__})")
     return irrd.fault(irrd.TRIED_LATER)

@@ -1,5 +1,6 @@
 """`irr delegate MNT OBJECT..`: the text that hands address space and AS numbers over to a maintainer."""
 import argparse
+import os
 import secrets
 from typing import NamedTuple
 
@@ -38,14 +39,13 @@ def arguments(parser: argparse.ArgumentParser) -> None:
 def run(options: argparse.Namespace) -> int:
     place = server.Server.from_options(options.server, options.plain)
     wanted = list(dict.fromkeys(read_object(text) for text in options.objects))
-    name = keys.read_maintainer(options.name)
-    if name is None:
-        raise Failure(options.name, "this is not a maintainer's name; correct it", ARGUMENTS)
+    name = keys.need_maintainer(options.name)
     reasons = Reasons(place)
+    holder = keys.need_maintainer(options.holder) if options.holder is not None else None
     check_maintainer(reasons, name, options)
     source = source_of(reasons.ask(f"object mntner {name}"))
-    objects = [look(reasons, key, name, options.holder) for key in wanted]
-    objects += routes(reasons, objects, name, options.holder)
+    objects = [look(reasons, key, name, holder) for key in wanted]
+    objects += routes(reasons, objects, name, holder)
     paragraphs = [made for thing in objects for made in first_steps(thing, source)]
     paragraphs += [made for thing in objects for made in last_steps(thing, name, source)]
     notes = [note for thing in objects for note in inside(reasons, thing, name)]
@@ -81,7 +81,7 @@ def check_maintainer(reasons: Reasons, name: str, options: argparse.Namespace) -
         word = f"irr-{secrets.token_hex(4)}"
         raise Failure(name, f"anybody may have taken this name; ask the party to add `remarks: {word}` to the mntner, and call again with "
                       f"--word {word}, or with --known if you know whose it is", ARGUMENTS)
-    if not any(options.word.encode() in value.split() for value in found[0].values(b"remarks")):
+    if not any(os.fsencode(options.word) in value.split() for value in found[0].values(b"remarks")):
         raise Failure(name, f"the mntner has no `remarks: {options.word}`; it may be somebody else's: ask the party again", ARGUMENTS)
 
 
@@ -90,14 +90,14 @@ def look(reasons: Reasons, key: Key, name: str, holder: str | None) -> Wanted:
     registered = next(iter(reasons.ask(key.query())), None)
     if registered:
         names = holders.by(registered)
-        if name not in names and holder and holder.upper() not in names:
+        if name not in names and holder and holder not in names:
             raise Failure(name_of(key), f"it is held by {', '.join(names)}; they hand it over themselves", ARGUMENTS)
         return Wanted(key, registered, name if name in names else names[0])
     cover = covering(reasons, key)
     names = holders.lower(cover)
-    if holder and holder.upper() not in names:
+    if holder and holder not in names:
         raise Failure(name_of(key), f"{name_of(keys.key_of(cover) or key)} covers it, and only {', '.join(names)} may add it", ARGUMENTS)
-    return Wanted(key, None, holder.upper() if holder else names[0])
+    return Wanted(key, None, holder or names[0])
 
 
 def covering(reasons: Reasons, key: Key) -> Paragraph:

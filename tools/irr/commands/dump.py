@@ -1,7 +1,7 @@
 """`irr dump`: the public dump."""
 import argparse
 
-from irr import answers, files, rpsl, server, texts
+from irr import answers, files, server, texts
 from irr.errors import DONE
 
 EXAMPLES = """
@@ -20,10 +20,11 @@ def arguments(parser: argparse.ArgumentParser) -> None:
 
 
 def run(options: argparse.Namespace) -> int:
-    pieces = server.Server.from_options(options.server, options.plain).dump()
+    place = server.Server.from_options(options.server, options.plain)
+    pieces = place.dump()
     if options.json:
-        pieces = (answers.json_text(paragraph).encode() + b"\n" for paragraph in rpsl.paragraphs(pieces))
-    if options.output:
+        pieces = (answers.json_text(paragraph).encode() + b"\n" for _, paragraph in answers.dumped(pieces, place.url))
+    if options.output is not None:
         files.put(options.output, pieces)
     else:
         texts.put_all(pieces)

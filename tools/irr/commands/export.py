@@ -5,7 +5,7 @@ import gzip
 from pathlib import Path
 from typing import BinaryIO
 
-from irr import files, keys, rpsl, server, texts
+from irr import answers, files, keys, server, texts
 from irr.errors import DONE
 
 EXAMPLES = """
@@ -20,19 +20,18 @@ def arguments(parser: argparse.ArgumentParser) -> None:
 
 
 def run(options: argparse.Namespace) -> int:
-    pieces = server.Server.from_options(options.server, options.plain).dump()
+    place = server.Server.from_options(options.server, options.plain)
     folder = files.folder(options.folder)
     counts = dict.fromkeys(keys.CLASSES, 0)
     with files.locked(folder), contextlib.ExitStack() as put:
         # All are put in place after the last piece, if the dump is whole.
         outs: dict[str, gzip.GzipFile] = {}
-        for block in rpsl.blocks(pieces):
+        for key, paragraph in answers.dumped(place.dump(), place.url):
             if not outs:
-                source = rpsl.read_any(block.text).value(b"source").decode("latin-1").lower()
+                source = keys.as_text(paragraph.value(b"source")).lower()
                 outs = {kind: opened(put, folder / f"{source}.db.{kind}.gz") for kind in keys.CLASSES}
-            kind = block.text.partition(b":")[0].decode("latin-1")
-            outs[kind].write(block.text + b"\n")
-            counts[kind] += 1
+            outs[key.kind].write(paragraph.text() + b"\n")
+            counts[key.kind] += 1
     texts.note("; ".join(f"{kind} {count:,}" for kind, count in counts.items()))
     return DONE
 

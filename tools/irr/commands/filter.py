@@ -68,9 +68,10 @@ def read_words(options: argparse.Namespace) -> int:
         raise Failure(options.name, "this is not the name of a filter; write capital letters, digits and _, such as CUSTOMERS", ARGUMENTS)
     if keys.read_as(options.set) is None and keys.read_set(options.set) is None:
         raise Failure(options.set, "this is not a set or an AS number; write it as AS64496:AS-CUSTOMERS or AS64496", ARGUMENTS)
-    if not options.widest.isdecimal() or int(options.widest) > 32:
+    widest = keys.read_number(options.widest, 0, 32)
+    if widest is None:
         raise Failure(options.widest, "this is not a length; write a number from 0 to 32 after --widest", ARGUMENTS)
-    return int(options.widest)
+    return widest
 
 
 def ranges(place: server.Server, name: str, without_missing: bool) -> list[Range]:
@@ -83,7 +84,7 @@ def ranges(place: server.Server, name: str, without_missing: bool) -> list[Range
         lines = expansion.lines if without_missing else expansion.whole(name)
         if expansion.missing and without_missing:
             texts.note(f"irr filter: {name}: made without sets that are not registered: {sets.listed(expansion.missing)}")
-        found = sets.ranges(lines, place.url)
+        found = sets.ranges(lines)
     if not found:
         what = "no route has this origin" if number is not None else "the set has no prefixes"
         raise Failure(name, f"{what}; an empty filter is not made", REFUSED)

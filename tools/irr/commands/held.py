@@ -2,7 +2,7 @@
 import argparse
 from typing import Iterable, Iterator, NamedTuple
 
-from irr import holders, keys, rpsl, server, texts
+from irr import answers, holders, keys, server, texts
 from irr.errors import ARGUMENTS, DONE, REFUSED, Failure
 from irr.keys import Prefix
 from irr.reasons import name_of, span_of
@@ -43,13 +43,8 @@ def run(options: argparse.Namespace) -> int:
     prefix = keys.read_prefix(options.prefix)
     if prefix is None:
         raise Failure(options.prefix, "this is not a prefix; write four numbers and a length, such as 192.0.2.0/24", ARGUMENTS)
-    names = []
-    for text in options.names:
-        name = keys.read_maintainer(text)
-        if name is None:
-            raise Failure(text, "this is not a maintainer's name; correct it", ARGUMENTS)
-        names.append(name)
-    seen = look(place.dump(), prefix, names)
+    names = list(map(keys.need_maintainer, options.names))
+    seen = look(place.dump(), prefix, names, place.url)
     findings = list(find(seen, prefix, names))
     holes = [finding for finding in findings if finding.is_hole]
     for finding in [*holes, *(finding for finding in findings if not finding.is_hole)]:
@@ -62,18 +57,14 @@ def run(options: argparse.Namespace) -> int:
     return REFUSED if holes else DONE
 
 
-def look(dump: Iterable[bytes], prefix: Prefix, names: list[str]) -> Seen:
+def look(dump: Iterable[bytes], prefix: Prefix, names: list[str], place: str) -> Seen:
     """One pass over the public dump, which is of one moment."""
     seen = Seen({}, [], [], [], set(), "")
     ours: set[str] = set()
-    for block in rpsl.blocks(dump):
-        kind = block.text.partition(b":")[0].decode("latin-1")
-        paragraph = rpsl.read_any(block.text)
+    for key, paragraph in answers.dumped(dump, place):
+        kind = key.kind
         if not seen.source:
-            seen = seen._replace(source=paragraph.value(b"source").decode("latin-1"))
-        key = keys.key_of(paragraph)
-        if key is None:
-            continue
+            seen = seen._replace(source=keys.as_text(paragraph.value(b"source")))
         if kind == "mntner" and key.text in names:
             seen.mntners[key.text] = paragraph
         elif kind == "aut-num" and set(holders.by(paragraph)) & set(names):

@@ -6,7 +6,7 @@ import time
 from pathlib import Path
 from typing import Iterable, Iterator
 
-from irr import answers, files, rpsl, scratch, server, texts
+from irr import answers, files, keys, rpsl, scratch, server, texts
 from irr.errors import ARGUMENTS, DONE, REFUSED, Failure
 from irr.past import Repository, note_of_age, read_key, read_time, shown_time, told
 
@@ -26,12 +26,14 @@ seen. Nor is who changed what: the log of the proxy in front of /submissions has
 def arguments(parser: argparse.ArgumentParser) -> None:
     server.add_options(parser)
     parser.add_argument("--folder", metavar="FOLDER", help="that of `show` and `at`")
-    parser.add_argument("--limit", metavar="COUNT", type=int, default=10_000,
+    parser.add_argument("--limit", metavar="COUNT", type=keys.number, default=10_000,
                         help="for `at`: `limit` of the registry's settings, 10000 otherwise")
     parser.add_argument("words", nargs="+", metavar="WORD", help="FOLDER, `show` and a key, or `at`, a time and a query")
 
 
 def run(options: argparse.Namespace) -> int:
+    if not 1 <= options.limit <= 1_000_000:
+        raise Failure("--limit", "it takes a number from 1 to 1000000; correct it", ARGUMENTS)
     first, *rest = options.words
     if first in ("show", "at"):
         repository = Repository(Path(options.folder or os.environ.get("IRR_HISTORY") or DEFAULT))
@@ -55,7 +57,7 @@ def record(place: Path, source: server.Server) -> int:
         files.put(dump, source.dump())
         try:
             with open(dump, "rb") as file:
-                counts = Repository(place).record(rpsl.blocks(digested(rpsl.chunks(file), digest)), digest.hexdigest, now)
+                counts = Repository(place).record(rpsl.blocks(digested(rpsl.chunks(file), digest)), digest.hexdigest, now, source.url)
         finally:
             dump.unlink()
     if counts:
@@ -88,19 +90,17 @@ def answer_at(repository: Repository, when: str, words: list[str], limit: int) -
         raise Failure(when, f"{began}; ask for a later time", ARGUMENTS)
     objects = repository.objects(state)
     first = next(objects)
-    source = rpsl.read_any(first[:-1]).value(b"source").decode("latin-1")
+    source = answers.source_of(first[:-1], str(repository.folder))
 
     def pieces() -> Iterator[bytes]:
         yield first
         yield from objects
     with scratch.Scratch(source, limit=limit) as then:
-        loadable = then.folder / "then.rpsl"
-        files.put(loadable, scratch.loadable(pieces()), files.PRIVATE)
-        then.load(loadable)
+        then.load(then.put("then.rpsl", scratch.loadable(pieces())), f"{repository.folder} at {when}")
         if hashlib.sha256(then.dump()).hexdigest() != state.dump:
             raise Failure(str(repository.folder), f"commit {state.commit} does not give the dump that it was made of; the repository was "
                           "changed, or irrdesk is another one")
-        answer = answers.Answer(then.query(*words), when)
+        answer = answers.Answer(then.query(*words), os.fsencode(" ".join(words)), when)
     note_of_age(repository, asked)
     texts.put(answer.text)
     if answer.error:

@@ -42,9 +42,7 @@ def arguments(parser: argparse.ArgumentParser) -> None:
 
 
 def run(options: argparse.Namespace) -> int:
-    root, source = keys.read_maintainer(options.root), keys.NAME.fullmatch(options.source)
-    if root is None:
-        raise Failure(options.root, "this is not a maintainer's name; correct --root", ARGUMENTS)
+    root, source = keys.need_maintainer(options.root), keys.read_source(options.source)
     if source is None:
         raise Failure(options.source, "this is not a name; correct --source", ARGUMENTS)
     if options.files.count("-") > 1:
@@ -54,12 +52,12 @@ def run(options: argparse.Namespace) -> int:
         raise Failure("--auth", "the root maintainer has no line; give one, as `irr auth` makes it", ARGUMENTS)
     with contextlib.ExitStack() as stack:
         tally = Tally(stack.enter_context(files.written(options.left_out)) if options.left_out else None)
-        made = importing.Import(Mender(options.source.upper(), root, frozenset(options.off)), auths, tally)
+        made = importing.Import(Mender(source, root, frozenset(options.off)), auths, tally)
         stack.callback(made.spool.close)
         made.read(options.files)
         if options.check:
             checked(made, options, root, auths[root][0])
-        elif options.output:
+        elif options.output is not None:
             with files.written(options.output, files.PRIVATE) as out:
                 made.write(out)
         else:
@@ -69,7 +67,7 @@ def run(options: argparse.Namespace) -> int:
         if options.renamed:
             files.put(options.renamed, (f"{old}\t{new}\n".encode("latin-1") for old, new in sorted(tally.renamed.items())))
     for line in [*tally.lines(), *notes(made, root)]:
-        print(texts.shown_line(line), file=sys.stderr)
+        texts.note(line)
     return DONE
 
 
@@ -97,8 +95,7 @@ def unfolded(given: Iterable[str]) -> Iterator[str]:
         if not words.startswith("@"):
             yield words
             continue
-        with files.opened(words[1:]) as source:
-            lines = source.read().decode("latin-1").split("\n")
+        lines = files.read(words[1:]).decode("latin-1").split("\n")
         yield from (line.strip() for line in lines if line.strip() and not line.startswith("#"))
 
 
@@ -110,7 +107,7 @@ def checked(made: importing.Import, options: argparse.Namespace, root: str, auth
             made.write(out)
         checking.check(path, options.source, root, auth.decode(), made.tally.taken + made.tally.made)
         with open(path, "rb") as whole:
-            if options.output:
+            if options.output is not None:
                 with files.written(options.output, files.PRIVATE) as out:
                     shutil.copyfileobj(whole, out)
             else:

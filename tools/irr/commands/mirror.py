@@ -3,7 +3,7 @@ import argparse
 import os
 import time
 
-from irr import files, readers, scratch, server, texts
+from irr import files, keys, readers, scratch, server, texts
 from irr.errors import ARGUMENTS, Failure
 
 EXAMPLES = """
@@ -19,13 +19,13 @@ port is a server: see examples/haproxy.cfg.
 
 def arguments(parser: argparse.ArgumentParser) -> None:
     server.add_options(parser)
-    parser.add_argument("--port", metavar="PORT", type=int, action="append", help="a port of 127.0.0.1 that a reader serves, 4345 "
+    parser.add_argument("--port", metavar="PORT", type=keys.number, action="append", help="a port of 127.0.0.1 that a reader serves, 4345 "
                         "otherwise; several of these options are several readers")
-    parser.add_argument("--every", metavar="SECONDS", type=float, default=60, help="when the dump is fetched again, after 60 otherwise")
-    parser.add_argument("--limit", metavar="COUNT", type=int, default=10_000, help="`limit` of the registry's settings, 10000 otherwise")
-    parser.add_argument("--pause", metavar="SECONDS", type=float, default=12, help="how long after one reader answers again the next one "
+    parser.add_argument("--every", metavar="SECONDS", type=keys.decimal, default=60, help="when the dump is fetched again, after 60 otherwise")
+    parser.add_argument("--limit", metavar="COUNT", type=keys.number, default=10_000, help="`limit` of the registry's settings, 10000 otherwise")
+    parser.add_argument("--pause", metavar="SECONDS", type=keys.decimal, default=12, help="how long after one reader answers again the next one "
                         "is ended, 12 otherwise: until a proxy has seen it")
-    parser.add_argument("--agent", metavar="PORT", type=int, help="the port of 127.0.0.1 at which HAProxy asks which readers end soon")
+    parser.add_argument("--agent", metavar="PORT", type=keys.number, help="the port of 127.0.0.1 at which HAProxy asks which readers end soon")
     parser.add_argument("folder", metavar="FOLDER", help="where the readers' databases are kept")
 
 
@@ -33,7 +33,7 @@ def run(options: argparse.Namespace) -> int:
     ports = options.port or [4345]
     if not all(0 < port < 65_536 for port in [*ports, options.agent or 1]) or len({*ports, options.agent}) != len(ports) + 1:
         raise Failure("", "the ports are not from 1 to 65535, each another one; correct them", ARGUMENTS)
-    if options.every < 1 or not 0 <= options.pause <= 3_600 or not 1 <= options.limit <= 1_000_000:
+    if not 1 <= options.every <= 1e9 or not 0 <= options.pause <= 3_600 or not 1 <= options.limit <= 1_000_000:
         raise Failure("", "--every takes seconds from 1, --pause from 0, and --limit a number from 1 to 1000000; correct them", ARGUMENTS)
     place = server.Server.from_options(options.server, options.plain)
     scratch.find_program()

@@ -31,9 +31,7 @@ def arguments(parser: argparse.ArgumentParser) -> None:
 
 
 def run(options: argparse.Namespace) -> int:
-    name = keys.read_maintainer(options.name)
-    if name is None:
-        raise Failure(options.name, "this is not a maintainer's name; correct it", ARGUMENTS)
+    name = keys.need_maintainer(options.name)
     os.umask(0o077)
     settings = Settings.read(options.settings)
     if not settings.store.exists():
@@ -78,7 +76,7 @@ def new_auth(options: argparse.Namespace) -> bytes:
         return value.encode("ascii")
     password = asking.ask_twice("new password") if options.ask else hashes.new_password()
     item = submissions.password_item(password, "new password")
-    if options.save:
+    if options.save is not None:
         auths.save(options.save, item.block.text + b"\n")
     elif not options.ask:
         auths.show(password)

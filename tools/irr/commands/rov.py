@@ -5,8 +5,8 @@ import json
 import time
 from typing import Iterable, NamedTuple
 
-from irr import files, keys, rpsl, server, texts
-from irr.errors import DONE, REFUSED, Failure
+from irr import answers, files, keys, server, texts
+from irr.errors import DONE, REFUSED, Failure, Unreadable
 from irr.keys import Prefix
 
 EXAMPLES = """
@@ -16,6 +16,9 @@ irr rov --invalid vrps.json                  only the routes that networks drop
 """
 # Hours after which a file of ROAs says too little of today.
 OLD = 24
+# Seconds by which the clock of another machine may be ahead.
+AHEAD = 300
+MADE = "make it by `rpki-client -j` or `routinator vrps --format json`"
 
 
 class Roa(NamedTuple):
@@ -36,32 +39,31 @@ def arguments(parser: argparse.ArgumentParser) -> None:
 
 def run(options: argparse.Namespace) -> int:
     place = server.Server.from_options(options.server, options.plain)
-    with files.opened(options.file) as opened:
-        roas = read_roas(opened.read(), options.file)
+    name = files.name_of(options.file)
+    roas = read_roas(files.read(options.file), name)
     table: dict[Prefix, list[Roa]] = {}
     for roa in roas:
         table.setdefault(roa.prefix, []).append(roa)
     counts = {"valid": 0, "invalid": 0, "not found": 0}
     # Whether the dump was whole is known at its end, and nothing is said before.
     lines = []
-    for prefix, number in routes(place.dump()):
+    for prefix, number in routes(place.dump(), place.url):
         state, why = judged(prefix, number, table)
         counts[state] += 1
         if state == "invalid" or state == "not found" and not options.invalid:
             lines.append(f"{state}: {prefix.text()} AS{number}{why}")
     print(*lines, sep="\n", end="\n" if lines else "")
-    texts.note(f"irr rov: {texts.counted(sum(counts.values()), 'route')}, {len(roas):,} of IPv4 in {options.file}: "
+    texts.note(f"irr rov: {texts.counted(sum(counts.values()), 'route')}, {len(roas):,} of IPv4 in {name}: "
                + ", ".join(f"{count:,} {state}" for state, count in counts.items()))
     return REFUSED if counts["invalid"] else DONE
 
 
-def routes(pieces: Iterable[bytes]) -> Iterable[tuple[Prefix, int]]:
+def routes(pieces: Iterable[bytes], place: str) -> Iterable[tuple[Prefix, int]]:
     """The prefix and the origin of each route of a dump."""
-    for block in rpsl.blocks(pieces):
-        if block.text.startswith(b"route:"):
-            key = keys.key_of(rpsl.read_any(block.text))
-            prefix, _, origin = (key.text if key else "").partition(" ")
-            yield keys.read_prefix(prefix) or Prefix(0, 0), keys.read_as(origin) or 0
+    for key, _ in answers.dumped(pieces, place):
+        if key.kind == "route":
+            prefix, origin = key.text.split(" ")
+            yield keys.read_prefix(prefix), keys.read_as(origin)  # type: ignore[misc]
 
 
 def judged(prefix: Prefix, number: int, table: dict[Prefix, list[Roa]]) -> tuple[str, str]:
@@ -81,37 +83,84 @@ def judged(prefix: Prefix, number: int, table: dict[Prefix, list[Roa]]) -> tuple
 def read_roas(text: bytes, place: str) -> set[Roa]:
     """The ROAs of IPv4 in a file of either program."""
     try:
-        read = json.loads(text)
-        listed = read["roas"]
-        found = {roa for entry in listed if (roa := read_roa(entry))}
-    except (ValueError, KeyError, TypeError, AttributeError, RecursionError) as error:
-        raise Failure(place, f"this is not JSON of validated ROAs ({texts.shown_line(str(error))[:80]}); make it by `rpki-client -j` or "
-                      "`routinator vrps --format json`") from None
-    if not listed:
-        raise Failure(place, "it has no ROAs: each route would be without one; make it anew")
-    made = made_at(read.get("metadata"))
-    if made is None or time.time() - made > OLD * 3_600:
-        texts.note(f"irr rov: {place}: " + (f"it is older than {OLD} hours" if made else "it does not say when it was made")
-                   + "; make it anew")
+        read = json.loads(text, object_pairs_hook=once)
+    except Unreadable as fault:
+        raise Failure(place, f"{fault}; {MADE}") from None
+    except (ValueError, RecursionError) as error:
+        raise Failure(place, f"this is not JSON ({texts.shown_line(str(error))[:80]}); {MADE}") from None
+    listed = read.get("roas") if isinstance(read, dict) else None
+    if not isinstance(listed, list):
+        raise Failure(place, f"it has no list `roas`; {MADE}")
+    found = set()
+    for number, entry in enumerate(listed, 1):
+        try:
+            if roa := read_roa(entry):
+                found.add(roa)
+        except Unreadable as fault:
+            raise Failure(place, f"element {number:,} of `roas`: {fault}; {MADE}") from None
+    if not found:
+        raise Failure(place, "it has no ROA for IPv4: each route would be without one; make it anew")
+    if words := doubts(made_at(read.get("metadata"))):
+        texts.note(f"irr rov: {place}: {words}; make it anew")
     return found
 
 
-def read_roa(entry: dict) -> Roa | None:
-    """An entry of the list; None for one of IPv6. Other faults are those that Python raises."""
-    if ":" in entry["prefix"]:
+def doubts(made: int | None) -> str:
+    """What is wrong with the time at which a file was made, if anything is."""
+    if made is None:
+        return "it does not say when it was made"
+    age = int(time.time()) - made
+    return f"it is older than {OLD} hours" if age > OLD * 3_600 else "it was made in the future" if age < -AHEAD else ""
+
+
+def once(pairs: list[tuple[str, object]]) -> dict[str, object]:
+    """An object of JSON, each of whose keys stands in it once: Python takes the last one, and other programs another."""
+    found = dict(pairs)
+    if len(found) < len(pairs):
+        names = [name for name, _ in pairs]
+        twice = next(name for name in names if names.count(name) > 1)
+        raise Unreadable(f"an object has {texts.shown_line(json.dumps(twice)[:60])} more than once")
+    return found
+
+
+def read_roa(entry: object) -> Roa | None:
+    """An entry of the list; None for one of IPv6."""
+    if not isinstance(entry, dict):
+        raise Unreadable("it is not an object")
+    text, most, number = entry.get("prefix"), entry.get("maxLength"), entry.get("asn")
+    if isinstance(number, str):
+        number = keys.read_as(number)
+    # To Python, `true` is a whole number too; NaN and Infinity are not, but are read.
+    if type(number) is not int or not 0 <= number <= keys.TOP:
+        raise Unreadable(f"its `asn` is {shown(entry, 'asn')}, which is not an AS number")
+    prefix = keys.read_prefix(text) if isinstance(text, str) else None
+    length = prefix.length if prefix else length_of_ipv6(text)
+    if length is None:
+        raise Unreadable(f"its `prefix` is {shown(entry, 'prefix')}, which is not a prefix")
+    if type(most) is not int or not length <= most <= (32 if prefix else 128):
+        raise Unreadable(f"its `maxLength` is {shown(entry, 'maxLength')}, which is not a length from {length} on")
+    return Roa(prefix, most, number) if prefix else None
+
+
+def length_of_ipv6(text: object) -> int | None:
+    """The length of a prefix of IPv6, of which no more is asked."""
+    import ipaddress
+    try:
+        return ipaddress.IPv6Network(text, strict=False).prefixlen if isinstance(text, str) and "/" in text else None
+    except ValueError:
         return None
-    prefix, most, number = keys.read_prefix(entry["prefix"]), int(entry["maxLength"]), entry["asn"]
-    number = number if isinstance(number, int) else keys.read_as(number)
-    if prefix is None or number is None or not prefix.length <= most <= 32 or not 0 <= number <= keys.TOP:
-        raise ValueError(f"bad entry {json.dumps(entry)}")
-    return Roa(prefix, most, number)
 
 
-def made_at(metadata: object) -> float | None:
+def shown(entry: dict, name: str) -> str:
+    """A value of an entry, on a line."""
+    return texts.shown_line(json.dumps(entry[name])[:60]) if name in entry else "not there"
+
+
+def made_at(metadata: object) -> int | None:
     """When a file was made, by what it says of itself."""
     if not isinstance(metadata, dict):
         return None
-    if isinstance(metadata.get("generated"), int):
+    if type(metadata.get("generated")) is int:
         return metadata["generated"]
     try:
         return calendar.timegm(time.strptime(metadata["buildtime"], "%Y-%m-%dT%H:%M:%SZ"))

@@ -1,10 +1,11 @@
 """`irr submit FILE..`: sends a submission, and says why items were refused; `--dry-run` only looks what would be answered."""
 import argparse
+import sys
 from itertools import chain
 from typing import Iterable
 
-from irr import asking, codes, server, submissions, texts
-from irr.errors import ARGUMENTS, DONE, FAILED, REFUSED, Failure
+from irr import asking, codes, keys, server, submissions, texts
+from irr.errors import ARGUMENTS, DONE, FAILED, REFUSED, Failure, system_words
 from irr.reasons import Reasons
 from irr.submissions import Item, Reported, Sender, Source
 
@@ -35,16 +36,18 @@ def arguments(parser: argparse.ArgumentParser) -> None:
 
 
 def run(options: argparse.Namespace) -> int:
+    names = list(map(keys.need_maintainer, options.names))
+    whose = [[name if name == "-" else keys.need_maintainer(name) for name in group.split(",")] for group in options.whose]
     place = server.Server.from_options(options.server, options.plain)
     sources = [Source(path) for path in options.files]
     if len([path for path in options.files if path == "-"]) > 1:
         raise Failure("-", "standard input can be read once; give it once", ARGUMENTS)
     if options.dry_run:
         from irr import dryrun
-        return dryrun.run(place, sources, options.names, options.whose, lambda registry: Printer(registry, options.raw))
-    if options.whose:
+        return dryrun.run(place, sources, names, whose, lambda registry: Printer(registry, options.raw))
+    if whose:
         raise Failure("--whose", "it goes with --dry-run; add that, or leave it out", ARGUMENTS)
-    front = [submissions.password_item(asking.ask(f"password of {name}: "), name) for name in options.names]
+    front = [submissions.password_item(asking.ask(f"password of {name}: "), name) for name in names]
     return send(Sender(place.submit), chain(front, *(source.items() for source in sources)), Printer(place, options.raw))
 
 
@@ -81,17 +84,22 @@ class Printer:
     def end(self, sender: Sender) -> int:
         """The last line and the status; a Failure where the report is not whole."""
         if sender.last_line():
-            print(sender.last_line(), flush=True)
+            print(sender.last_line())
+        sys.stdout.flush()
         if sender.end == "items":
             if not self.raw and self.refused > MOST_ASKED:
                 texts.note(f"irr submit: what decided was asked for the first {MOST_ASKED} refusals alone")
             return REFUSED if self.refused else DONE
-        raise Failure("the report", END_WORDS.get(sender.end.partition(" (")[0], CUT), FAILED)
+        # It may have been found ahead of a part whose report ended otherwise.
+        if sender.read_fault and sender.end == "read fault":
+            raise Failure(str(sender.read_fault.filename), f"it can't be read on: {system_words(sender.read_fault)}; {REST}", FAILED)
+        raise Failure("the report", END_WORDS.get(sender.end, CUT), FAILED)
 
 
-CUT = "it was cut off, so what came of later items is not known; send the whole text again: what is registered is `unchanged`"
+CUT = f"it was cut off, so what came of later items is not known; {server.LOOK}"
+REST = "send what comes after the last item again, with the passwords before it"
 END_WORDS = {
-    "read fault": "the text did not arrive whole; send what comes after the last item again, with the passwords before it",
+    "read fault": f"the text did not arrive whole; {REST}",
     "stopped": "the registry's database failed; tell its operator, and send the last item and the rest again later",
     "memory": "the server ran out of memory, and nothing was done; send it again later",
 }
@@ -100,11 +108,24 @@ END_WORDS = {
 def send(sender: Sender, items: Iterable[Item], printer: Printer) -> int:
     """Sends a submission and prints its report."""
     try:
+        show(sender, items, printer)
+        return printer.end(sender)
+    except OSError as error:
+        if sender.count:
+            error.add_note(server.SENT)
+        raise
+
+
+def show(sender: Sender, items: Iterable[Item], printer: Printer) -> None:
+    """Sends a submission and prints its report, but for the end."""
+    try:
         for reported in sender.send(items):
             printer.show(reported)
     except Failure as failure:
+        if isinstance(failure, server.Lost):
+            before = f"after {texts.counted(sender.count, 'item')}: " if sender.count else ""
+            raise Failure(failure.thing, before + failure.what) from None
         if sender.count:
             raise Failure(failure.thing, f"{failure.what}; {sender.count} items were decided, and later ones may be: "
                           "send the whole text again, what is registered is `unchanged`", failure.status) from None
         raise
-    return printer.end(sender)

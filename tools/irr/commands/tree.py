@@ -40,7 +40,7 @@ def run(options: argparse.Namespace) -> int:
     around = place.query(f"closest {prefix.text()}").or_failure(prefix.text()).objects()
     inside = place.query(f"more {prefix.text()}").or_failure(prefix.text()).objects()
     found = sorted({holding(paragraph) for paragraph in [*around, *inside]}, key=Holding.order)
-    if options.svg:
+    if options.svg is not None:
         from irr import files, hilbert
         files.put(options.svg, hilbert.picture(prefix, found).encode("ascii"))
         texts.note(f"irr tree: {options.svg}: {texts.counted(len(found), 'object')} below {prefix.text()}")

@@ -8,7 +8,7 @@ import io
 import socket
 from typing import BinaryIO
 
-from irr import peers
+from irr import keys, peers
 from irr.connecting import CONNECTING, PATIENCE, persistently
 from irr.errors import ARGUMENTS, DONE, REFUSED, Failure, system_words
 
@@ -30,8 +30,9 @@ def arguments(parser: argparse.ArgumentParser) -> None:
 
 
 def run(options: argparse.Namespace) -> int:
-    host, _, port = options.place.rpartition(":")
-    if not host or not port.isdecimal() or int(port) > 65_535:
+    host, _, digits = options.place.rpartition(":")
+    port = keys.read_number(digits, 0, 65_535)
+    if not host or port is None:
         raise Failure(options.place, "this is not a place; write it as HOST:PORT, such as 127.0.0.1:4343", ARGUMENTS)
     peer, failure = peers.Peer(LONGEST), None
     try:
@@ -40,7 +41,7 @@ def run(options: argparse.Namespace) -> int:
             answer: BinaryIO = io.BytesIO(b"% error 1\n")
         else:
             try:
-                answer = take_answer(line, host, int(port))
+                answer = take_answer(line, host, port)
             except Failure as found:
                 failure, answer = found, io.BytesIO(b"% " + found.what.partition(";")[0].encode() + b"\n")
         size = answer.seek(0, io.SEEK_END)

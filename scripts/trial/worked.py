@@ -11,12 +11,14 @@ REPORT_CUT = "standard output: the report could not be written, so submit the wh
 # Why a writer took no more: the system's word for it, as the program tells it.
 READER_ENDED = "its reader has ended: let it read to the end"
 DISK_FULL = "the disk is full: make room"
+# Why a reader gave no more, where the system fails it.
+NOT_READ = "system error 5"
 # Why a database refused, where its file could not be read or written.
 DISK_FAILED = "the disk cannot be read or written: look at its health, and keep a copy of the database"
 STORE_FAILED = f"the database failed, so submit the whole text again: {DISK_FAILED}"
 STORE_FULL = f"the database failed, so submit the whole text again: {DISK_FULL}"
 SERVED_IN_VAIN = "irrdesk: irr.db: the database failed, and each request is refused until the server is started again: {}\n"
-READING_CUT = "{}: the submission could not be read to its end: submit all of it again; items decided before that: {}"
+READING_CUT = "{}: the submission could not be read to its end, so submit the whole text again: {}; items decided before that: {}"
 
 
 def opened():
@@ -141,7 +143,7 @@ class Submission:
                 return check_rows(rows, self.dumps[-1])
             items = len(opened().submit(whole_part(self.text[:taken - before]))) - 1
             expect(lines_of(ran), numbered(self.words)[:items] + [f"% read fault after {items} items"], "the report")
-            expect((ran.status, ran.said.decode()), (5, f"irrdesk: {READING_CUT.format(name, items)}\n"), "how it ended")
+            expect((ran.status, ran.said.decode()), (5, f"irrdesk: {READING_CUT.format(name, NOT_READ, items)}\n"), "how it ended")
             return check_rows(rows, self.dumps[items])
         return check
 

@@ -7,7 +7,7 @@ use Rattle.std.specs.FinMap.{values}
 use Rattle.rr_auth.specs.Registries.{Reg}
 use Rattle.rr_io.specs.Told.{Told}
 use Rattle.rr_io.specs.Sending.{Takes}
-use Rattle.rr_io.proofs.Transfers.{Takes-then, TakesFront-more, TakesFront-then, flat_map-next}
+use Rattle.rr_io.proofs.Transfers.{Takes-then, TakesPrefix-more, TakesPrefix-then, flat_map-next}
 use Rattle.rr_text.specs.CanonicalText.{ended}
 use Rattle.rr_object.specs.Objects.{Obj}
 use Rattle.rr_sets.specs.Lists.{lent}
@@ -16,32 +16,32 @@ use Rattle.rr_answer.specs.declared.dumping.DumpFault.TheVariants.{Write, Memory
 use Rattle.rr_answer.specs.Dumps.{IsCut, dump, dumped, end_line}
 use Rattle.rr_answer.proofs.Lists.{texts_lent}
 
-part_whole : (xs ys zs front rest : List ℕ) → ys ≡ front ++ rest → xs ++ (ys ++ zs) ≡ (xs ++ front) ++ (rest ++ zs)
-part_whole xs ys zs front rest e =
-    ap (λ l. xs ++ (l ++ zs)) e ∙ ap (λ l. xs ++ l) (append_assoc front rest zs) ∙ sym (append_assoc xs front (rest ++ zs))
+part_whole : (xs ys zs prefix rest : List ℕ) → ys ≡ prefix ++ rest → xs ++ (ys ++ zs) ≡ (xs ++ prefix) ++ (rest ++ zs)
+part_whole xs ys zs prefix rest e =
+    ap (λ l. xs ++ (l ++ zs)) e ∙ ap (λ l. xs ++ l) (append_assoc prefix rest zs) ∙ sym (append_assoc xs prefix (rest ++ zs))
 
 -- what was taken, and then something that was cut short, with more to come
 pub cut_between : (start middle end : Told) (xs ys zs : List ℕ) (fault : DumpFault) → Takes start middle xs → IsCut ys middle end fault
     → IsCut (xs ++ (ys ++ zs)) start end fault
-cut_between start middle end xs ys zs Write p q = TakesFront-then xs (ys ++ zs) p (TakesFront-more ys zs q)
+cut_between start middle end xs ys zs Write p q = TakesPrefix-then xs (ys ++ zs) p (TakesPrefix-more ys zs q)
 cut_between start middle end xs ys zs Memory p q = record {
-  front = xs ++ q.front;
+  prefix = xs ++ q.prefix;
   rest = q.rest ++ zs;
-  whole = part_whole xs ys zs q.front q.rest q.whole;
+  whole = part_whole xs ys zs q.prefix q.rest q.whole;
   some_left = let l : 0 < length q.rest = q.some_left in rw length-append (omega arith);
-  takes = Takes-then xs q.front p q.takes;
+  takes = Takes-then xs q.prefix p q.takes;
 }
 
 -- what was taken, and then something that was cut short
 pub cut_after : (start middle end : Told) (xs ys : List ℕ) (fault : DumpFault) → Takes start middle xs → IsCut ys middle end fault
     → IsCut (xs ++ ys) start end fault
-cut_after start middle end xs ys Write p q = TakesFront-then xs ys p q
+cut_after start middle end xs ys Write p q = TakesPrefix-then xs ys p q
 cut_after start middle end xs ys Memory p q = record {
-  front = xs ++ q.front;
+  prefix = xs ++ q.prefix;
   rest = q.rest;
-  whole = ap (λ l. xs ++ l) q.whole ∙ sym (append_assoc xs q.front q.rest);
+  whole = ap (λ l. xs ++ l) q.whole ∙ sym (append_assoc xs q.prefix q.rest);
   some_left = q.some_left;
-  takes = Takes-then xs q.front p q.takes;
+  takes = Takes-then xs q.prefix p q.takes;
 }
 
 -- a line has its end

@@ -21,7 +21,7 @@ use Rattle.rr_auth.specs.Closest.{origin_at, same_prefix}
 use Rattle.rr_auth.specs.Registries.{Reg, Sound}
 use Rattle.rr_auth.proofs.Members.{both_or_none}
 use Rattle.rr_book.specs.Listings.{addresses}
-use Rattle.rr_answer.proofs.Routes.{origin_key, same_parts}
+use Rattle.rr_answer.proofs.Routes.{same_parts}
 use Rattle.rr_answer.specs.Selections.{is_at, is_route_of}
 
 -- the key is of an inetnum or a route at exactly the span

@@ -1,22 +1,21 @@
 -- Expansions in registries that are seen alike are answered alike.
-use Rattle.std.proofs.Common.{◌≡◌, ◌↔◌, ℕ, true, false, List, inl, inr, refl, sym, ap, ◌∙◌}
-use Rattle.std.specs.Prelude.{Contains, Result, Ok, Err}
+use Rattle.std.proofs.Common.{◌≡◌, ℕ, true, false, List, inl, inr, sym, ap, ◌∙◌}
+use Rattle.std.specs.Prelude.{Result, Ok, Err}
 use Rattle.std.specs.declared.cmp.Ordering.{Ordering}
 use Rattle.std.specs.Cmp.{IsTotalOrder, nat_cmp_total}
-use Rattle.std.specs.Cmp.Lexicographic.{nat_list_cmp_total, slice_cmp}
+use Rattle.std.specs.Cmp.Lexicographic.{nat_list_cmp_total}
 use Rattle.std.specs.Ordering.{nat_cmp}
 use Rattle.std.proofs.lemmas.Map.Lookups.{CmpEqualImpliesEq, exact_bytes, exact_unsigned}
 use Rattle.rr_number.specs.Applied.{range_text}
 use Rattle.rr_number.specs.AsNumbers.{as_number_text}
 use Rattle.rr_number.specs.Ranges.{range_cmp}
-use Rattle.rr_number.specs.SetNames.{kind_of}
 use Rattle.rr_number.specs.declared.set_kind.SetKind.{SetKind}
 use Rattle.rr_number.specs.declared.set_kind.SetKind.TheVariants as kinds
 use Rattle.rr_number.proofs.NumberOrders.{ranges_ordered}
 use Rattle.rr_auth.specs.Registries.{Reg}
 use Rattle.rr_answer.specs.declared.fault.QueryFault.{QueryFault}
 use Rattle.rr_answer.specs.Answers.{IsExpanded, IsNumberAnswer, IsRangeAnswer}
-use Rattle.rr_answer.specs.Expansions.{IsExpansion, IsListed, IsOver, IsUnknown, Meaning, as_set_at, route_set_at}
+use Rattle.rr_answer.specs.Expansions.{IsExpansion, IsListed, Meaning, as_set_at, route_set_at}
 use Rattle.rr_answer.specs.Texts.{members_text}
 use Rattle.rr_answer.proofs.Alike.{Alike, back}
 use Rattle.rr_answer.proofs.SetsAlike.{has_as_set_alike, has_set_alike, in_as_set_on, in_route_set_on, many_ranges_on, many_sets_on, missing_name_on, missing_on}

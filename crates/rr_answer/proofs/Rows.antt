@@ -5,10 +5,8 @@ use Rattle.rr_bytes.specs.Cuts.{cut_at}
 use Rattle.rr_bytes.specs.LetterCase.{is_keyword}
 use Rattle.rr_bytes.specs.NameBytes.{is_name}
 use Rattle.rr_text.specs.CanonicalText.{canonical, ended}
-use Rattle.rr_text.specs.Fields.{Field}
 use Rattle.rr_number.specs.Addresses.{address_of, joined_of}
-use Rattle.rr_number.specs.Applied.{operator_for, range_text}
-use Rattle.rr_number.specs.AsNumbers.{as_number_of, as_number_text}
+use Rattle.rr_number.specs.AsNumbers.{as_number_of}
 use Rattle.rr_number.specs.Names.{is_reserved}
 use Rattle.rr_number.specs.Numerals.{number_of}
 use Rattle.rr_number.specs.Prefixes.{masked_of, prefix_of}
@@ -18,9 +16,9 @@ use Rattle.rr_bytes.specs.Parts.{words}
 use Rattle.rr_object.specs.KeySpellings.{key_of_text}
 use Rattle.rr_object.specs.Objects.{Obj}
 use Rattle.rr_object.specs.Readings.{public_of}
-use Rattle.rr_answer.specs.declared.fault.QueryFault.TheVariants.{Bad, TooLong, Memory, Stopped}
+use Rattle.rr_answer.specs.declared.fault.QueryFault.TheVariants.{Bad, Stopped}
 use Rattle.rr_answer.specs.declared.query.Query.TheVariants.{Object, Closest, Less, Naming, Expand}
-use Rattle.rr_answer.specs.Dumps.{dumped, end_line}
+use Rattle.rr_answer.specs.Dumps.{dumped}
 use Rattle.rr_answer.specs.Faults.{error_line}
 use Rattle.rr_answer.specs.Queries.{query_of, query_of_more}
 use Rattle.rr_answer.specs.Texts.{members_text, objects_text}

@@ -8,8 +8,7 @@ use Rattle.rr_text.specs.Meanings.{value_meaning}
 use Rattle.rr_object.specs.declared.class.Class.{Class}
 use Rattle.rr_object.specs.declared.key.Key.{Key}
 use Rattle.rr_object.specs.declared.kind.Kind.{Kind}
-use Rattle.rr_object.specs.declared.kind.Kind.TheVariants.{MntBy, Source, Auth, MntLower, MntRoutes, Origin, MemberOf, Members, MbrsByRef}
-use Rattle.rr_object.specs.Auths.{auth_item}
+use Rattle.rr_object.specs.declared.kind.Kind.TheVariants.{MntBy, Auth, MntLower, MntRoutes, MemberOf, Members, MbrsByRef}
 use Rattle.rr_object.specs.Grants.{grants_of}
 use Rattle.rr_object.specs.Items.{meant, values_of}
 use Rattle.rr_object.specs.Keys.{class_of}

@@ -9,14 +9,14 @@ use Rattle.rr_number.specs.Prefixes.{PrefixParts, span_of}
 use Rattle.rr_number.specs.Spans.{Ends, covers}
 use Rattle.rr_object.specs.declared.key.Key.{Key}
 use Rattle.rr_object.specs.Objects.{Obj, object_names}
-use Rattle.rr_auth.specs.Closest.{closest_inetnum, closest_of, closest_routes, inetnum_span, is_closest, is_no_closer, prefix_of_closest, route_prefix, route_span}
+use Rattle.rr_auth.specs.Closest.{closest_of, inetnum_span, is_closest, is_no_closer, prefix_of_closest, route_prefix, route_span}
 use Rattle.rr_auth.specs.Registries.{Reg}
 use Rattle.rr_book.specs.Listings.{covers_span, lies_in}
 use Rattle.rr_answer.specs.declared.query.Query.{Query}
 use Rattle.rr_answer.specs.declared.query.Query.TheVariants.{Object, Exact, Closest, Less, More, Naming, Originated, Expand, Prefixes}
 use Rattle.rr_answer.specs.Dumps.{dump, dumped, end_line}
 use Rattle.rr_sets.specs.Lists.{is_originated}
-use Rattle.rr_answer.specs.Selections.{asked, is_at, is_route_of, routes_closest}
+use Rattle.rr_answer.specs.Selections.{asked, is_at, is_route_of}
 use Rattle.rr_answer.specs.Texts.{no_entries, objects_text, or_else, public_text}
 use Rattle.rr_answer.proofs.Alike.{Alike, same_values}
 use Rattle.rr_answer.proofs.Seen.{seen}

@@ -1,5 +1,5 @@
 -- Sets have the same members in registries that are seen alike.
-use Rattle.std.proofs.Common.{◌≡◌, ℕ, Bool, false, List, [], ◌∷◌, ◌⊎◌, inl, inr, refl, sym, ap, subst, ◌∙◌}
+use Rattle.std.proofs.Common.{◌≡◌, ℕ, List, [], ◌∷◌, inl, inr, refl, sym, ap, subst, ◌∙◌}
 use Rattle.std.specs.Prelude.{Contains, IsTrue, Option, None, Some, is_some, ◌||◌}
 use Rattle.std.specs.FinMap.{get}
 use Rattle.std.specs.Option.{option_map}
@@ -12,7 +12,6 @@ use Rattle.rr_number.specs.SetNames.{kind_of}
 use Rattle.rr_number.specs.declared.operator.Operator.{Operator}
 use Rattle.rr_number.specs.declared.set_kind.SetKind.{SetKind}
 use Rattle.rr_number.specs.declared.set_kind.SetKind.TheVariants as kinds
-use Rattle.rr_object.specs.declared.key.Key.{Key}
 use Rattle.rr_object.specs.declared.key.Key.TheVariants.{AutNum, AsSet, Route, RouteSet}
 use Rattle.rr_object.specs.declared.member.MemberSet.{MemberSet}
 use Rattle.rr_object.specs.declared.member.MemberSet.TheVariants as set
@@ -22,7 +21,7 @@ use Rattle.rr_object.specs.Objects.{Obj}
 use Rattle.rr_object.specs.Parts.{ByRefParts}
 use Rattle.rr_auth.specs.Registries.{Reg}
 use Rattle.rr_sets.specs.AsSets.{BelongsTo, InAsSet, IsAnyNumber, IsDirect, IsMissing, IsReachedSet, ListsNumber, ListsSet, has_as_set}
-use Rattle.rr_sets.specs.RouteSets.{AsSetRefers, HasRange, HasTooMany, InRouteSet, IsAnyRange, IsByReference, IsMissingName, IsOriginated, IsReachedFrom, IsRangeTaken, ListsRange, Refers, RefersAs, RouteSetRefers, has_set, registered_set}
+use Rattle.rr_sets.specs.RouteSets.{AsSetRefers, HasRange, HasTooMany, InRouteSet, IsAnyRange, IsByReference, IsMissingName, IsOriginated, IsRangeTaken, ListsRange, Refers, RefersAs, RouteSetRefers, has_set, registered_set}
 use Rattle.rr_sets.specs.SetObjects.{takes}
 use Rattle.rr_answer.proofs.Alike.{Alike, other_object}
 use Rattle.rr_answer.proofs.Seen.{seen}

@@ -1,5 +1,5 @@
 -- What edges lead to, more of them lead to as well.
-use Rattle.std.proofs.Common.{◌≡◌, ℕ, List, [], ◌∷◌, Option, inl, inr}
+use Rattle.std.proofs.Common.{ℕ, List, [], ◌∷◌, Option, inl, inr}
 use Rattle.std.proofs.lemmas.List.Elements.{All-weaker}
 use Rattle.rr_graph.specs.Carried.{IsFound, IsFoundPair, IsLabelledChain, IsNamed, IsTooMany, Leads}
 use Rattle.rr_graph.specs.Chain.{IsChain, IsReached, MoreThan}

@@ -3,7 +3,7 @@ use Rattle.std.specs.Prelude.{◌≡◌, ◌<◌, ℕ, Bool, true, false, List, 
 use Rattle.std.specs.Prelude.{decimal, length, Result, Ok, Err}
 use Rattle.std.specs.FinMap.{values}
 use Rattle.std.specs.List.{flat_map}
-use Rattle.rr_io.specs.Sending.{Takes, TakesFront}
+use Rattle.rr_io.specs.Sending.{Takes, TakesPrefix}
 use Rattle.rr_io.specs.Told.{Told}
 use Rattle.rr_text.specs.CanonicalText.{canonical, ended}
 use Rattle.rr_object.specs.Objects.{Obj}
@@ -26,17 +26,17 @@ end_line count = ended (codes "% end " ++ decimal count)
 abbrev pub dump : Bool → Reg → List ℕ
 dump full r = flat_map (dumped full) (values r) ++ end_line (length (values r))
 
--- Some front of these bytes was taken, and not all of them, and no call failed (profile).
+-- Some prefix of these bytes was taken, and not all of them, and no call failed (profile).
 pub record TakesPart (old new : Told) (bytes : List ℕ) : Type 0 where
-  pub front : List ℕ
+  pub prefix : List ℕ
   pub rest : List ℕ
-  pub whole : bytes ≡ front ++ rest
+  pub whole : bytes ≡ prefix ++ rest
   pub some_left : 0 < length rest
-  pub takes : Takes old new front
+  pub takes : Takes old new prefix
 
 -- A dump was cut short: a write failed, or memory ran out (profile).
 abbrev pub IsCut : List ℕ → Told → Told → DumpFault → Type 0
-IsCut bytes before after Write = TakesFront before after bytes
+IsCut bytes before after Write = TakesPrefix before after bytes
 IsCut bytes before after Memory = TakesPart before after bytes
 
 -- The bytes of a dump were written, or it was cut short (profile).

@@ -1,5 +1,5 @@
 -- Which objects of a registry a query asks for.
-use Rattle.std.specs.Prelude.{Bool, ◌&&◌, ℕ, List, [], filter, is_some}
+use Rattle.std.specs.Prelude.{Bool, ◌&&◌, List, [], filter, is_some}
 use Rattle.std.specs.List.{cons_option}
 use Rattle.std.specs.Option.{option_map_or}
 use Rattle.std.specs.FinMap.{get, values}

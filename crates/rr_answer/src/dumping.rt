@@ -11,7 +11,7 @@ use rr_book::Keeper;
 use rr_io::{Sink, write_all};
 use rr_object::Object;
 use rr_registry::Registry;
-use std::alloc::{AllocError, AllocFailed, Global};
+use std::alloc::{AllocError, Global};
 use std::io;
 use thiserror::Error;
 
@@ -50,8 +50,8 @@ impl From<AllocError> for DumpFault {
 
 /// Writes the objects by class and key, each with an empty line, and a last line that counts them;
 /// `full` says whether with all their text, or as they are answered (profile). It answers their
-/// number. Each object is written by itself: after a fault the writer has taken a front of these
-/// bytes, and not all of them.
+/// number. Each object is written by itself: after a fault the writer has taken the beginning of
+/// these bytes, and not all of them.
 #[tactic(auto, using(crate::proofs::Dumped::dump_has_bytes))]
 pub fn dump<B: Keeper, W: Sink>(
     alloc: Global,

@@ -1,6 +1,6 @@
 //! Expansions as they are answered.
 
-ghost use Rattle.std.specs.Prelude.{◌≡◌, ◌≢◌, Err, IfErr, IfOk, Ok};
+ghost use Rattle.std.specs.Prelude.{◌≢◌, Err, IfErr, IfOk, Ok};
 ghost use Rattle.rr_answer.specs.declared.fault.QueryFault.TheVariants.{Memory};
 ghost use Rattle.rr_answer.specs.Answers.{IsNumberAnswer, IsRangeAnswer};
 

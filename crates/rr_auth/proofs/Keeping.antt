@@ -13,12 +13,12 @@ use Rattle.rr_object.specs.declared.key.Key.TheVariants.{Mntner, AsBlock, AutNum
 use Rattle.rr_object.specs.Objects.{Obj, names_of}
 use Rattle.rr_object.specs.KeyOrders.{IsKeyValue, key_cmp}
 use Rattle.rr_object.specs.Keys.{is_mntner_of}
-use Rattle.rr_auth.specs.Registries.{Reg, Sound, maintainer, names_another, names_nobody, keys_cross, seen_by, with_mntner}
+use Rattle.rr_auth.specs.Registries.{Reg, Sound, maintainer, names_another, some_is_unknown, keys_cross, seen_by, with_mntner}
 use Rattle.rr_object.specs.declared.code.Code.{Code}
 use Rattle.rr_object.specs.declared.code.Code.TheVariants.{E10, E11, E12, E13, E14, E15, E16, E17, E18}
 use Rattle.rr_auth.specs.declared.item.Item.TheVariants.{Submit, Delete as DeleteItem}
 use Rattle.rr_auth.specs.declared.verdict.Verdict.{Verdict}
-use Rattle.rr_auth.specs.declared.verdict.Verdict.TheVariants.{Add, Change, Same, Delete, Refuse}
+use Rattle.rr_auth.specs.declared.verdict.Verdict.TheVariants.{Add, Change, Unchanged, Delete, Refuse}
 use Rattle.rr_auth.specs.Passing.{names_pass}
 use Rattle.rr_auth.specs.Conditions.{names_unknown, unauthorised, lacks_origin, origin_refuses, is_uncovered, cover_refuses, crosses_registered, is_in_use}
 use Rattle.rr_auth.specs.Verdicts.{verdict, submission, addition, change, deletion, place}
@@ -44,16 +44,16 @@ kept_name r k o n e =
     ap is_none (get-insert keys_total r k o (Mntner n))
     ∙ elim (eq_by_cmp key_cmp (Mntner n) k) as (λ b. is_none (cond b (Some o) (get r (Mntner n))) ≡ false) [ true ↦ refl | false ↦ e ]
 
-pub kept_names : (r : Reg) (k : Key) (o : Obj) (ns : List (List ℕ)) → names_nobody r ns ≡ false → names_nobody (insert r k o) ns ≡ false
+pub kept_names : (r : Reg) (k : Key) (o : Obj) (ns : List (List ℕ)) → some_is_unknown r ns ≡ false → some_is_unknown (insert r k o) ns ≡ false
 kept_names r k o [] e = refl
 kept_names r k o (n ∷ ns) e =
-    let parts = or_parts (is_none (maintainer r n)) (names_nobody r ns) e in
+    let parts = or_parts (is_none (maintainer r n)) (some_is_unknown r ns) e in
     let first = kept_name r k o n parts.0 in
     let rest = kept_names r k o ns parts.1 in
     rw (first, rest)
 
 -- an object that names nobody unknown in the registry that it sees names nobody unknown once it is in
-seen_names : (r : Reg) (k : Key) (o : Obj) (ns : List (List ℕ)) → names_nobody (with_mntner r k o) ns ≡ false → names_nobody (insert r k o) ns ≡ false
+seen_names : (r : Reg) (k : Key) (o : Obj) (ns : List (List ℕ)) → some_is_unknown (with_mntner r k o) ns ≡ false → some_is_unknown (insert r k o) ns ≡ false
 seen_names r (Mntner n) o ns e = e
 seen_names r (AsBlock s) o ns e = kept_names r _ o ns e
 seen_names r (AutNum n) o ns e = kept_names r _ o ns e
@@ -64,13 +64,13 @@ seen_names r (RouteSet n) o ns e = kept_names r _ o ns e
 
 -- an object whose key crosses none, put under it, leaves a sound registry sound
 pub sound_insert : (r : Reg) (o : Obj) → Sound r → IsKeyValue o.key
-    → names_nobody (insert r o.key o) (names_of o) ≡ false
+    → some_is_unknown (insert r o.key o) (names_of o) ≡ false
     → ((l : Key) (x : Obj) → get r l ≡ Some x → keys_cross l o.key ≡ false)
     → Sound (insert r o.key o)
 sound_insert r o s formed named apart = record {
   keyed = after_insert (λ l x. x.key ≡ l) r o.key o refl s.keyed;
   formed = after_insert (λ l x. IsKeyValue l) r o.key o formed s.formed;
-  named = after_insert (λ l x. names_nobody (insert r o.key o) (names_of x) ≡ false) r o.key o named
+  named = after_insert (λ l x. some_is_unknown (insert r o.key o) (names_of x) ≡ false) r o.key o named
       (λ l x f. kept_names r o.key o (names_of x) (s.named l x f));
   apart = λ k l x y f g.
       after_insert (λ a u. keys_cross a l ≡ false) r o.key o
@@ -100,14 +100,14 @@ change_differs c e = cc
 delete_differs : (c : Code) → Delete ≡ Refuse c → ⊥
 delete_differs c e = cc
 
-kept_or_changed : (b : Bool) → (if b then Same else Change) ≡ Add → ⊥
+kept_or_changed : (b : Bool) → (if b then Unchanged else Change) ≡ Add → ⊥
 kept_or_changed true e = cc
 kept_or_changed false e = cc
 
 -- a change is never an addition, and an addition never a change
 change_is_no_add : (r : Reg) (secrets : List (List ℕ)) (stored o : Obj) → change r secrets stored o ≡ Add → ⊥
 change_is_no_add r secrets stored o e =
-    let ten = not_first (names_nobody r (names_of o)) E10 _ _ e (add_differs E10) in
+    let ten = not_first (some_is_unknown r (names_of o)) E10 _ _ e (add_differs E10) in
     let eleven = not_first (not (names_pass r secrets stored.maintainers)) E11 _ _ ten.1 (add_differs E11) in
     kept_or_changed (fields_eq stored.paragraph o.paragraph) eleven.1
 
@@ -147,7 +147,7 @@ sound_changed r secrets o s formed e =
     elim (get r o.key) as (λ stored. get r o.key ≡ stored → submission stored r secrets o ≡ Change → Sound (insert r o.key o)) [
       | None ↦ λ g f. absurd (addition_is_no_change r secrets o f)
       | Some stored ↦ λ g f.
-          let ten = not_first (names_nobody r (names_of o)) E10 _ _ f (change_differs E10) in
+          let ten = not_first (some_is_unknown r (names_of o)) E10 _ _ f (change_differs E10) in
           sound_insert r o s formed (kept_names r o.key o (names_of o) ten.0) (λ l x h. s.apart l o.key x stored h g)
     ] refl e
 
@@ -200,10 +200,10 @@ unnamed_key r (AsSet m) l x n s e f other i = refl
 unnamed_key r (RouteSet m) l x n s e f other i = refl
 
 all_kept : (r : Reg) (k : Key) (ns : List (List ℕ)) → ((n : List ℕ) → IsIn n ns → eq_by_cmp key_cmp (Mntner n) k ≡ false)
-    → names_nobody r ns ≡ false → names_nobody (remove r k) ns ≡ false
+    → some_is_unknown r ns ≡ false → some_is_unknown (remove r k) ns ≡ false
 all_kept r k [] h e = refl
 all_kept r k (n ∷ ns) h e =
-    let parts = or_parts (is_none (maintainer r n)) (names_nobody r ns) e in
+    let parts = or_parts (is_none (maintainer r n)) (some_is_unknown r ns) e in
     let first = kept_by_others r k n (h n (inl refl)) parts.0 in
     let rest = all_kept r k ns (λ m i. h m (inr i)) parts.1 in
     rw (first, rest)

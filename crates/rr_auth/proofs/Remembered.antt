@@ -28,7 +28,7 @@ Answers = BTreeMap (List ℕ) Answer
 abbrev Digests : Type 0
 Digests = BTreeMap (Vec ℕ) (BTreeSet (List ℕ))
 
--- what passes a test in a list stands in its front or after it
+-- what passes a test in a list stands in a prefix of it or after that
 any_parted : (p : List ℕ → Bool) (n : ℕ) (xs : List (List ℕ)) → list_any p xs ≡ (list_any p (take n xs) || list_any p (drop n xs))
 any_parted p n xs = ap (list_any p) (sym (take-append-drop n xs)) ∙ list_any-append p (take n xs) (drop n xs)
 

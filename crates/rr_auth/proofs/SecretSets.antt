@@ -16,14 +16,14 @@ use Rattle.rr_object.specs.declared.key.Key.TheVariants.{Mntner, AsBlock, AutNum
 use Rattle.rr_object.specs.Objects.{Obj, names_of}
 use Rattle.rr_auth.specs.declared.item.Item.{Item}
 use Rattle.rr_auth.specs.declared.item.Item.TheVariants.{Submit, Delete as DeleteItem}
-use Rattle.rr_auth.specs.declared.verdict.Verdict.TheVariants.{Add, Change, Same, Delete}
+use Rattle.rr_auth.specs.declared.verdict.Verdict.TheVariants.{Add, Change, Unchanged, Delete}
 use Rattle.rr_auth.specs.Authority.{lower_of, routes_of}
 use Rattle.rr_auth.specs.SetParents.{parent_object, parent_refuses}
 use Rattle.rr_auth.specs.Closest.{closest_inetnum, closest_block, closest_routes, origins}
 use Rattle.rr_auth.specs.Conditions.{names_unknown, lacks_origin, origin_refuses, is_uncovered, cover_refuses, space_passes, crosses_registered, is_in_use}
 use Rattle.rr_auth.specs.Laws.{SameSecrets}
 use Rattle.rr_auth.specs.Passing.{fits_line, names_pass}
-use Rattle.rr_auth.specs.Registries.{Reg, maintainer, names_nobody, seen_by}
+use Rattle.rr_auth.specs.Registries.{Reg, maintainer, some_is_unknown, seen_by}
 use Rattle.rr_auth.proofs.Members.{both_or_none}
 use Rattle.rr_auth.specs.Verdicts.{first_of, place, submission, deletion, verdict}
 use Rattle.std.proofs.lemmas.Slice.Eq.{bytes_eq-Decides}
@@ -108,9 +108,9 @@ module _ (secrets others : List (List ℕ)) (s : SameSecrets secrets others) whe
       record { holds = names_unknown (seen_by (Some o) r) o; code = E10 } ∷ (
       record { holds = not (names_say (seen_by (Some o) r) o.maintainers i); code = E11 } ∷ [])) (place_says r o.key i)
   submission_says r o (Some stored) = λ i. first_of (
-      record { holds = names_nobody r (names_of o); code = E10 } ∷ (
+      record { holds = some_is_unknown r (names_of o); code = E10 } ∷ (
       record { holds = not (names_say r stored.maintainers i); code = E11 } ∷ []))
-      (cond (fields_eq stored.paragraph o.paragraph) Same Change)
+      (cond (fields_eq stored.paragraph o.paragraph) Unchanged Change)
 
   deletion_says : (r : Reg) (k : Key) (stored : Option Obj) → deletion stored r secrets k ≡ deletion stored r others k
   deletion_says r k None = refl

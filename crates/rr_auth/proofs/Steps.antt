@@ -11,7 +11,7 @@ use Rattle.rr_object.specs.Readings.{object_of}
 use Rattle.rr_auth.specs.declared.item.Item.{Item}
 use Rattle.rr_auth.specs.declared.item.Item.TheVariants.{Submit, Delete as DeleteItem}
 use Rattle.rr_auth.specs.declared.verdict.Verdict.{Verdict}
-use Rattle.rr_auth.specs.declared.verdict.Verdict.TheVariants.{Add, Change, Same, Delete, Refuse}
+use Rattle.rr_auth.specs.declared.verdict.Verdict.TheVariants.{Add, Change, Unchanged, Delete, Refuse}
 use Rattle.rr_auth.specs.Registries.{Reg, Sound, seen_by}
 use Rattle.rr_auth.specs.Laws.{IsItem}
 use Rattle.rr_auth.specs.Sources.{IsReadIn, IsReadObject, IsRegistryOf}
@@ -27,7 +27,7 @@ stays_sound r secrets (Submit o) s f =
     elim (verdict r secrets (Submit o)) as (λ v. verdict r secrets (Submit o) ≡ v → Sound (after v r (Submit o))) [
       | Add ↦ λ e. sound_added r secrets o s f e
       | Change ↦ λ e. sound_changed r secrets o s f e
-      | Same ↦ λ e. s
+      | Unchanged ↦ λ e. s
       | Delete ↦ λ e. s
       | Refuse code ↦ λ e. s
     ] refl
@@ -35,7 +35,7 @@ stays_sound r secrets (DeleteItem k) s f =
     elim (verdict r secrets (DeleteItem k)) as (λ v. verdict r secrets (DeleteItem k) ≡ v → Sound (after v r (DeleteItem k))) [
       | Add ↦ λ e. s
       | Change ↦ λ e. s
-      | Same ↦ λ e. s
+      | Unchanged ↦ λ e. s
       | Delete ↦ λ e. sound_removed r secrets k s e
       | Refuse code ↦ λ e. s
     ] refl
@@ -46,7 +46,7 @@ met_if : (i : Item) → ((code : Code) → is_met_by i (Refuse code) ≡ true) �
 met_if i refusals true c v e = refusals c
 met_if i refusals false c v e = e
 
-changed_or_same : (o : Obj) (b : Bool) → is_met_by (Submit o) (if b then Same else Change) ≡ true
+changed_or_same : (o : Obj) (b : Bool) → is_met_by (Submit o) (if b then Unchanged else Change) ≡ true
 changed_or_same o true = refl
 changed_or_same o false = refl
 
@@ -90,12 +90,12 @@ read_after : (source : List ℕ) (r : Reg) (v : Verdict) (i : Item) → IsRegist
     → (k : Key) (x : Obj) → get (after v r i) k ≡ Some x → object_of x.paragraph source ≡ Ok x
 read_after source r Add (Submit o) s h = read_added source r o s h
 read_after source r Change (Submit o) s h = read_added source r o s h
-read_after source r Same (Submit o) s h = s.read
+read_after source r Unchanged (Submit o) s h = s.read
 read_after source r Delete (Submit o) s h = s.read
 read_after source r (Refuse code) (Submit o) s h = s.read
 read_after source r Add (DeleteItem k) s h = s.read
 read_after source r Change (DeleteItem k) s h = s.read
-read_after source r Same (DeleteItem k) s h = s.read
+read_after source r Unchanged (DeleteItem k) s h = s.read
 read_after source r Delete (DeleteItem k) s h = λ l x f. s.read l x (still_there r k l x f).1
 read_after source r (Refuse code) (DeleteItem k) s h = s.read
 

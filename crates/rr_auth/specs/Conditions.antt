@@ -11,7 +11,7 @@ use Rattle.rr_object.specs.declared.key.Key.{Key}
 use Rattle.rr_object.specs.declared.key.Key.TheVariants.{Mntner, AsBlock, AutNum, Inetnum, Route}
 use Rattle.rr_object.specs.declared.key.Key.TheVariants.{AsSet, RouteSet}
 use Rattle.rr_object.specs.Objects.{Obj, names_of}
-use Rattle.rr_auth.specs.Registries.{Reg, keys_cross, names_nobody, is_named}
+use Rattle.rr_auth.specs.Registries.{Reg, keys_cross, some_is_unknown, is_named}
 use Rattle.rr_auth.specs.Closest.{closest_inetnum, closest_block, closest_routes, origins}
 use Rattle.rr_auth.specs.Passing.{names_pass}
 use Rattle.rr_auth.specs.Authority.{lower_passes, routes_pass}
@@ -19,7 +19,7 @@ use Rattle.rr_auth.specs.SetParents.{lacks_parent, parent_refuses}
 
 -- E10: a maintainer that the object names is not registered (RFC 2622, 3).
 abbrev pub names_unknown : Reg → Obj → Bool
-names_unknown r o = names_nobody r (names_of o)
+names_unknown r o = some_is_unknown r (names_of o)
 
 -- E11: the mnt-by does not pass, of a new object its own, and of one that is changed or deleted
 -- that of the stored one (RFC 2725, 9).

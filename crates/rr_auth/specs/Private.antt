@@ -7,7 +7,8 @@ use Rattle.std.specs.Prelude.{Option}
 use Rattle.std.specs.Option.{option_map_or}
 use Rattle.rr_number.specs.Prefixes.{PrefixParts, span_of}
 use Rattle.rr_number.specs.declared.set_kind.SetKind.{SetKind}
-use Rattle.rr_object.specs.declared.code.Code.TheVariants.{E12, E13}
+use Rattle.rr_object.specs.declared.code.Code.TheVariants.{E12, E13, E14, E15}
+use Rattle.rr_object.specs.declared.key.Key.TheVariants.{Route}
 use Rattle.rr_object.specs.Objects.{Obj}
 use Rattle.rr_auth.specs.declared.authority.RouteNames.{RouteNames}
 use Rattle.rr_auth.specs.declared.authority.RouteNames.TheVariants.{Granted, Named}
@@ -16,7 +17,7 @@ use Rattle.rr_auth.specs.declared.verdict.Verdict.TheVariants.{Add}
 use Rattle.rr_auth.specs.Authority.{grants}
 use Rattle.rr_auth.specs.Registries.{Reg}
 use Rattle.rr_auth.specs.Closest.{closest_inetnum, closest_routes}
-use Rattle.rr_auth.specs.Conditions.{space_passes}
+use Rattle.rr_auth.specs.Conditions.{lacks_origin, origin_refuses, space_passes}
 use Rattle.rr_auth.specs.SetParents.{lacks_parent, parent_refuses}
 use Rattle.rr_auth.specs.Verdicts.{first_of}
 
@@ -40,6 +41,13 @@ below_space r secrets p = first_of (
       code = E12;
     } ∷ (
     record { holds = not (space_passes r secrets p (closest_routes r p)); code = E13 } ∷ [])) Add
+
+-- What the aut-num of a route's origin says of it, and then the routes and inetnums above it.
+abbrev pub below_origin : Reg → List (List ℕ) → PrefixParts → ℕ → Verdict
+below_origin r secrets p n = first_of (
+    record { holds = lacks_origin r (Route p n); code = E14 } ∷ (
+    record { holds = origin_refuses r secrets (Route p n); code = E15 } ∷ []))
+    (below_space r secrets p)
 
 -- The names of those who decide about routes of the prefix.
 abbrev pub names_among : PrefixParts → RouteNames → List (List ℕ)

@@ -19,8 +19,8 @@ abbrev pub maintainer : Reg → List ℕ → Option Obj
 maintainer r name = get r (Mntner name)
 
 -- Some name of the list has no mntner in the registry.
-abbrev pub names_nobody : Reg → List (List ℕ) → Bool
-names_nobody r names = list_any (λ n. is_none (maintainer r n)) names
+abbrev pub some_is_unknown : Reg → List (List ℕ) → Bool
+some_is_unknown r names = list_any (λ n. is_none (maintainer r n)) names
 
 -- A registry with an object in it, where that is a mntner, and else as it is: so a mntner that is
 -- added sees itself (profile).
@@ -53,6 +53,6 @@ is_named r name = list_any (names_another name) (values r)
 pub record Sound (r : Reg) : Type 0 where
   pub keyed : (k : Key) (o : Obj) → get r k ≡ Some o → o.key ≡ k
   pub formed : (k : Key) (o : Obj) → get r k ≡ Some o → IsKeyValue k
-  pub named : (k : Key) (o : Obj) → get r k ≡ Some o → names_nobody r (names_of o) ≡ false
+  pub named : (k : Key) (o : Obj) → get r k ≡ Some o → some_is_unknown r (names_of o) ≡ false
   pub apart : (k l : Key) (o x : Obj) → get r k ≡ Some o → get r l ≡ Some x
       → keys_cross k l ≡ false

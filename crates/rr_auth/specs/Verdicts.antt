@@ -12,7 +12,8 @@ use Rattle.rr_object.specs.Objects.{Obj}
 use Rattle.rr_auth.specs.declared.item.Item.{Item}
 use Rattle.rr_auth.specs.declared.item.Item.TheVariants.{Submit, Delete as DeleteItem}
 use Rattle.rr_auth.specs.declared.verdict.Verdict.{Verdict}
-use Rattle.rr_auth.specs.declared.verdict.Verdict.TheVariants.{Add, Change, Same, Delete, Refuse}
+use Rattle.rr_auth.specs.declared.verdict.Verdict.TheVariants.{Add, Change, Unchanged, Delete}
+use Rattle.rr_auth.specs.declared.verdict.Verdict.TheVariants.{Refuse}
 use Rattle.rr_auth.specs.Registries.{Reg, seen_by}
 use Rattle.rr_auth.specs.Conditions.{names_unknown, unauthorised, is_uncovered, cover_refuses}
 use Rattle.rr_auth.specs.Conditions.{lacks_origin, origin_refuses, crosses_registered, is_in_use}
@@ -52,7 +53,7 @@ abbrev pub change : Reg → List (List ℕ) → Obj → Obj → Verdict
 change r secrets stored o = first_of (
     record { holds = names_unknown r o; code = E10 } ∷ (
     record { holds = unauthorised r secrets stored; code = E11 } ∷ []))
-    (if fields_eq stored.paragraph o.paragraph then Same else Change)
+    (if fields_eq stored.paragraph o.paragraph then Unchanged else Change)
 
 -- An object is an addition where no object is stored under its key, otherwise a change of that one
 -- (RFC 2725, 9).
@@ -96,7 +97,7 @@ removed r (DeleteItem k) = remove r k
 abbrev pub after : Verdict → Reg → Item → Reg
 after Add r i = added r i
 after Change r i = added r i
-after Same r i = r
+after Unchanged r i = r
 after Delete r i = removed r i
 after (Refuse code) r i = r
 

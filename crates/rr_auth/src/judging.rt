@@ -1,6 +1,6 @@
 //! The verdict on an item.
 
-ghost use Rattle.std.specs.Prelude.{◌≡◌, ◌∷◌, [], IfOk};
+ghost use Rattle.std.specs.Prelude.{◌≡◌, IfOk};
 ghost use Rattle.std.specs.List.{list_any};
 ghost use Rattle.std.specs.Option.{option_and_then, option_copied};
 ghost use Rattle.std.specs.FinMap.{get};
@@ -8,17 +8,16 @@ ghost use Rattle.rr_number.specs.Prefixes.{span_of};
 ghost use Rattle.rr_object.specs.KeyOrders.{IsKeyValue};
 ghost use Rattle.rr_auth.specs.Closest.{closest_inetnum};
 ghost use Rattle.rr_auth.specs.Authority.{lower_passes, routes_pass};
-ghost use Rattle.rr_auth.specs.Conditions.{is_in_use, lacks_origin, origin_refuses, route_passes};
+ghost use Rattle.rr_auth.specs.Conditions.{is_in_use, route_passes};
 ghost use Rattle.rr_auth.specs.Laws.{IsItem};
-ghost use Rattle.rr_auth.specs.Private.{below, below_parent, below_space};
+ghost use Rattle.rr_auth.specs.Private.{below, below_origin, below_parent, below_space};
 ghost use Rattle.rr_auth.specs.SetParents.{parent_key};
-ghost use Rattle.rr_auth.specs.Verdicts.{addition, change, deletion, submission, verdict};
-ghost use Rattle.rr_auth.specs.Verdicts.{first_of, place};
+ghost use Rattle.rr_auth.specs.Verdicts.{addition, change, deletion, place, submission, verdict};
 
 use crate::authority::{lower_passes, routes_pass};
 use crate::book::Book;
 use crate::item::Item;
-use crate::passing::{names_pass, object_names_nobody};
+use crate::passing::{names_pass, names_unknown};
 use crate::secrets::Secrets;
 use crate::verdict::Verdict;
 use rr_number::{AsNumber, Parent, Prefix, SetKind, SetName, Span};
@@ -71,7 +70,7 @@ fn judge_addition<B: Book>(
         (λ v. v ≡ addition (B.contents book.now) secrets.old object.now) }
     ensures same_secrets { secrets.new ≡ secrets.old }
 {
-    if object_names_nobody(book, Some(object), object) {
+    if names_unknown(book, Some(object), object) {
         Ok(Verdict::Refuse(Code::E10))
     } else if !names_pass(book, Some(object), secrets, object.maintainers()) {
         Ok(Verdict::Refuse(Code::E11))
@@ -89,12 +88,12 @@ fn judge_change<B: Book>(
     ensures verdict { result ≡ change (B.contents book.now) secrets.old stored.now object.now }
     ensures same_secrets { secrets.new ≡ secrets.old }
 {
-    if object_names_nobody(book, None, object) {
+    if names_unknown(book, None, object) {
         Verdict::Refuse(Code::E10)
     } else if !names_pass(book, None, secrets, stored.maintainers()) {
         Verdict::Refuse(Code::E11)
     } else if stored.paragraph() == object.paragraph() {
-        Verdict::Same
+        Verdict::Unchanged
     } else {
         Verdict::Change
     }
@@ -231,16 +230,8 @@ fn judge_route<B: Book>(
     prefix: Prefix,
     origin: AsNumber,
 ) -> Result<Verdict, AllocError>
-    ensures verdict { IfOk result (λ v. v ≡ first_of (
-        record {
-          holds = lacks_origin (B.contents book.now) (Key.Route prefix origin);
-          code = Code.E14;
-        } ∷ (
-        record {
-          holds = origin_refuses (B.contents book.now) secrets.old (Key.Route prefix origin);
-          code = Code.E15;
-        } ∷ []))
-        (below_space (B.contents book.now) secrets.old prefix)) }
+    ensures verdict { IfOk result
+        (λ v. v ≡ below_origin (B.contents book.now) secrets.old prefix origin) }
     ensures same_secrets { secrets.new ≡ secrets.old }
 {
     match book.get(&Key::AutNum(origin)) {

@@ -4,7 +4,7 @@ ghost use Rattle.std.specs.Prelude.{◌≡◌};
 ghost use Rattle.std.specs.Option.{option_copied};
 ghost use Rattle.rr_object.specs.Objects.{names_of};
 ghost use Rattle.rr_auth.specs.Passing.{name_passes, names_pass, passes};
-ghost use Rattle.rr_auth.specs.Registries.{maintainer, names_nobody, seen_by};
+ghost use Rattle.rr_auth.specs.Registries.{maintainer, some_is_unknown, seen_by};
 
 use crate::book::Book;
 use crate::secrets::Secrets;
@@ -80,8 +80,8 @@ pub fn names_pass<B: Book>(
 }
 
 /// Whether the object names a maintainer that is not registered.
-pub fn object_names_nobody<B: Book>(book: &B, own: Option<&Object>, object: &Object) -> bool
-    ensures { result ≡ names_nobody
+pub fn names_unknown<B: Book>(book: &B, own: Option<&Object>, object: &Object) -> bool
+    ensures { result ≡ some_is_unknown
         (seen_by (option_copied own.entry) (B.contents book.now)) (names_of object.now) }
 {
     object

@@ -10,7 +10,7 @@ pub enum Verdict {
     /// The object takes the place of the stored one.
     Change,
     /// The object has the text of the stored one: nothing is to be done.
-    Same,
+    Unchanged,
     /// The stored object is deleted.
     Delete,
     /// The item is refused, and the registry stays as it is.

@@ -148,7 +148,7 @@ no_less false d false h = refl
 no_less false true true h = refl
 no_less false false true h = absurd (true≢false (sym (h refl)))
 
--- whether one of a front of names is the name
+-- whether one of the first names is the name
 abbrev in_front : List (List ℕ) → ℕ → List ℕ → Bool
 in_front names i n = list_any (λ own. bytes_eq own n) (take i names)
 
@@ -220,13 +220,13 @@ set_more names i name old new inside is update before n =
     ∙ sym (in_front_more names i name n inside is)
 
 -- the key was taken from under those of the first names that have not to stay
-abbrev pub TakesFront : (List ℕ → Bool) → List (List ℕ) → Key → ℕ → Sets → Sets → Type 0
-TakesFront stays names key i old new = (n : List ℕ) (k : Key) → stands_under new n k ≡ (stands_under old n k && not (eq_by_cmp key_cmp key k && (in_front names i n && not (stays n))))
+abbrev pub TakesPrefix : (List ℕ → Bool) → List (List ℕ) → Key → ℕ → Sets → Sets → Type 0
+TakesPrefix stays names key i old new = (n : List ℕ) (k : Key) → stands_under new n k ≡ (stands_under old n k && not (eq_by_cmp key_cmp key k && (in_front names i n && not (stays n))))
 
 pub taken_more : (stays : List ℕ → Bool) (names : List (List ℕ)) (key : Key) (i : ℕ) (name : List ℕ) (old mid new : Sets) → i < length names → name ≡ get_or names i name → stays name ≡ false
-    → TakesFront stays names key i old mid
+    → TakesPrefix stays names key i old mid
     → ((n : List ℕ) (k : Key) → stands_under new n k ≡ (stands_under mid n k && not (bytes_eq name n && eq_by_cmp key_cmp key k)))
-    → TakesFront stays names key (i + 1) old new
+    → TakesPrefix stays names key (i + 1) old new
 taken_more stays names key i name old mid new inside is goes before step n k =
     step n k
     ∙ ap (λ b. b && not (bytes_eq name n && eq_by_cmp key_cmp key k)) (before n k)
@@ -234,7 +234,7 @@ taken_more stays names key i name old mid new inside is goes before step n k =
     ∙ ap (λ b. stands_under old n k && not (eq_by_cmp key_cmp key k && (b && not (stays n)))) (sym (in_front_more names i name n inside is))
 
 pub left_more : (stays : List ℕ → Bool) (names : List (List ℕ)) (key : Key) (i : ℕ) (name : List ℕ) (old new : Sets) → i < length names → name ≡ get_or names i name → stays name ≡ true
-    → TakesFront stays names key i old new → TakesFront stays names key (i + 1) old new
+    → TakesPrefix stays names key i old new → TakesPrefix stays names key (i + 1) old new
 left_more stays names key i name old new inside is stay before n k =
     before n k
     ∙ ap (λ b. stands_under old n k && not (eq_by_cmp key_cmp key k && b))

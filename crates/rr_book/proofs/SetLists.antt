@@ -30,7 +30,7 @@ use Rattle.rr_sets.specs.Lists.{IsAutNum, IsRegisteredRoute, ListsOnce, lent}
 abbrev Entry : Type 0
 Entry = Key × Obj
 
--- a key in front of sorted entries is below theirs
+-- a key before sorted entries is below theirs
 in_front : (k : Key) (es : List Entry) → T (below_all key_cmp k es) → (e : Entry) → Contains es e → key_cmp k e.0 ≡ Less
 in_front k [] h e has = absurd (Contains-nil e has)
 in_front k (x ∷ xs) h e has = elim (Contains-cons_cases x xs e has) [
@@ -61,7 +61,7 @@ found_is_entry k o (e ∷ es) is =
       | false ↦ λ g. Contains-later e.1 (map (λ e. e.1) es) o (found_is_entry k o es g)
     ] is
 
--- an entry in front of sorted ones has another object than they
+-- an entry before sorted ones has another object than they
 differs : (x : Entry) (xs : List Entry) → T (below_all key_cmp x.0 xs) → x.1.key ≡ x.0 → ((e : Entry) → Contains xs e → e.1.key ≡ e.0) → (o : Obj) → Contains (map (λ e. e.1) xs) o → x.1 ≢ o
 differs x xs h own keyed o has same =
     let e = (Contains-map (λ (y : Entry). y.1) xs o).0 has in

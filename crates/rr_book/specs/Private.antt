@@ -1,8 +1,12 @@
 -- What the private functions of src promise each other. No public clause cites these.
-use Rattle.std.specs.Prelude.{ℕ, Bool, true, false, not, List, Option, None, slice_get}
+use Rattle.std.specs.Prelude.{◌≡◌, ℕ, Bool, true, false, not, ◌&&◌, List, Option, None}
+use Rattle.std.specs.Prelude.{slice_get}
+use Rattle.std.specs.BTreeMap.{BTreeMap}
+use Rattle.std.specs.BTreeSet.{BTreeSet}
 use Rattle.std.specs.List.{position_or_len}
 use Rattle.std.specs.Option.{option_map_or}
 use Rattle.std.specs.Ordering.{eq_by_cmp, is_gt}
+use Rattle.std.specs.Str.{bytes_eq}
 use Rattle.rr_number.specs.Spans.{Ends}
 use Rattle.rr_object.specs.declared.class.Class.{Class}
 use Rattle.rr_object.specs.declared.class.Class.TheVariants as class
@@ -11,6 +15,7 @@ use Rattle.rr_object.specs.declared.key.Key.TheVariants as key
 use Rattle.rr_object.specs.KeyOrders.{key_cmp}
 use Rattle.rr_object.specs.Objects.{Obj}
 use Rattle.rr_auth.specs.Closest.{inetnum_span, block_span, route_span}
+use Rattle.rr_book.specs.SetIndexes.{stands_under}
 
 -- The first place whose key is not below the key.
 abbrev pub place_of : Key → List Obj → ℕ
@@ -35,3 +40,9 @@ abbrev pub is_span : Key → Bool
 is_span (key.AsBlock s) = true
 is_span (key.Inetnum s) = true
 is_span _ = false
+
+-- The key is taken from under the set of the name.
+abbrev pub HasTakenKey : List ℕ → Key → BTreeMap (List ℕ) (BTreeSet Key)
+    → BTreeMap (List ℕ) (BTreeSet Key) → Type 0
+HasTakenKey name key old new = (other : List ℕ) (k : Key) → stands_under new other k
+    ≡ (stands_under old other k && not (bytes_eq name other && eq_by_cmp key_cmp key k))

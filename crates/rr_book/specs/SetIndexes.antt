@@ -1,5 +1,5 @@
 -- Keys of objects, under the sets that these name in their `member-of`.
-use Rattle.std.specs.Prelude.{◌≡◌, ℕ, Bool, false, not, ◌&&◌, List}
+use Rattle.std.specs.Prelude.{◌≡◌, ℕ, Bool, false, not, ◌&&◌, ◌||◌, List}
 use Rattle.std.specs.BTreeMap.{BTreeMap, get as keys_at}
 use Rattle.std.specs.BTreeSet.{BTreeSet, contains}
 use Rattle.std.specs.Cmp.Lexicographic.{slice_cmp}
@@ -23,6 +23,24 @@ stands_under sets name key =
 abbrev pub is_meant : Obj → (List ℕ → Bool) → List ℕ → Key → Bool
 is_meant o is_left_out name key =
     eq_by_cmp key_cmp o.key key && (names_set name o && not (is_left_out name))
+
+-- The same keys stand under each set.
+abbrev pub HasSameKeys : BTreeMap (List ℕ) (BTreeSet Key)
+    → BTreeMap (List ℕ) (BTreeSet Key) → Type 0
+HasSameKeys old new = (name : List ℕ) (key : Key)
+    → stands_under new name key ≡ stands_under old name key
+
+-- The object's key is added under each set that it names, save those that are left out.
+abbrev pub HasAdded : Obj → (List ℕ → Bool) → BTreeMap (List ℕ) (BTreeSet Key)
+    → BTreeMap (List ℕ) (BTreeSet Key) → Type 0
+HasAdded o is_left_out old new = (name : List ℕ) (key : Key)
+    → stands_under new name key ≡ (stands_under old name key || is_meant o is_left_out name key)
+
+-- The object's key is taken from under each set that it names, save those that are left out.
+abbrev pub HasTaken : Obj → (List ℕ → Bool) → BTreeMap (List ℕ) (BTreeSet Key)
+    → BTreeMap (List ℕ) (BTreeSet Key) → Type 0
+HasTaken o is_left_out old new = (name : List ℕ) (key : Key) → stands_under new name key
+    ≡ (stands_under old name key && not (is_meant o is_left_out name key))
 
 -- Under a set stand the keys of the registered objects that name it in their `member-of`, and no
 -- others (RFC 2622, 5).

@@ -124,12 +124,12 @@ impl Keeper for PlainBook {
         let sets = self.referrers.enter(alloc, &object, standing)?;
         match lists::put(&mut self.objects, object) {
             Ok(Some(old)) => {
-                self.referrers.give_up(old, &sets.after);
+                self.referrers.take_and_free(old, &sets.after);
                 Ok(())
             }
             Ok(None) => Ok(()),
             Err(refused) => {
-                self.referrers.give_up(refused.value, &sets.before);
+                self.referrers.take_and_free(refused.value, &sets.before);
                 Err(AllocError)
             }
         }

@@ -1,7 +1,7 @@
 //! Which objects name which sets in their `member-of`.
 
 ghost use Rattle.std.specs.Prelude.{◌≡◌, ◌&&◌, ◌||◌, ℕ, List, true, false, find};
-ghost use Rattle.std.specs.Prelude.{not, IfOk, OnOk, OnErr, IsTrue};
+ghost use Rattle.std.specs.Prelude.{IfOk, OnOk, OnErr, IsTrue};
 ghost use Rattle.std.specs.BTreeMap.{get};
 ghost use Rattle.std.specs.BTreeSet.{contains};
 ghost use Rattle.std.specs.Cmp.Lexicographic.{slice_cmp};
@@ -14,7 +14,9 @@ ghost use Rattle.rr_object.specs.declared.key.Key.{Key};
 ghost use Rattle.rr_object.specs.KeyOrders.{key_cmp};
 ghost use Rattle.rr_sets.specs.Lists.{lent};
 ghost use Rattle.rr_book.specs.Books.{is_in_order};
-ghost use Rattle.rr_book.specs.SetIndexes.{is_meant, stands_under};
+ghost use Rattle.rr_book.specs.Private.{HasTakenKey};
+ghost use Rattle.rr_book.specs.SetIndexes.{is_meant, stands_under, HasAdded, HasSameKeys};
+ghost use Rattle.rr_book.specs.SetIndexes.{HasTaken};
 ghost use Rattle.rr_book.specs.SetLists.{names_set};
 
 use crate::lists::find_key;
@@ -85,12 +87,9 @@ impl SetIndex {
             option_map_or (names_set name) (option_copied other.entry) false) }
         ensures after { IfOk result (λ sets. (name : List ℕ)
             → contains (slice_cmp nat_cmp) sets.after name ≡ names_set name object.now) }
-        ensures ok { IfOk result
-            (λ sets. (name : List ℕ) (key : Key) → stands_under self.new.keys name key ≡
-            (stands_under self.old.keys name key
-            || is_meant object.now (contains (slice_cmp nat_cmp) sets.before) name key)) }
-        ensures err { OnErr result ((name : List ℕ) (key : Key)
-            → stands_under self.new.keys name key ≡ stands_under self.old.keys name key) }
+        ensures ok { IfOk result (λ sets. HasAdded object.now
+            (contains (slice_cmp nat_cmp) sets.before) self.old.keys self.new.keys) }
+        ensures err { OnErr result (HasSameKeys self.old.keys self.new.keys) }
     {
         let before = sets_named(alloc, other)?;
         let after = sets_named(alloc, Some(object))?;
@@ -109,12 +108,9 @@ impl SetIndex {
         requires { (name : List ℕ) (key : Key)
             → IsTrue (is_meant object.now (contains (slice_cmp nat_cmp) others.now) name key)
             → stands_under self.old.keys name key ≡ false }
-        ensures ok { OnOk result
-            ((name : List ℕ) (key : Key) → stands_under self.new.keys name key ≡
-            (stands_under self.old.keys name key
-            || is_meant object.now (contains (slice_cmp nat_cmp) others.now) name key)) }
-        ensures err { OnErr result ((name : List ℕ) (key : Key)
-            → stands_under self.new.keys name key ≡ stands_under self.old.keys name key) }
+        ensures ok { OnOk result (HasAdded object.now (contains (slice_cmp nat_cmp) others.now)
+            self.old.keys self.new.keys) }
+        ensures err { OnErr result (HasSameKeys self.old.keys self.new.keys) }
     {
         match self.add_each(alloc, object, others) {
             Ok(()) => Ok(()),
@@ -133,10 +129,8 @@ impl SetIndex {
         object: &Object,
         others: &BTreeSet<SetName>,
     ) -> Result<(), AllocError>
-        ensures ok { OnOk result
-            ((name : List ℕ) (key : Key) → stands_under self.new.keys name key ≡
-            (stands_under self.old.keys name key
-            || is_meant object.now (contains (slice_cmp nat_cmp) others.now) name key)) }
+        ensures ok { OnOk result (HasAdded object.now (contains (slice_cmp nat_cmp) others.now)
+            self.old.keys self.new.keys) }
         ensures some { OnErr result
             ((name : List ℕ) (key : Key) → IsTrue (stands_under self.new.keys name key) →
             IsTrue (stands_under self.old.keys name key
@@ -158,8 +152,7 @@ impl SetIndex {
             ((other : List ℕ) (k : Key) → stands_under self.new.keys other k ≡
             (stands_under self.old.keys other k
             || (bytes_eq name.now other && eq_by_cmp key_cmp key.now k))) }
-        ensures err { OnErr result ((other : List ℕ) (k : Key)
-            → stands_under self.new.keys other k ≡ stands_under self.old.keys other k) }
+        ensures err { OnErr result (HasSameKeys self.old.keys self.new.keys) }
     {
         let key = key.copy(alloc)?;
         match self.keys.get_mut(name) {
@@ -177,9 +170,8 @@ impl SetIndex {
 
     /// Takes the object's key from under each set that it names, save the others.
     pub fn take(&mut self, object: &Object, others: &BTreeSet<SetName>)
-        ensures { (name : List ℕ) (key : Key) → stands_under self.new.keys name key ≡
-            (stands_under self.old.keys name key
-            && not (is_meant object.now (contains (slice_cmp nat_cmp) others.now) name key)) }
+        ensures { HasTaken object.now (contains (slice_cmp nat_cmp) others.now)
+            self.old.keys self.new.keys }
     {
         for name in object.member_of() {
             if !others.contains(name) {
@@ -188,21 +180,18 @@ impl SetIndex {
         }
     }
 
-    /// Takes the key of an object that is given up from under each set that it names, save the
+    /// Takes the key of an object, which is freed, from under each set that it names, save the
     /// others.
-    pub(crate) fn give_up(&mut self, object: Object, others: &BTreeSet<SetName>)
-        ensures { (name : List ℕ) (key : Key) → stands_under self.new.keys name key ≡
-            (stands_under self.old.keys name key
-            && not (is_meant object (contains (slice_cmp nat_cmp) others.now) name key)) }
+    pub(crate) fn take_and_free(&mut self, object: Object, others: &BTreeSet<SetName>)
+        ensures { HasTaken object (contains (slice_cmp nat_cmp) others.now)
+            self.old.keys self.new.keys }
     {
         self.take(&object, others);
     }
 
     /// Takes the object's key from under each set that it names.
     pub fn take_all(&mut self, object: &Object)
-        ensures { (name : List ℕ) (key : Key) → stands_under self.new.keys name key ≡
-            (stands_under self.old.keys name key
-            && not (is_meant object.now (λ other. false) name key)) }
+        ensures { HasTaken object.now (λ other. false) self.old.keys self.new.keys }
     {
         for name in object.member_of() {
             self.take_from(name, object.key());
@@ -211,9 +200,7 @@ impl SetIndex {
 
     /// Takes the key from under the set.
     fn take_from(&mut self, name: &SetName, key: &Key)
-        ensures { (other : List ℕ) (k : Key) → stands_under self.new.keys other k ≡
-            (stands_under self.old.keys other k
-            && not (bytes_eq name.now other && eq_by_cmp key_cmp key.now k)) }
+        ensures { HasTakenKey name.now key.now self.old.keys self.new.keys }
     {
         if self.take_key(name, key) {
             self.keys.remove(name);
@@ -222,9 +209,7 @@ impl SetIndex {
 
     /// Takes the key from among those of the set, and says whether none is left.
     fn take_key(&mut self, name: &SetName, key: &Key) -> bool
-        ensures taken { (other : List ℕ) (k : Key) → stands_under self.new.keys other k ≡
-            (stands_under self.old.keys other k
-            && not (bytes_eq name.now other && eq_by_cmp key_cmp key.now k)) }
+        ensures taken { HasTakenKey name.now key.now self.old.keys self.new.keys }
         ensures empty { IsTrue result → (k : Key)
             → stands_under self.new.keys name.now k ≡ false }
     {

@@ -24,7 +24,7 @@ cut_at-joined s text before after cut =
     let inside : position_or_len (λ b. b == s) text < length text = grind (arith, nat_tests, parts.0) in
     let same : get_or text (position_or_len (λ b. b == s) text) 0 ≡ s =
     grind (arith, nat_tests, passes_at_first (λ b. b == s) text 0 inside) in
-    let front : before_first (λ b. b == s) text ≡ before = ap (λ pair. pair.0) parts.1 in
+    let head : before_first (λ b. b == s) text ≡ before = ap (λ pair. pair.0) parts.1 in
     let back : after_first (λ b. b == s) text ≡ after = ap (λ pair. pair.1) parts.1 in
     let joined : text ≡ before_first (λ b. b == s) text ++ (get_or text (position_or_len (λ b. b == s) text) 0 ∷ after_first (λ b. b == s) text) = split_at_first (λ b. b == s) text 0 inside in
     (cc)
@@ -34,7 +34,7 @@ position-lacks : (s : ℕ) (before after : List ℕ) → lacks s before ≡ true
 position-lacks s [] after none = grind (arith, nat_tests)
 position-lacks s (b ∷ bs) after none = grind (arith, nat_tests, position-lacks s bs after)
 
--- the text after a front and one byte more
+-- the text after a first part and one byte more
 drop-after : (xs : List ℕ) (s : ℕ) (ys : List ℕ) → drop (length xs + 1) (xs ++ (s ∷ ys)) ≡ ys
 drop-after [] s ys = refl
 drop-after (x ∷ xs) s ys = grind (arith, common_steps, drop-after xs s ys)
@@ -44,13 +44,13 @@ pub cut_at-append : (s : ℕ) (before after : List ℕ) → lacks s before ≡ t
 unfolding cut_at
 cut_at-append s before after none =
     let place : position_or_len (λ b. b == s) (before ++ (s ∷ after)) ≡ length before = position-lacks s before after none in
-    let front : take (position_or_len (λ b. b == s) (before ++ (s ∷ after))) (before ++ (s ∷ after)) ≡ before =
+    let head : take (position_or_len (λ b. b == s) (before ++ (s ∷ after))) (before ++ (s ∷ after)) ≡ before =
     take_at before (s ∷ after) _ (sym place) in
     let back : drop (position_or_len (λ b. b == s) (before ++ (s ∷ after)) + 1) (before ++ (s ∷ after)) ≡ after =
     rw place (drop-after before s after) in
     let inside : nat_lt (position_or_len (λ b. b == s) (before ++ (s ∷ after))) (length (before ++ (s ∷ after))) ≡ true =
     rw place (grind (arith, nat_tests, length-append before (s ∷ after))) in
-    rw (inside, front, back) refl
+    rw (inside, head, back) refl
 
 -- digits have no separator among them
 pub lacks-digits : (s : ℕ) (text : List ℕ) → is_ascii_digit s ≡ false → all_ascii_digits text ≡ true → lacks s text ≡ true
@@ -59,13 +59,13 @@ lacks-digits s (b ∷ bs) other digits = grind (arith, nat_tests, lacks-digits s
 
 -- a text lacks what its parts lack
 pub lacks-append : (s : ℕ) (xs ys : List ℕ) → lacks s xs ≡ true → lacks s ys ≡ true → lacks s (xs ++ ys) ≡ true
-lacks-append s [] ys front back = back
-lacks-append s (x ∷ xs) ys front back = grind (arith, nat_tests, lacks-append s xs ys)
+lacks-append s [] ys before back = back
+lacks-append s (x ∷ xs) ys before back = grind (arith, nat_tests, lacks-append s xs ys)
 
 -- two texts with another byte between them lack what both lack
 pub lacks-joined : (s other : ℕ) (xs ys : List ℕ) → (other == s) ≡ false → lacks s xs ≡ true → lacks s ys ≡ true → lacks s (xs ++ (other ∷ ys)) ≡ true
-lacks-joined s other xs ys differs front back =
-    lacks-append s xs (other ∷ ys) front (rw differs back)
+lacks-joined s other xs ys differs before back =
+    lacks-append s xs (other ∷ ys) before (rw differs back)
 
 -- the place of a separator that a text has not
 position-absent : (s : ℕ) (text : List ℕ) → lacks s text ≡ true → position_or_len (λ b. b == s) text ≡ length text
@@ -80,7 +80,7 @@ cut_at-lacks s text none =
     rw (position-absent s text none) (grind (arith, nat_tests)) in
     rw outside refl
 
--- the first separator of a text stands where a front without one ends, if what follows is empty or begins with one
-pub place_after : (s : ℕ) (front back : List ℕ) → lacks s front ≡ true → (back ≡ []) ⊎ ((rest : List ℕ) × (back ≡ s ∷ rest)) → position_or_len (λ b. b == s) (front ++ back) ≡ length front
-place_after s front back none (inl empty) = rw (empty, append-nil front) (position-absent s front none)
-place_after s front back none (inr begun) = rw begun.1 (position-lacks s front begun.0 none)
+-- the first separator of a text stands where a part without one ends, if what follows is empty or begins with one
+pub place_after : (s : ℕ) (before back : List ℕ) → lacks s before ≡ true → (back ≡ []) ⊎ ((rest : List ℕ) × (back ≡ s ∷ rest)) → position_or_len (λ b. b == s) (before ++ back) ≡ length before
+place_after s before back none (inl empty) = rw (empty, append-nil before) (position-absent s before none)
+place_after s before back none (inr begun) = rw begun.1 (position-lacks s before begun.0 none)

@@ -32,32 +32,32 @@ pub fn cut_at(text: &[u8], byte: u8) -> Option<(&[u8], &[u8])>
 /// the text and nothing where it has none.
 #[inline]
 pub fn cut_before(text: &[u8], byte: u8) -> (&[u8], &[u8])
-    ensures front { result.0.now ≡ before_first (λ b. b == byte) text.now }
+    ensures before { result.0.now ≡ before_first (λ b. b == byte) text.now }
     ensures back { result.1.now ≡ from_first byte text.now }
 {
-    text.split_at(end_of_front(text, byte))
+    text.split_at(end_of_before(text, byte))
 }
 
 /// What stands before and after the first such byte of the text; all of the text and nothing where
 /// it has none.
 #[inline]
 pub fn cut_around(text: &[u8], byte: u8) -> (&[u8], &[u8])
-    ensures front { result.0.now ≡ before_first (λ b. b == byte) text.now }
+    ensures before { result.0.now ≡ before_first (λ b. b == byte) text.now }
     ensures back { result.1.now ≡ after_first (λ b. b == byte) text.now }
 {
-    let place = end_of_front(text, byte);
-    let (front, back) = text.split_at(place);
+    let place = end_of_before(text, byte);
+    let (before, back) = text.split_at(place);
     if back.is_empty() {
-        return (front, back);
+        return (before, back);
     }
     let (_, after) = text.split_at(place + 1);
-    (front, after)
+    (before, after)
 }
 
 /// The place of the first such byte of the text, or the text's length where it has none.
 #[inline]
 #[tactic(auto, using(crate::proofs::PlaceLemmas::placed))]
-fn end_of_front(text: &[u8], byte: u8) -> usize
+fn end_of_before(text: &[u8], byte: u8) -> usize
     ensures place { result ≡ position_or_len (λ b. b == byte) text.now }
     ensures within { result ≤ length text.now }
 {

@@ -3,8 +3,10 @@ use Rattle.std.specs.Prelude.{◌≡◌, ◌⊎◌, ℕ, List, Ok, Err, codes, n
 use Rattle.std.specs.Prelude.{if◌then◌else◌}
 use Rattle.std.specs.List.{starts_with}
 use Rattle.sqlite_trees.specs.declared.store.Store.{Ghosts}
-use Rattle.rr_io.specs.Sending.{Takes, TakesFront}
+use Rattle.rr_io.specs.Sending.{Takes, TakesPrefix}
 use Rattle.rr_io.specs.Told.{Told}
+use Rattle.rr_desk.specs.Turns.{Serving, TakesTurns, Tally}
+use Rattle.rr_desk.specs.declared.desk.Desk.{Desk}
 use Rattle.rr_commands.specs.Commands.{Answer, AtDesk, Commands, DeskAction, Ending, Gives}
 use Rattle.rr_commands.specs.declared.trouble.Trouble.{Trouble}
 use Rattle.rr_commands.specs.declared.trouble.Trouble.TheVariants.{Unwritten}
@@ -17,7 +19,7 @@ reply_status reply = if starts_with nat_eq reply (codes "% error ") then 1 else 
 -- (profile)
 abbrev pub PrintsReply : List ℕ → Told → Told → Answer → Type 0
 PrintsReply reply old new (Ok status) = (status ≡ reply_status reply) × Takes old new reply
-PrintsReply reply old new (Err trouble) = (trouble ≡ Unwritten) × TakesFront old new reply
+PrintsReply reply old new (Err trouble) = (trouble ≡ Unwritten) × TakesPrefix old new reply
 
 -- there is no reply, and nothing was printed (profile)
 pub record HasNoReply (old new : Told) (answer : Answer) : Type 0 where
@@ -30,10 +32,29 @@ pub record HasReply (old new : Told) (answer : Answer) : Type 0 where
   pub reply : List ℕ
   pub prints : PrintsReply reply old new answer
 
--- what the command does at a desk (profile)
-abbrev pub ProbesDesk : {S : Type 0} → Told → Told → DeskAction S
-ProbesDesk old new before after answer = HasNoReply old new answer ⊎ HasReply old new answer
+-- one turn of the program's own listener was taken, and so many of it failed (profile)
+pub record TakesOneTurn {S : Type 0} (g : Ghosts S) (serves : Serving) (before after : Desk S)
+    (failed : ℕ) : Type 0 where
+  pub tally_before : Tally
+  pub tally_after : Tally
+  pub served : ℕ
+  pub turns : TakesTurns g serves 1 before after tally_before tally_after served failed
+
+-- nobody could ask, and the desk is as it was; or one turn was taken, which failed or of which no
+-- reply could be read (profile)
+abbrev pub AsksInVain : {S : Type 0} → Ghosts S → Serving → Desk S → Desk S → Type 0
+AsksInVain g serves before after =
+    (after ≡ before) ⊎ ((failed : ℕ) × TakesOneTurn g serves before after failed)
+
+-- what the command does at a desk: it asks in vain, and prints nothing; or one turn was taken and
+-- served, and the reply is printed (profile)
+abbrev pub ProbesDesk : {S : Type 0} → Ghosts S → Serving → Told → Told → DeskAction S
+ProbesDesk g serves old new before after answer =
+    (HasNoReply old new answer × AsksInVain g serves before after)
+    ⊎ (HasReply old new answer × TakesOneTurn g serves before after 0)
 
 -- what the command does (profile)
-abbrev pub ProbesBy : {S : Type 0} → Ghosts S → Gives S → Told → Told → Ending → Type 0
-ProbesBy g gives old new = Commands (AtDesk g gives (ProbesDesk old new) old new) old new
+abbrev pub ProbesBy : {S : Type 0} → Ghosts S → Gives S → Serving → Told → Told → Ending
+    → Type 0
+ProbesBy g gives serves old new =
+    Commands (AtDesk g gives (ProbesDesk g serves old new) old new) old new

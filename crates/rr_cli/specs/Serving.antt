@@ -1,7 +1,7 @@
 -- What the serving of a command does, and what it prints (profile).
 use Rattle.std.specs.Prelude.{◌≡◌, ◌⊎◌, ℕ, List, ◌++◌, Ok, Err, codes, decimal}
 use Rattle.sqlite_trees.specs.declared.store.Store.{Ghosts}
-use Rattle.rr_io.specs.Sending.{Takes, TakesFront, Writes}
+use Rattle.rr_io.specs.Sending.{Takes, TakesPrefix, Writes}
 use Rattle.rr_io.specs.Told.{Told}
 use Rattle.rr_desk.specs.Turns.{Serving, TakesTurns, Tally}
 use Rattle.rr_desk.specs.declared.desk.Desk.{Desk}
@@ -38,7 +38,7 @@ listening_line port = listening_head ++ (decimal port ++ codes "\n")
 -- could not be printed (profile)
 abbrev pub ListensNot : ℕ → Trouble → Told → Told → Type 0
 ListensNot port (ListenerUnopened cause) old new = new ≡ old
-ListensNot port Unwritten old new = TakesFront old new (listening_line port)
+ListensNot port Unwritten old new = TakesPrefix old new (listening_line port)
 ListensNot port _ old new = ⊥
 
 -- the port is not listened on, or that could not be said: nothing was served (profile)

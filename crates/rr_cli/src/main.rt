@@ -5,13 +5,13 @@ mod probing;
 mod run;
 mod serving;
 
-use rr_commands::{DatabaseFiles, Progress};
+use rr_commands::{DatabaseFiles, Progress, Reading};
 use rr_io::Counted;
 use std::env;
 use std::process::ExitCode;
 
 fn main(rt: HostRuntime) -> ExitCode {
-    let mut input = Counted::new(rt.stdin());
+    let mut input = Reading::silent(&rt, Counted::new(rt.stdin()));
     let mut output = Progress::new(&rt, Counted::new(rt.stdout()));
     let mut errors = Counted::new(rt.stderr());
     let words = env::args(&rt);

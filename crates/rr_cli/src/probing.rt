@@ -1,13 +1,14 @@
 //! A question of the program to itself, over a connection.
 
-ghost use Rattle.std.specs.Prelude.{◌≡◌, ◌+◌, ◌<◌, ◌^◌, string_bytes};
+ghost use Rattle.std.specs.Prelude.{◌≡◌, ◌+◌, ◌<◌, ◌^◌, OnErr, OnOk, string_bytes};
 ghost use Rattle.rr_commands.specs.Commands.{AtDesk};
-ghost use Rattle.rr_cli.specs.Probing.{PrintsReply, ProbesBy, ProbesDesk, reply_status};
+ghost use Rattle.rr_cli.specs.Probing.{AsksInVain, PrintsReply, ProbesBy, ProbesDesk};
+ghost use Rattle.rr_cli.specs.Probing.{TakesOneTurn, reply_status};
 
 use rr_commands::{
     Cause, Databases, Output, ProgramFault, Trouble, close, ended, open_desk, read_settings_file,
 };
-use rr_desk::{Desk, Peers, Settings, serve_all};
+use rr_desk::{Desk, Peers, Service, Settings, serve_all};
 use rr_http::Both;
 use rr_io::{Sink, write_all};
 use rr_listener::Listener;
@@ -25,14 +26,15 @@ const ERROR: u8 = 1;
 const REPLY_WAIT: u64 = 10;
 
 /// Asks the registry that the settings name for its root maintainer, by whois over a connection to
-/// a listener of its own, and prints the reply: the status is 0, or 1 if the reply is an error.
+/// a listener of its own, of which it takes one turn, and prints the reply: the status is 0, or 1
+/// if the reply is an error. If the turn fails nothing is printed.
 pub fn probe<'a, D: Databases, W: Output>(
     rt: &HostRuntime,
     databases: &D,
     settings: &'a str,
     output: &mut W,
 ) -> Result<u8, ProgramFault<'a>>
-    ensures { ProbesBy D.Disk.Store (D.gives databases.now)
+    ensures { ProbesBy D.Disk.Store (D.gives databases.now) ⟦<Both as Service>⟧.serves
         (W.told output.old) (W.told output.new) result }
 {
     let (read, mut path) = read_settings_file(rt, settings)?;
@@ -49,7 +51,8 @@ fn probe_at<D: Databases, W: Sink>(
     output: &mut W,
 ) -> Result<u8, Trouble>
     ensures { AtDesk D.Disk.Store (D.gives databases.now)
-        (ProbesDesk (W.told output.old) (W.told output.new))
+        (ProbesDesk D.Disk.Store ⟦<Both as Service>⟧.serves
+        (W.told output.old) (W.told output.new))
         (W.told output.old) (W.told output.new) settings (string_bytes path.old) result }
 {
     let mut desk = open_desk(rt, databases, settings, path)?;
@@ -64,7 +67,8 @@ fn probe_desk<S: Alter, W: Sink>(
     desk: &mut Desk<S>,
     output: &mut W,
 ) -> Result<u8, Trouble>
-    ensures { ProbesDesk (W.told output.old) (W.told output.new) desk.old desk.new result }
+    ensures { ProbesDesk S.Store ⟦<Both as Service>⟧.serves
+        (W.told output.old) (W.told output.new) desk.old desk.new result }
 {
     match ask_for_root(rt, desk) {
         Ok(reply) => print_reply(reply.as_slice(), output),
@@ -83,7 +87,12 @@ fn print_reply<W: Sink>(reply: &[u8], output: &mut W) -> Result<u8, Trouble>
 }
 
 /// The reply to the name of a desk's root maintainer, over a connection.
-fn ask_for_root<S: Alter>(rt: &HostRuntime, desk: &mut Desk<S>) -> Result<Vec<u8>, Trouble> {
+fn ask_for_root<S: Alter>(rt: &HostRuntime, desk: &mut Desk<S>) -> Result<Vec<u8>, Trouble>
+    ensures read { OnOk result
+        (TakesOneTurn S.Store ⟦<Both as Service>⟧.serves desk.old desk.new 0) }
+    ensures unread { OnErr result
+        (AsksInVain S.Store ⟦<Both as Service>⟧.serves desk.old desk.new) }
+{
     match Listener::open(rt, 0) {
         Ok(mut listener) => match ask(rt, &listener, desk.settings().root().as_bytes()) {
             Ok(peer) => serve_asked(rt.alloc(), desk, &mut listener, peer),
@@ -101,8 +110,13 @@ fn serve_asked<S: Alter, P: Peers>(
     peer: TcpStream,
 ) -> Result<Vec<u8>, Trouble>
     requires { (P.tally peers.old).turns + 1 < 2 ^ 64 }
+    ensures read { OnOk result
+        (TakesOneTurn S.Store ⟦<Both as Service>⟧.serves desk.old desk.new 0) }
+    ensures unread { OnErr result
+        (AsksInVain S.Store ⟦<Both as Service>⟧.serves desk.old desk.new) }
 {
-    if is_served(alloc, desk, peers) {
+    let failed = take_turn(alloc, desk, peers);
+    if failed == 0 {
         match read_reply(alloc, peer) {
             Ok(reply) => Ok(reply),
             Err(error) => Err(trouble_of(&error)),
@@ -112,11 +126,13 @@ fn serve_asked<S: Alter, P: Peers>(
     }
 }
 
-/// Takes a turn of a listener, and says whether it was served.
-fn is_served<S: Alter, P: Peers>(alloc: Global, desk: &mut Desk<S>, peers: &mut P) -> bool
+/// Takes a turn of a listener, and gives how many failed: 0, or 1.
+fn take_turn<S: Alter, P: Peers>(alloc: Global, desk: &mut Desk<S>, peers: &mut P) -> u64
     requires { (P.tally peers.old).turns + 1 < 2 ^ 64 }
+    ensures { TakesOneTurn S.Store ⟦<Both as Service>⟧.serves desk.old desk.new result }
 {
-    serve_all(alloc, desk, peers, &Both, 1).failed == 0
+    let turns = serve_all(alloc, desk, peers, &Both, 1);
+    turns.failed
 }
 
 fn trouble_of(error: &io::Error) -> Trouble {

@@ -1,13 +1,17 @@
 //! A run of the program, over its words and its three streams.
 
+ghost use Rattle.rr_cli.specs.Performing.{CarriesOut};
+
 use crate::probing::probe;
 use crate::serving::serve;
 use rr_arguments::{ArgumentsFault, Command, read_command};
 use rr_commands::{
-    Databases, Output, ProgramFault, Trouble, dump, init, load, migrate, plain, print, query,
-    submit,
+    Databases, Input, Output, ProgramFault, Trouble, dump, init, load, migrate, plain, print,
+    query, submit,
 };
-use rr_io::{Sink, Source};
+use rr_desk::Service;
+use rr_http::Both;
+use rr_io::Sink;
 use std::env::Args;
 use std::io;
 use std::io::{ErrorKind, IsTerminal, Write};
@@ -20,7 +24,7 @@ const HINT: &[u8] =
 /// 0 if it is done, 1 if an item was refused or an answer was an error, and at a fault, which has
 /// its line on `errors`, 2 if the words are wrong, 3 if the settings are, 4 if the store failed,
 /// and else 5 (profile).
-pub fn run<D: Databases, R: Source, W: Output, E: Sink>(
+pub fn run<D: Databases, R: Input, W: Output, E: Sink>(
     rt: &HostRuntime,
     databases: &D,
     words: io::Result<Args>,
@@ -63,14 +67,30 @@ fn fault_of(fault: ArgumentsFault<'_>) -> ProgramFault<'_> {
 }
 
 /// Does what the words ask for.
-fn perform<'a, D: Databases, R: Source, W: Output>(
+fn perform<'a, D: Databases, R: Input, W: Output>(
     rt: &HostRuntime,
     databases: &D,
     words: &'a [String],
     input: &mut R,
     output: &mut W,
 ) -> Result<u8, ProgramFault<'a>> {
-    match read_command(rt.alloc(), words).map_err(fault_of)? {
+    let command = read_command(rt.alloc(), words).map_err(fault_of)?;
+    carry_out(rt, databases, command, input, output)
+}
+
+/// Carries out a command.
+fn carry_out<'a, D: Databases, R: Input, W: Output>(
+    rt: &HostRuntime,
+    databases: &D,
+    command: Command<'a>,
+    input: &mut R,
+    output: &mut W,
+) -> Result<u8, ProgramFault<'a>>
+    ensures { CarriesOut D.Disk.Store
+        (D.gives databases.now) ⟦<Both as Service>⟧.serves command.entry
+        (R.told input.old) (R.told input.new) (W.told output.old) (W.told output.new) result }
+{
+    match command {
         Command::Plain => {
             hint(rt);
             plain(rt.alloc(), input, output)
@@ -97,6 +117,7 @@ fn perform<'a, D: Databases, R: Source, W: Output>(
 /// Says on a terminal that objects are read from it.
 fn hint(rt: &HostRuntime) {
     if rt.stdin().is_terminal() && rt.stderr().is_terminal() {
+        // Without the hint the program does the same.
         let _ = rt.stderr().write_all(HINT);
     }
 }

@@ -37,7 +37,7 @@ pub fn serve<'a, D: Databases, W: Output>(
         (W.told output.old) (W.told output.new) result }
 {
     let (read, mut path) = read_settings_file(rt, settings)?;
-    let answer = serve_from(rt, databases, read, &mut path, port, count, output);
+    let answer = serve_at(rt, databases, read, &mut path, port, count, output);
     ended_at(rt.alloc(), answer, port, settings, path, output)
 }
 
@@ -71,7 +71,7 @@ fn about_port<'a>(alloc: Global, trouble: Trouble, port: u16) -> ProgramFault<'a
 }
 
 /// Serves so many connections to this port from the registry in the database at a path.
-fn serve_from<D: Databases, W: Sink>(
+fn serve_at<D: Databases, W: Sink>(
     rt: &HostRuntime,
     databases: &D,
     settings: Settings,
@@ -90,13 +90,13 @@ fn serve_from<D: Databases, W: Sink>(
         rt,
         path: path.as_str(),
     };
-    let answer = serve_at(rt, &mut desk, &watched, port, count, output);
+    let answer = serve_desk(rt, &mut desk, &watched, port, count, output);
     close(databases, desk.close());
     answer
 }
 
 /// Listens on this port, says so, and serves so many connections of a desk.
-fn serve_at<S: Alter, V: Service, W: Sink>(
+fn serve_desk<S: Alter, V: Service, W: Sink>(
     rt: &HostRuntime,
     desk: &mut Desk<S>,
     service: &V,
@@ -129,6 +129,7 @@ impl Watched<'_> {
     fn say(&self, error: Error) {
         let mut errors = Counted::new(self.rt.stderr());
         let trouble = Trouble::ServedInVain(DatabaseCause::of(error));
+        // Its status is not the program's: serving goes on.
         let _ = ProgramFault::of(self.path, trouble).tell(&mut errors);
     }
 }

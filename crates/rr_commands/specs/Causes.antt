@@ -33,6 +33,31 @@ cause_of kind.FileTooLarge code = cause.TooLarge
 cause_of kind.BrokenPipe code = cause.Ended
 cause_of kind.AddrInUse code = cause.Taken
 cause_of kind.AddrNotAvailable code = cause.NoAddress
+cause_of kind.AlreadyExists code = cause.Exists
+cause_of kind.DirectoryNotEmpty code = cause.Exists
+cause_of kind.ResourceBusy code = cause.InUse
+cause_of kind.ExecutableFileBusy code = cause.InUse
+cause_of kind.Deadlock code = cause.InUse
+cause_of kind.Unsupported code = cause.Unfit
+cause_of kind.NotSeekable code = cause.Unfit
+cause_of kind.CrossesDevices code = cause.Unfit
+cause_of kind.TooManyLinks code = cause.Unfit
+cause_of kind.ArgumentListTooLong code = cause.Unfit
+cause_of kind.StaleNetworkFileHandle code = cause.Lost
+cause_of kind.InvalidData code = cause.Spoilt
+cause_of kind.UnexpectedEof code = cause.Spoilt
+cause_of kind.WriteZero code = cause.Spoilt
+cause_of kind.Interrupted code = cause.Interrupted
+cause_of kind.WouldBlock code = cause.Late
+cause_of kind.TimedOut code = cause.Late
+cause_of kind.ConnectionRefused code = cause.Broken
+cause_of kind.ConnectionReset code = cause.Broken
+cause_of kind.ConnectionAborted code = cause.Broken
+cause_of kind.NotConnected code = cause.Broken
+cause_of kind.InProgress code = cause.Broken
+cause_of kind.NetworkDown code = cause.NoNetwork
+cause_of kind.NetworkUnreachable code = cause.NoNetwork
+cause_of kind.HostUnreachable code = cause.NoNetwork
 cause_of kind.OutOfMemory code = cause.Memory
 cause_of _ code = numbered code
 
@@ -53,6 +78,15 @@ cause_text cause.TooLarge =
 cause_text cause.Ended = codes "its reader has ended: let it read to the end"
 cause_text cause.Taken = codes "the address is in use: take another port"
 cause_text cause.NoAddress = codes "the machine has no such address: see that 127.0.0.1 can be used"
+cause_text cause.Exists = codes "something of that name is there: take another path"
+cause_text cause.InUse = codes "another program uses it: end that, or try again later"
+cause_text cause.Unfit = codes "the system does not do that with such a file: take another"
+cause_text cause.Lost = codes "its file server has it no longer: mount that again"
+cause_text cause.Spoilt = codes "it ends too early or is spoilt: try again, or take another file"
+cause_text cause.Interrupted = codes "a signal interrupted it: try again"
+cause_text cause.Late = codes "nothing came in time: try again"
+cause_text cause.Broken = codes "the connection broke off: try again"
+cause_text cause.NoNetwork = codes "the network is down: bring it up"
 cause_text cause.Memory = codes "out of memory: give the program more"
 cause_text (cause.Numbered number) = codes "system error "
 cause_text cause.Unnumbered = codes "the system does not say why"
@@ -93,8 +127,8 @@ database_text database.NoFolder =
     codes "the folder of the database is missing: make it, or correct `store`"
 database_text (database.Refused cause) = codes "the database cannot be opened or made: "
 database_text database.Unopened =
-    codes "the database cannot be opened or made: look at its folder, its links and its "
-    ++ codes "permissions"
+    codes "the database cannot be opened or made: look at its folder, its links, its permissions "
+    ++ codes "and the limit on open files"
 database_text database.Busy =
     codes "in use, most likely by the running server: ask it over its port, or stop it first"
 database_text database.Other =

@@ -61,6 +61,7 @@ is_of_database (trouble.Opening fault) = true
 is_of_database trouble.OtherSource = true
 is_of_database trouble.BadObject = true
 is_of_database trouble.Unsound = true
+is_of_database trouble.OtherRows = true
 is_of_database trouble.OtherOrder = true
 is_of_database _ = false
 

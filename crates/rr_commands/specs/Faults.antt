@@ -36,15 +36,15 @@ abbrev pub number_text : Option ℕ → List ℕ
 number_text None = []
 number_text (Some number) = decimal number
 
--- what went wrong, to the end of the line: `written` is why standard output took no more (profile)
+-- what went wrong, to the end of the line: `stream` is why reading or printing failed (profile)
 unfoldable pub trouble_text : Trouble → Cause → List ℕ
-trouble_text trouble written =
-    before trouble ++ (cause_words trouble (trouble_cause trouble written)
-    ++ (number_text (option_and_then number_of (trouble_cause trouble written))
+trouble_text trouble stream =
+    before trouble ++ (cause_words trouble (trouble_cause trouble stream)
+    ++ (number_text (option_and_then number_of (trouble_cause trouble stream))
     ++ (before_number trouble
     ++ (number_text (trouble_number trouble) ++ (after_number trouble ++ codes "\n")))))
 
 -- the line begins with the program's name (profile)
 unfoldable pub fault_line : About → Trouble → Cause → List ℕ
-fault_line about trouble written =
-    codes "irrdesk: " ++ (name_shown about ++ trouble_text trouble written)
+fault_line about trouble stream =
+    codes "irrdesk: " ++ (name_shown about ++ trouble_text trouble stream)

@@ -1,10 +1,12 @@
 -- What the migration of a command does, by how it ends (profile).
-use Rattle.std.specs.Prelude.{◌≡◌, ℕ, ◌⊎◌, List, Err, codes}
+use Rattle.std.specs.Prelude.{◌≡◌, ℕ, ◌⊎◌, Bool, true, false, List, Err, IsTrue, codes}
+use Rattle.std.specs.Prelude.{nat_lt}
 use Rattle.sqlite_trees.specs.declared.store.Store.{Ghosts}
 use Rattle.sqlite.specs.Held.{Held}
 use Rattle.rr_io.specs.Told.{Told}
 use Rattle.rr_store.specs.Calls.{OnCleanDisk, database}
 use Rattle.rr_store.specs.declared.fault.MigrateFault.{MigrateFault}
+use Rattle.rr_store.specs.declared.fault.MigrateFault.TheVariants as migrating
 use Rattle.rr_desk.specs.Migrating.{IsMigratedBy, MigratesTables, RefusesOldRegistry}
 use Rattle.rr_desk.specs.Opened.{MakesNone, Runs}
 use Rattle.rr_desk.specs.Settings.{SettingsParts}
@@ -12,6 +14,8 @@ use Rattle.rr_desk.specs.declared.desk.Desk.{Desk}
 use Rattle.rr_commands.specs.Commands.{Answer, Commands, ConnectionAction, Ending, Gives}
 use Rattle.rr_commands.specs.Commands.{InDatabase}
 use Rattle.rr_commands.specs.Printed.{Tells}
+use Rattle.rr_commands.specs.declared.trouble.Trouble.{Trouble}
+use Rattle.rr_commands.specs.declared.trouble.Trouble.TheVariants as trouble
 use Rattle.rr_commands.specs.declared.trouble.Trouble.TheVariants.{Migrating}
 
 -- the line that says that tables were migrated (profile)
@@ -43,8 +47,49 @@ MigratesIn g settings old new before after answer =
     IsUnmigrated g settings old new before after answer
     ⊎ IsMigrated g settings old new before after answer
 
+-- what a look at the tables may find: another order, or a version later than 2 (profile)
+abbrev pub is_of_tables : Trouble → Bool
+is_of_tables trouble.OtherOrder = true
+is_of_tables (trouble.Migrating (migrating.WrongVersion version)) = nat_lt 2 version
+is_of_tables _ = false
+
+-- what a look at their rows may find: another source, a row, or what rows say together (profile)
+abbrev pub is_of_rows : Trouble → Bool
+is_of_rows trouble.OtherSource = true
+is_of_rows trouble.BadObject = true
+is_of_rows trouble.Unsound = true
+is_of_rows trouble.OtherRows = true
+is_of_rows _ = false
+
+-- what may be found where the database was refused, and where its rows were (profile)
+abbrev pub is_found : MigrateFault → Trouble → Bool
+is_found (migrating.Store error) found = is_of_tables found
+is_found migrating.BadRow found = is_of_rows found
+is_found _ found = false
+
+-- the database was refused, and what a further look at it found is told (profile)
+pub record IsFoundOut (first answer : Answer) : Type 0 where
+  pub fault : MigrateFault
+  pub told_first : first ≡ Err (Migrating fault)
+  pub trouble : Trouble
+  pub found : IsTrue (is_found fault trouble)
+  pub told : answer ≡ Err trouble
+
+-- what is told of an answer: that, or what a further look at the database found (profile)
+abbrev pub IsDiagnosis : Answer → Answer → Type 0
+IsDiagnosis first answer = (answer ≡ first) ⊎ IsFoundOut first answer
+
+-- the command did this and answered `first`; what is told is that, or what a look at the database
+-- afterwards found, which is not spoken of here (profile)
+pub record IsDiagnosed {S : Type 0} (does : ConnectionAction S) (before after : Held S)
+    (answer : Answer) : Type 0 where
+  pub first : Answer
+  pub did : does before after first
+  pub diagnosis : IsDiagnosis first answer
+
 -- what the command does (profile)
 abbrev pub MigratesBy : {S : Type 0} → Ghosts S → Gives S → Told → Told → Ending
     → Type 0
 MigratesBy g gives old new =
-    Commands (λ settings. InDatabase gives (MigratesIn g settings old new) old new) old new
+    Commands (λ settings. InDatabase gives (IsDiagnosed (MigratesIn g settings old new)) old new)
+    old new

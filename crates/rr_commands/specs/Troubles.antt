@@ -50,6 +50,7 @@ trouble_status (trouble.Opening opening.Memory) = 5
 trouble_status trouble.OtherSource = 4
 trouble_status trouble.BadObject = 4
 trouble_status trouble.Unsound = 4
+trouble_status trouble.OtherRows = 4
 trouble_status trouble.OtherOrder = 4
 trouble_status (trouble.ServedInVain cause) = 4
 trouble_status (trouble.FileUnopened cause) = 5
@@ -86,22 +87,24 @@ paragraph_of (loading.Overlap number) = Some number
 paragraph_of (loading.Unnamed number) = Some number
 paragraph_of _ = None
 
--- the cause that the system gave, if it gave one: `written` is that of standard output (profile)
+-- the cause that the system gave, if it gave one: `stream` is that of reading or printing (profile)
 abbrev pub trouble_cause : Trouble → Cause → Option Cause
-trouble_cause (trouble.SettingsUnread cause) written = Some cause
-trouble_cause (trouble.FileUnopened cause) written = Some cause
-trouble_cause (trouble.ListenerUnopened cause) written = Some cause
-trouble_cause (trouble.ProbeFailed cause) written = Some cause
-trouble_cause (trouble.Database (database.Refused cause)) written = Some cause
-trouble_cause trouble.Unwritten written = Some written
-trouble_cause (trouble.Dumping dumping.Write) written = Some written
-trouble_cause (trouble.Submission (desk.WriteFault items) cause) written = Some written
-trouble_cause _ written = None
+trouble_cause (trouble.SettingsUnread cause) stream = Some cause
+trouble_cause (trouble.FileUnopened cause) stream = Some cause
+trouble_cause (trouble.ListenerUnopened cause) stream = Some cause
+trouble_cause (trouble.ProbeFailed cause) stream = Some cause
+trouble_cause (trouble.Database (database.Refused cause)) stream = Some cause
+trouble_cause trouble.Unwritten stream = Some stream
+trouble_cause (trouble.Dumping dumping.Write) stream = Some stream
+trouble_cause (trouble.Submission (desk.ReadFault items) cause) stream = Some stream
+trouble_cause (trouble.Submission (desk.WriteFault items) cause) stream = Some stream
+trouble_cause (trouble.Loading loading.Read) stream = Some stream
+trouble_cause _ stream = None
 
 -- a cause in words, or nothing: that of the system, or why the database failed (profile)
 abbrev pub cause_words : Trouble → Option Cause → List ℕ
-cause_words (trouble.Submission (desk.StoreFault items) cause) written = database_text cause
-cause_words (trouble.ServedInVain cause) written = database_text cause
+cause_words (trouble.Submission (desk.StoreFault items) cause) given = database_text cause
+cause_words (trouble.ServedInVain cause) given = database_text cause
 cause_words _ None = []
 cause_words _ (Some cause) = cause_text cause
 
@@ -151,6 +154,7 @@ place_of (trouble.Opening fault) = place.Database
 place_of trouble.OtherSource = place.Database
 place_of trouble.BadObject = place.Database
 place_of trouble.Unsound = place.Database
+place_of trouble.OtherRows = place.Database
 place_of trouble.OtherOrder = place.Database
 place_of (trouble.ServedInVain cause) = place.Database
 place_of (trouble.Submission fault cause) = place.Database

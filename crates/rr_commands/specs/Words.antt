@@ -75,8 +75,7 @@ opening_words opening.Memory = out_of_memory
 -- of a submission (profile)
 abbrev pub submission_words : DeskFault → List ℕ
 submission_words (desk.ReadFault items) =
-    codes "the submission could not be read to its end: submit all of it again; items decided "
-    ++ codes "before that: "
+    codes "the submission could not be read to its end, so submit the whole text again: "
 submission_words (desk.WriteFault items) =
     codes "the report could not be written, so submit the whole text again: "
 submission_words (desk.StoreFault items) =
@@ -95,7 +94,7 @@ dumping_words dumping.Stopped = stopped
 abbrev pub loading_words : DeskLoadFault → List ℕ
 loading_words loading.NotEmpty = not_empty
 loading_words loading.Read =
-    codes "the dump could not be read to its end, and nothing is loaded: look at its file"
+    codes "the dump could not be read to its end, and nothing is loaded: "
 loading_words loading.Endless =
     codes "the dump has no end within 16777216 reads: name a whole dump"
 loading_words (loading.Text number) = codes "nothing is loaded, because paragraph "
@@ -141,9 +140,12 @@ before trouble.BadObject =
 before trouble.Unsound =
     codes "the object of the row names a maintainer who is not there, or its range overlaps one "
     ++ codes "before it: restore a backup, or mend the rows"
+before trouble.OtherRows =
+    codes "its rows are not those that the objects need, which are good: restore a backup, or "
+    ++ codes "mend the table"
 before trouble.OtherOrder =
-    codes "the tables of the registry are not first and in order: `sqlite3 OLD '.dump meta' "
-    ++ codes "'.dump object' '.dump named' | sqlite3 NEW` makes a database that is read"
+    codes "the tables of the registry are not first and in order: `umask 077; sqlite3 OLD '.dump "
+    ++ codes "meta' '.dump object' '.dump named' | sqlite3 NEW` makes a database that is read"
 before (trouble.FileUnopened cause) = codes "the file cannot be opened: "
 before (trouble.Submission fault cause) = submission_words fault
 before (trouble.Dumping fault) = dumping_words fault
@@ -158,6 +160,8 @@ before trouble.Memory = out_of_memory
 
 -- the words between the cause and the number (profile)
 abbrev pub before_number : Trouble → List ℕ
+before_number (trouble.Submission (desk.ReadFault items) cause) =
+    codes "; items decided before that: "
 before_number (trouble.Submission (desk.WriteFault items) cause) =
     codes "; items decided before that: "
 before_number (trouble.Submission (desk.StoreFault items) cause) =

@@ -1,6 +1,6 @@
 //! Why a file, a socket or a database could not be used, in words of the program's own.
 
-ghost use Rattle.std.specs.Prelude.{◌≡◌, ℤ, Option};
+ghost use Rattle.std.specs.Prelude.{◌≡◌, Option};
 ghost use Rattle.std.specs.IoError.{error_kind, raw_os_error};
 ghost use Rattle.rr_commands.specs.Causes.{cause_of, cause_text, code_cause, database_cause};
 ghost use Rattle.rr_commands.specs.Causes.{database_text, number_of, numbered, stop_cause};
@@ -42,6 +42,24 @@ pub enum Cause {
     Taken,
     /// The machine has no such address.
     NoAddress,
+    /// Something of that name is there.
+    Exists,
+    /// Another program uses it.
+    InUse,
+    /// The system does not do that with such a file.
+    Unfit,
+    /// The server of a file has it no longer.
+    Lost,
+    /// It ends too early, or is spoilt.
+    Spoilt,
+    /// A signal came first.
+    Interrupted,
+    /// Nothing came in time.
+    Late,
+    /// The connection broke off.
+    Broken,
+    /// The network is down.
+    NoNetwork,
     /// Memory ran out.
     Memory,
     /// Any other cause, by the number that the system gives it.
@@ -70,6 +88,26 @@ impl Cause {
             ErrorKind::BrokenPipe => Cause::Ended,
             ErrorKind::AddrInUse => Cause::Taken,
             ErrorKind::AddrNotAvailable => Cause::NoAddress,
+            ErrorKind::AlreadyExists | ErrorKind::DirectoryNotEmpty => Cause::Exists,
+            ErrorKind::ResourceBusy | ErrorKind::ExecutableFileBusy | ErrorKind::Deadlock =>
+                Cause::InUse,
+            ErrorKind::Unsupported
+            | ErrorKind::NotSeekable
+            | ErrorKind::CrossesDevices
+            | ErrorKind::TooManyLinks
+            | ErrorKind::ArgumentListTooLong => Cause::Unfit,
+            ErrorKind::StaleNetworkFileHandle => Cause::Lost,
+            ErrorKind::InvalidData | ErrorKind::UnexpectedEof | ErrorKind::WriteZero =>
+                Cause::Spoilt,
+            ErrorKind::Interrupted => Cause::Interrupted,
+            ErrorKind::WouldBlock | ErrorKind::TimedOut => Cause::Late,
+            ErrorKind::ConnectionRefused
+            | ErrorKind::ConnectionReset
+            | ErrorKind::ConnectionAborted
+            | ErrorKind::NotConnected
+            | ErrorKind::InProgress => Cause::Broken,
+            ErrorKind::NetworkDown | ErrorKind::NetworkUnreachable | ErrorKind::HostUnreachable =>
+                Cause::NoNetwork,
             ErrorKind::OutOfMemory => Cause::Memory,
             _ => Cause::numbered(error.raw_os_error()),
         }
@@ -108,6 +146,15 @@ impl Cause {
             Cause::Ended => "its reader has ended: let it read to the end",
             Cause::Taken => "the address is in use: take another port",
             Cause::NoAddress => "the machine has no such address: see that 127.0.0.1 can be used",
+            Cause::Exists => "something of that name is there: take another path",
+            Cause::InUse => "another program uses it: end that, or try again later",
+            Cause::Unfit => "the system does not do that with such a file: take another",
+            Cause::Lost => "its file server has it no longer: mount that again",
+            Cause::Spoilt => "it ends too early or is spoilt: try again, or take another file",
+            Cause::Interrupted => "a signal interrupted it: try again",
+            Cause::Late => "nothing came in time: try again",
+            Cause::Broken => "the connection broke off: try again",
+            Cause::NoNetwork => "the network is down: bring it up",
             Cause::Memory => "out of memory: give the program more",
             Cause::Numbered(_) => "system error ",
             Cause::Unnumbered => "the system does not say why",
@@ -202,8 +249,8 @@ impl DatabaseCause {
                 "the folder of the database is missing: make it, or correct `store`",
             DatabaseCause::Refused(_) => "the database cannot be opened or made: ",
             DatabaseCause::Unopened =>
-                "the database cannot be opened or made: look at its folder, its links and its \
-                permissions",
+                "the database cannot be opened or made: look at its folder, its links, its \
+                permissions and the limit on open files",
             DatabaseCause::Busy =>
                 "in use, most likely by the running server: ask it over its port, or stop it first",
             DatabaseCause::Other =>

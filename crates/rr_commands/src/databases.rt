@@ -92,6 +92,7 @@ impl Databases for DatabaseFiles<'_> {
 
     fn close(&self, conn: &mut Option<Connection<FileStore<File>>>) {
         if let Some(conn) = conn.take() {
+            // If it fails, what was committed stays in the log.
             let _ = conn.close();
         }
     }
@@ -150,8 +151,8 @@ fn make_file(rt: &HostRuntime, path: &str) -> Result<(), DatabaseCause> {
 }
 
 /// Opens the desk of the registry in the database of this name, its path. While a large one is
-/// opened, a line on a terminal says so. If a row is the matter, its class and key are added to the
-/// name, for the message.
+/// opened, a line on a terminal says so. If a row is the matter, its class and key, or its table,
+/// are added to the name, for the message.
 pub fn open_desk<D: Databases>(
     rt: &HostRuntime,
     databases: &D,

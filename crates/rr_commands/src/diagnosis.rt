@@ -1,12 +1,16 @@
-//! What is the matter with a database whose registry is not opened, for messages alone: no contract
-//! speaks of it. The store says only that there is something; the rows are looked at once more,
-//! because a person needs to know where. If memory runs out meanwhile, what the store said is told.
+//! What is the matter with a database whose registry is not opened or not migrated, for messages
+//! alone: contracts say of which kind it is, and not that it is so. The store says only that there
+//! is something; the rows are looked at once more, because a person needs to know where. If memory
+//! runs out meanwhile, what the store said is told, or what else was found.
 
-ghost use Rattle.std.specs.Prelude.{IsTrue};
+ghost use Rattle.std.specs.Prelude.{IfSome, IsTrue, nat_lt};
 ghost use Rattle.rr_commands.specs.Commands.{is_of_database};
+ghost use Rattle.rr_commands.specs.Migrated.{IsDiagnosis, is_of_rows, is_of_tables};
 
 use crate::trouble::Trouble;
-use rr_desk::OpenFault;
+use crate::words::{OLD_VERSION, VERSION};
+use itoa::Buffer;
+use rr_desk::{MigrateFault, OpenFault};
 use rr_index::IndexedBook;
 use rr_number::Name;
 use rr_object::{Key, Object, ObjectFault};
@@ -18,8 +22,38 @@ use std::alloc::{AllocError, Global};
 /// What a file has, in its order: each of the three tables is followed by the index of its key.
 const LISTED: &str = "SELECT name FROM sqlite_schema ORDER BY rowid";
 
+/// The rows of settings.
+const SETTINGS: &str = "SELECT name, value FROM meta";
+
 /// The rows of objects.
 const OBJECTS: &str = "SELECT class, okey, body FROM object ORDER BY class, okey";
+
+/// The version of the tables that are looked at.
+#[derive(Clone, Copy)]
+enum Version {
+    /// The one that is migrated.
+    Old,
+    /// The one that is read.
+    This,
+}
+
+impl Version {
+    /// The number.
+    fn number(self) -> u32 {
+        match self {
+            Version::Old => OLD_VERSION,
+            Version::This => VERSION,
+        }
+    }
+
+    /// The text of a key, if it has one in tables of this version.
+    fn key_bytes(self, alloc: Global, key: &Key) -> Result<Option<Vec<u8>>, AllocError> {
+        match self {
+            Version::Old => key.old_bytes(alloc),
+            Version::This => Ok(Some(key.bytes(alloc)?)),
+        }
+    }
+}
 
 /// Why a row has no object of a registry by its class and key.
 #[derive(Clone, Copy, PartialEq, Eq)]
@@ -32,8 +66,9 @@ enum RowFault {
     Memory,
 }
 
-/// What is the matter with a database whose registry was not opened for this reason. If a row is,
-/// its class and key are added to the name of the database.
+/// What is the matter with a database whose registry was not opened for this reason. If a row of an
+/// object is, its class and key are added to the name of the database, and if another row is, its
+/// table.
 pub fn trouble_with<S: Alter>(
     alloc: Global,
     conn: &mut Connection<S>,
@@ -45,14 +80,97 @@ pub fn trouble_with<S: Alter>(
 {
     match fault {
         OpenFault::Store(_) => {
-            if has_other_order(conn) {
+            if let Some(version) = later_version(conn) {
+                Trouble::Opening(OpenFault::WrongVersion(version))
+            } else if has_other_order(conn) {
                 Trouble::OtherOrder
             } else {
                 Trouble::Opening(fault)
             }
         }
-        OpenFault::BadRow => trouble_with_rows(alloc, conn, source, name),
+        OpenFault::BadRow => match found_in_rows(alloc, conn, source, Version::This, name) {
+            Some(trouble) => trouble,
+            None => Trouble::Opening(fault),
+        },
         OpenFault::WrongVersion(_) | OpenFault::Memory => Trouble::Opening(fault),
+    }
+}
+
+/// What is told of the answer of a migration: that, or what is found the matter with a database
+/// that was refused, as above. Its rows are looked at if a copy of the source was made.
+pub fn told_of<S: Alter>(
+    alloc: Global,
+    conn: &mut Connection<S>,
+    source: Result<Name, AllocError>,
+    answer: Result<u8, Trouble>,
+    name: &mut String,
+) -> Result<u8, Trouble>
+    ensures { IsDiagnosis answer result }
+{
+    match (answer, source) {
+        (Err(Trouble::Migrating(MigrateFault::Store(_))), _) => match found_in_tables(conn) {
+            Some(trouble) => Err(trouble),
+            None => answer,
+        },
+        (Err(Trouble::Migrating(MigrateFault::BadRow)), Ok(source)) => {
+            match found_in_rows(alloc, conn, &source, Version::Old, name) {
+                Some(trouble) => Err(trouble),
+                None => answer,
+            }
+        }
+        _ => answer,
+    }
+}
+
+/// What is the matter with tables that are not migrated, if it is found.
+fn found_in_tables<S: Alter>(conn: &mut Connection<S>) -> Option<Trouble>
+    ensures { IfSome result (λ trouble. IsTrue (is_of_tables trouble)) }
+{
+    if let Some(version) = later_version(conn) {
+        Some(Trouble::Migrating(MigrateFault::WrongVersion(version)))
+    } else if has_other_order(conn) {
+        Some(Trouble::OtherOrder)
+    } else {
+        None
+    }
+}
+
+/// The version that the settings of tables say, if it is a later one: those tables may have other
+/// columns.
+fn later_version<S: Alter>(conn: &mut Connection<S>) -> Option<u32>
+    ensures { IfSome result (λ version. IsTrue (nat_lt VERSION version)) }
+{
+    match conn.query_all(SETTINGS, &[]) {
+        Ok(rows) => {
+            let version = version_in(rows.as_slice())?;
+            if version > VERSION {
+                Some(version)
+            } else {
+                None
+            }
+        }
+        Err(_) => None,
+    }
+}
+
+/// The version among rows of settings.
+fn version_in(rows: &[Row]) -> Option<u32> {
+    let row = rows.iter().find(|row| is_named(row, "version"))?;
+    let found: Result<String, sqlite::Error> = row.get(1);
+    match found {
+        Ok(found) => number_of(found.as_str()),
+        Err(_) => None,
+    }
+}
+
+/// The number that a text writes in decimal digits, without leading zeros.
+fn number_of(text: &str) -> Option<u32> {
+    let number = text.parse::<u32>().ok()?;
+    let mut digits = Buffer::new();
+    if digits.format(number).as_bytes() == text.as_bytes() {
+        Some(number)
+    } else {
+        None
     }
 }
 
@@ -85,95 +203,142 @@ fn is_named(row: &Row, name: &str) -> bool {
     }
 }
 
-/// What is the matter with rows that are those of no registry of the source.
-fn trouble_with_rows<S: Alter>(
+/// What is the matter with rows that are those of no registry of the source, if it is found.
+fn found_in_rows<S: Alter>(
     alloc: Global,
     conn: &mut Connection<S>,
     source: &Name,
+    version: Version,
     name: &mut String,
-) -> Trouble
-    ensures { IsTrue (is_of_database result) }
+) -> Option<Trouble>
+    ensures found { IfSome result (λ trouble. IsTrue (is_of_rows trouble)) }
+    ensures database { IfSome result (λ trouble. IsTrue (is_of_database trouble)) }
 {
     match conn.query_all(OBJECTS, &[]) {
-        Ok(rows) => judge_rows(alloc, rows.as_slice(), source, name),
-        Err(_) => Trouble::Opening(OpenFault::BadRow),
+        Ok(rows) => judge_rows(alloc, conn, rows.as_slice(), source, version, name),
+        Err(_) => None,
     }
 }
 
 /// What is the matter with these rows of objects: if all are of another source, that; otherwise the
-/// first that is bad by itself, and else the first that is bad beside the others.
-fn judge_rows(alloc: Global, rows: &[Row], source: &Name, name: &mut String) -> Trouble
-    ensures { IsTrue (is_of_database result) }
+/// first that is bad by itself, and else what is bad of all together.
+fn judge_rows<S: Alter>(
+    alloc: Global,
+    conn: &mut Connection<S>,
+    rows: &[Row],
+    source: &Name,
+    version: Version,
+    name: &mut String,
+) -> Option<Trouble>
+    ensures found { IfSome result (λ trouble. IsTrue (is_of_rows trouble)) }
+    ensures database { IfSome result (λ trouble. IsTrue (is_of_database trouble)) }
 {
-    let are_others = rows.iter().all(|row| fault_of(alloc, row, source)
+    let are_others = rows.iter().all(|row| fault_of(alloc, row, source, version)
         == Some(RowFault::OtherSource));
-    match first_bad(alloc, rows, source) {
-        Some(_) if are_others => Trouble::OtherSource,
+    match first_bad(alloc, rows, source, version) {
+        Some(_) if are_others => Some(Trouble::OtherSource),
         Some(row) => {
+            // Here and below: without memory for the row, the message names the database alone.
             let _ = push_row(name, row);
-            Trouble::BadObject
+            Some(Trouble::BadObject)
         }
-        None => match first_unsound(alloc, rows, source) {
-            Some(row) => {
-                let _ = push_row(name, row);
-                Trouble::Unsound
-            }
-            None => Trouble::Opening(OpenFault::BadRow),
-        },
+        None => judge_together(alloc, conn, rows, source, version, name),
     }
 }
 
+/// What is the matter with rows of objects that are good one by one: the first whose object names a
+/// maintainer who is not there, or has a span that crosses one before it, and else another table.
+fn judge_together<S: Alter>(
+    alloc: Global,
+    conn: &mut Connection<S>,
+    rows: &[Row],
+    source: &Name,
+    version: Version,
+    name: &mut String,
+) -> Option<Trouble>
+    ensures found { IfSome result (λ trouble. IsTrue (is_of_rows trouble)) }
+    ensures database { IfSome result (λ trouble. IsTrue (is_of_database trouble)) }
+{
+    let Some(objects) = objects_of(alloc, rows, source, version) else {
+        return None;
+    };
+    let loaded: Result<Registry<IndexedBook>, LoadFault> = Registry::from_objects(alloc, objects);
+    match loaded {
+        Ok(_) => {
+            let _ = push_table(conn, version, name);
+            Some(Trouble::OtherRows)
+        }
+        Err(LoadFault::Overlap(number) | LoadFault::Unnamed(number)) => {
+            if let Some(row) = row_at(rows, number) {
+                let _ = push_row(name, row);
+            }
+            Some(Trouble::Unsound)
+        }
+        Err(_) => None,
+    }
+}
+
+/// The row of this number, from 1.
+fn row_at(rows: &[Row], number: u64) -> Option<&Row> {
+    rows.get(usize::try_from(number).ok()?.checked_sub(1)?)
+}
+
 /// The first row that has no object of the source by its class and key.
-fn first_bad<'a>(alloc: Global, rows: &'a [Row], source: &Name) -> Option<&'a Row> {
+fn first_bad<'a>(
+    alloc: Global,
+    rows: &'a [Row],
+    source: &Name,
+    version: Version,
+) -> Option<&'a Row> {
     rows.iter().find(|row| {
         matches!(
-            fault_of(alloc, row, source),
+            fault_of(alloc, row, source, version),
             Some(RowFault::OtherSource | RowFault::Bad)
         )
     })
 }
 
-/// The first row whose object names a maintainer who is not there, or has a span that crosses one
-/// before it.
-fn first_unsound<'a>(alloc: Global, rows: &'a [Row], source: &Name) -> Option<&'a Row> {
-    let objects = objects_of(alloc, rows, source)?;
-    let loaded: Result<Registry<IndexedBook>, LoadFault> = Registry::from_objects(alloc, objects);
-    match loaded {
-        Err(LoadFault::Overlap(number) | LoadFault::Unnamed(number)) => {
-            rows.get(usize::try_from(number).ok()?.checked_sub(1)?)
-        }
-        _ => None,
-    }
-}
-
 /// The objects of rows.
-fn objects_of(alloc: Global, rows: &[Row], source: &Name) -> Option<Vec<Object>> {
+fn objects_of(alloc: Global, rows: &[Row], source: &Name, version: Version) -> Option<Vec<Object>> {
     let mut objects = Vec::new(alloc);
     for row in rows {
-        objects.push(object_of(alloc, row, source).ok()?).ok()?;
+        objects
+            .push(object_of(alloc, row, source, version).ok()?)
+            .ok()?;
     }
     Some(objects)
 }
 
 /// Why a row has no object of the source by its class and key, if it has none.
-fn fault_of(alloc: Global, row: &Row, source: &Name) -> Option<RowFault> {
-    object_of(alloc, row, source).err()
+fn fault_of(alloc: Global, row: &Row, source: &Name, version: Version) -> Option<RowFault> {
+    object_of(alloc, row, source, version).err()
 }
 
 /// The object of a row.
-fn object_of(alloc: Global, row: &Row, source: &Name) -> Result<Object, RowFault> {
+fn object_of(
+    alloc: Global,
+    row: &Row,
+    source: &Name,
+    version: Version,
+) -> Result<Object, RowFault> {
     let body: Result<Vec<u8>, sqlite::Error> = row.get(2);
     match body {
-        Ok(body) => read_body(alloc, row, body.as_slice(), source),
+        Ok(body) => read_body(alloc, row, body.as_slice(), source, version),
         Err(_) => Err(RowFault::Bad),
     }
 }
 
 /// The object of a row with this text.
-fn read_body(alloc: Global, row: &Row, body: &[u8], source: &Name) -> Result<Object, RowFault> {
+fn read_body(
+    alloc: Global,
+    row: &Row,
+    body: &[u8],
+    source: &Name,
+    version: Version,
+) -> Result<Object, RowFault> {
     match read_canonical(alloc, body) {
         Ok(Some(paragraph)) => match Object::read(alloc, paragraph, source) {
-            Ok(object) => keyed(alloc, row, object),
+            Ok(object) => keyed(alloc, row, object, version),
             Err(ObjectFault::OtherSource) => Err(RowFault::OtherSource),
             Err(ObjectFault::Memory) => Err(RowFault::Memory),
             Err(_) => Err(RowFault::Bad),
@@ -184,11 +349,11 @@ fn read_body(alloc: Global, row: &Row, body: &[u8], source: &Name) -> Result<Obj
 }
 
 /// The object, if the row has its class and key.
-fn keyed(alloc: Global, row: &Row, object: Object) -> Result<Object, RowFault> {
+fn keyed(alloc: Global, row: &Row, object: Object, version: Version) -> Result<Object, RowFault> {
     let class: Result<u64, sqlite::Error> = row.get(0);
     match class {
         Ok(class) if class == u64::from(object.key().class().number()) => {
-            if has_key(alloc, row, object.key()) {
+            if has_key(alloc, row, object.key(), version) {
                 Ok(object)
             } else {
                 Err(RowFault::Bad)
@@ -199,12 +364,12 @@ fn keyed(alloc: Global, row: &Row, object: Object) -> Result<Object, RowFault> {
 }
 
 /// Whether a row has this key; it may if memory runs out.
-fn has_key(alloc: Global, row: &Row, key: &Key) -> bool {
+fn has_key(alloc: Global, row: &Row, key: &Key, version: Version) -> bool {
     let found: Result<String, sqlite::Error> = row.get(1);
-    match (found, key.bytes(alloc)) {
-        (Ok(found), Ok(bytes)) => found.as_bytes() == bytes.as_slice(),
+    match (found, version.key_bytes(alloc, key)) {
+        (Ok(found), Ok(Some(bytes))) => found.as_bytes() == bytes.as_slice(),
         (Ok(_), Err(_)) => true,
-        (Err(_), _) => false,
+        (Ok(_), Ok(None)) | (Err(_), _) => false,
     }
 }
 
@@ -216,4 +381,29 @@ fn push_row(name: &mut String, row: &Row) -> Result<(), AllocError> {
         (Ok(class), Ok(key)) => write!(name, ", class {class}, okey {key}"),
         _ => Ok(()),
     }
+}
+
+/// Adds the table whose rows are not those that the objects need: `meta`, unless that has the
+/// version and nothing else.
+fn push_table<S: Alter>(
+    conn: &mut Connection<S>,
+    version: Version,
+    name: &mut String,
+) -> Result<(), AllocError> {
+    match conn.query_all(SETTINGS, &[]) {
+        Ok(rows) => {
+            let table = if is_version_alone(rows.as_slice(), version) {
+                "named"
+            } else {
+                "meta"
+            };
+            write!(name, ", table {table}")
+        }
+        Err(_) => Ok(()),
+    }
+}
+
+/// Whether rows of settings are this version, and nothing else.
+fn is_version_alone(rows: &[Row], version: Version) -> bool {
+    rows.len() == 1 && version_in(rows) == Some(version.number())
 }

@@ -27,13 +27,13 @@ pub enum About<'a> {
     Named(String),
 }
 
-/// Why the program fails: what it is about, what went wrong with it, and why standard output took
-/// no more, if it is that.
+/// Why the program fails: what it is about, what went wrong with it, and why reading or printing
+/// failed, if it is that.
 #[derive(Drop)]
 pub struct ProgramFault<'a> {
     about: About<'a>,
     trouble: Trouble,
-    written: Cause,
+    stream: Cause,
 }
 
 impl<'a> ProgramFault<'a> {
@@ -45,7 +45,7 @@ impl<'a> ProgramFault<'a> {
         ProgramFault {
             about: About::Nothing,
             trouble,
-            written: Cause::Unnumbered,
+            stream: Cause::Unnumbered,
         }
     }
 
@@ -57,7 +57,20 @@ impl<'a> ProgramFault<'a> {
         ProgramFault {
             about: About::Word(word),
             trouble,
-            written: Cause::Unnumbered,
+            stream: Cause::Unnumbered,
+        }
+    }
+
+    /// A fault of a file that a word names, which gave no more for this cause.
+    pub fn of_file(word: &'a str, trouble: Trouble, stream: Cause) -> ProgramFault<'a>
+        ensures about { result.about ≡ abouts.Word word.entry }
+        ensures trouble { result.trouble ≡ trouble }
+        ensures stream { result.stream ≡ stream }
+    {
+        ProgramFault {
+            about: About::Word(word),
+            trouble,
+            stream,
         }
     }
 
@@ -69,30 +82,30 @@ impl<'a> ProgramFault<'a> {
         ProgramFault {
             about: About::Named(name),
             trouble,
-            written: Cause::Unnumbered,
+            stream: Cause::Unnumbered,
         }
     }
 
     /// A fault of standard output, which took no more for this cause.
-    pub fn of_output(trouble: Trouble, written: Cause) -> ProgramFault<'a>
+    pub fn of_output(trouble: Trouble, stream: Cause) -> ProgramFault<'a>
         ensures about { name_shown result.about ≡ place_shown place.Output [] [] }
         ensures trouble { result.trouble ≡ trouble }
-        ensures written { result.written ≡ written }
+        ensures stream { result.stream ≡ stream }
     {
         ProgramFault {
             about: About::Word(STANDARD_OUTPUT),
             trouble,
-            written,
+            stream,
         }
     }
 
     /// The fault of a command that reads this file and uses this database, by what its trouble is
-    /// about.
+    /// about: `stream` is why reading or printing failed.
     pub fn placed(
         trouble: Trouble,
         file: &'a str,
         database: String,
-        written: Cause,
+        stream: Cause,
     ) -> ProgramFault<'a>
         ensures trouble { result.trouble ≡ trouble }
         ensures about { name_shown result.about
@@ -101,8 +114,8 @@ impl<'a> ProgramFault<'a> {
         match trouble.place() {
             Place::Nothing => ProgramFault::plain(trouble),
             Place::Database => ProgramFault::named(database, trouble),
-            Place::File => ProgramFault::of(file, trouble),
-            Place::Output => ProgramFault::of_output(trouble, written),
+            Place::File => ProgramFault::of_file(file, trouble, stream),
+            Place::Output => ProgramFault::of_output(trouble, stream),
         }
     }
 
@@ -110,7 +123,7 @@ impl<'a> ProgramFault<'a> {
     /// write does not change.
     pub fn tell<E: Sink>(self, errors: &mut E) -> u8
         ensures says { TakesSome (E.told errors.old) (E.told errors.new)
-            (fault_line self.entry.about self.entry.trouble self.entry.written) }
+            (fault_line self.entry.about self.entry.trouble self.entry.stream) }
         ensures status { result ≡ trouble_status self.entry.trouble }
         ensures aside { E.aside errors.new ≡ E.aside errors.old }
     {
@@ -122,12 +135,12 @@ impl<'a> ProgramFault<'a> {
     #[tactic(auto, unfolding(crate::specs::Faults::fault_line))]
     fn write_line<E: Sink>(&self, errors: &mut E) -> io::Result<()>
         ensures writes { Writes (E.told errors.old) (E.told errors.new)
-            (fault_line self.now.about self.now.trouble self.now.written) result }
+            (fault_line self.now.about self.now.trouble self.now.stream) result }
         ensures aside { E.aside errors.new ≡ E.aside errors.old }
     {
         write_all(errors, b"irrdesk: ")?;
         write_about(errors, &self.about)?;
-        write_trouble(errors, self.trouble, self.written)
+        write_trouble(errors, self.trouble, self.stream)
     }
 }
 
@@ -173,12 +186,12 @@ fn shown(byte: u8) -> u8
 
 /// Writes what went wrong, to the end of the line.
 #[tactic(auto, unfolding(crate::specs::Faults::trouble_text))]
-fn write_trouble<E: Sink>(errors: &mut E, trouble: Trouble, written: Cause) -> io::Result<()>
+fn write_trouble<E: Sink>(errors: &mut E, trouble: Trouble, stream: Cause) -> io::Result<()>
     ensures writes { Writes (E.told errors.old) (E.told errors.new)
-        (trouble_text trouble written) result }
+        (trouble_text trouble stream) result }
     ensures aside { E.aside errors.new ≡ E.aside errors.old }
 {
-    let cause = trouble.cause(written);
+    let cause = trouble.cause(stream);
     let mut code_digits = Buffer::new();
     let mut digits = Buffer::new();
     write_pieces(

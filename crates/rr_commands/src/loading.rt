@@ -9,7 +9,7 @@ ghost use Rattle.rr_commands.specs.Printed.{Tells};
 use crate::databases::{Absent, Databases, close};
 use crate::fault::ProgramFault;
 use crate::files::open_file;
-use crate::output::{Output, tell};
+use crate::output::{Output, cause_of, tell};
 use crate::places::about_paragraph;
 use crate::progress::{Reading, Shown};
 use crate::settings_reading::read_settings_file;
@@ -114,9 +114,11 @@ fn load_shown<S: Alter, W: Output>(
 {
     let mut reading = Reading::new(rt, Counted::new(file));
     output.show(Shown::Others);
-    let loaded = load_to(rt.alloc(), conn, settings, &mut reading, output);
+    let (conn, answer) = load_to(rt.alloc(), conn, settings, &mut reading, output);
     reading.end();
-    loaded
+    let cause = cause_of(answer, &reading, output);
+    output.keep(cause);
+    (conn, answer)
 }
 
 /// Makes the registry of the dump that a reader gives in a database, and writes how many objects it

@@ -1,10 +1,11 @@
 //! The migration of databases of version 1.
 
-ghost use Rattle.std.specs.Prelude.{◌≡◌, false};
-ghost use Rattle.rr_commands.specs.Commands.{InDatabase};
-ghost use Rattle.rr_commands.specs.Migrated.{MigratesBy, MigratesIn};
+ghost use Rattle.std.specs.Prelude.{◌≡◌, false, string_bytes};
+ghost use Rattle.rr_commands.specs.Commands.{InDatabase, IsDoneInDatabase};
+ghost use Rattle.rr_commands.specs.Migrated.{IsDiagnosed, MigratesBy, MigratesIn};
 
 use crate::databases::{Absent, Databases, close};
+use crate::diagnosis::told_of;
 use crate::fault::ProgramFault;
 use crate::output::{Output, ended, tell};
 use crate::settings_reading::read_settings_file;
@@ -24,31 +25,50 @@ pub fn migrate<'a, D: Databases, W: Output>(
     ensures { MigratesBy D.Disk.Store (D.gives databases.now)
         (W.told output.old) (W.told output.new) result }
 {
-    let (read, path) = read_settings_file(rt, settings)?;
-    let answer = migrate_at(rt.alloc(), databases, read, path.as_str(), output);
+    let (read, mut path) = read_settings_file(rt, settings)?;
+    let answer = migrate_at(rt.alloc(), databases, read, &mut path, output);
     ended(answer, settings, path, output)
 }
 
-/// Migrates the tables of version 1 of the database at a path, and says so.
+/// Migrates the tables of version 1 of the database of this name, its path, and says so. If a row
+/// is the matter, its class and key, or its table, are added to the name, for the message.
 fn migrate_at<D: Databases, W: Sink>(
     alloc: Global,
     databases: &D,
     settings: Settings,
-    path: &str,
+    name: &mut String,
     output: &mut W,
 ) -> Result<u8, Trouble>
     ensures { InDatabase (D.gives databases.now)
-        (MigratesIn D.Disk.Store settings (W.told output.old) (W.told output.new))
-        (W.told output.old) (W.told output.new) path.now result }
+        (IsDiagnosed (MigratesIn D.Disk.Store settings (W.told output.old) (W.told output.new)))
+        (W.told output.old) (W.told output.new) (string_bytes name.old) result }
 {
-    match databases.open(path, Absent::Refused) {
-        Ok(conn) => {
-            let (conn, answer) = migrate_to(alloc, conn, settings, output);
-            close(databases, conn);
-            answer
-        }
+    match databases.open(name.as_str(), Absent::Refused) {
+        Ok(conn) => migrate_over(alloc, databases, conn, settings, name, output),
         Err(cause) => Err(Trouble::Database(cause)),
     }
+}
+
+/// Migrates the tables of version 1 of a database, which is closed then, and says so.
+fn migrate_over<D: Databases, W: Sink>(
+    alloc: Global,
+    databases: &D,
+    conn: Connection<D::Disk>,
+    settings: Settings,
+    name: &mut String,
+    output: &mut W,
+) -> Result<u8, Trouble>
+    requires autocommit { conn.in_transaction ≡ false }
+    requires given { D.gives databases.now (string_bytes name.old) conn }
+    ensures { IsDoneInDatabase (D.gives databases.now (string_bytes name.old))
+        (IsDiagnosed (MigratesIn D.Disk.Store settings (W.told output.old) (W.told output.new)))
+        result }
+{
+    let source = settings.source().copy(alloc);
+    let (mut conn, answer) = migrate_to(alloc, conn, settings, output);
+    let told = told_of(alloc, &mut conn, source, answer, name);
+    close(databases, conn);
+    told
 }
 
 /// Migrates the tables of version 1 of a database, and writes that it did. The connection is given

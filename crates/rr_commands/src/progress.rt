@@ -1,7 +1,7 @@
 //! How far a long command has come, on the last line of a terminal.
 
 use crate::cause::Cause;
-use crate::output::Output;
+use crate::output::{Input, Output};
 use rr_io::{Sink, Source};
 use std::io;
 use std::io::{IsTerminal, Write};
@@ -114,6 +114,7 @@ impl<'a> Meter<'a> {
     fn clear(&mut self) {
         if self.is_shown {
             self.is_shown = false;
+            // Here and below: a command does not fail because a terminal shows no progress.
             let _ = self.rt.stderr().write_all(CLEARED);
         }
     }
@@ -273,13 +274,18 @@ impl<W: Sink> Output for Progress<'_, W> {
     fn cause(&self) -> Cause {
         self.cause
     }
+
+    fn keep(&mut self, cause: Cause) {
+        self.cause = cause;
+    }
 }
 
-/// A reader whose bytes are counted.
+/// A reader whose bytes may be counted, and which keeps why a read failed.
 #[derive(Drop)]
 pub struct Reading<'a, R> {
     reader: R,
     meter: Meter<'a>,
+    cause: Cause,
 }
 
 impl<'a, R: Source> Reading<'a, R> {
@@ -288,6 +294,16 @@ impl<'a, R: Source> Reading<'a, R> {
         Reading {
             reader,
             meter: Meter::new(rt, Things::Bytes, false),
+            cause: Cause::Unnumbered,
+        }
+    }
+
+    /// The reader, with nothing counted.
+    pub fn silent(rt: &'a HostRuntime, reader: R) -> Reading<'a, R> {
+        Reading {
+            reader,
+            meter: Meter::silent(rt),
+            cause: Cause::Unnumbered,
         }
     }
 
@@ -304,13 +320,26 @@ impl<R: Source> Source for Reading<'_, R> {
     ghost aside = { λ p. R.aside p.reader };
 
     fn read(&mut self, buf: &mut [u8]) -> io::Result<usize> {
-        let count = self.reader.read(buf)?;
-        self.meter.pass(&buf[..count], false);
-        Ok(count)
+        match self.reader.read(buf) {
+            Ok(count) => {
+                self.meter.pass(&buf[..count], false);
+                Ok(count)
+            }
+            Err(error) => {
+                self.cause = Cause::of(&error);
+                Err(error)
+            }
+        }
     }
 
     fn failed_reads(&self) -> u64 {
         self.reader.failed_reads()
+    }
+}
+
+impl<R: Source> Input for Reading<'_, R> {
+    fn cause(&self) -> Cause {
+        self.cause
     }
 }
 

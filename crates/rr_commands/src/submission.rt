@@ -14,8 +14,8 @@ use crate::cause::DatabaseCause;
 use crate::databases::{Databases, close, open_desk};
 use crate::fault::ProgramFault;
 use crate::files::open_file;
-use crate::output::{Output, ended};
-use crate::progress::Shown;
+use crate::output::{Input, Output, cause_of, ended};
+use crate::progress::{Reading, Shown};
 use crate::settings_reading::read_settings_file;
 use crate::trouble::Trouble;
 use rr_desk::{Desk, DeskFault, Done, Settings};
@@ -28,7 +28,7 @@ const REFUSED: u8 = 1;
 
 /// Submits `input` to a registry in memory, which opens with the built-in settings, and prints the
 /// report: the status is 0 if each item was accepted, and 1 if one was refused.
-pub fn plain<'a, R: Source, W: Output>(
+pub fn plain<'a, R: Input, W: Output>(
     alloc: Global,
     input: &mut R,
     output: &mut W,
@@ -42,7 +42,7 @@ pub fn plain<'a, R: Source, W: Output>(
             plain_trouble(trouble),
             "standard input",
             String::new(alloc),
-            output.cause(),
+            cause_of(Err(trouble), input, output),
         )),
     }
 }
@@ -106,10 +106,12 @@ fn submit_file<S: Alter, W: Output>(
     requires { desk.old.stored.stopped ≡ false }
     ensures { SubmitsDesk S.Store (W.told output.old) (W.told output.new) desk.old desk.new result }
 {
-    let mut reader = Counted::new(open_file(rt, file)?);
+    let mut reader = Reading::silent(rt, Counted::new(open_file(rt, file)?));
     output.show(Shown::Items);
     let answer = submit_to(rt.alloc(), desk, &mut reader, output);
     output.show(Shown::Nothing);
+    let cause = cause_of(answer, &reader, output);
+    output.keep(cause);
     answer
 }
 

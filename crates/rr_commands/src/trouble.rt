@@ -55,6 +55,8 @@ pub enum Trouble {
     BadObject,
     /// A row of the database has an object that is none of a registry beside the others.
     Unsound,
+    /// The objects of the database are those of a registry, and other rows are not.
+    OtherRows,
     /// The three tables of the database do not stand first and in order.
     OtherOrder,
     /// A file cannot be opened.
@@ -113,6 +115,7 @@ impl Trouble {
             Trouble::OtherSource
             | Trouble::BadObject
             | Trouble::Unsound
+            | Trouble::OtherRows
             | Trouble::OtherOrder
             | Trouble::ServedInVain(_) => STORE_FAILED,
             Trouble::Submission(fault, _) => submission_status(fault),
@@ -137,6 +140,7 @@ impl Trouble {
             | Trouble::OtherSource
             | Trouble::BadObject
             | Trouble::Unsound
+            | Trouble::OtherRows
             | Trouble::OtherOrder
             | Trouble::ServedInVain(_)
             | Trouble::Creating(CreateFault::NotEmpty | CreateFault::Store(_))
@@ -183,9 +187,9 @@ impl Trouble {
         }
     }
 
-    /// The cause that the system gave, if it gave one: `written` of standard output.
-    pub fn cause(self, written: Cause) -> Option<Cause>
-        ensures { result ≡ trouble_cause self written }
+    /// The cause that the system gave, if it gave one: `stream` of reading or printing.
+    pub fn cause(self, stream: Cause) -> Option<Cause>
+        ensures { result ≡ trouble_cause self stream }
     {
         match self {
             Trouble::SettingsUnread(cause)
@@ -193,9 +197,12 @@ impl Trouble {
             | Trouble::ListenerUnopened(cause)
             | Trouble::ProbeFailed(cause)
             | Trouble::Database(DatabaseCause::Refused(cause)) => Some(cause),
+            Trouble::Submission(DeskFault::ReadFault { .. } | DeskFault::WriteFault { .. }, _) => {
+                Some(stream)
+            }
             Trouble::Unwritten
             | Trouble::Dumping(DeskDumpFault::Write)
-            | Trouble::Submission(DeskFault::WriteFault { .. }, _) => Some(written),
+            | Trouble::Loading(DeskLoadFault::Read) => Some(stream),
             _ => None,
         }
     }

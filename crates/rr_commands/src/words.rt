@@ -15,10 +15,10 @@ use rr_object::Code;
 use sqlite::Error;
 
 /// The version of the tables that is read.
-const VERSION: u32 = 2;
+pub const VERSION: u32 = 2;
 
 /// The version of the tables that is migrated.
-const OLD_VERSION: u32 = 1;
+pub const OLD_VERSION: u32 = 1;
 
 const OUT_OF_MEMORY: &str = "out of memory: give the program more";
 
@@ -56,9 +56,12 @@ pub fn before(trouble: Trouble) -> &'static str
         Trouble::Unsound =>
             "the object of the row names a maintainer who is not there, or its range overlaps one \
             before it: restore a backup, or mend the rows",
+        Trouble::OtherRows =>
+            "its rows are not those that the objects need, which are good: restore a backup, or \
+            mend the table",
         Trouble::OtherOrder =>
-            "the tables of the registry are not first and in order: `sqlite3 OLD '.dump meta' \
-            '.dump object' '.dump named' | sqlite3 NEW` makes a database that is read",
+            "the tables of the registry are not first and in order: `umask 077; sqlite3 OLD '.dump \
+            meta' '.dump object' '.dump named' | sqlite3 NEW` makes a database that is read",
         Trouble::FileUnopened(_) => "the file cannot be opened: ",
         Trouble::Submission(fault, _) => submission_words(fault),
         Trouble::Dumping(fault) => dumping_words(fault),
@@ -78,9 +81,12 @@ pub fn before_number(trouble: Trouble) -> &'static str
     ensures { result.now ≡ before_number trouble }
 {
     match trouble {
-        Trouble::Submission(DeskFault::WriteFault { .. } | DeskFault::StoreFault { .. }, _) => {
-            "; items decided before that: "
-        }
+        Trouble::Submission(
+            DeskFault::ReadFault { .. }
+            | DeskFault::WriteFault { .. }
+            | DeskFault::StoreFault { .. },
+            _,
+        ) => "; items decided before that: ",
         _ => "",
     }
 }
@@ -150,8 +156,7 @@ fn submission_words(fault: DeskFault) -> &'static str
 {
     match fault {
         DeskFault::ReadFault { .. } =>
-            "the submission could not be read to its end: submit all of it again; items decided \
-            before that: ",
+            "the submission could not be read to its end, so submit the whole text again: ",
         DeskFault::WriteFault { .. } => {
             "the report could not be written, so submit the whole text again: "
         }
@@ -177,8 +182,7 @@ fn loading_words(fault: DeskLoadFault) -> &'static str
 {
     match fault {
         DeskLoadFault::NotEmpty => NOT_EMPTY,
-        DeskLoadFault::Read =>
-            "the dump could not be read to its end, and nothing is loaded: look at its file",
+        DeskLoadFault::Read => "the dump could not be read to its end, and nothing is loaded: ",
         DeskLoadFault::Endless => "the dump has no end within 16777216 reads: name a whole dump",
         DeskLoadFault::Text(_)
         | DeskLoadFault::Object(_, _)

@@ -11,7 +11,7 @@ use Rattle.rr_object.specs.Objects.{Obj}
 use Rattle.rr_auth.specs.declared.item.Item.{Item}
 use Rattle.rr_auth.specs.declared.item.Item.TheVariants.{Submit, Delete as DeleteItem}
 use Rattle.rr_auth.specs.declared.verdict.Verdict.{Verdict}
-use Rattle.rr_auth.specs.declared.verdict.Verdict.TheVariants.{Add, Change, Same, Delete, Refuse}
+use Rattle.rr_auth.specs.declared.verdict.Verdict.TheVariants.{Add, Change, Unchanged, Delete, Refuse}
 use Rattle.rr_auth.specs.Laws.{key_about}
 use Rattle.rr_auth.specs.Registries.{Reg}
 use Rattle.rr_auth.specs.Verdicts.{after}
@@ -54,12 +54,12 @@ aside_remove h r k e l f = sym (get-remove keys_total r k l ∙ ap (λ b. cond b
 pub aside : (h : Holding) (r : Reg) (v : Verdict) (i : Item) → is_held h (key_about i) ≡ false → Agree h r (after v r i)
 aside h r Add (Submit o) e = aside_insert h r o.key o e
 aside h r Change (Submit o) e = aside_insert h r o.key o e
-aside h r Same (Submit o) e = λ k f. refl
+aside h r Unchanged (Submit o) e = λ k f. refl
 aside h r Delete (Submit o) e = λ k f. refl
 aside h r (Refuse code) (Submit o) e = λ k f. refl
 aside h r Add (DeleteItem k) e = λ k f. refl
 aside h r Change (DeleteItem k) e = λ k f. refl
-aside h r Same (DeleteItem k) e = λ k f. refl
+aside h r Unchanged (DeleteItem k) e = λ k f. refl
 aside h r Delete (DeleteItem k) e = aside_remove h r k e
 aside h r (Refuse code) (DeleteItem k) e = λ k f. refl
 
@@ -75,11 +75,11 @@ remove_alike h r q k agree l e =
 pub after_alike : (h : Holding) (r q : Reg) (v : Verdict) (i : Item) → Agree h r q → Agree h (after v r i) (after v q i)
 after_alike h r q Add (Submit o) agree = insert_alike h r q o.key o agree
 after_alike h r q Change (Submit o) agree = insert_alike h r q o.key o agree
-after_alike h r q Same (Submit o) agree = agree
+after_alike h r q Unchanged (Submit o) agree = agree
 after_alike h r q Delete (Submit o) agree = agree
 after_alike h r q (Refuse code) (Submit o) agree = agree
 after_alike h r q Add (DeleteItem k) agree = agree
 after_alike h r q Change (DeleteItem k) agree = agree
-after_alike h r q Same (DeleteItem k) agree = agree
+after_alike h r q Unchanged (DeleteItem k) agree = agree
 after_alike h r q Delete (DeleteItem k) agree = remove_alike h r q k agree
 after_alike h r q (Refuse code) (DeleteItem k) agree = agree

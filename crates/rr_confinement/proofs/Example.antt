@@ -11,7 +11,7 @@ use Rattle.rr_object.specs.declared.key.Key.{Key}
 use Rattle.rr_object.specs.declared.key.Key.TheVariants.{Mntner, AutNum, Inetnum, Route}
 use Rattle.rr_object.specs.KeyOrders.{IsKeyValue, key_cmp}
 use Rattle.rr_object.specs.Objects.{Obj, names_of}
-use Rattle.rr_auth.specs.Registries.{Sound, keys_cross, maintainer, names_nobody}
+use Rattle.rr_auth.specs.Registries.{Sound, keys_cross, maintainer, some_is_unknown}
 use Rattle.rr_object.proofs.KeyLaws.{keys_total, same_key}
 use Rattle.rr_auth.proofs.Members.{IsIn, all_fail, each_passes}
 use Rattle.rr_bytes.specs.LetterCase.{upper as upper_of}
@@ -76,7 +76,7 @@ module _ (os : List Obj) (named : are_named (map (λ o. (o.key, o)) os) ≡ true
   entry_at : (k : Key) (o : Obj) → get (from_entries {R = key_cmp} (map (λ o. (o.key, o)) os)) k ≡ Some o → IsEntry (map (λ o. (o.key, o)) os) k o
   entry_at k o f = found_entry k o (map (λ o. (o.key, o)) os) (sym (get-from_entries keys_total (map (λ o. (o.key, o)) os) k) ∙ f)
 
-  known : (e : Key × Obj) → IsIn e (map (λ o. (o.key, o)) os) → names_nobody (from_entries (map (λ o. (o.key, o)) os)) (names_of e.1) ≡ false
+  known : (e : Key × Obj) → IsIn e (map (λ o. (o.key, o)) os) → some_is_unknown (from_entries (map (λ o. (o.key, o)) os)) (names_of e.1) ≡ false
   known e i =
       all_fail (λ n. is_none (maintainer (from_entries (map (λ o. (o.key, o)) os)) n)) (names_of e.1) (λ n m.
       let found = each_passes (λ n. is_some (find key_cmp (Mntner n) (map (λ o. (o.key, o)) os))) n (names_of e.1)
@@ -92,7 +92,7 @@ module _ (os : List Obj) (named : are_named (map (λ o. (o.key, o)) os) ≡ true
     formed = λ k o f. let e = entry_at k o f in subst IsKeyValue (sym e.key_is) (formed_key e.entry os formed e.member);
     named = λ k o f.
         let e = entry_at k o f in
-        ap (λ (x : Obj). names_nobody (from_entries (map (λ o. (o.key, o)) os)) (names_of x)) e.object_is ∙ known e.entry e.member;
+        ap (λ (x : Obj). some_is_unknown (from_entries (map (λ o. (o.key, o)) os)) (names_of x)) e.object_is ∙ known e.entry e.member;
     apart = λ k l o x f g.
         let e = entry_at k o f in
         let d = entry_at l x g in

@@ -15,7 +15,7 @@ use Rattle.rr_object.specs.Objects.{Obj, names_of}
 use Rattle.rr_object.specs.Parts.{GrantParts}
 use Rattle.rr_auth.specs.Authority.{grants, is_aut_num, lower_of, lower_passes, routes_of, routes_pass}
 use Rattle.rr_auth.specs.Passing.{name_passes, names_pass, passes}
-use Rattle.rr_auth.specs.Registries.{Reg, maintainer, names_nobody}
+use Rattle.rr_auth.specs.Registries.{Reg, maintainer, some_is_unknown}
 use Rattle.rr_auth.proofs.Members.{all_fail, all_pass, each_passes, none_passes, passing_one, same_tests, some_passes}
 use Rattle.rr_confinement.specs.Holdings.{Agree, Holding, IsHeld, is_foreign, is_holder, is_mntner, names_holders}
 
@@ -25,7 +25,7 @@ there_not_none None e = cc
 there_not_none (Some x) e = refl
 
 -- the holders are registered
-pub holders_known : (h : Holding) (r : Reg) (names : List (List ℕ)) → IsHeld h r → list_all (is_holder h) names ≡ true → names_nobody r names ≡ false
+pub holders_known : (h : Holding) (r : Reg) (names : List (List ℕ)) → IsHeld h r → list_all (is_holder h) names ≡ true → some_is_unknown r names ≡ false
 holders_known h r names held e =
     all_fail (λ n. is_none (maintainer r n)) names (λ n i. there_not_none (get r (Mntner n)) (held.registered n (each_passes (is_holder h) n names e i)))
 

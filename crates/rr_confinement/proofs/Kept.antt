@@ -11,7 +11,7 @@ use Rattle.rr_object.specs.Objects.{Obj}
 use Rattle.rr_auth.specs.declared.item.Item.{Item}
 use Rattle.rr_auth.specs.declared.item.Item.TheVariants.{Submit, Delete as DeleteItem}
 use Rattle.rr_auth.specs.declared.verdict.Verdict.{Verdict}
-use Rattle.rr_auth.specs.declared.verdict.Verdict.TheVariants.{Add, Change, Same, Delete, Refuse}
+use Rattle.rr_auth.specs.declared.verdict.Verdict.TheVariants.{Add, Change, Unchanged, Delete, Refuse}
 use Rattle.rr_auth.specs.Registries.{Reg}
 use Rattle.rr_auth.specs.Verdicts.{after}
 use Rattle.rr_auth.proofs.Keeping.{after_insert, still_there}
@@ -78,12 +78,12 @@ own_names h o own = names_theirs h o (and_parts _ _ own).1
 pub kept_after : (h : Holding) (r : Reg) (v : Verdict) (i : Item) → IsHeld h r → is_own h i ≡ true → IsHeld h (after v r i)
 kept_after h r Add (Submit o) held own = kept_insert h r o.key o held (own_names h o own)
 kept_after h r Change (Submit o) held own = kept_insert h r o.key o held (own_names h o own)
-kept_after h r Same (Submit o) held own = held
+kept_after h r Unchanged (Submit o) held own = held
 kept_after h r Delete (Submit o) held own = held
 kept_after h r (Refuse code) (Submit o) held own = held
 kept_after h r Add (DeleteItem k) held own = held
 kept_after h r Change (DeleteItem k) held own = held
-kept_after h r Same (DeleteItem k) held own = held
+kept_after h r Unchanged (DeleteItem k) held own = held
 kept_after h r Delete (DeleteItem k) held own = let parts = and_parts _ _ own in kept_remove h k parts.0 (not-true _ parts.1) r held
 kept_after h r (Refuse code) (DeleteItem k) held own = held
 
@@ -104,11 +104,11 @@ within_no_mntner h k name within e = true≢false (sym within ∙ ap (is_within 
 pub maintainer_after : (h : Holding) (r : Reg) (v : Verdict) (i : Item) (name : List ℕ) → is_own h i ≡ true → get (after v r i) (Mntner name) ≡ get r (Mntner name)
 maintainer_after h r Add (Submit o) name own = maintainer_with r o.key o name (within_no_mntner h o.key name (and_parts _ _ own).0)
 maintainer_after h r Change (Submit o) name own = maintainer_with r o.key o name (within_no_mntner h o.key name (and_parts _ _ own).0)
-maintainer_after h r Same (Submit o) name own = refl
+maintainer_after h r Unchanged (Submit o) name own = refl
 maintainer_after h r Delete (Submit o) name own = refl
 maintainer_after h r (Refuse code) (Submit o) name own = refl
 maintainer_after h r Add (DeleteItem k) name own = refl
 maintainer_after h r Change (DeleteItem k) name own = refl
-maintainer_after h r Same (DeleteItem k) name own = refl
+maintainer_after h r Unchanged (DeleteItem k) name own = refl
 maintainer_after h r Delete (DeleteItem k) name own = maintainer_without r k name (within_no_mntner h k name (and_parts _ _ own).0)
 maintainer_after h r (Refuse code) (DeleteItem k) name own = refl

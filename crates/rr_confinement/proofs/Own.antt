@@ -20,7 +20,7 @@ use Rattle.rr_object.specs.Keys.{key_of_kind}
 use Rattle.rr_object.specs.Objects.{Obj, names_of}
 use Rattle.rr_auth.specs.declared.item.Item.{Item}
 use Rattle.rr_auth.specs.declared.item.Item.TheVariants.{Submit, Delete as DeleteItem}
-use Rattle.rr_auth.specs.declared.verdict.Verdict.TheVariants.{Add, Change, Same, Delete}
+use Rattle.rr_auth.specs.declared.verdict.Verdict.TheVariants.{Add, Change, Unchanged, Delete}
 use Rattle.rr_auth.specs.Authority.{lower_passes, routes_pass}
 use Rattle.rr_auth.specs.Closest.{closest_inetnum, is_closest, route_span}
 use Rattle.rr_auth.specs.Conditions.{names_unknown, unauthorised, is_uncovered, cover_refuses, lacks_origin, origin_refuses, crosses_registered, is_in_use}
@@ -252,7 +252,7 @@ module _ (h : Holding) (r q : Reg) (secrets : List (List ℕ)) (sound : Sound r)
   change_alike : (stored o : Obj) → unauthorised r secrets stored ≡ unauthorised q secrets stored → list_all (is_holder h) (names_of o) ≡ true → change r secrets stored o ≡ change q secrets stored o
   change_alike stored o eleven names =
       let ten = names_alike o names in
-      λ i. first_of (record { holds = ten i; code = E10 } ∷ (record { holds = eleven i; code = E11 } ∷ [])) (cond (fields_eq stored.paragraph o.paragraph) Same Change)
+      λ i. first_of (record { holds = ten i; code = E10 } ∷ (record { holds = eleven i; code = E11 } ∷ [])) (cond (fields_eq stored.paragraph o.paragraph) Unchanged Change)
 
   submission_alike : (o : Obj) → is_within h o.key ≡ true → list_all (is_holder h) (names_of o) ≡ true → IsKeyValue o.key → verdict r secrets (Submit o) ≡ verdict q secrets (Submit o)
   submission_alike o within names formed =

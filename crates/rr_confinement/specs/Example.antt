@@ -2,6 +2,7 @@
 -- authority speaks of is written down: the texts of the objects are left out.
 use Rattle.std.specs.Prelude.{ℕ, false, List, [], ◌∷◌, codes, map}
 use Rattle.std.specs.FinMap.{from_entries}
+use Rattle.rr_number.specs.AsNumbers.{greatest_as_number}
 use Rattle.rr_number.specs.Spans.{Ends}
 use Rattle.rr_object.specs.declared.key.Key.{Key}
 use Rattle.rr_object.specs.declared.key.Key.TheVariants.{Mntner, AsBlock, AutNum, Inetnum, Route}
@@ -62,7 +63,7 @@ example_objects =
     maintainer_with a_mnt (codes "ab")
     ∷ (maintainer_with b_mnt [] ∷ (maintainer_with root_mnt (codes "a") ∷ (
     object_by root_mnt (AsBlock (ends 0 65535))
-    ∷ (object_by root_mnt (AsBlock (ends 65536 4294967295)) ∷ (
+    ∷ (object_by root_mnt (AsBlock (ends 65536 greatest_as_number)) ∷ (
     object_by a_mnt (AutNum 1) ∷ (object_by b_mnt (AutNum 2) ∷ (
     object_by root_mnt (Inetnum (ends 0 4294967295))
     ∷ (object_by b_mnt (Inetnum (ends 167772160 184549375)) ∷ (

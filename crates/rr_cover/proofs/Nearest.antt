@@ -75,7 +75,7 @@ module _ {T : Type 0} (s : Ends) where
   step es None e none = none_step es e none (covers e.0 s) refl
   step es (Some x) e old = some_step es x e old (covers e.0 s) (nat_lt (size e.0) (size x.0)) refl refl
 
-  -- a list, put in front of another the other way round
+  -- a list, put before another the other way round
   abbrev onto : List (Ends × T) → List (Ends × T) → List (Ends × T)
   onto [] read = read
   onto (e ∷ es) read = onto es (e ∷ read)

@@ -40,7 +40,7 @@ module _ {T : Type 0} where
         | inr (inr in_high) ↦ high in_high
       ]
 
-  -- where a span ends before the root begins, the front side alone has spans inside it
+  -- where a span ends before the root begins, the side before alone has spans inside it
   pub inside_low : (nest : Nest T) (span : Ends) (value : T) (before after : Nest T) (s : Ends) → Made nest span value before after → Fits span before after → IsNest after → s.last < span.first → (u : Ends) → (is_some (standing nest u) && covers s u) ≡ (is_some (standing before u) && covers s u)
   inside_low nest span value before after s made fits order far u =
       pick _ _ (covers s u) (λ over. same_bool _ _ (to over) from)
@@ -56,6 +56,6 @@ module _ {T : Type 0} where
             | inl in_low ↦ in_low
             | inr (inl same) ↦ absurd (contradicted _ (ap (covers s) same ∙ beyond s span far fits.ordered.ordered) over)
             | inr (inr in_high) ↦
-                let behind = first_ahead span u (fits.behind.each u in_high) in
+                let behind = first_ahead span u (fits.after.each u in_high) in
                 absurd (contradicted _ (beyond s u (omega (arith, behind, far)) (held_ordered after order u in_high)) over)
           ]

@@ -5,7 +5,7 @@ use Rattle.std.specs.Option.{option_or}
 use Rattle.std.specs.Ordering.{eq_by_cmp}
 use Rattle.rr_number.specs.Spans.{Ends, span_cmp}
 use Rattle.rr_cover.specs.SpanNests.{is_ahead, at_span, standing, Only, IsNest}
-use Rattle.rr_cover.specs.NestParts.{count, with_front, with_back, IsTakenApart}
+use Rattle.rr_cover.specs.NestParts.{count, with_before, with_after, IsTakenApart}
 use Rattle.rr_cover.specs.declared.span_nest.bounds.Bounds.{Bounds}
 use Rattle.rr_cover.specs.declared.span_nest.Nest.{Nest}
 use Rattle.rr_cover.proofs.NestHeld.{Made}
@@ -32,36 +32,36 @@ module _ {T : Type 0} where
   greatest_of nest g n only = record { each = λ s held. greatest_kept g n s.last (only.each s held) }
 
   -- a node whose bounds let a span in, with that span put in on a side
-  pub node_low : (span : Ends) (bounds : Bounds) (before after new : Nest T) (k : Ends) (v : T) → IsNode span bounds before after → is_ahead k span ≡ true → Changed before new k (Some v) → IsNest new → IsNode span (with_front bounds k.last) new after
+  pub node_low : (span : Ends) (bounds : Bounds) (before after new : Nest T) (k : Ends) (v : T) → IsNode span bounds before after → is_ahead k span ≡ true → Changed before new k (Some v) → IsNest new → IsNode span (with_before bounds k.last) new after
   node_low span bounds before after new k v is ahead changed order =
       let least_own = is.0.1.least_own in
-      let front_own = is.0.1.front_own in (
+      let before_own = is.0.1.before_own in (
         (
-          record { ordered = is.0.0.ordered; ahead = only_changed (λ s. is_ahead s span) before new k (Some v) changed ahead is.0.0.ahead; behind = is.0.0.behind },
+          record { ordered = is.0.0.ordered; ahead = only_changed (λ s. is_ahead s span) before new k (Some v) changed ahead is.0.0.ahead; after = is.0.0.after },
           record {
             least_own = omega arith;
             least_low = only_changed (λ s. nat_le (min bounds.least k.last) s.last) before new k (Some v) changed (least_lets bounds.least k.last) (least_of before bounds.least k.last is.0.1.least_low);
             least_high = least_of after bounds.least k.last is.0.1.least_high;
-            front_own = omega arith;
-            front_low = only_changed (λ s. nat_le s.last (max bounds.front k.last)) before new k (Some v) changed (greatest_lets bounds.front k.last) (greatest_of before bounds.front k.last is.0.1.front_low);
-            back_high = is.0.1.back_high;
+            before_own = omega arith;
+            before_low = only_changed (λ s. nat_le s.last (max bounds.before k.last)) before new k (Some v) changed (greatest_lets bounds.before k.last) (greatest_of before bounds.before k.last is.0.1.before_low);
+            after_high = is.0.1.after_high;
           },
         ),
         (order, is.1.1),
       )
 
-  pub node_high : (span : Ends) (bounds : Bounds) (before after new : Nest T) (k : Ends) (v : T) → IsNode span bounds before after → is_ahead span k ≡ true → Changed after new k (Some v) → IsNest new → IsNode span (with_back bounds k.last) before new
+  pub node_high : (span : Ends) (bounds : Bounds) (before after new : Nest T) (k : Ends) (v : T) → IsNode span bounds before after → is_ahead span k ≡ true → Changed after new k (Some v) → IsNest new → IsNode span (with_after bounds k.last) before new
   node_high span bounds before after new k v is behind changed order =
       let least_own = is.0.1.least_own in (
         (
-          record { ordered = is.0.0.ordered; ahead = is.0.0.ahead; behind = only_changed (λ s. is_ahead span s) after new k (Some v) changed behind is.0.0.behind },
+          record { ordered = is.0.0.ordered; ahead = is.0.0.ahead; after = only_changed (λ s. is_ahead span s) after new k (Some v) changed behind is.0.0.after },
           record {
             least_own = omega arith;
             least_low = least_of before bounds.least k.last is.0.1.least_low;
             least_high = only_changed (λ s. nat_le (min bounds.least k.last) s.last) after new k (Some v) changed (least_lets bounds.least k.last) (least_of after bounds.least k.last is.0.1.least_high);
-            front_own = is.0.1.front_own;
-            front_low = is.0.1.front_low;
-            back_high = only_changed (λ s. nat_le s.last (max bounds.back k.last)) after new k (Some v) changed (greatest_lets bounds.back k.last) (greatest_of after bounds.back k.last is.0.1.back_high);
+            before_own = is.0.1.before_own;
+            before_low = is.0.1.before_low;
+            after_high = only_changed (λ s. nat_le s.last (max bounds.after k.last)) after new k (Some v) changed (greatest_lets bounds.after k.last) (greatest_of after bounds.after k.last is.0.1.after_high);
           },
         ),
         (is.1.0, order),

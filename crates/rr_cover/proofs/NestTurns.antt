@@ -129,7 +129,7 @@ module _ {T : Type 0} where
     low_case new s false tied ahead is =
         ap (λ x. option_or x (option_or (at_span span value s) (standing after s))) is ∙ sym (opened.all s)
 
-    -- the tree with its front side changed
+    -- the tree with the side before changed
     pub changed_low : (new result : Nest T) → is_ahead k span ≡ true → Changed before new k o → Made result span value new after → Changed nest result k o
     changed_low new result ahead changed made = record { all = λ s. made.all s ∙ low_case new s (eq_by_cmp span_cmp s k) refl ahead (changed.all s) }
 
@@ -142,7 +142,7 @@ module _ {T : Type 0} where
     high_case new s false tied ahead is =
         ap (λ x. option_or (standing before s) (option_or (at_span span value s) x)) is ∙ sym (opened.all s)
 
-    -- the tree with its back side changed
+    -- the tree with the side after changed
     pub changed_high : (new result : Nest T) → is_ahead span k ≡ true → Changed after new k o → Made result span value before new → Changed nest result k o
     changed_high new result ahead changed made = record { all = λ s. made.all s ∙ high_case new s (eq_by_cmp span_cmp s k) refl ahead (changed.all s) }
 
@@ -183,24 +183,24 @@ module _ {T : Type 0} where
   split_all span value s low own high rest result is_low is_result =
       ap (option_or (at_span span value s)) is_result ∙ sym (regroup (at_span span value s) rest (option_or own high)) ∙ ap (λ x. option_or x (option_or own high)) is_low
 
-  -- the root of the front side, over what it had in front and the old root behind it
+  -- the root of the side before, over what it had before it and the old root after it
   pub fits_first : (span : Ends) (value : T) (before after : Nest T) (front : Ends) (front_value : T) (outer inner rest back : Nest T) → Fits span before after → IsTakenApart before front front_value outer inner → Made back span value rest after → Only (λ u. is_ahead front u) rest → Fits front outer back
   fits_first span value before after front front_value outer inner rest back fits opened made only =
       let first = own_of before front front_value outer inner opened (λ u. is_ahead u span) fits.ahead in
       record {
         ordered = opened.fits.ordered;
         ahead = opened.fits.ahead;
-        behind = only_made (λ u. is_ahead front u) back span value rest after made only first (after_chain front span after first fits.behind);
+        after = only_made (λ u. is_ahead front u) back span value rest after made only first (after_chain front span after first fits.after);
       }
 
-  -- the root of the back side, over the old root in front and what it had behind it
+  -- the root of the side after, over the old root before it and what it had after it
   pub fits_last : (span : Ends) (value : T) (before after : Nest T) (last : Ends) (last_value : T) (inner outer rest front : Nest T) → Fits span before after → IsTakenApart after last last_value inner outer → Made front span value before rest → Only (λ u. is_ahead u last) rest → Fits last front outer
   fits_last span value before after last last_value inner outer rest front fits opened made only =
-      let second = own_of after last last_value inner outer opened (λ u. is_ahead span u) fits.behind in
+      let second = own_of after last last_value inner outer opened (λ u. is_ahead span u) fits.after in
       record {
         ordered = opened.fits.ordered;
         ahead = only_made (λ u. is_ahead u last) front span value before rest made (ahead_chained span last before fits.ahead second) second only;
-        behind = opened.fits.behind;
+        after = opened.fits.after;
       }
 
   -- a root between two nodes, each over one of its sides
@@ -211,7 +211,7 @@ module _ {T : Type 0} where
       record {
         ordered = opened.fits.ordered;
         ahead = only_made (λ u. is_ahead u top) front left left_value outer low made_front (ahead_chained left top outer ahead from) from opened.fits.ahead;
-        behind = only_made (λ u. is_ahead top u) back right right_value high last made_back opened.fits.behind to (after_chain top right last to behind);
+        after = only_made (λ u. is_ahead top u) back right right_value high last made_back opened.fits.after to (after_chain top right last to behind);
       }
 
   -- a span that a tree does not hold is not its root's
@@ -237,14 +237,14 @@ module _ {T : Type 0} where
   pub kept_low : (span : Ends) (bounds : Bounds) (before after new : Nest T) → IsNode span bounds before after → Kept before new → IsNest new → IsNode span bounds new after
   kept_low span bounds before after new is kept order = (
     (
-      record { ordered = is.0.0.ordered; ahead = only_kept (λ s. is_ahead s span) before new kept is.0.0.ahead; behind = is.0.0.behind },
+      record { ordered = is.0.0.ordered; ahead = only_kept (λ s. is_ahead s span) before new kept is.0.0.ahead; after = is.0.0.after },
       record {
         least_own = is.0.1.least_own;
         least_low = only_kept (λ s. nat_le bounds.least s.last) before new kept is.0.1.least_low;
         least_high = is.0.1.least_high;
-        front_own = is.0.1.front_own;
-        front_low = only_kept (λ s. nat_le s.last bounds.front) before new kept is.0.1.front_low;
-        back_high = is.0.1.back_high;
+        before_own = is.0.1.before_own;
+        before_low = only_kept (λ s. nat_le s.last bounds.before) before new kept is.0.1.before_low;
+        after_high = is.0.1.after_high;
       },
     ),
     (order, is.1.1),
@@ -253,14 +253,14 @@ module _ {T : Type 0} where
   pub kept_high : (span : Ends) (bounds : Bounds) (before after new : Nest T) → IsNode span bounds before after → Kept after new → IsNest new → IsNode span bounds before new
   kept_high span bounds before after new is kept order = (
     (
-      record { ordered = is.0.0.ordered; ahead = is.0.0.ahead; behind = only_kept (λ s. is_ahead span s) after new kept is.0.0.behind },
+      record { ordered = is.0.0.ordered; ahead = is.0.0.ahead; after = only_kept (λ s. is_ahead span s) after new kept is.0.0.after },
       record {
         least_own = is.0.1.least_own;
         least_low = is.0.1.least_low;
         least_high = only_kept (λ s. nat_le bounds.least s.last) after new kept is.0.1.least_high;
-        front_own = is.0.1.front_own;
-        front_low = is.0.1.front_low;
-        back_high = only_kept (λ s. nat_le s.last bounds.back) after new kept is.0.1.back_high;
+        before_own = is.0.1.before_own;
+        before_low = is.0.1.before_low;
+        after_high = only_kept (λ s. nat_le s.last bounds.after) after new kept is.0.1.after_high;
       },
     ),
     (is.1.0, order),

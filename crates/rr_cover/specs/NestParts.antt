@@ -13,14 +13,15 @@ abbrev pub count : {T : Type 0} → Nest T → ℕ
 count Empty = 0
 count (Fork' p span value height bounds before after) = count before + count after + 1
 
--- A node's bounds that let in a last number of the front side.
-abbrev pub with_front : Bounds → ℕ → Bounds
-with_front bounds last =
-    record bounds { least = min bounds.least last; front = max bounds.front last }
+-- A node's bounds that let in a last number of the side before.
+abbrev pub with_before : Bounds → ℕ → Bounds
+with_before bounds last =
+    record bounds { least = min bounds.least last; before = max bounds.before last }
 
--- A node's bounds that let in a last number of the back side.
-abbrev pub with_back : Bounds → ℕ → Bounds
-with_back bounds last = record bounds { least = min bounds.least last; back = max bounds.back last }
+-- A node's bounds that let in a last number of the side after.
+abbrev pub with_after : Bounds → ℕ → Bounds
+with_after bounds last =
+    record bounds { least = min bounds.least last; after = max bounds.after last }
 
 -- The last span in order of those that begin below a number and reach another one, with its value.
 pub record IsLastReaching {T : Type 0} (nest : Nest T) (below to : ℕ) (t : Ends)

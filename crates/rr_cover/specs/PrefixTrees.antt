@@ -4,7 +4,7 @@ use Rattle.std.specs.Prelude.{◌/◌, nat_lt, nat_le, List, [], ◌∷◌, ◌+
 use Rattle.std.specs.Prelude.{None}
 use Rattle.std.specs.FinMap.{from_entries}
 use Rattle.rr_number.specs.Prefixes.{PrefixParts, IsMasked, count_of, span_of}
-use Rattle.rr_number.specs.Spans.{Ends, span_cmp}
+use Rattle.rr_number.specs.Spans.{Ends}
 use Rattle.rr_cover.specs.SpanMaps.{SpanMap}
 use Rattle.rr_cover.specs.declared.prefix_tree.Tree.{Tree}
 use Rattle.rr_cover.specs.declared.prefix_tree.Tree.TheVariants.{Empty, Fork'}

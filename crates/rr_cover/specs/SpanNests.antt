@@ -16,7 +16,7 @@ use Rattle.rr_cover.specs.declared.span_nest.Nest.TheVariants.{Empty, Fork'}
 abbrev pub is_ahead : Ends → Ends → Bool
 is_ahead s t = nat_lt s.first t.first || (nat_eq s.first t.first && nat_lt t.last s.last)
 
--- The spans of a tree with their values: those of the front side, its own, those of the back side.
+-- The spans of a tree with their values: those before its root, its own, those after.
 abbrev pub entries_of : {T : Type 0} → Nest T → List (Ends × T)
 entries_of Empty = []
 entries_of (Fork' p span value height bounds before after) =
@@ -57,23 +57,23 @@ HoldsWithout old span new =
 pub record Only {T : Type 0} (p : Ends → Bool) (nest : Nest T) : Type 0 where
   pub each : (s : Ends) → is_some (standing nest s) ≡ true → p s ≡ true
 
--- A span fits between two sides: those in front stand ahead of it, and it stands ahead of those
--- after.
-pub record Fits {T : Type 0} (span : Ends) (before after : Nest T) : Type 0 where
+-- A span fits between two sides: those of the low one stand ahead of it, and it stands ahead of
+-- those of the high one.
+pub record Fits {T : Type 0} (span : Ends) (low high : Nest T) : Type 0 where
   pub ordered : IsSpan span
-  pub ahead : Only (λ s. is_ahead s span) before
-  pub behind : Only (λ s. is_ahead span s) after
+  pub ahead : Only (λ s. is_ahead s span) low
+  pub after : Only (λ s. is_ahead span s) high
 
 -- What a node knows of last numbers: none from it on is below the least one, none of its own and of
--- the front side is above one greatest number, and none of the back side above another.
+-- the side before is above one greatest number, and none of the side after above another.
 pub record IsBound {T : Type 0} (bounds : Bounds) (span : Ends)
     (before after : Nest T) : Type 0 where
   pub least_own : bounds.least ≤ span.last
   pub least_low : Only (λ s. nat_le bounds.least s.last) before
   pub least_high : Only (λ s. nat_le bounds.least s.last) after
-  pub front_own : span.last ≤ bounds.front
-  pub front_low : Only (λ s. nat_le s.last bounds.front) before
-  pub back_high : Only (λ s. nat_le s.last bounds.back) after
+  pub before_own : span.last ≤ bounds.before
+  pub before_low : Only (λ s. nat_le s.last bounds.before) before
+  pub after_high : Only (λ s. nat_le s.last bounds.after) after
 
 -- The spans of a tree stand in order, and each node knows bounds of the last numbers from it on.
 abbrev pub IsNest : {T : Type 0} → Nest T → Type 0

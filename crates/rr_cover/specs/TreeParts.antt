@@ -6,7 +6,7 @@ use Rattle.std.specs.Option.{option_or}
 use Rattle.std.specs.Ordering.{eq_by_cmp}
 use Rattle.rr_number.specs.Prefixes.{PrefixParts, IsMasked, span_of}
 use Rattle.rr_number.specs.Spans.{Ends, covers, size, span_cmp}
-use Rattle.rr_cover.specs.PrefixTrees.{in_upper, lies_on}
+use Rattle.rr_cover.specs.PrefixTrees.{in_upper, lies_on, IsRootedOn}
 use Rattle.rr_cover.specs.declared.prefix_tree.Tree.{Tree}
 use Rattle.rr_cover.specs.declared.prefix_tree.Tree.TheVariants.{Empty, Fork'}
 
@@ -52,6 +52,16 @@ pub record IsParting (p a b : PrefixParts) : Type 0 where
   pub masked : IsMasked p
   pub one : lies_on p side (span_of a) ≡ true
   pub other : lies_on p (not side) (span_of b) ≡ true
+
+-- The root lies in each half of a prefix in which it lay.
+abbrev pub StaysRooted : {T : Type 0} → Tree T → Tree T → Type 0
+StaysRooted old new =
+    (p : PrefixParts) (side : Bool) → IsRootedOn p side old → IsRootedOn p side new
+
+-- The root lies in each half of a prefix in which it and a span lay.
+abbrev pub StaysRootedWith : {T : Type 0} → Ends → Tree T → Tree T → Type 0
+StaysRootedWith s old new = (p : PrefixParts) (side : Bool) → IsMasked p
+    → lies_on p side s ≡ true → IsRootedOn p side old → IsRootedOn p side new
 
 -- A tree has no root.
 abbrev pub is_empty : {T : Type 0} → Tree T → Bool

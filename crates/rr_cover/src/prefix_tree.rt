@@ -5,7 +5,7 @@ ghost use Rattle.std.specs.Prelude.{OnErr};
 ghost use Rattle.std.specs.Option.{option_copied};
 ghost use Rattle.std.specs.FinMap as span_map;
 ghost use Rattle.rr_number.specs.Prefixes.{span_of};
-ghost use Rattle.rr_cover.specs.SpanMaps.{covering, inside, NoneCross, IsClosest, NoneCovers};
+ghost use Rattle.rr_cover.specs.SpanMaps.{covering, inside, IsClosest, NoneCovers};
 ghost use Rattle.rr_cover.specs.declared.insert_fault.InsertFault.TheVariants.{Memory};
 
 mod adding;

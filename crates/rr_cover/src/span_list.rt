@@ -9,7 +9,7 @@ ghost use Rattle.std.specs.FinMap.{is_sorted};
 ghost use Rattle.rr_number.specs.Spans.{covers, crosses, span_cmp};
 ghost use Rattle.rr_cover.specs.InsertFaults.{value_of};
 ghost use Rattle.rr_cover.specs.ListParts.{nearer, StandsAt, BelongsAt};
-ghost use Rattle.rr_cover.specs.SpanMaps.{crosses_some, covering, inside, NoneCross, IsClosest};
+ghost use Rattle.rr_cover.specs.SpanMaps.{crosses_some, covering, inside, IsClosest};
 ghost use Rattle.rr_cover.specs.SpanMaps.{NoneCovers};
 ghost use Rattle.rr_cover.specs.declared.insert_fault.InsertFault.TheVariants.{Overlap};
 

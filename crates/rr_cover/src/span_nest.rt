@@ -6,7 +6,7 @@ ghost use Rattle.std.specs.Option.{option_copied};
 ghost use Rattle.std.specs.FinMap as span_map;
 ghost use Rattle.rr_number.specs.Spans.{IsSpan};
 ghost use Rattle.rr_cover.specs.InsertFaults.{value_of};
-ghost use Rattle.rr_cover.specs.SpanMaps.{crosses_some, covering, inside, NoneCross, IsClosest};
+ghost use Rattle.rr_cover.specs.SpanMaps.{crosses_some, covering, inside, IsClosest};
 ghost use Rattle.rr_cover.specs.SpanMaps.{NoneCovers};
 ghost use Rattle.rr_cover.specs.declared.insert_fault.InsertFault.TheVariants.{Overlap};
 
@@ -28,9 +28,9 @@ use std::marker::Model;
 /// Values kept by span, no two spans crossing: a height-balanced search tree (AVL) of all spans, in
 /// order of first number ascending, then last number descending. Each node knows the least last
 /// number below it and the greatest of each side, so that a search passes by the sides in which no
-/// span reaches far enough. A tree in which spans hang below those that cover them would be a chain
-/// where they lie side by side. Each call goes down some of the levels, at most 28 for a million
-/// spans, however they nest.
+/// span reaches far enough. A tree with each span below those that cover it would be a chain where
+/// they lie side by side. Each call goes down some of the levels, at most 28 for a million spans,
+/// however they nest.
 #[derive(Drop)]
 pub struct SpanNest<T> {
     root: Nest<T>,
@@ -99,8 +99,8 @@ impl<T> SpanNest<T> {
         crosses_any(&self.root, span)
     }
 
-    /// The smallest span held that covers the span, with its value; an equal one counts
-    /// (RFC 2725, 9).
+    /// The smallest span held that covers the span, whose last number is not below its first, with
+    /// its value; an equal one counts (RFC 2725, 9).
     pub fn closest(&self, span: Span) -> Option<(Span, &T)>
         ensures found { IfSome result (λ p. IsClosest self.now span p.0 p.1.now) }
         ensures none { IfNone result (NoneCovers self.now span) }

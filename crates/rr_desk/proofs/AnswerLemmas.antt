@@ -77,7 +77,7 @@ running clean r limit text stopped answer short is stop = record {
 pub told : (clean : Type 0) (r : Reg) (limit : ℕ) (text : List ℕ) (answer : Result (List ℕ) QueryFault) → is_too_long text ≡ false → IsAnswerTo r limit text answer → IsAnswered clean r limit text false false answer
 told clean r limit text answer short is = running clean r limit text false answer short (inl is) (sym (answer_never_stops r limit text answer is))
 
--- or want of memory
+-- or that memory ran out
 pub told_fault : (clean : Type 0) (r : Reg) (limit : ℕ) (text : List ℕ) (fault : QueryFault) → is_too_long text ≡ false → (fault ≢ Memory → IsAnswerTo r limit text (Err fault)) → IsAnswered clean r limit text false false (Err fault)
 told_fault clean r limit text Memory short is = running clean r limit text false (Err Memory) short (inr (inr refl)) refl
 told_fault clean r limit text Bad short is = told clean r limit text (Err Bad) short (is (λ same. cc))

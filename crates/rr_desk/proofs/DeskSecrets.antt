@@ -14,7 +14,7 @@ of_registry : (clean : Type 0) → clean → (r : Reg) (limit : ℕ) (text : Lis
 of_registry clean is r limit text answer (inl told) free = told
 of_registry clean is r limit text (Ok found) (inr (inl looked)) free = subst (λ read. IsAnswerOf r limit read (Ok found)) (sym looked.asks) (ap Ok (looked.found.registered is))
 of_registry clean is r limit text (Err fault) (inr (inl looked)) free = absurd (free.no_fault (ap Err looked.found))
-of_registry clean is r limit text answer (inr (inr wants)) free = absurd (free.no_want wants)
+of_registry clean is r limit text answer (inr (inr wants)) free = absurd (free.has_memory wants)
 
 module _ (r s : Reg) (read_r : IsRead r) (read_s : IsRead s) (alike : LookAlike r s) (clean other_clean : Type 0) (is : clean) (other_is : other_clean) (limit : ℕ) (text : List ℕ) (answer other : Result (List ℕ) QueryFault) (free : IsUnhindered answer) (other_free : IsUnhindered other) where
   answered_alike : (long stopped : Bool) → IsAnswerWhere long stopped clean r limit text answer → IsAnswerWhere long stopped other_clean s limit text other → answer ≡ other

@@ -19,19 +19,21 @@ use Rattle.rr_auth.specs.Laws.{key_about}
 use Rattle.rr_auth.specs.declared.item.Item.{Item}
 use Rattle.rr_auth.specs.declared.item.Item.TheVariants.{Submit, Delete as DeleteItem}
 use Rattle.rr_auth.specs.declared.verdict.Verdict.{Verdict}
-use Rattle.rr_auth.specs.declared.verdict.Verdict.TheVariants.{Add, Change, Same, Delete, Refuse}
+use Rattle.rr_auth.specs.declared.verdict.Verdict.TheVariants.{Add, Change, Delete, Refuse}
+use Rattle.rr_auth.specs.declared.verdict.Verdict.TheVariants as verdicts
 use Rattle.rr_auth.specs.Registries.{Reg}
 use Rattle.rr_auth.specs.Verdicts.{after, change, is_met_by, submission, verdict}
 use Rattle.rr_object.proofs.KeyLaws.{keys_total, tied_key}
 use Rattle.rr_auth.proofs.Steps.{verdicts_are_met}
+use Rattle.rr_confinement.specs.Laws.{LeavesOthers}
 use Rattle.rr_registry.specs.declared.outcome.Outcome.{Outcome}
-use Rattle.rr_registry.specs.declared.outcome.Outcome.TheVariants.{Added, Changed, Same as Unchanged, Deleted, Refused}
+use Rattle.rr_registry.specs.declared.outcome.Outcome.TheVariants.{Added, Changed, Unchanged, Deleted, Refused}
 use Rattle.rr_registry.specs.Runs.{IsStep, outcome_of}
 use Rattle.rr_rows.specs.Entries.{TreesOf}
 use Rattle.rr_rows.specs.Maps.{HasRows, Puts, TakesOut}
 use Rattle.rr_store.specs.Adding.{AddsTo}
-use Rattle.rr_store.specs.Calls.{Writes, database}
-use Rattle.rr_desk.specs.Halts.{IsHalted, changes}
+use Rattle.rr_store.specs.Calls.{IsSettled, Writes, database}
+use Rattle.rr_desk.specs.Stops.{IsStopped, changes}
 use Rattle.rr_desk.specs.Rows.{Holds}
 use Rattle.rr_desk.specs.Private.{Follows, FollowsGain, FollowsIn, FollowsNew, Gains, LeadsTo, puts_one}
 
@@ -40,7 +42,7 @@ behind : (b : Bool) (c : Code) (v : Verdict) → (if b then Refuse c else v) ≡
 behind true c v e = absurd (cc)
 behind false c v e = e
 
-kept_or_changed : (b : Bool) → (if b then Same else Change) ≡ Add → ⊥
+kept_or_changed : (b : Bool) → (if b then verdicts.Unchanged else Change) ≡ Add → ⊥
 kept_or_changed true e = cc
 kept_or_changed false e = cc
 
@@ -62,16 +64,16 @@ effect_leads : (before : Reg) (item : Item) (judged : Verdict) → is_met_by ite
     → LeadsTo before (key_about item) (outcome_of judged) (after judged before item)
 effect_leads before (Submit o) Add met absent = record { gain = record { object = o; of_key = refl; is = refl }; absent = absent o refl refl }
 effect_leads before (Submit o) Change met absent = record { object = o; of_key = refl; is = refl }
-effect_leads before (Submit o) Same met absent = refl
+effect_leads before (Submit o) verdicts.Unchanged met absent = refl
 effect_leads before (Submit o) Delete met absent = absurd (true≢false (sym met))
 effect_leads before (Submit o) (Refuse code) met absent = refl
 effect_leads before (DeleteItem k) Add met absent = absurd (true≢false (sym met))
 effect_leads before (DeleteItem k) Change met absent = absurd (true≢false (sym met))
-effect_leads before (DeleteItem k) Same met absent = absurd (true≢false (sym met))
+effect_leads before (DeleteItem k) verdicts.Unchanged met absent = absurd (true≢false (sym met))
 effect_leads before (DeleteItem k) Delete met absent = refl
 effect_leads before (DeleteItem k) (Refuse code) met absent = refl
 
--- so does an item, which is refused for want of memory or meets its verdict
+-- so does an item, which is refused where memory ran out or meets its verdict
 pub leads : (before : Reg) (secrets : List (List ℕ)) (item : Item) (outcome : Outcome) (later : Reg) → IsStep before secrets item outcome later → LeadsTo before (key_about item) outcome later
 leads before secrets item outcome later (inl e) =
     rw (e.outcome_is, e.effect) (effect_leads before item (verdict before secrets item) (verdicts_are_met before secrets item)
@@ -131,16 +133,15 @@ module _ {S X E : Type 0} (g : Ghosts S) (P Q : Database → Database → Type 0
     opened = writes.opened;
     done = λ clean. then_ok result (writes.done clean) (f (database g new));
     is_open = writes.is_open;
-    settled = writes.settled;
     kept = writes.kept;
     crash = survives_weaker _ _ _ _ (λ clean trees made. trees_of f trees made) writes.crash;
   }
 
   -- and so the rows follow
-  pub writes_follow : Writes g P old new result → FollowsIn g Q old new result
-  writes_follow writes =
+  pub writes_follow : Writes g P old new result → IsSettled g new → FollowsIn g Q old new result
+  writes_follow writes settled =
       let made = writes_as writes in
-      record { done = made.done; is_open = λ clean on. made.is_open clean; settled = λ clean. then_ok result (made.settled clean) (λ settled before. settled); kept = made.kept; crash = made.crash }
+      record { done = made.done; is_open = λ clean on. made.is_open clean; settled = λ before. settled; kept = made.kept; crash = made.crash }
 
 -- where the rows followed the registry, the store holds the rows of the one after the item
 pub still_held : {S X E : Type 0} (g : Ghosts S) (old new : Held S) (before after : Reg) (key : Key) (outcome : Outcome) (x : X) → (HasCleanDisk (state g old) → Holds before (state g old)) → LeadsTo before key outcome after
@@ -148,13 +149,13 @@ pub still_held : {S X E : Type 0} (g : Ghosts S) (old new : Held S) (before afte
 still_held g old new before after key outcome x held leading follows clean =
     let was = held (let kept = follows.crash.clean in omega (arith, kept)) in
     let on = follows.is_open clean was.is_open in
-    record { is_open = on; rows = follows.done clean before leading was.rows; leaves = follows.settled clean was.leaves }
+    record { is_open = on; rows = follows.done clean before leading was.rows; leaves = follows.settled (λ on_open. was.leaves) on }
 
 -- where they could not follow, those of the registry before the item stand
-pub halts_there : {S X E : Type 0} (g : Ghosts S) (held_before held_after : Held S) (before after : Reg) (secrets : List (List ℕ)) (item : Item) (key : Key) (outcome : Outcome) (e : E) → key ≡ key_about item → IsStep before secrets item outcome after → changes outcome ≡ true
+pub stops_there : {S X E : Type 0} (g : Ghosts S) (held_before held_after : Held S) (before after : Reg) (secrets : List (List ℕ)) (item : Item) (key : Key) (outcome : Outcome) (e : E) → key ≡ key_about item → IsStep before secrets item outcome after → LeavesOthers before secrets after → changes outcome ≡ true
     → (HasCleanDisk (state g held_before) → Holds before (state g held_before)) → FollowsIn {X = X} g (Follows key outcome after) held_before held_after (Err e)
-    → IsHalted before secrets item after true (state g held_before) (state g held_after)
-halts_there g held_before held_after before after secrets item key outcome e is_key step changing held follows =
+    → IsStopped before secrets item after true (state g held_before) (state g held_after)
+stops_there g held_before held_after before after secrets item key outcome e is_key step others changing held follows =
     let old = state g held_before in
     let new = state g held_after in
     let survives = follows.crash in
@@ -163,6 +164,7 @@ halts_there g held_before held_after before after secrets item key outcome e is_
     record {
       outcome = outcome;
       step = step;
+      others = others;
       changing = changing;
       is_stopped = refl;
       rows = λ clean on. subst (HasRows before) (sym (follows.kept clean on)) (held (earlier clean)).rows;

@@ -1,4 +1,4 @@
--- The block of the other AS numbers, put behind the objects of a registry of version 1, leaves them a registry.
+-- The block of the other AS numbers, put after the objects of a registry of version 1, leaves them a registry.
 use Rattle.std.proofs.Common.{◌≡◌, ◌≢◌, ℕ, Bool, true, false, not, ◌&&◌, ◌||◌, List, [], ◌∷◌, ◌++◌, Result, Ok, arith, codes, refl, sym, ap, subst, ◌∙◌}
 use Rattle.std.proofs.lemmas.Bool.{true≢false}
 use Rattle.std.proofs.lemmas.Bool.Decides.{nat_tests}
@@ -15,7 +15,7 @@ use Rattle.rr_object.specs.Objects.{Obj, names_of}
 use Rattle.rr_object.specs.OldKeys.{old_key_bytes}
 use Rattle.rr_object.specs.Readings.{ReadsAs, obj_at}
 use Rattle.rr_object.proofs.KeyBounds.{object_key_formed}
-use Rattle.rr_auth.specs.Registries.{Reg, Sound, keys_cross, names_nobody}
+use Rattle.rr_auth.specs.Registries.{Reg, Sound, keys_cross, some_is_unknown}
 use Rattle.rr_auth.proofs.Keeping.{kept_names, sound_insert}
 use Rattle.rr_registry.specs.Loading.{IsTaken, load_fault}
 use Rattle.rr_rows.specs.Maps.{AreApart}
@@ -120,10 +120,10 @@ module _ (s : SettingsParts) (is : IsSettings s) (os : List Obj) (r : Reg) (take
       (λ i. keys_cross (sym (sound.keyed l x found) i) (key_is i)) ∙ old_uncrossed x.key (taken_each HasOldKey os r taken formed l x found)
 
   module _ (has : has_mntner s.root os ≡ true) where
-    known : names_nobody r (names_of b) ≡ false
+    known : some_is_unknown r (names_of b) ≡ false
     known =
         let there = subst (λ m. AllByRecursion (λ o. get m o.key ≡ Some o) os) (sym taken.whole) (stands empty os (taken_apart os r taken)) in
-        ap (names_nobody r) names_are ∙ ap (λ v. v || false) (root_stands s.root r os there has)
+        ap (some_is_unknown r) names_are ∙ ap (λ v. v || false) (root_stands s.root r os there has)
 
     grown_sound : Sound (insert r b.key b)
     grown_sound = sound_insert r b sound (object_key_formed (four_octets_fields s) s.source b read) (kept_names r b.key b (names_of b) known) uncrossed
@@ -131,7 +131,7 @@ module _ (s : SettingsParts) (is : IsSettings s) (os : List Obj) (r : Reg) (take
     grown_faultless : load_fault (os ++ b ∷ []) ≡ None
     grown_faultless = sound_list (os ++ b ∷ []) (insert r b.key b) apart grown_sound (gathered_is empty (os ++ b ∷ []) ∙ joined)
 
-  -- so only the want of the root can be the matter
+  -- so only a missing root can be the matter
   pub rootless : HasLoadFault (os ++ b ∷ []) → has_mntner s.root os ≡ false
   rootless bad =
       elim (has_mntner s.root os) as (λ v. has_mntner s.root os ≡ v → v ≡ false) [

@@ -44,7 +44,7 @@ unchanged_holds old new r was survives clean same = record {
       ];
 }
 
--- and so it does behind a look that the database did not refuse
+-- and so it does after a look that the database did not refuse
 pub look_holds : {X : Type 0} (old new : State) (r : Reg) (found : Result X StoreFault) → (HasCleanDisk old → Holds r old) → OnlyLooks old new → (HasCleanDisk new → OnOk found (IsUnchanged old new))
     → (HasCleanDisk new → IfErr found (λ fault. fault ≡ unread.Memory → IsUnchanged old new)) → is_some (refusal found) ≡ false → HasCleanDisk new → Holds r new
 look_holds old new r (Ok x) held survives same memory kept clean = unchanged_holds old new r (held (omega (arith, survives.clean))) survives clean (same clean)

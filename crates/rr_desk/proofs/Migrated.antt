@@ -48,7 +48,7 @@ use Rattle.rr_desk.proofs.TakenApart.{taken_apart}
 use Rattle.rr_load.proofs.SoundLists.{sound_list}
 use Rattle.rr_desk.proofs.Sources.{IsReadIn, block_read, taken_read}
 
--- a fault of a list is told as want of memory, or as the fault that it stands for
+-- a fault of a list is told as that memory ran out, or as the fault that it stands for
 pub told_so : (os : List Obj) (fault : LoadFault) (told : MigrateFault) → IsFaultOf os fault → (told_as fault told ≡ migrate.Memory) ⊎ ((told_as fault told ≡ told) × HasLoadFault os)
 told_so os fault told (inl memory) = inl (ap (λ f. told_as f told) memory)
 told_so os (Duplicate n) told (inr is) = inr (refl, record { fault = Duplicate n; is_fault = is })

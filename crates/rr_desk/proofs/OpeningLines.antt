@@ -115,7 +115,7 @@ shown_auth auth is =
     let plain = plain_digits auth is in
     shown_between (codes "SHA256-PW") (32 ∷ []) (salted_digits auth) refl (omega arith) refl plain.all plain.some
 
--- a salt and the digits behind its colon
+-- a salt and the digits after its colon
 colon_place : (salt digits : List ℕ) → list_all is_ascii_alphanumeric salt ≡ true → position_or_len is_colon (salt ++ (58 ∷ digits)) ≡ length salt
 colon_place [] digits all = refl
 colon_place (b ∷ bs) digits all =
@@ -133,9 +133,9 @@ unfolding salted_digest_of
 salted_read auth is =
     let letters = (both_true (nat_le (length auth.salt) 16) (list_all is_ascii_alphanumeric auth.salt) is.salted).1 in
     let place = colon_place auth.salt (encode_lower auth.digest) letters in
-    let front : before_first is_colon (salted_digits auth) ≡ auth.salt = take_at auth.salt (58 ∷ encode_lower auth.digest) _ (sym place) in
+    let prefix : before_first is_colon (salted_digits auth) ≡ auth.salt = take_at auth.salt (58 ∷ encode_lower auth.digest) _ (sym place) in
     let back : after_first is_colon (salted_digits auth) ≡ encode_lower auth.digest = rw place (drop_after auth.salt 58 (encode_lower auth.digest)) in
-    rw (front, back, is.salted, decode_sized-encode_lower auth.digest 32 is.sized is.bytes) refl
+    rw (prefix, back, is.salted, decode_sized-encode_lower auth.digest 32 is.sized is.bytes) refl
 
 auth_words : (auth : AuthParts) → IsDigest auth → words (auth_line auth) ≡ codes "SHA256-PW" ∷ (salted_digits auth ∷ [])
 unfolding words

@@ -293,13 +293,13 @@ addresses_line = good_line (codes "inetnum") (codes "0.0.0.0 - 255.255.255.255")
 pub named_line : (name line : List ℕ) → is_attribute_name name ≡ true → lowered name ≡ name → IsShown line → IsField (one_line name line)
 named_line name line named lower shown = good_line name line named lower (shown_line line shown)
 
-after_fields : (front back : List Field) → AreFields front → AreFields back → AreFields (front ++ back)
+after_fields : (prefix back : List Field) → AreFields prefix → AreFields back → AreFields (prefix ++ back)
 after_fields [] back front_good back_good = back_good
-after_fields (f ∷ front) back front_good back_good = (front_good.0, after_fields front back front_good.1 back_good)
+after_fields (f ∷ prefix) back front_good back_good = (front_good.0, after_fields prefix back front_good.1 back_good)
 
-pub owned_good : (front : List Field) (s : SettingsParts) → AreFields front → IsSettings s → AreFields (front ++ owned s)
-owned_good front s good is =
-    after_fields front (owned s) good (
+pub owned_good : (prefix : List Field) (s : SettingsParts) → AreFields prefix → IsSettings s → AreFields (prefix ++ owned s)
+owned_good prefix s good is =
+    after_fields prefix (owned s) good (
       named_line (codes "mnt-by") s.root refl refl (shown_name s.root is.root.spelled),
       (named_line (codes "source") s.source refl refl (shown_name s.source is.source.spelled), tt),
     )
@@ -317,7 +317,7 @@ pub four_open : (s : SettingsParts) (a b c d : Obj) (objects : List Obj) → obj
 four_open s a b c d objects same first second third last =
     record { read = rw (same, first.read, second.read, third.read, last.read) refl }
 
--- put behind each other they stand in order
+-- put after each other they stand in order
 pub in_order : (none one two three all : List Obj) (a b c d : Obj) → none ≡ [] → one ≡ none ++ a ∷ [] → two ≡ one ++ b ∷ [] → three ≡ two ++ c ∷ []
     → all ≡ three ++ d ∷ [] → all ≡ a ∷ (b ∷ (c ∷ (d ∷ [])))
 in_order none one two three all a b c d e0 e1 e2 e3 e4 = rw (e4, e3, e2, e1, e0) refl

@@ -11,7 +11,7 @@ use Rattle.rr_text.specs.Bytes.{is_hash, is_refused}
 use Rattle.rr_text.specs.Fields.{IsLine}
 use Rattle.rr_text.specs.Meanings.{uncommented, value_meaning}
 
--- a byte behind the comma and before DEL: `-`, digits, letters, `:` and `_` are such
+-- a byte after the comma and before DEL: `-`, digits, letters, `:` and `_` are such
 abbrev pub is_plain : ℕ → Bool
 is_plain b = nat_lt 44 b && nat_lt b 127
 
@@ -45,7 +45,7 @@ split_whole p q apart (b ∷ bs) all =
     let parts = both_true (p b) (list_all p bs) all in
     rw (apart b parts.0, split_whole p q apart bs parts.1) refl
 
--- and the first part of one that goes on behind a separator
+-- and the first part of one that goes on after a separator
 pub split_after : (p q : ℕ → Bool) → ((b : ℕ) → p b ≡ true → q b ≡ false) → (bs : List ℕ) (s : ℕ) (further : List ℕ) → list_all p bs ≡ true → q s ≡ true
     → slice_split q (bs ++ (s ∷ further)) ≡ bs ∷ slice_split q further
 split_after p q apart [] s further all is = rw is refl
@@ -88,12 +88,12 @@ some_after : (bs further : List ℕ) → 0 < length further → 0 < length (bs +
 some_after [] further some = some
 some_after (b ∷ bs) further some = omega arith
 
-pub after_kept : (p q : ℕ → Bool) → ((b : ℕ) → p b ≡ true → q b ≡ false) → (front bs : List ℕ) → list_all p bs ≡ true → 0 < length bs
-    → trim_end q (front ++ bs) ≡ front ++ bs
+pub after_kept : (p q : ℕ → Bool) → ((b : ℕ) → p b ≡ true → q b ≡ false) → (prefix bs : List ℕ) → list_all p bs ≡ true → 0 < length bs
+    → trim_end q (prefix ++ bs) ≡ prefix ++ bs
 unfolding trim_end
 after_kept p q apart [] bs all some = end_kept p q apart bs all
-after_kept p q apart (f ∷ front) bs all some =
-    ap (before_trimmed q f) (after_kept p q apart front bs all some) ∙ before_some q f (front ++ bs) (some_after front bs some)
+after_kept p q apart (f ∷ prefix) bs all some =
+    ap (before_trimmed q f) (after_kept p q apart prefix bs all some) ∙ before_some q f (prefix ++ bs) (some_after prefix bs some)
 
 -- what plain and printed bytes are apart from
 plain_unblank : (b : ℕ) → is_plain b ≡ true → is_blank_or_line_feed b ≡ false
@@ -137,16 +137,16 @@ shown_meaning line is =
     ap (trim is_blank_or_line_feed) bare ∙ is.trimmed
 
 -- a text that begins and ends in plain bytes, with printed ones between them
-pub shown_between : (front middle back : List ℕ) → list_all is_plain front ≡ true → 0 < length front → list_all is_shown middle ≡ true
-    → list_all is_plain back ≡ true → 0 < length back → IsShown (front ++ (middle ++ back))
-shown_between front middle back front_plain front_some middle_shown back_plain back_some =
-    let front_shown = all_follow is_plain is_shown plain_shown front front_plain in
+pub shown_between : (prefix middle back : List ℕ) → list_all is_plain prefix ≡ true → 0 < length prefix → list_all is_shown middle ≡ true
+    → list_all is_plain back ≡ true → 0 < length back → IsShown (prefix ++ (middle ++ back))
+shown_between prefix middle back front_plain front_some middle_shown back_plain back_some =
+    let front_shown = all_follow is_plain is_shown plain_shown prefix front_plain in
     let back_shown = all_follow is_plain is_shown plain_shown back back_plain in
-    let started = start_kept is_plain is_blank_or_line_feed plain_unblank front (middle ++ back) front_plain front_some in
-    let ended = after_kept is_plain is_blank_or_line_feed plain_unblank (front ++ middle) back back_plain back_some in
+    let started = start_kept is_plain is_blank_or_line_feed plain_unblank prefix (middle ++ back) front_plain front_some in
+    let ended = after_kept is_plain is_blank_or_line_feed plain_unblank (prefix ++ middle) back back_plain back_some in
     record {
-      all = rw (list_all-append is_shown front (middle ++ back), front_shown, list_all-append is_shown middle back, middle_shown, back_shown) refl;
-      trimmed = ap (trim_end is_blank_or_line_feed) started ∙ (rw (← append_assoc front middle back) ended);
+      all = rw (list_all-append is_shown prefix (middle ++ back), front_shown, list_all-append is_shown middle back, middle_shown, back_shown) refl;
+      trimmed = ap (trim_end is_blank_or_line_feed) started ∙ (rw (← append_assoc prefix middle back) ended);
     }
 
 -- a plain text is a line

@@ -26,7 +26,7 @@ use Rattle.rr_rows.specs.Maps.{IsObjectOf}
 use Rattle.rr_submission.specs.declared.submission.DeskFault.{DeskFault}
 use Rattle.rr_submission.specs.declared.submission.DeskFault.TheVariants.{ReadFault, WriteFault, StoreFault, Memory, Stopped}
 use Rattle.rr_submission.specs.declared.submission.Done.{Done}
-use Rattle.rr_submission.specs.Handled.{HaltsAt, HandlesStopped}
+use Rattle.rr_submission.specs.Handled.{StopsAt, HandlesStopped}
 use Rattle.rr_submission.specs.SubmissionItems.{submitted}
 use Rattle.rr_submission.specs.Submissions.{Submits}
 use Rattle.rr_submission.proofs.Keeping.{items_keep_the_source}
@@ -74,17 +74,17 @@ opened_of_source s r is sound opened =
     taken_read s.source opened.objects r opened.taken sound (subst (AllByRecursion (IsReadIn s.source)) (sym (are_these s opened.objects is opened.are_opening)) (opening_read s is))
 
 module _ {S : Type 0} (g : store.Ghosts S) (source : List ℕ) (old new : Stock S) where
-  -- what brings the desk to a halt is decided
-  decided : (middle : Stock S) (secrets : List (List ℕ)) (action : Result Item Code) → HaltsAt (stock_ledger g) middle secrets action new → (outcome : Outcome) × Decides middle.registry secrets action outcome new.registry
-  decided middle secrets (Ok item) halts = (halts.outcome, halts.step)
-  decided middle secrets (Err code) halts = absurd halts
+  -- what brings the desk to a stop is decided
+  decided : (middle : Stock S) (secrets : List (List ℕ)) (action : Result Item Code) → StopsAt (stock_ledger g) middle secrets action new → (outcome : Outcome) × Decides middle.registry secrets action outcome new.registry
+  decided middle secrets (Ok item) stops = (stops.outcome, stops.step)
+  decided middle secrets (Err code) stops = absurd stops
 
   stopped_of_source : (start now before after : Told) (count : ℕ) → HandlesStopped (stock_ledger g) source start now old new before after count → IsRegistryOf source old.registry → IsRegistryOf source new.registry
   stopped_of_source start now before after count served of =
       let s = served.handles in
-      let last = decided s.middle s.last.secrets s.last.request.action s.halts in
+      let last = decided s.middle s.last.secrets s.last.request.action s.stops in
       let run = run_more old.registry s.middle.registry new.registry (map submitted s.told) (submitted s.last) s.outcomes last.0 s.runs last.1 in
-      items_keep_the_source source (entries served.front) (s.told ++ s.last ∷ []) old.registry new.registry (s.outcomes ++ last.0 ∷ []) of s.are_items
+      items_keep_the_source source (entries served.prefix) (s.told ++ s.last ∷ []) old.registry new.registry (s.outcomes ++ last.0 ∷ []) of s.are_items
       (subst (λ items. Run old.registry items (s.outcomes ++ last.0 ∷ []) new.registry) (sym (map-append submitted s.told (s.last ∷ []))) run)
 
   -- a submission leaves the registry one of its source
@@ -95,7 +95,7 @@ module _ {S : Type 0} (g : store.Ghosts S) (source : List ℕ) (old new : Stock 
   kept_of_source start now before after (Err (ReadFault count)) h of = items_keep_the_source source (whole_entries h.text) h.items old.registry new.registry h.outcomes of h.are_items h.runs
   kept_of_source start now before after (Err (WriteFault count)) (inl h) of =
       let s = h.handles in
-      items_keep_the_source source (entries h.front) (s.told ++ s.last ∷ []) old.registry new.registry (s.outcomes ++ s.outcome ∷ []) of s.are_items s.runs
+      items_keep_the_source source (entries h.prefix) (s.told ++ s.last ∷ []) old.registry new.registry (s.outcomes ++ s.outcome ∷ []) of s.are_items s.runs
   kept_of_source start now before after (Err (WriteFault count)) (inr h) of = items_keep_the_source source (entries h.text) h.items old.registry new.registry h.outcomes of h.are_items h.runs
   kept_of_source start now before after (Err (StoreFault count)) h of = stopped_of_source start now before after count h of
   kept_of_source start now before after (Err Memory) h of = subst (IsRegistryOf source) (sym h.same) of

@@ -1,5 +1,6 @@
 -- What submissions and queries do to a desk (profile).
-use Rattle.std.specs.Prelude.{ℕ, List, Result}
+use Rattle.std.specs.Prelude.{ℕ, List, Result, Ok, Err, MatchResult}
+use Rattle.std.specs.Global.{Vec}
 use Rattle.sqlite_trees.specs.declared.store.Store.{Ghosts}
 use Rattle.sqlite.specs.Held.{state}
 use Rattle.sqlite.specs.State.{HasCleanDisk}
@@ -34,6 +35,13 @@ abbrev pub GivesAnswer : {S : Type 0} → Ghosts S → Desk S → Desk S → Lis
 GivesAnswer g old new text answer =
     IsAnswered (HasCleanDisk (state g new.stored.store)) old.stored.registry old.settings.limit text
     old.stored.stopped new.stored.stopped answer
+
+-- the same of an answer as code has it
+abbrev pub HasAnswer : {S : Type 0} → Ghosts S → Desk S → Desk S → List ℕ
+    → Result (Vec ℕ) QueryFault → Type 0
+HasAnswer g old new text answer =
+    MatchResult answer (λ made. GivesAnswer g old new text (Ok made.items))
+    (λ fault. GivesAnswer g old new text (Err fault))
 
 -- one such answer is made whole, and then written
 abbrev pub WritesAnswer : {S : Type 0} → Ghosts S → Desk S → Desk S → List ℕ → Told

@@ -1,6 +1,6 @@
 -- What a dump of a desk writes.
 use Rattle.std.specs.Prelude.{ℕ, List, Result, Ok, Err}
-use Rattle.rr_io.specs.Sending.{Takes, TakesFront}
+use Rattle.rr_io.specs.Sending.{Takes, TakesPrefix}
 use Rattle.rr_io.specs.Told.{Told}
 use Rattle.rr_answer.specs.declared.dumping.DumpFault.{DumpFault as Cut}
 use Rattle.rr_answer.specs.declared.dumping.DumpFault.TheVariants as cut
@@ -16,7 +16,7 @@ fault_of_cut cut.Memory = Memory
 -- a dump of a desk that runs was cut short: a write failed, or memory ran out; what was
 -- written is not all (profile)
 abbrev pub IsCutShort : List ℕ → Told → Told → DeskDumpFault → Type 0
-IsCutShort bytes before after Write = TakesFront before after bytes
+IsCutShort bytes before after Write = TakesPrefix before after bytes
 IsCutShort bytes before after Memory = TakesPart before after bytes
 IsCutShort bytes before after Stopped = ⊥
 

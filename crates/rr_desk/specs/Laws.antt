@@ -16,7 +16,7 @@ use Rattle.rr_rows.specs.Maps.{HasRows}
 use Rattle.rr_answer.specs.Dumps.{dump}
 use Rattle.rr_answer.specs.Secrecy.{IsRead, LookAlike}
 use Rattle.rr_answer.specs.declared.fault.QueryFault.{QueryFault}
-use Rattle.rr_answer.specs.declared.fault.QueryFault.TheVariants as wanting
+use Rattle.rr_answer.specs.declared.fault.QueryFault.TheVariants as query_fault
 use Rattle.rr_load.specs.Laws.{IsDumpable}
 use Rattle.rr_desk.specs.declared.loading.DeskLoadFault.{DeskLoadFault}
 use Rattle.rr_desk.specs.declared.loading.DeskLoadFault.TheVariants.{NotEmpty, Read, Endless, Text}
@@ -64,8 +64,8 @@ RowsAreDumpable =
 
 -- neither that memory ran out nor a fault of the store kept the answer back (profile)
 pub record IsUnhindered (answer : Result (List ℕ) QueryFault) : Type 0 where
-  pub no_want : answer ≢ Err wanting.Memory
-  pub no_fault : answer ≢ Err wanting.Store
+  pub has_memory : answer ≢ Err query_fault.Memory
+  pub no_fault : answer ≢ Err query_fault.Store
 
 -- the disk gives back what was written, in the words that the state of a store has for it (profile)
 abbrev pub IsCleanDisk : Bool → Type 0

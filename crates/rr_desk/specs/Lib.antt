@@ -1,6 +1,6 @@
 pub mod Opening
 pub mod Rows
-pub mod Halts
+pub mod Stops
 pub mod Stocks
 pub mod Private
 pub mod Settings

@@ -19,7 +19,7 @@ use Rattle.rr_desk.specs.declared.desk.Desk.{Desk}
 use Rattle.rr_desk.specs.Opening.{IsOpened}
 use Rattle.rr_desk.specs.Rows.{OnlyLooks}
 use Rattle.rr_desk.specs.Settings.{SettingsParts}
-use Rattle.rr_desk.specs.Stocks.{IsHeld, Stock}
+use Rattle.rr_desk.specs.Stocks.{Stock, StoresRows}
 
 -- the tables hold the rows of no registry of the source (profile)
 abbrev pub HasNoRegistry : List ℕ → Database → Type 0
@@ -42,7 +42,7 @@ pub record Runs {S : Type 0} (g : Ghosts S) (by : SettingsParts) (desk : Desk S)
   pub running : desk.stored.stopped ≡ false
   pub settings : desk.settings ≡ by
   pub of_source : IsRegistryOf by.source desk.stored.registry
-  pub holds : IsHeld g desk.stored
+  pub holds : StoresRows g desk.stored
 
 -- why tables are not opened: they are of another version, which comes first, or no registry of the
 -- source has their rows; either is told of the three tables alone (profile)
@@ -77,6 +77,6 @@ module _ {S : Type 0} (g : Ghosts S) where
   abbrev pub OpensNone : Held S → Held S → Type 0
   OpensNone = GivesBack (λ _. ⊥)
 
-  -- no tables with these rows were made, or a stop leaves them
+  -- no tables were made: what there was stands, and a stop leaves that or tables with these rows
   abbrev pub MakesNone : (Database → Type 0) → Held S → Held S → Type 0
   MakesNone rows = GivesBack (TreesOf rows)

@@ -11,7 +11,7 @@ use Rattle.rr_object.specs.Objects.{Obj}
 use Rattle.rr_auth.specs.Registries.{Reg}
 use Rattle.rr_registry.specs.declared.outcome.Outcome.{Outcome}
 use Rattle.rr_registry.specs.declared.outcome.Outcome.TheVariants.{Added, Changed}
-use Rattle.rr_registry.specs.declared.outcome.Outcome.TheVariants.{Same as Unchanged, Deleted}
+use Rattle.rr_registry.specs.declared.outcome.Outcome.TheVariants.{Unchanged, Deleted}
 use Rattle.rr_registry.specs.declared.outcome.Outcome.TheVariants.{Refused}
 use Rattle.rr_rows.specs.Entries.{TreesOf}
 use Rattle.rr_rows.specs.Maps.{AreStored, HasRows}
@@ -69,13 +69,14 @@ Follows key outcome after old new =
     (before : Reg) → LeadsTo before key outcome after → HasRows before old → HasRows after new
 
 -- the rows follow an item by this change, if it is one that changes them, or stay as they are after
--- a fault; a stop leaves one of the two, and once the rows followed no others than those that stand
+-- a fault; a stop leaves one of the two, and where a stop left just the rows that stood before the
+-- call, one after it leaves just those that stand then, while the connection is open
 pub record FollowsIn {S X E : Type 0} (g : Ghosts S) (Change : Database → Database → Type 0)
     (old new : Held S) (result : Result X E) : Type 0 where
   pub done : OnCleanDisk g new (OnOk result (Change (database g old) (database g new)))
   pub is_open : OnCleanDisk g new
       (IsTrue (state g old).is_open → OnOk result (IsTrue (state g new).is_open))
-  pub settled : OnCleanDisk g new (OnOk result (IsSettled g old → IsSettled g new))
+  pub settled : IsSettled g old → IsSettled g new
   pub kept : WhileOpen g new (OnErr result (database g new ≡ database g old))
   pub crash : Survives (state g old) (state g new) (TreesOf (Change (database g old)))
 

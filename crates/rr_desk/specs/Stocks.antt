@@ -11,7 +11,7 @@ use Rattle.rr_object.specs.contracts.object.Object as object
 use Rattle.rr_auth.specs.Registries.{Reg}
 use Rattle.rr_submission.specs.declared.ledger.Ledger as ledger
 use Rattle.rr_store.specs.Calls.{OnCleanDisk}
-use Rattle.rr_desk.specs.Halts.{IsHalted}
+use Rattle.rr_desk.specs.Stops.{IsStopped}
 use Rattle.rr_desk.specs.Rows.{Holds}
 
 -- a registry, the connection that keeps its rows, and whether a fault of the store stopped it, with
@@ -37,19 +37,19 @@ stock_of registry store cause =
     record { registry = registry; store = store; stopped = is_some cause; cause = cause }
 
 -- where the disk gives back what was written, its store holds the rows of its registry
-abbrev pub IsHeld : {S : Type 0} → store.Ghosts S → Stock S → Type 0
-IsHeld g s = OnCleanDisk g s.store (Holds s.registry (state g s.store))
+abbrev pub StoresRows : {S : Type 0} → store.Ghosts S → Stock S → Type 0
+StoresRows g s = OnCleanDisk g s.store (Holds s.registry (state g s.store))
 
 -- until it is stopped its store holds them
 abbrev pub IsStocked : {S : Type 0} → store.Ghosts S → Stock S → Type 0
-IsStocked g s = s.stopped ≡ false → IsHeld g s
+IsStocked g s = s.stopped ≡ false → StoresRows g s
 
--- it keeps its registry, is ready until it is stopped, and comes to a halt by a fault of the store
+-- it keeps its registry, is ready until it is stopped, and stops by a fault of the store
 -- alone
 abbrev pub stock_ledger : {S : Type 0} → store.Ghosts S → ledger.Ghosts (Stock S)
 stock_ledger g = record {
   registry = λ s. s.registry;
   Ready = λ s. s.stopped ≡ false;
-  Halts = λ old secrets item new. IsHalted old.registry secrets item new.registry
+  Stops = λ old secrets item new. IsStopped old.registry secrets item new.registry
       new.stopped (state g old.store) (state g new.store);
 }

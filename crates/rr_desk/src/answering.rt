@@ -9,7 +9,7 @@ ghost use Rattle.rr_answer.specs.declared.fault.QueryFault.TheVariants.{Memory};
 ghost use Rattle.rr_answer.specs.Answers.{IsAnswer};
 ghost use Rattle.rr_answer.specs.Queries as queries;
 ghost use Rattle.rr_answer.specs.Texts as texts;
-ghost use Rattle.rr_desk.specs.Desks.{GivesAnswer, WritesAnswer};
+ghost use Rattle.rr_desk.specs.Desks.{HasAnswer, WritesAnswer};
 ghost use Rattle.rr_desk.specs.LookupParts.{LooksUp};
 ghost use Rattle.rr_desk.specs.Rows.{KeepsRows, OnlyLooks};
 ghost use Rattle.rr_desk.specs.Stocks.{IsStocked};
@@ -73,9 +73,7 @@ impl<S: Alter> Desk<S> {
 
     /// The answer to the text of a query.
     fn answer_to(&mut self, alloc: Global, text: &[u8]) -> Result<Vec<u8>, QueryFault>
-        ensures answered { MatchResult result
-            (λ made. GivesAnswer S.Store self.old self.new text.now (Ok made.items))
-            (λ fault. GivesAnswer S.Store self.old self.new text.now (Err fault)) }
+        ensures answered { HasAnswer S.Store self.old self.new text.now result }
         ensures registry { self.new.stored.registry ≡ self.old.stored.registry }
         ensures settings { self.new.settings ≡ self.old.settings }
         ensures stopped { self.old.stored.stopped ≡ true → self.new ≡ self.old }
@@ -99,9 +97,7 @@ impl<S: Alter> Desk<S> {
         requires short { queries.is_too_long text.now ≡ false }
         requires running { self.old.stored.stopped ≡ false }
         requires keeps { KeepsRows self.old.stored.registry (state S.Store self.old.stored.store) }
-        ensures answered { MatchResult result
-            (λ made. GivesAnswer S.Store self.old self.new text.now (Ok made.items))
-            (λ fault. GivesAnswer S.Store self.old self.new text.now (Err fault)) }
+        ensures answered { HasAnswer S.Store self.old self.new text.now result }
         ensures registry { self.new.stored.registry ≡ self.old.stored.registry }
         ensures settings { self.new.settings ≡ self.old.settings }
         ensures keeps { KeepsRows self.old.stored.registry (state S.Store self.new.stored.store) }

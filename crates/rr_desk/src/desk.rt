@@ -1,7 +1,6 @@
 //! Desks: a registry with its tables, to which submissions are made.
 
 ghost use Rattle.std.specs.Prelude.{◌≡◌, Err, false, true, IfErr, IfOk, is_some};
-ghost use Rattle.rr_submission.specs.SubmissionLaws.{ConfinesTexts};
 ghost use Rattle.rr_submission.specs.Submissions.{UnlessStoreFault};
 ghost use Rattle.rr_submission.specs.declared.submission.DeskFault.TheVariants.{Stopped};
 ghost use Rattle.rr_store.specs.declared.fault.CreateFault.TheVariants.{NotEmpty};
@@ -92,11 +91,14 @@ impl<S: Alter> Desk<S> {
     }
 
     /// Submits what the reader gives, and writes the report. The items are decided one by one, in
-    /// order, each with its rows in one transaction before its line is written. If the line of an
-    /// item cannot be written, that item and those before it stand, and those after it are not
-    /// read. If the store fails at an item, those before it stand, and the desk is stopped; a
-    /// stopped desk reads and writes nothing. What the holders of a prefix hold is changed by
-    /// nobody else.
+    /// order, each with its rows in one transaction before its line is written. If a read fails, or
+    /// there are too many, the items that came whole are decided. If a line cannot be written, its
+    /// item and those before it stand, and those after it are not read. If memory runs out before
+    /// the first item, nothing is read; at an item it refuses this one, or is a fault of the store.
+    /// Only such a fault stops the desk: the items before it stand, and a stop of the process or
+    /// machine leaves their rows, or these with that item whole. A stopped desk reads and writes
+    /// nothing; until then the rows are those of the registry, which stays one of its source. What
+    /// the holders of a prefix hold is changed by nobody else.
     pub fn submit<R: Source, W: Sink>(
         &mut self,
         alloc: Global,
@@ -110,8 +112,6 @@ impl<S: Alter> Desk<S> {
             (R.told reader.old) (R.told reader.new) (W.told writer.old) (W.told writer.new) result }
         ensures runs { self.old.stored.stopped ≡ false
             → UnlessStoreFault result (self.new.stored.stopped ≡ false) }
-        ensures confined { self.old.stored.stopped ≡ false
-            → ConfinesTexts self.old.settings.source self.old.stored.registry }
         ensures rows { IsStocked S.Store self.new.stored }
         ensures settings { self.new.settings ≡ self.old.settings }
         ensures of_source { IsOfItsSource self.old → IsOfItsSource self.new }
@@ -160,13 +160,6 @@ impl<S: Alter> Desk<S> {
         ensures { result.now ≡ self.now.stored.registry }
     {
         self.stored.registry()
-    }
-
-    /// The book of the registry.
-    pub fn book(&self) -> &IndexedBook
-        ensures { result.now ≡ self.now.stored.registry }
-    {
-        self.stored.registry().book()
     }
 
     /// The connection, whose rows stay.

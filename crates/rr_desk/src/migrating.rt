@@ -9,7 +9,7 @@ ghost use Rattle.rr_desk.specs.Migrating.{AreRegistry, HasBlock, IsGrown, IsMigr
 ghost use Rattle.rr_desk.specs.Migrating.{MigratesTables, RefusesOldRegistry};
 ghost use Rattle.rr_desk.specs.MigratingParts.{HasBlockFault, HasLoadFault, IsGrowthFault, told_as};
 ghost use Rattle.rr_desk.specs.Opened.{MakesNone, Runs};
-ghost use Rattle.rr_desk.specs.Stocks.{IsHeld};
+ghost use Rattle.rr_desk.specs.Stocks.{StoresRows};
 
 use crate::desk::Desk;
 use crate::opening::{four_octets_object, with_object};
@@ -58,22 +58,22 @@ fn migrate_stored<S: Alter>(
     requires autocommit { conn.in_transaction ≡ false }
     ensures running { IfOk result (λ stored. stored.stopped ≡ false) }
     ensures of_source { IfOk result (λ stored. IsRegistryOf settings.now.source stored.registry) }
-    ensures holds { IfOk result (IsHeld S.Store) }
+    ensures holds { IfOk result (StoresRows S.Store) }
     ensures migrates { IfOk result (MigratesTables S.Store settings.now conn) }
     ensures fails { IfErr result (λ e.
         MakesNone S.Store (IsMigratedBy settings.now (database S.Store conn)) conn e.1) }
     ensures why { IfErr result (λ e. OnCleanDisk S.Store e.1
         (RefusesOldRegistry settings.now (database S.Store conn) e.0)) }
 {
-    match stored_growth(alloc, &mut conn, settings) {
-        Ok(registry) => migrate_grown(alloc, conn, settings, registry),
+    match migrated_registry(alloc, &mut conn, settings) {
+        Ok(registry) => migrate_tables(alloc, conn, settings, registry),
         Err(fault) => Err((fault, conn)),
     }
 }
 
-/// Migrates the tables of a registry, of which the one that they are to hold was made before: so
-/// memory can't run out for it once the rows are changed.
-fn migrate_grown<S: Alter>(
+/// Migrates the tables. The registry that they are to hold then was made before, so that memory
+/// can't run out for it once the rows are changed.
+fn migrate_tables<S: Alter>(
     alloc: Global,
     conn: Connection<S>,
     settings: &Settings,
@@ -84,7 +84,7 @@ fn migrate_grown<S: Alter>(
         (IsGrown settings.now (database S.Store conn) registry) }
     ensures running { IfOk result (λ stored. stored.stopped ≡ false) }
     ensures registry { IfOk result (λ stored. stored.registry ≡ registry) }
-    ensures holds { IfOk result (IsHeld S.Store) }
+    ensures holds { IfOk result (StoresRows S.Store) }
     ensures migrates { IfOk result (MigratesTables S.Store settings.now conn) }
     ensures fails { IfErr result (λ e.
         MakesNone S.Store (IsMigratedBy settings.now (database S.Store conn)) conn e.1) }
@@ -98,7 +98,7 @@ fn migrate_grown<S: Alter>(
 }
 
 /// The registry that the tables are to hold once they are migrated; nothing changes.
-fn stored_growth<S: Alter>(
+fn migrated_registry<S: Alter>(
     alloc: Global,
     conn: &mut Connection<S>,
     settings: &Settings,

@@ -10,7 +10,7 @@ ghost use Rattle.rr_store.specs.declared.fault.CreateFault.TheVariants.{NotEmpty
 ghost use Rattle.rr_desk.specs.Opened.{IsOccupied, MakesNone, MakesTables, OpensTables};
 ghost use Rattle.rr_desk.specs.Opened.{OpensNone, RefusesRegistry};
 ghost use Rattle.rr_desk.specs.Private.{opening_fault};
-ghost use Rattle.rr_desk.specs.Stocks.{IsHeld};
+ghost use Rattle.rr_desk.specs.Stocks.{StoresRows};
 
 use crate::stored::Stored;
 use rr_index::IndexedBook;
@@ -29,7 +29,7 @@ pub(crate) fn open_stored<S: Alter>(
     requires autocommit { conn.in_transaction ≡ false }
     ensures running { IfOk result (λ stored. stored.stopped ≡ false) }
     ensures of_source { IfOk result (λ stored. IsRegistryOf source.now stored.registry) }
-    ensures holds { IfOk result (IsHeld S.Store) }
+    ensures holds { IfOk result (StoresRows S.Store) }
     ensures opens { IfOk result (OpensTables S.Store conn) }
     ensures fails { IfErr result (λ e. OpensNone S.Store conn e.1) }
     ensures why { IfErr result (λ e. OnCleanDisk S.Store e.1
@@ -65,7 +65,7 @@ pub(crate) fn create_stored<S: Alter>(
     requires autocommit { conn.in_transaction ≡ false }
     ensures running { IfOk result (λ stored. stored.stopped ≡ false) }
     ensures registry { IfOk result (λ stored. stored.registry ≡ registry) }
-    ensures holds { IfOk result (IsHeld S.Store) }
+    ensures holds { IfOk result (StoresRows S.Store) }
     ensures makes { IfOk result (λ stored.
         MakesTables S.Store (HasRows registry) conn stored.store) }
     ensures fails { IfErr result (λ e. MakesNone S.Store (HasRows registry) conn e.1) }
@@ -89,8 +89,7 @@ fn create_store<S: Alter>(
         OnCleanDisk S.Store store (HasRows registry.now (database S.Store store))) }
     ensures is_open { IfOk result (λ store.
         OnCleanDisk S.Store store (IsTrue (state S.Store store).is_open)) }
-    ensures settled { IfOk result (λ store.
-        OnCleanDisk S.Store store (IsSettled S.Store store)) }
+    ensures settled { IfOk result (IsSettled S.Store) }
     ensures makes { IfOk result (MakesTables S.Store (HasRows registry.now) conn) }
     ensures fails { IfErr result (λ e. MakesNone S.Store (HasRows registry.now) conn e.1) }
     ensures not_empty { IfErr result (λ e. e.0 ≡ NotEmpty

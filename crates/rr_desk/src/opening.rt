@@ -45,7 +45,8 @@ pub(crate) fn with_object(
     Ok(objects)
 }
 
-/// The registry of these objects alone; the error is that memory ran out.
+/// The registry that opens with these settings: of the opening objects, and of no others. The error
+/// is that memory ran out.
 #[tactic(auto, using(crate::proofs::OpeningRegistry::opening_faultless))]
 pub fn opening_registry(
     alloc: Global,
@@ -54,7 +55,7 @@ pub fn opening_registry(
     ensures opened { IfOk result (IsOpened settings.now) }
     ensures of_source { IfOk result (IsRegistryOf settings.now.source) }
 {
-    // Settings are good, so that the objects have no fault.
+    // Says that the settings are good, so that the objects have no fault.
     let _ = settings.source();
     let objects = opening_objects(alloc, settings)?;
     match Registry::from_objects(alloc, objects) {

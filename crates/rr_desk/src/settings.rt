@@ -1,10 +1,10 @@
 //! Settings: what a registry opens with, and how far expansions of sets go (profile).
 
-ghost use Rattle.std.specs.Prelude.{◌≡◌, ◌≢◌, IfErr, IfOk, IfSome, None, Ok, Some};
+ghost use Rattle.std.specs.Prelude.{◌≡◌, ◌≢◌, IfErr, IfOk, None, Ok, Some};
 ghost use Rattle.std.specs.Option.{option_copied};
 ghost use Rattle.std.specs.Result.{result_ok};
 ghost use Rattle.rr_number.specs.Names.{maintainer_name_of, name_of};
-ghost use Rattle.rr_desk.specs.Settings.{IsDigest, IsSettings, built_in, digest_of, limit_of};
+ghost use Rattle.rr_desk.specs.Settings.{IsSettings, built_in, digest_of, limit_of};
 ghost use Rattle.rr_desk.specs.Settings.{needed, settings_of};
 ghost use Rattle.rr_desk.specs.declared.settings.ValueFault.TheVariants.{Memory};
 ghost use Rattle.rr_desk.specs.declared.settings.Setting.TheVariants as settings;
@@ -155,7 +155,8 @@ impl Settings {
 
     /// The most names that an expansion may reach, 1 to [`GREATEST_LIMIT`].
     pub fn limit(&self) -> u64
-        ensures { result ≡ self.now.limit }
+        ensures limit { result ≡ self.now.limit }
+        ensures good { IsSettings self.now }
     {
         self.limit
     }

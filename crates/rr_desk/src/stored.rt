@@ -10,11 +10,11 @@ ghost use Rattle.rr_auth.specs.Laws.{key_about};
 ghost use Rattle.rr_registry.specs.Runs.{IsStep};
 ghost use Rattle.rr_rows.specs.Maps.{HasRows, IsObjectOf};
 ghost use Rattle.rr_store.specs.Calls.{IsSettled, OnCleanDisk, Writes, database};
-ghost use Rattle.rr_desk.specs.Halts.{IsHalted, changes};
+ghost use Rattle.rr_desk.specs.Stops.{IsStopped, changes};
 ghost use Rattle.rr_desk.specs.LookupParts.{cause_of, refusal};
 ghost use Rattle.rr_desk.specs.Private.{Follows, FollowsGain, FollowsIn, FollowsNew, puts_one};
 ghost use Rattle.rr_desk.specs.Rows.{KeepsRows, OnlyLooks};
-ghost use Rattle.rr_desk.specs.Stocks.{IsHeld, IsStocked};
+ghost use Rattle.rr_desk.specs.Stocks.{IsStocked, StoresRows};
 
 use rr_auth::{Book, Item, Secrets};
 use rr_index::IndexedBook;
@@ -22,7 +22,7 @@ use rr_number::Name;
 use rr_object::{Code, Key, Object};
 use rr_registry::{Outcome, Registry};
 use rr_store::{Store, StoreFault};
-use rr_submission::{Halted, Ledger};
+use rr_submission::{Ledger, Stopped};
 use sqlite::{Alter, Connection, Error, ErrorCode};
 use std::alloc::{AllocError, Global};
 use std::marker::Model;
@@ -52,12 +52,12 @@ impl<S: Alter> Stored<S> {
     /// A registry with a store that holds its rows.
     pub(crate) fn of(registry: Registry<IndexedBook>, store: Store<S>) -> Stored<S>
         requires is_open { OnCleanDisk S.Store store (IsTrue (state S.Store store).is_open) }
-        requires settled { OnCleanDisk S.Store store (IsSettled S.Store store) }
+        requires settled { IsSettled S.Store store }
         requires rows { OnCleanDisk S.Store store (HasRows registry (database S.Store store)) }
         ensures registry { result.registry ≡ registry }
         ensures store { result.store ≡ store }
         ensures running { result.stopped ≡ false }
-        ensures held { IsHeld S.Store result }
+        ensures held { StoresRows S.Store result }
     {
         Stored {
             registry,
@@ -124,13 +124,13 @@ impl<S: Alter> Stored<S> {
         secrets: &mut Secrets,
         key: &Key,
         item: Item,
-    ) -> Result<Outcome, Halted>
+    ) -> Result<Outcome, Stopped>
         requires running { self.old.stopped ≡ false }
         requires key { key.now ≡ key_about item }
         ensures decides { IfOk result (λ outcome.
             IsStep self.old.registry secrets.old item outcome self.new.registry) }
         ensures running { OnOk result (self.new.stopped ≡ false) }
-        ensures halts { OnErr result (IsHalted self.old.registry secrets.old item self.new.registry
+        ensures stops { OnErr result (IsStopped self.old.registry secrets.old item self.new.registry
             self.new.stopped (state S.Store self.old.store) (state S.Store self.new.store)) }
         ensures same_secrets { secrets.new ≡ secrets.old }
     {
@@ -139,7 +139,7 @@ impl<S: Alter> Stored<S> {
             Ok(()) => Ok(outcome),
             Err(fault) => {
                 self.cause = Some(cause_of(fault));
-                Err(Halted)
+                Err(Stopped)
             }
         }
     }
@@ -161,11 +161,12 @@ impl<S: Alter> Ledger for Stored<S> {
 
     ghost Ready = { λ s. s.stopped ≡ false };
 
-    ghost Halts = { λ old secrets item new. IsHalted old.registry secrets item new.registry
+    ghost Stops = { λ old secrets item new. IsStopped old.registry secrets item new.registry
         new.stopped (state S.Store old.store) (state S.Store new.store) };
 
     fn sound(&self) {
-        let _book = self.registry.book();
+        // Says that the registry is sound.
+        let _ = self.registry.book();
     }
 
     fn decide(
@@ -173,7 +174,7 @@ impl<S: Alter> Ledger for Stored<S> {
         alloc: Global,
         secrets: &mut Secrets,
         item: Item,
-    ) -> Result<Outcome, Halted> {
+    ) -> Result<Outcome, Stopped> {
         match copied_key(alloc, &item) {
             Ok(key) => self.decide_about(alloc, secrets, &key, item),
             Err(AllocError) => Ok(Outcome::Refused(Code::E90)),
@@ -229,7 +230,7 @@ fn follow<S: Alter>(
         Outcome::Added => add_stored(alloc, registry, store, key),
         Outcome::Changed => put_stored(alloc, registry, store, key),
         Outcome::Deleted => store.remove(alloc, key),
-        Outcome::Same | Outcome::Refused(_) => Ok(()),
+        Outcome::Unchanged | Outcome::Refused(_) => Ok(()),
     }
 }
 
@@ -241,7 +242,8 @@ fn add_stored<S: Alter>(
     key: &Key,
 ) -> Result<(), StoreFault>
     requires { is_some (get registry.now key.now) ≡ true }
-    ensures { Writes S.Store (FollowsNew key.now registry.now) store.old store.new result }
+    ensures rows { Writes S.Store (FollowsNew key.now registry.now) store.old store.new result }
+    ensures settled { IsSettled S.Store store.new }
 {
     match registry.book().get(key) {
         Some(object) => store.add(alloc, object),
@@ -257,7 +259,8 @@ fn put_stored<S: Alter>(
     key: &Key,
 ) -> Result<(), StoreFault>
     requires { is_some (get registry.now key.now) ≡ true }
-    ensures { Writes S.Store (FollowsGain key.now registry.now) store.old store.new result }
+    ensures rows { Writes S.Store (FollowsGain key.now registry.now) store.old store.new result }
+    ensures settled { IsSettled S.Store store.new }
 {
     match registry.book().get(key) {
         Some(object) => store.put(alloc, object),

@@ -28,7 +28,7 @@ MoreThan-weaker limit P Q weaker (xs, long, once, all) = (xs, long, once, All-we
 pub Contains-single : {X : Type 0} (x y : X) → Contains (x ∷ []) y → x ≡ y
 Contains-single x y has = elim (Contains-push_cases [] x y has) [ inl (k, inside, _) ↦ absurd (omega arith) | inr same ↦ same ]
 
--- what a list with one thing in front has
+-- what a list with one thing before it has
 pub Contains-cons_cases : {X : Type 0} (x : X) (xs : List X) (y : X) → Contains (x ∷ xs) y → (x ≡ y) ⊎ Contains xs y
 Contains-cons_cases x xs y has =
     elim (Contains-append_cases (x ∷ []) xs y has) [ inl first ↦ inl (Contains-single x y first) | inr later ↦ inr later ]

@@ -1,5 +1,5 @@
 -- The places of nodes in a list, and edges between places, as one more node is entered.
-use Rattle.std.proofs.Common.{◌≡◌, ℕ, ◌+◌, ◌<◌, ◌⊎◌, ◌↔◌, Bool, true, false, cond, List, [], ◌∷◌, length, get_or, Contains, Option, None, Some, Ordering, refl, sym, ap, ◌∙◌, subst, inl, inr, arith}
+use Rattle.std.proofs.Common.{◌≡◌, ℕ, ◌+◌, ◌<◌, ◌↔◌, Bool, true, false, cond, List, [], length, get_or, Contains, Option, None, Some, Ordering, refl, sym, ap, ◌∙◌, subst, inl, inr, arith}
 use Rattle.std.specs.BTreeMap.{BTreeMap, get, is_at}
 use Rattle.std.specs.Cmp.{IsTotalOrder}
 use Rattle.std.specs.Global.{Vec}
@@ -15,7 +15,7 @@ use Rattle.rr_graph.specs.Chain.{HasNoRepeats}
 use Rattle.rr_graph.specs.NumberedParts.{IsAt, IsNumbered, IsPlaced, placed_edge}
 use Rattle.rr_graph.specs.ReversedParts.{edges_at}
 use Rattle.rr_graph.specs.declared.labels.Edge.{Edge}
-use Rattle.rr_graph.proofs.Lists.{Contains-filter_map, Contains-nil}
+use Rattle.rr_graph.proofs.Lists.{Contains-filter_map}
 use Rattle.rr_graph.proofs.Numbers.{IsAt-alone, IsAt-one}
 
 -- the edges that a map has after one more list is inserted

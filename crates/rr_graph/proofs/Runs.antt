@@ -5,7 +5,7 @@ use Rattle.std.proofs.Math.Seq.{drop-cons, take-add}
 use Rattle.std.proofs.lemmas.List.{length-drop, length-take-le, take-append-drop, take_all}
 use Rattle.std.proofs.lemmas.List.Elements.{Contains-append_cases, Contains-append_left, Contains-append_right, Contains-push}
 use Rattle.rr_graph.specs.EffectParts.{IsEnough, Makes}
-use Rattle.rr_graph.specs.SettledParts.{IsHeld, IsMade, IsPassed, IsRun}
+use Rattle.rr_graph.specs.SettledParts.{IsMade, IsPassed, IsRun}
 use Rattle.rr_graph.specs.declared.labels.Edge.{Edge}
 use Rattle.rr_graph.proofs.Backwards.{Contains-take, Contains-take_cases}
 use Rattle.rr_graph.proofs.Listings.{Contains-cons_cases}

@@ -1,6 +1,6 @@
 //! Edges whose labels make different things of values of one kind.
 
-ghost use Rattle.std.specs.Prelude.{◌≡◌, [], ◌∷◌, ◌++◌, List, None, Some, Contains};
+ghost use Rattle.std.specs.Prelude.{◌≡◌, [], ◌∷◌, ◌++◌, List, None, Some};
 ghost use Rattle.std.specs.Prelude.{IfOk, OnOk};
 ghost use Rattle.rr_graph.specs.declared.labels.Edge.{Edge};
 ghost use Rattle.rr_graph.specs.EffectParts.{IsDistinct, IsEnough, IsKnown};

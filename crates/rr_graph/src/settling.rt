@@ -199,7 +199,7 @@ fn pass_run<G: Labelled>(
 {
     if let [edge] = run {
         pass_all(graph, edge.label, begun, values)?;
-        return Ok(freed_of_repeats(values, last));
+        return Ok(dedup_if_doubled(values, last));
     }
     pass_effects(alloc, graph, node, run, begun, values, last)
 }
@@ -224,7 +224,7 @@ fn pass_effects<G: Labelled>(
         effects.note(alloc, graph, node, run, *value)?;
         let kept = effects.at(alloc, graph, node, run, *value)?;
         pass_each(graph, kept, *value, values)?;
-        last = freed_of_repeats(values, last);
+        last = dedup_if_doubled(values, last);
     }
     Ok(last)
 }
@@ -265,10 +265,10 @@ fn pass_all<G: Labelled>(
     Ok(())
 }
 
-/// Frees the list of repeats where it has more than twice as many values as when it last was, and
-/// gives how many it then had. So edges that carry the same values, as often as they come, never
-/// take more than three times the memory of what is found.
-fn freed_of_repeats<T: Ord + Drop>(list: &mut Vec<T>, last: usize) -> usize
+/// Removes the repeats from the list, and puts it in order, where it has more than twice as many
+/// values as after the last removal, and gives how many it then has. So edges that carry the same
+/// values, as often as they come, never take more than three times the memory of what is found.
+fn dedup_if_doubled<T: Ord + Drop>(list: &mut Vec<T>, last: usize) -> usize
     ensures { CmpEqualImpliesEq T.cmp → (x : T)
         → Contains list.new.items x ↔ Contains list.old.items x }
 {

@@ -1,6 +1,6 @@
 //! The nodes of a labelled graph with the edges that leave them.
 
-ghost use Rattle.std.specs.Prelude.{◌≡◌, All, Contains, IfOk};
+ghost use Rattle.std.specs.Prelude.{All, Contains, IfOk};
 ghost use Rattle.rr_graph.specs.SettledParts.{HasEdges};
 
 use crate::labels::{Edge, Labelled};

@@ -73,17 +73,17 @@ module _ (body rest : List ℕ) (missing faults reads : ℕ) where
   reads_plain bytes Broken p = (breaks_plain bytes p.0, p.1)
   reads_plain bytes Endless p = (gives_plain bytes p.0, p.1, p.2)
 
-  front_plain : (front : List ℕ) → ReadsItems start end front → ReadsItems plain_start plain_end front
-  front_plain front p = record {
+  prefix_plain : (prefix : List ℕ) → ReadsItems start end prefix → ReadsItems plain_start plain_end prefix
+  prefix_plain prefix p = record {
     left = p.left;
-    gives = gives_plain (front ++ p.left) p.gives;
+    gives = gives_plain (prefix ++ p.left) p.gives;
     short = p.short;
     apart = elim p.apart [ inl whole ↦ inl whole | inr at_end ↦ inr (at_end.0, spent_plain at_end.1) ];
     few = p.few;
   }
 
-  front_whole : (front : List ℕ) → ReadsItems start end front → EndsWhole front missing
-  front_whole front p = elim p.apart [ inl whole ↦ inl whole | inr at_end ↦ inr (none_missing at_end.1) ]
+  prefix_whole : (prefix : List ℕ) → ReadsItems start end prefix → EndsWhole prefix missing
+  prefix_whole prefix p = elim p.apart [ inl whole ↦ inl whole | inr at_end ↦ inr (none_missing at_end.1) ]
 
   -- a reading that did not come to the end ended with a failed read after the bytes
   falls_short : (bytes : List ℕ) (by : ReadEnd) → length body ≤ 1048576 → (0 < faults → (0 < missing) × (rest ≡ [])) → by ≢ Whole → Reads start end bytes by →
@@ -126,6 +126,7 @@ module _ (body rest : List ℕ) (missing faults reads : ℕ) where
       reads = reads_plain p.text Whole p.reads;
       are_items = p.are_items;
       runs = p.runs;
+      confined = p.confined;
       writes = p.writes;
       counted = p.counted;
       refused = p.refused;
@@ -140,15 +141,16 @@ module _ (body rest : List ℕ) (missing faults reads : ℕ) where
       unended = p.unended;
       are_items = p.are_items;
       runs = p.runs;
+      confined = p.confined;
       writes = p.writes;
       ends = p.ends;
       counted = p.counted;
     }) (falls_short p.text p.end small fails p.unended p.reads)
     submits_body (Err (fault.WriteFault items)) small fails (inl p) = made (Err (fault.WriteFault items)) (inl (record {
-      front = p.front;
-      reads = front_plain p.front p.reads;
+      prefix = p.prefix;
+      reads = prefix_plain p.prefix p.reads;
       handles = p.handles;
-    })) (front_whole p.front p.reads)
+    })) (prefix_whole p.prefix p.reads)
     submits_body (Err (fault.WriteFault items)) small fails (inr p) = made (Err (fault.WriteFault items)) (inr (record {
       text = p.text;
       items = p.items;
@@ -157,15 +159,16 @@ module _ (body rest : List ℕ) (missing faults reads : ℕ) where
       reads = reads_plain p.text Whole p.reads;
       are_items = p.are_items;
       runs = p.runs;
+      confined = p.confined;
       writes = p.writes;
       cut = p.cut;
       counted = p.counted;
     })) (none_missing p.reads.1)
     submits_body (Err (fault.StoreFault items)) small fails p = made (Err (fault.StoreFault items)) (record {
-      front = p.front;
-      reads = front_plain p.front p.reads;
+      prefix = p.prefix;
+      reads = prefix_plain p.prefix p.reads;
       handles = p.handles;
-    }) (front_whole p.front p.reads)
+    }) (prefix_whole p.prefix p.reads)
     submits_body (Err fault.Memory) small fails p = made (Err fault.Memory) (record {
       unread = same_plain p.unread;
       same = p.same;

@@ -10,33 +10,34 @@ use Rattle.rr_auth.specs.declared.item.Item.{Item}
 use Rattle.rr_submission.specs.declared.submission.Done.{Done}
 use Rattle.rr_submission.specs.declared.submission.DeskFault.{DeskFault}
 use Rattle.rr_submission.specs.declared.submission.DeskFault.TheVariants as fault
-use Rattle.rr_submission.specs.Handled.{HaltsAt, HandlesHalted}
+use Rattle.rr_submission.specs.Handled.{StopsAt, HandlesThenStops}
 use Rattle.rr_submission.specs.Submissions.{Sides, Submits}
 use Rattle.rr_desk.specs.declared.desk.Desk.{Desk}
 use Rattle.rr_desk.specs.Stocks.{stock_ledger}
 use Rattle.rr_http.specs.DeskRegistrars.{desk_ledger}
 
-halts_whole : {S : Type 0} (g : store.Ghosts S) (middle new : Desk S) (secrets : List (List ℕ)) (action : Result Item Code) →
-    HaltsAt (stock_ledger g) middle.stored secrets action new.stored → HaltsAt (desk_ledger g) middle secrets action new
-halts_whole g middle new secrets (Ok item) halts = halts
-halts_whole g middle new secrets (Err code) halts = halts
+stops_whole : {S : Type 0} (g : store.Ghosts S) (middle new : Desk S) (secrets : List (List ℕ)) (action : Result Item Code) →
+    StopsAt (stock_ledger g) middle.stored secrets action new.stored → StopsAt (desk_ledger g) middle secrets action new
+stops_whole g middle new secrets (Ok item) stops = stops
+stops_whole g middle new secrets (Err code) stops = stops
 
-halted_whole : {S : Type 0} (g : store.Ghosts S) (source : List ℕ) (entries : List (Result (List Field) TextFault)) (old new : Desk S) (before after : Told) (count : ℕ) →
-    HandlesHalted (stock_ledger g) source entries old.stored new.stored before after count → HandlesHalted (desk_ledger g) source entries old new before after count
-halted_whole {S} g source entries old new before after count halted =
-    let middle : Desk S = record { settings = old.settings; stored = halted.middle } in record {
-      told = halted.told;
-      last = halted.last;
-      outcomes = halted.outcomes;
+stopped_whole : {S : Type 0} (g : store.Ghosts S) (source : List ℕ) (entries : List (Result (List Field) TextFault)) (old new : Desk S) (before after : Told) (count : ℕ) →
+    HandlesThenStops (stock_ledger g) source entries old.stored new.stored before after count → HandlesThenStops (desk_ledger g) source entries old new before after count
+stopped_whole {S} g source entries old new before after count stopped =
+    let middle : Desk S = record { settings = old.settings; stored = stopped.middle } in record {
+      told = stopped.told;
+      last = stopped.last;
+      outcomes = stopped.outcomes;
       middle = middle;
-      between = halted.between;
-      are_items = halted.are_items;
-      runs = halted.runs;
-      ready = halted.ready;
-      halts = halts_whole g middle new halted.last.secrets halted.last.request.action halted.halts;
-      writes = halted.writes;
-      ends = halted.ends;
-      counted = halted.counted;
+      between = stopped.between;
+      are_items = stopped.are_items;
+      runs = stopped.runs;
+      confined = stopped.confined;
+      ready = stopped.ready;
+      stops = stops_whole g middle new stopped.last.secrets stopped.last.request.action stopped.stops;
+      writes = stopped.writes;
+      ends = stopped.ends;
+      counted = stopped.counted;
     }
 
 -- what a submission does to the registry and the store of a desk, it does to the desk
@@ -46,9 +47,9 @@ submits_whole g source sides old new (Ok done) submits = submits
 submits_whole g source sides old new (Err (fault.ReadFault items)) submits = submits
 submits_whole g source sides old new (Err (fault.WriteFault items)) submits = submits
 submits_whole g source sides old new (Err (fault.StoreFault items)) submits = record {
-  front = submits.front;
+  prefix = submits.prefix;
   reads = submits.reads;
-  handles = halted_whole g source _ old new _ _ items submits.handles;
+  handles = stopped_whole g source _ old new _ _ items submits.handles;
 }
 submits_whole g source sides old new (Err fault.Memory) submits = submits
 submits_whole g source sides old new (Err fault.Stopped) submits = submits

@@ -4,7 +4,7 @@ use Rattle.std.specs.Prelude.{Result, nat_lt}
 use Rattle.std.proofs.lemmas.Bool.{ltb-true, ltb-false}
 use Rattle.rr_io.specs.Told.{Told, Counts}
 use Rattle.rr_io.specs.Receiving.{BreaksOff}
-use Rattle.rr_io.specs.Sending.{TakesFront}
+use Rattle.rr_io.specs.Sending.{TakesPrefix}
 use Rattle.rr_desk.specs.declared.dumping.DeskDumpFault.{DeskDumpFault}
 use Rattle.rr_desk.specs.declared.dumping.DeskDumpFault.TheVariants as dump_fault
 use Rattle.rr_desk.specs.declared.peers.ConnFault.TheVariants.{Read, Write}
@@ -23,7 +23,7 @@ use Rattle.rr_http.specs.Wants.{Wants, whois, http}
 rises : (before between after : ℕ) → between ≡ before → before + 1 < 2 ^ 64 → Counts between after 1 → before < after
 rises before between after same room counts = let up = counts.exact (let there : between + 1 < 2 ^ 64 = omega arith in there) in omega arith
 
-cut_fails : (old new : Told) (bytes : List ℕ) → CanCount old → TakesFront old new bytes → old.faults < new.faults
+cut_fails : (old new : Told) (bytes : List ℕ) → CanCount old → TakesPrefix old new bytes → old.faults < new.faults
 cut_fails old new bytes room cut = rises old.faults cut.between.faults new.faults cut.takes.no_fault room cut.fails.counted
 
 -- a read failed
@@ -39,7 +39,7 @@ told_reply text from_old from_new old new (Err Write) same room tells = (same, c
 
 -- a write failed in what was written
 told_cut : (text : List ℕ) (from_old from_new old new : Told) (result : Answer) → from_new.faults ≡ from_old.faults → CanCount old →
-    TakesFront old new text → result ≡ Err Write → TellsCalls from_old from_new old new result
+    TakesPrefix old new text → result ≡ Err Write → TellsCalls from_old from_new old new result
 told_cut text from_old from_new old new result same room cut is =
     subst (TellsCalls from_old from_new old new) (sym is) (same, cut_fails old new text room cut)
 
@@ -80,13 +80,13 @@ body_reading Short old new buffered size body room reads = reads.1.no_fault
 body_reading Broken old new buffered size body room reads = break_fails old new reads.0 room reads.1
 
 -- the answer after a body, by whether a write failed
-told_answer : (end : BodyEnd) (wrote_badly : Bool) (from_old from_new old new : Told) → Reading end from_old.faults from_new.faults →
-    (wrote_badly ≡ true → old.faults < new.faults) → (wrote_badly ≡ false → new.faults ≤ old.faults) → TellsCalls from_old from_new old new (answer_by end wrote_badly)
+told_answer : (end : BodyEnd) (write_failed : Bool) (from_old from_new old new : Told) → Reading end from_old.faults from_new.faults →
+    (write_failed ≡ true → old.faults < new.faults) → (write_failed ≡ false → new.faults ≤ old.faults) → TellsCalls from_old from_new old new (answer_by end write_failed)
 told_answer Whole true from_old from_new old new read badly well = (read, badly refl)
 told_answer Whole false from_old from_new old new read badly well = (read, well refl)
 told_answer Short true from_old from_new old new read badly well = (read, badly refl)
 told_answer Short false from_old from_new old new read badly well = (read, well refl)
-told_answer Broken wrote_badly from_old from_new old new read badly well = read
+told_answer Broken write_failed from_old from_new old new read badly well = read
 
 told_submission : {D : Type 0} (desk : Ghosts D) (body : List ℕ) (size : ℕ) (end : BodyEnd) (before after : D) (from_old from_new old new : Told) (result : Answer) →
     Reading end from_old.faults from_new.faults → CanCount old → SubmitsRead desk body size end before after old new result → TellsCalls from_old from_new old new result
@@ -103,8 +103,8 @@ told_asks desk buffered (refused refusal) before after from_old from_new old new
     told_reply _ from_old from_new old new result (ap (λ (told : Told). told.faults) serves.0.unread) room serves.1
 told_asks desk buffered (submission size) before after from_old from_new old new result from_room room (inl (inl stopped)) =
     told_reply _ from_old from_new old new result (ap (λ (told : Told). told.faults) stopped.unread) room stopped.unavailable.tells
-told_asks desk buffered (submission size) before after from_old from_new old new result from_room room (inl (inr wanting)) =
-    told_reply _ from_old from_new old new result wanting.reads.1.no_fault room wanting.unavailable.tells
+told_asks desk buffered (submission size) before after from_old from_new old new result from_room room (inl (inr no_memory)) =
+    told_reply _ from_old from_new old new result no_memory.reads.1.no_fault room no_memory.unavailable.tells
 told_asks desk buffered (submission size) before after from_old from_new old new result from_room room (inr taken) =
     told_submission desk taken.body size taken.end before after from_old from_new old new result
     (body_reading taken.end from_old from_new buffered size taken.body from_room taken.reads) room taken.submits

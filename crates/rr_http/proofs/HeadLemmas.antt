@@ -23,14 +23,14 @@ head_on : (place b : ℕ) (bs : List ℕ) → (is_line_feed b && nat_lt 0 (line_
 unfolding head_length
 head_on place b bs h = rw h (behind place (head_length bs))
 
--- the head of a text ends with the line end behind an LF
+-- the head of a text ends with the line end after an LF
 pub head_found : (text rest bs : List ℕ) (place b end : ℕ) → head_length text ≡ option_map (λ n. place + n) (head_length rest) → rest ≡ b ∷ bs →
     b ≡ 10 → end ≡ line_end bs → 0 < end → Some ((place + 1) + end) ≡ head_length text
 head_found text rest bs place b end so_far cut feed here some =
     let tests : (is_line_feed b && nat_lt 0 (line_end bs)) ≡ true = and_from _ _ (eq-eqb b 10 feed) (lt-ltb 0 (line_end bs) (omega arith)) in
     ap (λ n. Some ((place + 1) + n)) here ∙ sym (so_far ∙ ap (λ xs. option_map (λ n. place + n) (head_length xs)) cut ∙ head_here place b bs tests)
 
--- and else behind its first byte
+-- and otherwise after its first byte
 pub head_passed : (text rest bs : List ℕ) (place b end : ℕ) → head_length text ≡ option_map (λ n. place + n) (head_length rest) → rest ≡ b ∷ bs →
     end ≡ line_end bs → ((b ≡ 10) × (end ≤ 0)) ⊎ (b ≡ 10 → ⊥) → head_length text ≡ option_map (λ n. (place + 1) + n) (head_length bs)
 head_passed text rest bs place b end so_far cut here (inl none) =
@@ -46,7 +46,7 @@ unfolding head_length
 head_none text [] place so_far none = sym so_far
 head_none text (b ∷ bs) place so_far none = absurd (omega arith)
 
--- what was written to the part of a list behind its first `a` is what follows them
+-- what was written to the part of a list after its first `a` is what follows them
 pub put_after : (a n k : ℕ) (xs ys : List ℕ) → a ≤ length xs → n ≤ length ys → take (a + n) (put_mid a k xs ys) ≡ take a xs ++ take n ys
 put_after a n k xs ys h m =
     let whole : take (a + n) (put_mid a k xs ys) ≡ take (a + n) (take (a + length ys) (put_mid a k xs ys)) = sym (take-take (a + n) (a + length ys) _ (omega arith)) in

@@ -4,8 +4,8 @@ use Rattle.std.specs.Prelude.{Result, IfSome}
 use Rattle.std.proofs.lemmas.List.{append-nil, length-take}
 use Rattle.rr_io.specs.Told.{Told}
 use Rattle.rr_io.specs.Receiving.{Gives}
-use Rattle.rr_io.specs.Sending.{Takes, TakesFront}
-use Rattle.rr_io.proofs.Transfers.{TakesFront-more, TakesFront-then}
+use Rattle.rr_io.specs.Sending.{Takes, TakesPrefix}
+use Rattle.rr_io.proofs.Transfers.{TakesPrefix-more, TakesPrefix-then}
 use Rattle.rr_desk.specs.declared.dumping.DeskDumpFault.{DeskDumpFault}
 use Rattle.rr_desk.specs.declared.dumping.DeskDumpFault.TheVariants as dump_fault
 use Rattle.rr_desk.specs.declared.peers.ConnFault.TheVariants.{Read, Write}
@@ -14,10 +14,10 @@ use Rattle.rr_desk.specs.Turns.{Answer}
 use Rattle.rr_http.specs.declared.registrar.Registrar.{Ghosts}
 use Rattle.rr_text.specs.Entries.{entries}
 use Rattle.rr_submission.specs.SubmissionItems.{AreItems}
-use Rattle.rr_http.specs.Answering.{IsAnswered, Tells, dump_answer}
+use Rattle.rr_http.specs.Answering.{Tells, TellsAnswer, dump_answer}
 use Rattle.rr_http.specs.Lines.{speaks_http}
 use Rattle.rr_http.specs.Heads.{head_length}
-use Rattle.rr_http.specs.Replies.{given_head}
+use Rattle.rr_http.specs.Replies.{ok_head}
 use Rattle.rr_http.specs.ReplyBytes.{AnswersWithItsReply, AnswersWithItsReport, IsAnswerSent, IsDumpSent, IsCutOff, IsSent, RepliesTo, RepliesToWants}
 use Rattle.rr_http.specs.Requests.{Asks, refused, submission, query, dump}
 use Rattle.rr_http.specs.Serving.{ServesAsks, ServesWants, visit_of}
@@ -25,7 +25,7 @@ use Rattle.rr_http.specs.Wants.{HeadWants, IsWanted, RequestWants, Wants, is_ful
 use Rattle.rr_http.proofs.ToldLemmas.{body_after, wants_by_all}
 use Rattle.rr_http.proofs.WantLemmas.{head_within}
 
--- the head of a request is in the front that says what is wanted
+-- the head of a request is in the prefix that says what is wanted
 head_placed : (found : Option ℕ) (text : List ℕ) (full : Bool) (place : ℕ) (asks : Asks) → IfSome found (λ n. n ≤ length text) →
     RequestWants found text full (http place asks) → place ≤ length text
 head_placed None text full place asks within wants = let none : place ≡ 0 = cc in omega arith
@@ -35,19 +35,19 @@ head_placed_by : (speaks : Bool) (text : List ℕ) (full : Bool) (place : ℕ) (
 head_placed_by false text full place asks wants = cc
 head_placed_by true text full place asks wants = head_placed (head_length text) text full place asks (head_within text) wants
 
-placed : (front : List ℕ) (place : ℕ) (asks : Asks) → IsWanted (front ++ []) (http place asks) → place ≤ length front
-placed front place asks wanted =
-    let within = head_placed_by (speaks_http (take 8192 (front ++ []))) (take 8192 (front ++ [])) (is_full (front ++ [])) place asks wanted in
-    omega (arith, within, length-take 8192 (front ++ []), ap (λ (xs : List ℕ). length xs) (append-nil front))
+placed : (prefix : List ℕ) (place : ℕ) (asks : Asks) → IsWanted (prefix ++ []) (http place asks) → place ≤ length prefix
+placed prefix place asks wanted =
+    let within = head_placed_by (speaks_http (take 8192 (prefix ++ []))) (take 8192 (prefix ++ [])) (is_full (prefix ++ [])) place asks wanted in
+    omega (arith, within, length-take 8192 (prefix ++ []), ap (λ (xs : List ℕ). length xs) (append-nil prefix))
 
 module _ (old new : Told) (answered : List ℕ) (fresh : old.bytes ≡ Some []) (told : new.bytes ≡ Some answered) where
   taken : (text : List ℕ) → Takes old new text → answered ≡ text
   taken text takes = let all : new.bytes ≡ Some text = takes.appended [] fresh in cc
 
-  cut_short : (text : List ℕ) → TakesFront old new text → IsCutOff text answered
+  cut_short : (text : List ℕ) → TakesPrefix old new text → IsCutOff text answered
   cut_short text cut =
-      let all : new.bytes ≡ Some cut.front = cut.fails.bytes_stay cut.front (cut.takes.appended [] fresh) in
-      let same : cut.front ≡ answered = cc in
+      let all : new.bytes ≡ Some cut.prefix = cut.fails.bytes_stay cut.prefix (cut.takes.appended [] fresh) in
+      let same : cut.prefix ≡ answered = cc in
       (cut.rest, cut.whole ∙ ap (λ xs. xs ++ cut.rest) same, cut.some_left)
 
   sent : (text : List ℕ) (result : Answer) → Tells text old new result → IsSent text result answered
@@ -55,57 +55,57 @@ module _ (old new : Told) (answered : List ℕ) (fresh : old.bytes ≡ Some []) 
   sent text (Err Read) tells = absurd (tells.cause refl)
   sent text (Err Write) tells = cut_short text tells.writes
 
-  answer_sent : {D : Type 0} (desk : Ghosts D) (head text : List ℕ) (before after : D) (result : Answer) → IsAnswered desk.Answers head text before after old new result →
+  answer_sent : {D : Type 0} (desk : Ghosts D) (head text : List ℕ) (before after : D) (result : Answer) → TellsAnswer desk.Answers head text before after old new result →
       IsAnswerSent desk head text before after result answered
   answer_sent desk head text before after result given =
       record { answer = given.text; answers = given.answers; sent = sent (head ++ given.text) result given.tells }
 
-  dumped : (text : List ℕ) (between : Told) (ended : Result ℕ DeskDumpFault) → Takes old between given_head → Dumps text between new ended →
+  dumped : (text : List ℕ) (between : Told) (ended : Result ℕ DeskDumpFault) → Takes old between ok_head → Dumps text between new ended →
       IsDumpSent text (dump_answer ended) answered
   dumped text between (Ok count) head dumps =
-      let all : new.bytes ≡ Some (given_head ++ text) = dumps.appended given_head (head.appended [] fresh) in
-      (text, [], sym (append-nil text), (let same : answered ≡ given_head ++ text = cc in same))
-  dumped text between (Err dump_fault.Write) head dumps = cut_short (given_head ++ text) (TakesFront-then given_head text head dumps)
+      let all : new.bytes ≡ Some (ok_head ++ text) = dumps.appended ok_head (head.appended [] fresh) in
+      (text, [], sym (append-nil text), (let same : answered ≡ ok_head ++ text = cc in same))
+  dumped text between (Err dump_fault.Write) head dumps = cut_short (ok_head ++ text) (TakesPrefix-then ok_head text head dumps)
   dumped text between (Err dump_fault.Memory) head dumps =
-      let all : new.bytes ≡ Some (given_head ++ dumps.front) = dumps.takes.appended given_head (head.appended [] fresh) in
-      (dumps.front, dumps.rest, dumps.whole, (let same : answered ≡ given_head ++ dumps.front = cc in same))
+      let all : new.bytes ≡ Some (ok_head ++ dumps.prefix) = dumps.takes.appended ok_head (head.appended [] fresh) in
+      (dumps.prefix, dumps.rest, dumps.whole, (let same : answered ≡ ok_head ++ dumps.prefix = cc in same))
   dumped text between (Err dump_fault.Stopped) head dumps = absurd dumps
 
   module _ {D : Type 0} (desk : Ghosts D) (before after : D) (from_old from_new : Told) (result : Answer) where
-    -- what a request asks, with what is given behind its head
-    to_asks : (from_first : Told) (bytes front : List ℕ) (place : ℕ) (asks : Asks) → from_first.bytes ≡ Some bytes → Gives from_first from_old front → place ≤ length front →
-        ServesAsks desk (drop place front) asks before after (visit_of from_old from_new old new result) → RepliesTo desk (drop place bytes) asks before after result answered
-    to_asks from_first bytes front place (refused refusal) is gives within serves = (sent _ result serves.1, serves.0.same)
-    to_asks from_first bytes front place (submission size) is gives within (inl (inl stopped)) =
+    -- what a request asks, with what is given after its head
+    to_asks : (from_first : Told) (bytes prefix : List ℕ) (place : ℕ) (asks : Asks) → from_first.bytes ≡ Some bytes → Gives from_first from_old prefix → place ≤ length prefix →
+        ServesAsks desk (drop place prefix) asks before after (visit_of from_old from_new old new result) → RepliesTo desk (drop place bytes) asks before after result answered
+    to_asks from_first bytes prefix place (refused refusal) is gives within serves = (sent _ result serves.1, serves.0.same)
+    to_asks from_first bytes prefix place (submission size) is gives within (inl (inl stopped)) =
         inl (sent _ result stopped.unavailable.tells, stopped.unavailable.same)
-    to_asks from_first bytes front place (submission size) is gives within (inl (inr wanting)) =
-        inl (sent _ result wanting.unavailable.tells, wanting.unavailable.same)
-    to_asks from_first bytes front place (submission size) is gives within (inr taken_in) = inr (record {
+    to_asks from_first bytes prefix place (submission size) is gives within (inl (inr no_memory)) =
+        inl (sent _ result no_memory.unavailable.tells, no_memory.unavailable.same)
+    to_asks from_first bytes prefix place (submission size) is gives within (inr taken_in) = inr (record {
       running = taken_in.running;
       body = taken_in.body;
       end = taken_in.end;
-      is_body = body_after from_first from_old from_new bytes front taken_in.body place size taken_in.end is gives within taken_in.reads;
+      is_body = body_after from_first from_old from_new bytes prefix taken_in.body place size taken_in.end is gives within taken_in.reads;
       old = old;
       new = new;
       unwritten = fresh;
       written = told;
       submits = taken_in.submits;
     })
-    to_asks from_first bytes front place (query escaped) is gives within (same, inl turned) = inl (sent _ result turned.tells, turned.same)
-    to_asks from_first bytes front place (query escaped) is gives within (same, inr (running, inl cut)) =
-        inr (running, inl (record { cut = cut_short given_head cut.0.cut; failed = cut.0.failed; same = cut.1 }))
-    to_asks from_first bytes front place (query escaped) is gives within (same, inr (running, inr given)) =
-        inr (running, inr (answer_sent desk given_head _ before after result given))
-    to_asks from_first bytes front place dump is gives within (left, inl turned) = inl (sent _ result turned, left.same)
-    to_asks from_first bytes front place dump is gives within (left, inr (running, inl cut)) =
-        inr (running, subst (λ ended. IsDumpSent (desk.dumped before) ended answered) (sym cut.failed) (cut_short _ (TakesFront-more given_head (desk.dumped before) cut.cut)), left.same)
-    to_asks from_first bytes front place dump is gives within (left, inr (running, inr given)) =
+    to_asks from_first bytes prefix place (query escaped) is gives within (same, inl turned) = inl (sent _ result turned.tells, turned.same)
+    to_asks from_first bytes prefix place (query escaped) is gives within (same, inr (running, inl cut)) =
+        inr (running, inl (record { cut = cut_short ok_head cut.0.cut; failed = cut.0.failed; same = cut.1 }))
+    to_asks from_first bytes prefix place (query escaped) is gives within (same, inr (running, inr given)) =
+        inr (running, inr (answer_sent desk ok_head _ before after result given))
+    to_asks from_first bytes prefix place dump is gives within (left, inl turned) = inl (sent _ result turned, left.same)
+    to_asks from_first bytes prefix place dump is gives within (left, inr (running, inl cut)) =
+        inr (running, subst (λ ended. IsDumpSent (desk.dumped before) ended answered) (sym cut.failed) (cut_short _ (TakesPrefix-more ok_head (desk.dumped before) cut.cut)), left.same)
+    to_asks from_first bytes prefix place dump is gives within (left, inr (running, inr given)) =
         inr (running, subst (λ ended. IsDumpSent (desk.dumped before) ended answered) (sym given.answer) (dumped (desk.dumped before) given.between given.ended given.head given.dumps), left.same)
 
-    to_wants : (from_first : Told) (bytes front : List ℕ) (wants : Wants) → from_first.bytes ≡ Some bytes → Gives from_first from_old front → IsWanted (front ++ []) wants →
-        ServesWants desk front wants before after (visit_of from_old from_new old new result) → RepliesToWants desk bytes wants before after result answered
-    to_wants from_first bytes front (whois text) is gives wanted serves = answer_sent desk [] text before after result serves.1
-    to_wants from_first bytes front (http place asks) is gives wanted serves = to_asks from_first bytes front place asks is gives (placed front place asks wanted) serves
+    to_wants : (from_first : Told) (bytes prefix : List ℕ) (wants : Wants) → from_first.bytes ≡ Some bytes → Gives from_first from_old prefix → IsWanted (prefix ++ []) wants →
+        ServesWants desk prefix wants before after (visit_of from_old from_new old new result) → RepliesToWants desk bytes wants before after result answered
+    to_wants from_first bytes prefix (whois text) is gives wanted serves = answer_sent desk [] text before after result serves.1
+    to_wants from_first bytes prefix (http place asks) is gives wanted serves = to_asks from_first bytes prefix place asks is gives (placed prefix place asks wanted) serves
 
 pub answers_with_its_reply : {D : Type 0} (desk : Ghosts D) → AnswersWithItsReply desk
 answers_with_its_reply desk before after visit asked answered is fresh told (inl broken) =
@@ -133,7 +133,7 @@ answers_with_its_report desk before after old between new body answered missing 
     let given = whole.reads.0.consumed body refl in
     let none : given.0 ≡ [] = whole.reads.1.none_left given.0 given.1 in
     let same : whole.text ≡ body = sym (given.2 ∙ (ap (λ xs. whole.text ++ xs) none ∙ append-nil whole.text)) in
-    let all = whole.writes.appended given_head (head.appended [] fresh) in (
+    let all = whole.writes.appended ok_head (head.appended [] fresh) in (
       submits.tells,
       record {
         items = whole.items;

@@ -6,7 +6,7 @@ use Rattle.rr_desk.specs.Turns.{Answer, Visit}
 use Rattle.rr_http.specs.declared.asking.Refusal.{Refusal}
 use Rattle.rr_http.specs.declared.registrar.Registrar.{Ghosts}
 use Rattle.rr_http.specs.declared.heads.Head.TheVariants.{Whois, Http, Refused}
-use Rattle.rr_http.specs.Answering.{IsAnswered}
+use Rattle.rr_http.specs.Answering.{TellsAnswer}
 use Rattle.rr_http.specs.Replies.{refusal_reply}
 use Rattle.rr_http.specs.Requests.{Asks, refused}
 use Rattle.rr_http.specs.Serving.{LeavesAll, Replies, Serves, ServesAsks, ServesHead, ServesWants, visit_of}
@@ -30,7 +30,7 @@ head_served desk before after from_old between from_new old middle new result he
 module _ {D : Type 0} (desk : Ghosts D) (read : List ℕ) (before after : D) (visit : Visit) where
   -- a query by whois was answered
   pub whois_served : (count : ℕ) → IsHead read (Whois count) → visit.reader_after ≡ visit.reader_before →
-      IsAnswered desk.Answers [] (take count read) before after visit.writer_before visit.writer_after visit.answer → ServesHead desk read before after visit
+      TellsAnswer desk.Answers [] (take count read) before after visit.writer_before visit.writer_after visit.answer → ServesHead desk read before after visit
   whois_served count head unread answered = record {
     wants = whois (take count read);
     are_wanted = subst (λ speaks. HeadWants speaks read (is_full read) (whois (take count read))) (sym head.0) (ap whois head.2);

@@ -1,4 +1,4 @@
--- Lemmas on what a connection wants: its front says it.
+-- Lemmas on what a connection wants: its prefix says it.
 use Rattle.std.proofs.Common.{◌≡◌, ℕ, suc, ◌+◌, ◌-◌, ◌<◌, ◌≤◌, inl, inr, Bool, true, false, ◌==◌, ◌&&◌, List, [], ◌∷◌, ◌++◌, length, take, Option, None, Some, arith, refl, ap, sym, ◌∙◌, subst, length-append}
 use Rattle.std.specs.Prelude.{nat_lt, nat_le, is_some, IfSome}
 use Rattle.std.specs.Option.{option_map}
@@ -133,46 +133,46 @@ head_within (b ∷ bs) = within_step b bs (is_line_feed b && nat_lt 0 (line_end 
     within_step b bs false e rec = rw (head_after b bs e) (mapped_within (length bs) (head_length bs) rec)
 
 -- what a whole head asks does not depend on what follows
-head_kept : (found : Option ℕ) (front more : List ℕ) (full wide : Bool) (wants : Wants) → is_some found ≡ true → IfSome found (λ place. place ≤ length front) →
-    RequestWants found front full wants → RequestWants found (front ++ more) wide wants
-head_kept None front more full wide wants h within asked = cc
-head_kept (Some place) front more full wide wants h within asked =
-    (asked.0, subst (λ text. RequestAsks text asked.0) (sym (take-append-le place front more within)) asked.1, asked.2)
+head_kept : (found : Option ℕ) (prefix more : List ℕ) (full wide : Bool) (wants : Wants) → is_some found ≡ true → IfSome found (λ place. place ≤ length prefix) →
+    RequestWants found prefix full wants → RequestWants found (prefix ++ more) wide wants
+head_kept None prefix more full wide wants h within asked = cc
+head_kept (Some place) prefix more full wide wants h within asked =
+    (asked.0, subst (λ text. RequestAsks text asked.0) (sym (take-append-le place prefix more within)) asked.1, asked.2)
 
--- a front that has what it was read for wants the same with more behind it
-reached_on : (front more : List ℕ) (speaks full wide : Bool) (wants : Wants) → speaks_http front ≡ speaks →
-    says_by speaks front ≡ true → HeadWants speaks front full wants → HeadWants (speaks_http (front ++ more)) (front ++ more) wide wants
-reached_on front more false full wide wants is h asked =
-    subst (λ speaks. HeadWants speaks (front ++ more) wide wants) (sym (speaks_http-append front more h ∙ is))
-    (asked ∙ ap whois (sym (whois_query-append front more h)))
-reached_on front more true full wide wants is h asked =
-    subst (λ speaks. HeadWants speaks (front ++ more) wide wants) (sym (speaks_http-append front more (head_has_feed front h) ∙ is))
-    (subst (λ found. RequestWants found (front ++ more) wide wants) (sym (head_length-append front more h))
-    (head_kept (head_length front) front more full wide wants h (head_within front) asked))
+-- a prefix that has what it was read for wants the same with more after it
+reached_on : (prefix more : List ℕ) (speaks full wide : Bool) (wants : Wants) → speaks_http prefix ≡ speaks →
+    says_by speaks prefix ≡ true → HeadWants speaks prefix full wants → HeadWants (speaks_http (prefix ++ more)) (prefix ++ more) wide wants
+reached_on prefix more false full wide wants is h asked =
+    subst (λ speaks. HeadWants speaks (prefix ++ more) wide wants) (sym (speaks_http-append prefix more h ∙ is))
+    (asked ∙ ap whois (sym (whois_query-append prefix more h)))
+reached_on prefix more true full wide wants is h asked =
+    subst (λ speaks. HeadWants speaks (prefix ++ more) wide wants) (sym (speaks_http-append prefix more (head_has_feed prefix h) ∙ is))
+    (subst (λ found. RequestWants found (prefix ++ more) wide wants) (sym (head_length-append prefix more h))
+    (head_kept (head_length prefix) prefix more full wide wants h (head_within prefix) asked))
 
-same_wants : (front text : List ℕ) (full wide : Bool) (wants : Wants) → front ≡ text → full ≡ wide → HeadWants (speaks_http front) front full wants →
+same_wants : (prefix text : List ℕ) (full wide : Bool) (wants : Wants) → prefix ≡ text → full ≡ wide → HeadWants (speaks_http prefix) prefix full wants →
     HeadWants (speaks_http text) text wide wants
-same_wants front text full wide wants e f asked =
-    subst (λ xs. HeadWants (speaks_http xs) xs wide wants) e (subst (λ b. HeadWants (speaks_http front) front b wants) f asked)
+same_wants prefix text full wide wants e f asked =
+    subst (λ xs. HeadWants (speaks_http xs) xs wide wants) e (subst (λ b. HeadWants (speaks_http prefix) prefix b wants) f asked)
 
--- the first 8,192 bytes are the front and some of what follows
-front_of_all : (front more : List ℕ) → length front ≤ 8192 → take 8192 (front ++ more) ≡ front ++ take (8192 - length front) more
-front_of_all front more short =
-    let all : length front + (8192 - length front) ≡ 8192 = omega arith in
-    ap (λ n. take n (front ++ more)) (sym all) ∙ take-append-add front more (8192 - length front)
+-- the first 8,192 bytes are the prefix and some of what follows
+prefix_of_all : (prefix more : List ℕ) → length prefix ≤ 8192 → take 8192 (prefix ++ more) ≡ prefix ++ take (8192 - length prefix) more
+prefix_of_all prefix more short =
+    let all : length prefix + (8192 - length prefix) ≡ 8192 = omega arith in
+    ap (λ n. take n (prefix ++ more)) (sym all) ∙ take-append-add prefix more (8192 - length prefix)
 
-full_front : (front more : List ℕ) → length front ≡ 8192 → front ≡ take 8192 (front ++ more)
-full_front front more full = sym (front_of_all front more (omega arith) ∙ (ap (λ n. front ++ take n more) (let none : 8192 - length front ≡ 0 = omega arith in none) ∙ append-nil front))
+full_prefix : (prefix more : List ℕ) → length prefix ≡ 8192 → prefix ≡ take 8192 (prefix ++ more)
+full_prefix prefix more full = sym (prefix_of_all prefix more (omega arith) ∙ (ap (λ n. prefix ++ take n more) (let none : 8192 - length prefix ≡ 0 = omega arith in none) ∙ append-nil prefix))
 
 pub wants_kept : WantsByItsHead
-wants_kept front more ended wants short (inl reached) done asked =
-    subst (λ xs. HeadWants (speaks_http xs) xs (is_full (front ++ more)) wants) (sym (front_of_all front more short))
-    (reached_on front (take (8192 - length front) more) (speaks_http front) (is_full front) (is_full (front ++ more)) wants refl reached asked)
-wants_kept front more ended wants short (inr (inl full)) done asked =
-    let at_front : is_full front ≡ true = le-leb 8192 (length front) (omega arith) in
-    let at_all : is_full (front ++ more) ≡ true = le-leb 8192 (length (front ++ more)) (omega (arith, length-append front more)) in
-    same_wants front _ _ _ wants (full_front front more full) (at_front ∙ sym at_all) asked
-wants_kept front more ended wants short (inr (inr over)) done asked =
-    let whole : front ++ more ≡ front = ap (λ xs. front ++ xs) (done over) ∙ append-nil front in
-    let cut : take 8192 (front ++ more) ≡ front = ap (take 8192) whole ∙ take_all 8192 front short in
-    same_wants front _ _ _ wants (sym cut) (ap (λ xs. nat_le 8192 (length {A = ℕ} xs)) (sym whole)) asked
+wants_kept prefix more ended wants short (inl reached) done asked =
+    subst (λ xs. HeadWants (speaks_http xs) xs (is_full (prefix ++ more)) wants) (sym (prefix_of_all prefix more short))
+    (reached_on prefix (take (8192 - length prefix) more) (speaks_http prefix) (is_full prefix) (is_full (prefix ++ more)) wants refl reached asked)
+wants_kept prefix more ended wants short (inr (inl full)) done asked =
+    let at_prefix : is_full prefix ≡ true = le-leb 8192 (length prefix) (omega arith) in
+    let at_all : is_full (prefix ++ more) ≡ true = le-leb 8192 (length (prefix ++ more)) (omega (arith, length-append prefix more)) in
+    same_wants prefix _ _ _ wants (full_prefix prefix more full) (at_prefix ∙ sym at_all) asked
+wants_kept prefix more ended wants short (inr (inr over)) done asked =
+    let whole : prefix ++ more ≡ prefix = ap (λ xs. prefix ++ xs) (done over) ∙ append-nil prefix in
+    let cut : take 8192 (prefix ++ more) ≡ prefix = ap (take 8192) whole ∙ take_all 8192 prefix short in
+    same_wants prefix _ _ _ wants (sym cut) (ap (λ xs. nat_le 8192 (length {A = ℕ} xs)) (sym whole)) asked

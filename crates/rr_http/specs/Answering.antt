@@ -3,14 +3,13 @@ use Rattle.std.specs.Prelude.{◌≡◌, ◌≢◌, ℕ, Bool, false, ◌⊎◌,
 use Rattle.std.specs.Prelude.{Result, Ok, Err, Some}
 use Rattle.std.proofs.Common.{inl, inr}
 use Rattle.rr_io.specs.Told.{Told}
-use Rattle.rr_io.specs.Sending.{Takes, TakesFront, Writes}
+use Rattle.rr_io.specs.Sending.{Takes, TakesPrefix, Writes}
 use Rattle.rr_text.specs.WholePart.{whole_part}
 use Rattle.rr_auth.specs.Sources.{IsRegistryOf}
 use Rattle.rr_submission.specs.declared.ledger.Ledger as ledger
 use Rattle.rr_submission.specs.declared.submission.Done.{Done}
 use Rattle.rr_submission.specs.declared.submission.DeskFault.{DeskFault}
 use Rattle.rr_submission.specs.declared.submission.DeskFault.TheVariants as fault
-use Rattle.rr_submission.specs.SubmissionLaws.{ConfinesTexts}
 use Rattle.rr_submission.specs.Submissions.{Sides, Submits, UnlessStoreFault, sides}
 use Rattle.rr_desk.specs.declared.dumping.DeskDumpFault.{DeskDumpFault}
 use Rattle.rr_desk.specs.declared.dumping.DeskDumpFault.TheVariants as dump_fault
@@ -19,7 +18,7 @@ use Rattle.rr_desk.specs.Dumping.{Dumps}
 use Rattle.rr_desk.specs.Turns.{Answer}
 use Rattle.rr_http.specs.declared.asking.Refusal.TheVariants.{Unavailable}
 use Rattle.rr_http.specs.declared.registrar.Registrar.{Ghosts}
-use Rattle.rr_http.specs.Replies.{given_head, refusal_reply}
+use Rattle.rr_http.specs.Replies.{ok_head, refusal_reply}
 
 -- this text is the whole reply: a write failed where not all of it was taken
 pub record Tells (text : List ℕ) (old new : Told) (result : Answer) : Type 0 where
@@ -34,11 +33,11 @@ pub record IsUnavailable {D : Type 0} (before after : D) (old new : Told) (resul
 
 -- the head of a reply could not be written
 pub record IsHeadCut (old new : Told) (result : Answer) : Type 0 where
-  pub cut : TakesFront old new given_head
+  pub cut : TakesPrefix old new ok_head
   pub failed : result ≡ Err conn_fault.Write
 
 -- the reply has the text in which the desk answers
-pub record IsAnswered {D : Type 0} (Answers : D → List ℕ → List ℕ → D → Type 0)
+pub record TellsAnswer {D : Type 0} (Answers : D → List ℕ → List ℕ → D → Type 0)
     (head query : List ℕ) (before after : D) (old new : Told) (result : Answer) : Type 0 where
   pub text : List ℕ
   pub answers : Answers before query text after
@@ -51,7 +50,7 @@ abbrev pub AnswersRunning : {D : Type 0} → (D → List ℕ → List ℕ → D 
     → Told → Told → Answer → Type 0
 AnswersRunning Answers query before after old new result =
     (IsHeadCut old new result × (after ≡ before))
-    ⊎ IsAnswered Answers given_head query before after old new result
+    ⊎ TellsAnswer Answers ok_head query before after old new result
 
 -- the answer to a query by HTTP: of a desk that is stopped, or where memory runs out, that it is
 -- not served now
@@ -73,7 +72,7 @@ dump_answer (Err dump_fault.Stopped) = Ok tt
 -- a dump after its head
 pub record IsDumped (text : List ℕ) (old new : Told) (result : Answer) : Type 0 where
   pub between : Told
-  pub head : Takes old between given_head
+  pub head : Takes old between ok_head
   pub ended : Result ℕ DeskDumpFault
   pub dumps : Dumps text between new ended
   pub answer : result ≡ dump_answer ended
@@ -110,11 +109,11 @@ TellsMissing g source sides before after rest missing (Ok done) submits = missin
 TellsMissing g source sides before after rest missing (Err (fault.ReadFault items)) submits =
     (missing ≢ 0) × (rest ≡ [])
 TellsMissing g source sides before after rest missing (Err (fault.WriteFault items)) (inl submits) =
-    EndsWhole submits.front missing
+    EndsWhole submits.prefix missing
 TellsMissing g source sides before after rest missing (Err (fault.WriteFault items)) (inr submits) =
     missing ≡ 0
 TellsMissing g source sides before after rest missing (Err (fault.StoreFault items)) submits =
-    EndsWhole submits.front missing
+    EndsWhole submits.prefix missing
 TellsMissing g source sides before after rest missing (Err fault.Memory) submits = Unit {0}
 TellsMissing g source sides before after rest missing (Err fault.Stopped) submits = Unit {0}
 
@@ -132,12 +131,10 @@ pub record SubmitsBody {D : Type 0} (g : ledger.Ghosts D) (source body : List �
       before after rest missing result submits
 
 -- what a submission leaves of the desk: only a fault of the store stops it, and after any other end
--- the rows are those of its registry; a registry of its source stays one, and what the holders of a
--- prefix hold is changed by nobody else
+-- the rows are those of its registry; a registry of its source stays one
 pub record KeepsDesk {D : Type 0} (desk : Ghosts D) (before after : D)
     (result : Result Done DeskFault) : Type 0 where
   pub runs : UnlessStoreFault result (desk.stops after ≡ false)
-  pub confined : ConfinesTexts (desk.settings before).source (desk.ledger.registry before)
   pub kept : UnlessStoreFault result (desk.Kept after)
   pub of_source : IsRegistryOf (desk.settings before).source (desk.ledger.registry before)
       → IsRegistryOf (desk.settings after).source (desk.ledger.registry after)

@@ -9,8 +9,8 @@ use Rattle.rr_answer.specs.Dumps.{dump}
 use Rattle.rr_submission.specs.declared.ledger.Ledger as ledger
 use Rattle.rr_desk.specs.declared.desk.Desk.{Desk}
 use Rattle.rr_desk.specs.Answering as desk_answering
-use Rattle.rr_desk.specs.Rows.{Holds, KeepsRows}
-use Rattle.rr_desk.specs.Stocks.{stock_ledger}
+use Rattle.rr_desk.specs.Rows.{KeepsRows}
+use Rattle.rr_desk.specs.Stocks.{IsStocked, stock_ledger}
 use Rattle.rr_desk.specs.Turns.{Serving}
 use Rattle.rr_http.specs.declared.registrar.Registrar as registrar
 use Rattle.rr_http.specs.Serving.{Serves, visit_of}
@@ -20,7 +20,7 @@ abbrev pub desk_ledger : {S : Type 0} → store.Ghosts S → ledger.Ghosts (Desk
 desk_ledger g = record {
   registry = λ desk. desk.stored.registry;
   Ready = λ desk. desk.stored.stopped ≡ false;
-  Halts = λ old secrets item new. (stock_ledger g).Halts old.stored secrets item new.stored;
+  Stops = λ old secrets item new. (stock_ledger g).Stops old.stored secrets item new.stored;
 }
 
 -- the text in which a desk answers a query, and what that leaves of the desk: its registry, whether
@@ -38,13 +38,6 @@ pub record IsDeskAnswer {S : Type 0} (g : store.Ghosts S) (before : Desk S) (que
       → KeepsRows before.stored.registry (state g after.stored.store)
   pub still : before.stored.stopped ≡ true → after ≡ before
 
--- where the disk gives back what was written, the rows of a desk that runs are those of its
--- registry, and a stop leaves these
-abbrev pub IsKept : {S : Type 0} → store.Ghosts S → Desk S → Type 0
-IsKept g desk =
-    desk.stored.stopped ≡ false → HasCleanDisk (state g desk.stored.store)
-    → Holds desk.stored.registry (state g desk.stored.store)
-
 -- a desk answers queries, gives the public dump of its registry, and takes submissions until it is
 -- stopped
 abbrev pub desk_registrar : {S : Type 0} → store.Ghosts S → registrar.Ghosts (Desk S)
@@ -54,7 +47,7 @@ desk_registrar g = record {
   stops = λ desk. desk.stored.stopped;
   Answers = λ before query text after. IsDeskAnswer g before query text after;
   dumped = λ desk. dump false desk.stored.registry;
-  Kept = λ desk. IsKept g desk;
+  Kept = λ desk. IsStocked g desk.stored;
 }
 
 -- what serving a connection of a desk does

@@ -55,5 +55,5 @@ refusal_reply refusal =
 
 -- the head of a reply whose body is what was asked: the body ends with the connection
 -- (RFC 9112, 6.3)
-unfoldable pub given_head : List ℕ
-given_head = codes "HTTP/1.1 200 OK\r\nContent-Type: text/plain\r\nConnection: close\r\n\r\n"
+unfoldable pub ok_head : List ℕ
+ok_head = codes "HTTP/1.1 200 OK\r\nContent-Type: text/plain\r\nConnection: close\r\n\r\n"

@@ -18,7 +18,7 @@ use Rattle.rr_http.specs.declared.asking.Refusal.TheVariants.{Unavailable}
 use Rattle.rr_http.specs.declared.body_reading.BodyEnd.{BodyEnd}
 use Rattle.rr_http.specs.declared.registrar.Registrar.{Ghosts}
 use Rattle.rr_http.specs.Answering.{SubmitsBody}
-use Rattle.rr_http.specs.Replies.{given_head, refusal_reply}
+use Rattle.rr_http.specs.Replies.{ok_head, refusal_reply}
 use Rattle.rr_http.specs.Requests.{Asks, refused, submission, query, dump}
 use Rattle.rr_http.specs.Serving.{Serves, SubmitsRead}
 use Rattle.rr_http.specs.ToldBytes.{IsBodyOf}
@@ -39,9 +39,9 @@ IsSent text (Err Write) answered = IsCutOff text answered
 abbrev pub IsDumpSent : List ℕ → Answer → List ℕ → Type 0
 IsDumpSent text (Ok done) answered =
     (part : List ℕ) × (rest : List ℕ) × (text ≡ part ++ rest)
-    × (answered ≡ given_head ++ part)
+    × (answered ≡ ok_head ++ part)
 IsDumpSent text (Err Read) answered = ⊥
-IsDumpSent text (Err Write) answered = IsCutOff (given_head ++ text) answered
+IsDumpSent text (Err Write) answered = IsCutOff (ok_head ++ text) answered
 
 -- that the request cannot be served now is answered, and the desk was not asked
 abbrev pub IsRefusalSent : {D : Type 0} → D → D → Answer → List ℕ → Type 0
@@ -51,7 +51,7 @@ IsRefusalSent before after result answered =
 -- not even the head of a reply is answered, and the desk was not asked
 pub record IsHeadCutOff {D : Type 0} (before after : D) (result : Answer) (answered : List ℕ)
     : Type 0 where
-  pub cut : IsCutOff given_head answered
+  pub cut : IsCutOff ok_head answered
   pub failed : result ≡ Err Write
   pub same : after ≡ before
 
@@ -88,7 +88,7 @@ RepliesTo desk given (query escaped) before after result answered =
     IsRefusalSent before after result answered
     ⊎ ((desk.stops before ≡ false)
     × (IsHeadCutOff before after result answered
-    ⊎ IsAnswerSent desk given_head (percent_decode escaped) before after result answered))
+    ⊎ IsAnswerSent desk ok_head (percent_decode escaped) before after result answered))
 RepliesTo desk given dump before after result answered =
     IsRefusalSent before after result answered
     ⊎ ((desk.stops before ≡ false) × IsDumpSent (desk.dumped before) result answered
@@ -139,7 +139,7 @@ pub record IsWholeReport {D : Type 0} (desk : Ghosts D) (body : List ℕ) (befor
   pub are_items : AreItems (desk.settings before).source [] (entries body) items
   pub runs : Run (desk.ledger.registry before) (map submitted items) outcomes
       (desk.ledger.registry after)
-  pub is : answered ≡ given_head ++ report Complete items outcomes
+  pub is : answered ≡ ok_head ++ report Complete items outcomes
 
 -- a submission that ended well misses no byte of its body, and is answered with the whole report on
 -- it
@@ -147,7 +147,7 @@ abbrev pub AnswersWithItsReport : {D : Type 0} → Ghosts D → Type 0
 AnswersWithItsReport {D} desk =
     (before after : D) (old between new : Told) (body answered : List ℕ) (missing : ℕ)
     (done : Done)
-    → old.bytes ≡ Some [] → new.bytes ≡ Some answered → Takes old between given_head
+    → old.bytes ≡ Some [] → new.bytes ≡ Some answered → Takes old between ok_head
     → SubmitsBody desk.ledger (desk.settings before).source body missing before after between new
     (Ok done)
     → (missing ≡ 0) × IsWholeReport desk body before after answered

@@ -8,7 +8,7 @@ use Rattle.rr_io.specs.declared.streams.Source as source
 use Rattle.rr_io.specs.declared.streams.Sink as sink
 use Rattle.rr_io.specs.Told.{Told}
 use Rattle.rr_io.specs.Receiving.{BreaksOff}
-use Rattle.rr_io.specs.Sending.{Takes, TakesFront}
+use Rattle.rr_io.specs.Sending.{Takes, TakesPrefix}
 use Rattle.rr_submission.specs.declared.submission.Done.{Done}
 use Rattle.rr_submission.specs.declared.submission.DeskFault.{DeskFault}
 use Rattle.rr_desk.specs.declared.peers.ConnFault.TheVariants as conn_fault
@@ -16,10 +16,10 @@ use Rattle.rr_desk.specs.Turns.{Answer, Visit}
 use Rattle.rr_http.specs.declared.body_reading.BodyEnd.{BodyEnd}
 use Rattle.rr_http.specs.declared.body_reading.BodyEnd.TheVariants.{Whole, Short, Broken}
 use Rattle.rr_http.specs.declared.registrar.Registrar.{Ghosts}
-use Rattle.rr_http.specs.Answering.{AnswersDump, AnswersQuery, IsAnswered, IsUnavailable, Tells}
-use Rattle.rr_http.specs.Answering.{KeepsDesk, SubmitsBody}
+use Rattle.rr_http.specs.Answering.{AnswersDump, AnswersQuery, IsUnavailable, KeepsDesk}
+use Rattle.rr_http.specs.Answering.{SubmitsBody, Tells, TellsAnswer}
 use Rattle.rr_http.specs.Bodies.{GivesWithin, ReadsBody}
-use Rattle.rr_http.specs.Replies.{given_head, refusal_reply}
+use Rattle.rr_http.specs.Replies.{ok_head, refusal_reply}
 use Rattle.rr_http.specs.Requests.{Asks, refused, submission, query, dump}
 use Rattle.rr_http.specs.Lines.{speaks_http}
 use Rattle.rr_http.specs.Wants.{HeadWants, IsUndecided, IsWanted, ReadsHead, Wants, is_full}
@@ -28,7 +28,7 @@ use Rattle.rr_http.specs.Wants.{whois, http}
 -- a connection failed where a read of it failed, or a write; an end of input before the body's is
 -- not a failed read (profile)
 abbrev pub answer_by : BodyEnd → Bool → Answer
-answer_by Broken wrote_badly = Err conn_fault.Read
+answer_by Broken write_failed = Err conn_fault.Read
 answer_by Whole true = Err conn_fault.Write
 answer_by Short true = Err conn_fault.Write
 answer_by Whole false = Ok tt
@@ -39,7 +39,7 @@ pub record IsSubmitted {D : Type 0} (desk : Ghosts D) (body : List ℕ) (size : 
     (before after : D) (old new : Told) (result : Answer) : Type 0 where
   pub between : Told
   pub done : Result Done DeskFault
-  pub head : Takes old between given_head
+  pub head : Takes old between ok_head
   pub submits : SubmitsBody desk.ledger (desk.settings before).source body (size - length body)
       before after between new done
   pub keeps : KeepsDesk desk before after done
@@ -48,7 +48,7 @@ pub record IsSubmitted {D : Type 0} (desk : Ghosts D) (body : List ℕ) (size : 
 -- or not even the head could be written, and nothing is submitted
 pub record IsUnsubmitted {D : Type 0} (end : BodyEnd) (before after : D) (old new : Told)
     (result : Answer) : Type 0 where
-  pub cut : TakesFront old new given_head
+  pub cut : TakesPrefix old new ok_head
   pub failed : result ≡ answer_by end true
   pub same : after ≡ before
 
@@ -148,7 +148,7 @@ abbrev pub ServesWants : {D : Type 0} → Ghosts D → List ℕ → Wants → D 
     → Type 0
 ServesWants desk head (whois asked) before after visit =
     (visit.reader_after ≡ visit.reader_before)
-    × IsAnswered desk.Answers [] asked before after
+    × TellsAnswer desk.Answers [] asked before after
     visit.writer_before visit.writer_after visit.answer
 ServesWants desk head (http place asks) before after visit =
     ServesAsks desk (drop place head) asks before after visit

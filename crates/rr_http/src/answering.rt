@@ -2,14 +2,14 @@
 
 ghost use Rattle.std.specs.Prelude.{◌≡◌, ◌≤◌, [], Err, IfOk, false, length};
 ghost use Rattle.percent_encoding.specs.Percent.{percent_decode};
-ghost use Rattle.rr_http.specs.Answering.{AnswersDump, AnswersQuery, AnswersRunning, IsAnswered};
-ghost use Rattle.rr_http.specs.Answering.{KeepsDesk, SubmitsBody, Tells, dump_answer};
+ghost use Rattle.rr_http.specs.Answering.{AnswersDump, AnswersQuery, AnswersRunning, KeepsDesk};
+ghost use Rattle.rr_http.specs.Answering.{SubmitsBody, Tells, TellsAnswer, dump_answer};
 ghost use Rattle.rr_http.specs.Replies.{refusal_reply};
 
 use crate::asking::{BODY_SIZE, Refusal};
 use crate::body::Body;
 use crate::registrar::Registrar;
-use crate::replying::{write_given_head, write_refusal};
+use crate::replying::{write_ok_head, write_refusal};
 use percent_encoding::percent_decode;
 use rr_desk::{ConnFault, DeskDumpFault, DeskFault, Done};
 use rr_io::Sink;
@@ -33,7 +33,7 @@ pub fn answer_whois<D: Registrar, W: Sink>(
     query: &[u8],
     writer: &mut W,
 ) -> Result<(), ConnFault>
-    ensures answers { IsAnswered D.Answers [] query.now desk.old desk.new
+    ensures answers { TellsAnswer D.Answers [] query.now desk.old desk.new
         (W.told writer.old) (W.told writer.new) result }
     ensures settings { D.settings desk.new ≡ D.settings desk.old }
     ensures aside { W.aside writer.new ≡ W.aside writer.old }
@@ -86,7 +86,7 @@ fn give_answer<D: Registrar, W: Sink>(
     ensures settings { D.settings desk.new ≡ D.settings desk.old }
     ensures aside { W.aside writer.new ≡ W.aside writer.old }
 {
-    match write_given_head(writer) {
+    match write_ok_head(writer) {
         Ok(()) => answer_whois(alloc, desk, query, writer),
         Err(_) => Err(ConnFault::Write),
     }
@@ -105,7 +105,7 @@ pub fn give_dump<D: Registrar, W: Sink>(
     if desk.stopped() {
         return refuse(writer, Refusal::Unavailable);
     }
-    match write_given_head(writer) {
+    match write_ok_head(writer) {
         Ok(()) => match desk.dump(alloc, writer) {
             Ok(_) => Ok(()),
             Err(fault) => dump_answer(fault),

@@ -7,7 +7,7 @@ ghost use Rattle.std.specs.Str.{bytes_eq};
 ghost use Rattle.httparse.specs.Spans.{IsHeaderWithin, header_bytes};
 ghost use Rattle.rr_http.specs.Asked.{parts_of, seen};
 ghost use Rattle.rr_http.specs.Requests.{HasSmallSize, asks_of, asks_page, is_length, is_field_of};
-ghost use Rattle.rr_http.specs.Requests.{is_query_path, is_segment, method_of, page_of, path_of};
+ghost use Rattle.rr_http.specs.Requests.{is_query_path, is_segment, method_of, page_of};
 ghost use Rattle.rr_http.specs.Requests.{size_of, sized, values_of};
 ghost use Rattle.rr_http.specs.Wants.{RequestAsks};
 
@@ -83,7 +83,7 @@ fn is_segment(text: &[u8]) -> bool
 pub enum Refusal {
     /// 8,192 bytes have no empty line: 431.
     HeadTooLarge,
-    /// The head is none, or the length of the body is bad or given twice: 400.
+    /// There is no head of a request, or the length of the body is bad or given twice: 400.
     BadRequest,
     /// The body has a transfer coding: 501.
     NotImplemented,
@@ -112,7 +112,7 @@ pub enum Asked<'a> {
     Dump,
 }
 
-/// What a request asks whose head is this, if it is one (RFC 9112, 2.1).
+/// What a request asks whose head is this; what is no head of a request is refused (RFC 9112, 2.1).
 pub fn read_request(head: &[u8]) -> Asked<'_>
     ensures asks { RequestAsks head.now (seen result) }
     ensures small { HasSmallSize (seen result) }

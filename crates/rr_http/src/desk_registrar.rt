@@ -1,8 +1,9 @@
 //! A desk over tables as what connections ask.
 
-ghost use Rattle.std.specs.Prelude.{◌≡◌, false};
+ghost use Rattle.std.specs.Prelude.{false};
 ghost use Rattle.rr_answer.specs.Dumps.{dump};
-ghost use Rattle.rr_http.specs.DeskRegistrars.{IsDeskAnswer, IsKept, desk_ledger};
+ghost use Rattle.rr_desk.specs.Stocks.{IsStocked};
+ghost use Rattle.rr_http.specs.DeskRegistrars.{IsDeskAnswer, desk_ledger};
 
 use crate::registrar::Registrar;
 use rr_desk::{Answered, Desk, DeskDumpFault, DeskFault, Done, WriteFault};
@@ -21,7 +22,7 @@ impl<S: Alter> Registrar for Desk<S> {
 
     ghost dumped = { λ desk. dump false desk.stored.registry };
 
-    ghost Kept = { λ desk. IsKept S.Store desk };
+    ghost Kept = { λ desk. IsStocked S.Store desk.stored };
 
     fn stopped(&self) -> bool {
         Desk::stopped(self)

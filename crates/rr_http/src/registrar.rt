@@ -4,7 +4,6 @@ ghost use Rattle.std.specs.Prelude.{◌≡◌, false, Bool, ℕ, List};
 ghost use Rattle.rr_io.specs.Sending.{Writes};
 ghost use Rattle.rr_submission.specs.declared.ledger.Ledger.{Ghosts};
 ghost use Rattle.rr_auth.specs.Sources.{IsRegistryOf};
-ghost use Rattle.rr_submission.specs.SubmissionLaws.{ConfinesTexts};
 ghost use Rattle.rr_submission.specs.Submissions.{Submits, UnlessStoreFault, sides};
 ghost use Rattle.rr_desk.specs.Dumping.{Dumps};
 ghost use Rattle.rr_desk.specs.Settings.{SettingsParts};
@@ -55,9 +54,9 @@ pub trait Registrar {
             → Dumps (dumped self.now) (W.told writer.old) (W.told writer.new) result }
         ensures aside { W.aside writer.new ≡ W.aside writer.old };
 
-    /// Submits what the reader gives, and writes the report. Only a fault of the store stops it,
-    /// and after any other end the rows are those of its registry. What the holders of a prefix
-    /// hold is changed by nobody else.
+    /// Submits what the reader gives, and writes the report, if it is not stopped. Only a fault of
+    /// the store stops it, and after any other end the rows are those of its registry. A registry
+    /// of its source stays one. What the holders of a prefix hold is changed by nobody else.
     fn submit<R: Source, W: Sink>(
         &mut self,
         alloc: Global,
@@ -70,8 +69,6 @@ pub trait Registrar {
             self.old self.new result }
         ensures runs { stops self.old ≡ false
             → UnlessStoreFault result (stops self.new ≡ false) }
-        ensures confined { stops self.old ≡ false
-            → ConfinesTexts (settings self.old).source (ledger.registry self.old) }
         ensures kept { stops self.old ≡ false → UnlessStoreFault result (Kept self.new) }
         ensures of_source { IsRegistryOf (settings self.old).source (ledger.registry self.old)
             → IsRegistryOf (settings self.new).source (ledger.registry self.new) }

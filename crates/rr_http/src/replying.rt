@@ -2,7 +2,7 @@
 
 ghost use Rattle.std.specs.Prelude.{◌≡◌, ◌+◌, ◌≤◌, ◌++◌, length};
 ghost use Rattle.rr_io.specs.Sending.{Writes};
-ghost use Rattle.rr_http.specs.Replies.{allow_line, given_head, reason_of, refusal_fields};
+ghost use Rattle.rr_http.specs.Replies.{allow_line, ok_head, reason_of, refusal_fields};
 ghost use Rattle.rr_http.specs.Replies.{refusal_reply, status_of, status_words};
 
 use crate::asking::{Page, Refusal};
@@ -22,9 +22,9 @@ pub fn write_refusal<W: Sink>(writer: &mut W, refusal: Refusal) -> io::Result<()
 
 /// Writes the head of a reply whose body is what was asked, whole in the first call of the writer.
 /// After a fault the writer has taken a part of it.
-#[tactic(auto, unfolding(crate::specs::Replies::given_head))]
-pub fn write_given_head<W: Sink>(writer: &mut W) -> io::Result<()>
-    ensures writes { Writes (W.told writer.old) (W.told writer.new) given_head result }
+#[tactic(auto, unfolding(crate::specs::Replies::ok_head))]
+pub fn write_ok_head<W: Sink>(writer: &mut W) -> io::Result<()>
+    ensures writes { Writes (W.told writer.old) (W.told writer.new) ok_head result }
     ensures aside { W.aside writer.new ≡ W.aside writer.old }
 {
     write_all(

@@ -13,14 +13,19 @@ use crate::asking::{Asked, BODY_SIZE, Refusal, read_request};
 use crate::body_reading::{BodyEnd, read_body};
 use crate::heads::{HEAD_SIZE, Head, read_head};
 use crate::registrar::Registrar;
-use crate::replying::write_given_head;
+use crate::replying::write_ok_head;
 use rr_desk::ConnFault;
 use rr_io::{Connection, Sink};
 use std::alloc::Global;
 
 /// Serves one connection by whois or HTTP: reads what it wants, asks the desk, and writes the reply
-/// (RFC 3912, RFC 9112). The error is that a read or a write of the connection failed; where a read
-/// fails before it is known what the connection wants, nothing is written.
+/// (RFC 3912, RFC 9112). The error is that a read of the connection failed, otherwise that a write
+/// did; where a read fails before it is known what the connection wants, nothing is written, and
+/// the desk stays as it is. A body is submitted as far as it came, without an item that misses
+/// bytes. By HTTP a stopped desk is not asked, nor one where memory runs out before that: the reply
+/// is 503. Of submissions only a fault of the store stops the desk; after any other end of one the
+/// rows are those of its registry, which stays one of its source. What the holders of a prefix hold
+/// is changed by nobody else.
 pub fn serve_one<D: Registrar, C: Connection>(
     alloc: Global,
     desk: &mut D,
@@ -106,8 +111,7 @@ fn take_in<D: Registrar, C: Connection>(
 
 /// Submits a body of this size whose reading ended so, and writes the report after the head of the
 /// reply. That head is written first, because each line of the report is written once its item is
-/// decided. What became of the submission the report says, so only whether a write failed is asked
-/// here.
+/// decided.
 fn submit_read<D: Registrar, W: Sink>(
     alloc: Global,
     desk: &mut D,
@@ -125,8 +129,9 @@ fn submit_read<D: Registrar, W: Sink>(
     ensures aside { W.aside writer.new ≡ W.aside writer.old }
 {
     let failed = writer.failed_writes();
-    match write_given_head(writer) {
+    match write_ok_head(writer) {
         Ok(()) => {
+            // The report tells what became of it.
             let _ = submit_body(alloc, desk, body, size - body.len(), writer);
             answer_by(end, failed < writer.failed_writes())
         }
@@ -135,13 +140,13 @@ fn submit_read<D: Registrar, W: Sink>(
 }
 
 /// What a connection is answered whose body ended so, and where a write failed or none did.
-fn answer_by(end: BodyEnd, wrote_badly: bool) -> Result<(), ConnFault>
-    ensures { result ≡ answer_by end wrote_badly }
+fn answer_by(end: BodyEnd, write_failed: bool) -> Result<(), ConnFault>
+    ensures { result ≡ answer_by end write_failed }
 {
     match end {
         BodyEnd::Broken => Err(ConnFault::Read),
         BodyEnd::Whole | BodyEnd::Short => {
-            if wrote_badly {
+            if write_failed {
                 Err(ConnFault::Write)
             } else {
                 Ok(())

@@ -279,7 +279,7 @@ pub takes_all : (all rest : List (List ℕ)) (key : Key) (old now : Counts) → 
 takes_all all rest key old now so none n =
     less_none (count_at now n) ∙ ap (λ a. count_at now n - a) (sym (ap (namings n key) none ∙ namings_nil n key)) ∙ so n
 
--- the first of a front of names
+-- the first of some names
 pub front_on : (left : ℕ) (name : List ℕ) (rest : List (List ℕ)) → (left ≡ 0 → ⊥) → take left (name ∷ rest) ≡ name ∷ take (left - 1) rest
 front_on zero name rest some = absurd (some refl)
 front_on (suc m) name rest some = let e : suc m - 1 ≡ m = omega arith in ap (λ k. name ∷ take k rest) (sym e)

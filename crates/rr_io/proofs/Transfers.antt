@@ -3,7 +3,7 @@ use Rattle.std.proofs.Common.{◌≡◌, ℕ, ◌+◌, ◌<◌, List, [], ◌++�
 use Rattle.std.specs.List.{flat_map}
 use Rattle.std.proofs.lemmas.List.{append-nil}
 use Rattle.rr_io.specs.Told.{Told, Fails}
-use Rattle.rr_io.specs.Sending.{Takes, TakesFront}
+use Rattle.rr_io.specs.Sending.{Takes, TakesPrefix}
 use Rattle.rr_io.specs.Receiving.{Gives}
 
 -- nothing was written yet
@@ -23,11 +23,11 @@ Takes-then xs ys p q = record {
 }
 
 -- one writing, and then another that a fault cut short
-pub TakesFront-then : {start middle end : Told} (xs ys : List ℕ) → Takes start middle xs → TakesFront middle end ys → TakesFront start end (xs ++ ys)
-TakesFront-then xs ys p q = record {
-  front = xs ++ q.front;
+pub TakesPrefix-then : {start middle end : Told} (xs ys : List ℕ) → Takes start middle xs → TakesPrefix middle end ys → TakesPrefix start end (xs ++ ys)
+TakesPrefix-then xs ys p q = record {
+  prefix = xs ++ q.prefix;
   rest = q.rest;
-  whole = ap (λ zs. xs ++ zs) q.whole ∙ sym (append_assoc xs q.front q.rest);
+  whole = ap (λ zs. xs ++ zs) q.whole ∙ sym (append_assoc xs q.prefix q.rest);
   some_left = q.some_left;
   between = q.between;
   takes = Takes-then _ _ p q.takes;
@@ -35,11 +35,11 @@ TakesFront-then xs ys p q = record {
 }
 
 -- what would have been written next is not taken either
-pub TakesFront-more : {start end : Told} (xs ys : List ℕ) → TakesFront start end xs → TakesFront start end (xs ++ ys)
-TakesFront-more xs ys p = record {
-  front = p.front;
+pub TakesPrefix-more : {start end : Told} (xs ys : List ℕ) → TakesPrefix start end xs → TakesPrefix start end (xs ++ ys)
+TakesPrefix-more xs ys p = record {
+  prefix = p.prefix;
   rest = p.rest ++ ys;
-  whole = ap (λ zs. zs ++ ys) p.whole ∙ append_assoc p.front p.rest ys;
+  whole = ap (λ zs. zs ++ ys) p.whole ∙ append_assoc p.prefix p.rest ys;
   some_left = let l : 0 < length p.rest = p.some_left in rw length-append (omega arith);
   between = p.between;
   takes = p.takes;
@@ -47,9 +47,9 @@ TakesFront-more xs ys p = record {
 }
 
 -- a writing that failed before its first byte
-pub TakesFront-fails : {start end : Told} (xs : List ℕ) → 0 < length xs → Fails start end → TakesFront start end xs
-TakesFront-fails {start} xs h p = record {
-  front = [];
+pub TakesPrefix-fails : {start end : Told} (xs : List ℕ) → 0 < length xs → Fails start end → TakesPrefix start end xs
+TakesPrefix-fails {start} xs h p = record {
+  prefix = [];
   rest = xs;
   whole = refl;
   some_left = h;

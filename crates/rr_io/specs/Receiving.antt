@@ -29,6 +29,10 @@ pub record BreaksOff (old new : Told) (bytes : List ℕ) : Type 0 where
 abbrev pub read_limit : ℕ
 read_limit = 16777216
 
+-- how many bytes a read asks for at most: those of a block (profile)
+abbrev pub read_size : ℕ
+read_size = 4096
+
 -- the reading of these bytes, by how it ended: with no byte left after at most 16,777,216 reads, by
 -- a failed call after fewer reads, or after exactly 16,777,216 reads, with at least as many bytes
 -- and no fault (profile)

@@ -9,21 +9,21 @@ pub record Takes (old new : Told) (bytes : List ℕ) : Type 0 where
   pub no_fault : new.faults ≡ old.faults
   pub no_read : new.reads ≡ old.reads
 
--- a front of these bytes was taken, and not all of them: then a call failed
-pub record TakesFront (old new : Told) (bytes : List ℕ) : Type 0 where
-  pub front : List ℕ
+-- the beginning of these bytes was taken, and not all of them: then a call failed
+pub record TakesPrefix (old new : Told) (bytes : List ℕ) : Type 0 where
+  pub prefix : List ℕ
   pub rest : List ℕ
-  pub whole : bytes ≡ front ++ rest
+  pub whole : bytes ≡ prefix ++ rest
   pub some_left : 0 < length rest
   pub between : Told
-  pub takes : Takes old between front
+  pub takes : Takes old between prefix
   pub fails : Fails between new
 
--- all of these bytes were taken, or a front of them before a call failed
+-- all of these bytes were taken, or the beginning of them before a call failed
 abbrev pub TakesSome : Told → Told → List ℕ → Type 0
-TakesSome old new bytes = Takes old new bytes ⊎ TakesFront old new bytes
+TakesSome old new bytes = Takes old new bytes ⊎ TakesPrefix old new bytes
 
 -- the writing of these bytes: whole where it is `Ok`, cut short by a fault where it is `Err`
 abbrev pub Writes : {T E : Type 0} → Told → Told → List ℕ → Result T E → Type 0
 Writes old new bytes (Ok _) = Takes old new bytes
-Writes old new bytes (Err _) = TakesFront old new bytes
+Writes old new bytes (Err _) = TakesPrefix old new bytes

@@ -5,7 +5,7 @@ ghost use Rattle.rr_io.specs.Sending.{Writes};
 use super::Sink;
 use std::io;
 
-/// Writes all of `bytes`. After a fault the writer has taken a front of them.
+/// Writes all of `bytes`. After a fault the writer has taken the beginning of them.
 pub fn write_all<W: Sink>(writer: &mut W, bytes: &[u8]) -> io::Result<()>
     ensures writes { Writes (W.told writer.old) (W.told writer.new) bytes.now result }
     ensures aside { W.aside writer.new ≡ W.aside writer.old }
@@ -19,8 +19,8 @@ pub fn write_all<W: Sink>(writer: &mut W, bytes: &[u8]) -> io::Result<()>
     Ok(())
 }
 
-/// Writes all of the pieces, one after the other. After a fault the writer has taken a front of
-/// their bytes.
+/// Writes all of the pieces, one after the other. After a fault the writer has taken the beginning
+/// of their bytes.
 pub fn write_pieces<W: Sink>(writer: &mut W, pieces: &[&[u8]]) -> io::Result<()>
     ensures writes { Writes (W.told writer.old) (W.told writer.new)
         (flat_map (λ piece. piece.now) pieces.now) result }

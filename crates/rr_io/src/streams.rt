@@ -15,8 +15,8 @@ pub trait Source {
     // What stands beside the reader and is left alone by a read.
     ghost aside: { Self → Told } = { λ _. untold };
 
-    /// Reads some bytes into the front of `buf` and says how many: none only at the end, or into an
-    /// empty `buf`.
+    /// Reads some bytes into the beginning of `buf` and says how many: none only at the end, or
+    /// into an empty `buf`.
     fn read(&mut self, buf: &mut [u8]) -> io::Result<usize>
         ensures bound { IfOk result (λ count. count ≤ length buf.new) }
         ensures gives { IfOk result
@@ -41,7 +41,7 @@ pub trait Sink {
     // What stands beside the writer and is left alone by a write.
     ghost aside: { Self → Told } = { λ _. untold };
 
-    /// Takes some bytes from the front of `bytes` and says how many: none only of no bytes.
+    /// Takes some bytes from the beginning of `bytes` and says how many: none only of no bytes.
     fn write(&mut self, bytes: &[u8]) -> io::Result<usize>
         ensures bound { IfOk result (λ count. count ≤ length bytes.now) }
         ensures some { IfOk result (λ count. 0 < length bytes.now → 0 < count) }

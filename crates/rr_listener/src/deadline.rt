@@ -3,7 +3,7 @@
 ghost use Rattle.std.specs.Prelude.{◌≡◌, ◌+◌, min, IfOk, None, OnErr, Some};
 ghost use Rattle.std.specs.Duration.{as_nanos, max_nanos};
 ghost use Rattle.std.specs.Option.{option_map};
-ghost use Rattle.rr_listener.specs.ServingTimes.{SetsTimeout, SetsWait, next_wait};
+ghost use Rattle.rr_listener.specs.ServingTimes.{SetsTimeout, next_wait};
 
 use std::io;
 use std::io::ErrorKind;

@@ -38,6 +38,7 @@ pub fn end_stream(stream: Stream<'_>) {
     }
     let writer = writer.into_inner();
     if writer.has_written() {
+        // The reply was written whole: what fails after it is the peer's loss alone.
         let _ = settle(reader.into_inner(), writer);
     }
 }

@@ -1,6 +1,6 @@
 -- The entries of a full dump.
-use Rattle.std.proofs.Common.{◌≡◌, ℕ, ◌+◌, ◌<◌, ◌≤◌, ◌==◌, zero, suc, Bool, true, false, cond, ◌||◌, List, [], ◌∷◌, ◌++◌, length, map, Ok, Result, refl, sym, ap, ◌∙◌, arith, append_assoc, codes}
-use Rattle.std.specs.Prelude.{◌/◌, ◌%◌, decimal, if◌then◌else◌}
+use Rattle.std.proofs.Common.{◌≡◌, ℕ, ◌+◌, ◌<◌, ◌≤◌, ◌==◌, zero, suc, Bool, true, false, cond, ◌||◌, List, [], ◌∷◌, ◌++◌, length, Ok, refl, sym, ap, ◌∙◌, arith, append_assoc, codes}
+use Rattle.std.specs.Prelude.{◌/◌, ◌%◌, decimal}
 use Rattle.std.specs.Fmt.{digit_glyph, digits, digits_onto}
 use Rattle.std.specs.List.{AllByRecursion, flat_map, list_any}
 use Rattle.std.proofs.lemmas.Bool.Decides.{nat_tests}
@@ -14,7 +14,6 @@ use Rattle.rr_text.specs.Lines.{IsWholeLine, text_lines}
 use Rattle.rr_text.specs.ParagraphReaders.{Entry}
 use Rattle.rr_text.proofs.ApartLemmas.{no_entries}
 use Rattle.rr_text.proofs.EntryLemmas.{entries_passed}
-use Rattle.rr_text.proofs.LineLemmas.{no_lines}
 use Rattle.rr_text.proofs.RoundTrip.{canonical_leads, ended_whole}
 use Rattle.rr_object.specs.KeySpellings.{key_of}
 use Rattle.rr_object.specs.declared.key.Key.{Key}

@@ -1,6 +1,6 @@
 -- What a reader of paragraphs answers, as an entry or as an end.
 use Rattle.std.proofs.Common.{◌≡◌, ◌≢◌, ℕ, ◌+◌, ◌<◌, ◌≤◌, List, [], ◌∷◌, ◌++◌, length, length-append, Ok, Err, inl, inr, refl, ap, ◌∙◌, arith}
-use Rattle.std.specs.Prelude.{◌^◌, ◌*◌, MatchResult, Result}
+use Rattle.std.specs.Prelude.{◌^◌, MatchResult, Result}
 use Rattle.rr_io.specs.Told.{Told}
 use Rattle.rr_io.specs.declared.receiving.ReadEnd.TheVariants as end
 use Rattle.rr_text.specs.declared.fault.TextFault.{TextFault}
@@ -45,7 +45,7 @@ found_paragraph start now p given fields has = record { entry = Ok fields; is = 
 -- so many entries are given at most
 pub given_few : (start now : Told) (p : Paragraphs) (given : List Entry) → HasGiven start now p given → length given ≤ 2 ^ 36
 given_few start now p given has =
-    let all : length has.text ≡ length has.front + length (held p) = ap length has.cut ∙ length-append has.front (held p) in
+    let all : length has.text ≡ length has.prefix + length (held p) = ap length has.cut ∙ length-append has.prefix (held p) in
     omega (arith, all, has.few, has.bounded, p.few)
 
 -- the reading failed or did not end

@@ -1,9 +1,8 @@
 -- The full dump of a registry is read again as that registry.
-use Rattle.std.proofs.Common.{◌≡◌, ℕ, Bool, true, ◌&&◌, T, List, [], ◌∷◌, ◌++◌, length, map, Ok, Result, Less, Greater, refl, sym, ap, subst, ◌∙◌, arith, append_assoc}
-use Rattle.std.specs.Prelude.{Some}
+use Rattle.std.proofs.Common.{◌≡◌, ℕ, true, T, List, [], ◌∷◌, ◌++◌, length, map, Ok, Result, Less, Greater, refl, sym, ap, subst, ◌∙◌, arith, append_assoc}
 use Rattle.std.specs.List.{AllByRecursion}
 use Rattle.std.specs.Ordering.{is_lt, ordering_reverse}
-use Rattle.std.specs.FinMap.{empty, entries, entries_sorted, entries-insert, get, insert, is_sorted, len-empty, len-entries, same_entries_map, values}
+use Rattle.std.specs.FinMap.{empty, entries, entries_sorted, entries-insert, insert, is_sorted, len-empty, len-entries, same_entries_map, values}
 use Rattle.std.specs.FinMap.Entries.{below_all, by_order, put}
 use Rattle.std.proofs.lemmas.List.{append-nil}
 use Rattle.rr_object.specs.declared.key.Key.{Key}
@@ -19,7 +18,7 @@ use Rattle.rr_rows.proofs.MapLists.{in_order_apart, values_in_order}
 use Rattle.rr_rows.proofs.MapRows.{each_value, keys_told}
 use Rattle.rr_load.specs.declared.fault.DumpReadFault.{DumpReadFault}
 use Rattle.rr_load.specs.Dumps.{IsDumpOf, dump_objects}
-use Rattle.rr_load.specs.Laws.{FullDumpsAreRead, IsDumpable, IsReadAgain}
+use Rattle.rr_load.specs.Laws.{FullDumpsAreRead, IsDumpable}
 use Rattle.rr_answer.specs.Dumps.{dump}
 use Rattle.rr_load.proofs.DumpTexts.{IsPrinted, dump_read}
 use Rattle.rr_load.proofs.SoundLists.{sound_list}

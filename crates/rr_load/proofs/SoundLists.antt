@@ -12,7 +12,7 @@ use Rattle.sqlite_trees.proofs.ListLemmas.{all_both, all_of, all_weaker}
 use Rattle.rr_object.specs.declared.key.Key.{Key}
 use Rattle.rr_object.specs.KeyOrders.{key_cmp}
 use Rattle.rr_object.specs.Objects.{Obj, names_of}
-use Rattle.rr_auth.specs.Registries.{Reg, Sound, keys_cross, names_nobody}
+use Rattle.rr_auth.specs.Registries.{Reg, Sound, keys_cross, some_is_unknown}
 use Rattle.rr_object.proofs.KeyLaws.{keys_total, same_key, tied_key}
 use Rattle.rr_registry.specs.declared.load.LoadFault.{LoadFault}
 use Rattle.rr_registry.specs.declared.load.LoadFault.TheVariants.{Duplicate, Overlap, Unnamed}
@@ -42,8 +42,8 @@ module _ (r : Reg) (sound : Sound r) where
   uncrossed [] all = tt
   uncrossed (o ∷ os) all = (all_weaker (λ x. get r x.key ≡ Some x) (λ x. keys_cross o.key x.key ≡ false) (λ x there. sound.apart o.key x.key o x all.0 there) os all.1, uncrossed os all.1)
 
-  known : (os : List Obj) → AllByRecursion (λ o. get r o.key ≡ Some o) os → AllByRecursion (λ o. names_nobody r (names_of o) ≡ false) os
-  known os all = all_weaker (λ x. get r x.key ≡ Some x) (λ x. names_nobody r (names_of x) ≡ false) (λ x there. sound.named x.key x there) os all
+  known : (os : List Obj) → AllByRecursion (λ o. get r o.key ≡ Some o) os → AllByRecursion (λ o. some_is_unknown r (names_of o) ≡ false) os
+  known os all = all_weaker (λ x. get r x.key ≡ Some x) (λ x. some_is_unknown r (names_of x) ≡ false) (λ x there. sound.named x.key x there) os all
 
 -- where no object passes a test, there is no place of one
 past_all : (p : Obj → Bool) (os : List Obj) → AllByRecursion (λ o. p o ≡ false) os → length os ≤ position_or_len p os
@@ -56,8 +56,8 @@ past_all p (o ∷ os) all =
 no_place : (p : Obj → Bool) (os : List Obj) → AllByRecursion (λ o. p o ≡ false) os → position p os ≡ None
 no_place p os all = ap (λ b. cond b (Some (position_or_len p os)) None) (le-ltb (position_or_len p os) (length os) (past_all p os all))
 
-all_known : (r : Reg) (os : List Obj) → AllByRecursion (λ o. names_nobody r (names_of o) ≡ false) os → unnamed r os ≡ None
-all_known r os all = ap (option_map (λ i. Unnamed (i + 1))) (no_place (λ o. names_nobody r (names_of o)) os all)
+all_known : (r : Reg) (os : List Obj) → AllByRecursion (λ o. some_is_unknown r (names_of o) ≡ false) os → unnamed r os ≡ None
+all_known r os all = ap (option_map (λ i. Unnamed (i + 1))) (no_place (λ o. some_is_unknown r (names_of o)) os all)
 
 -- one more object, of another key, is no key of this
 unequal : (k l : Key) → l ≢ k → eq_by_cmp key_cmp k l ≡ false

@@ -12,11 +12,10 @@ use Rattle.rr_object.specs.KeyOrders.{key_cmp}
 use Rattle.rr_object.specs.Objects.{Obj}
 use Rattle.rr_object.specs.Readings.{object_of}
 use Rattle.rr_object.proofs.Parsed.{kept_paragraph, of_any_source}
-use Rattle.rr_auth.specs.Registries.{Reg, Sound}
-use Rattle.rr_auth.specs.Sources.{IsRegistryOf}
+use Rattle.rr_auth.specs.Registries.{Reg}
 use Rattle.rr_object.proofs.KeyLaws.{keys_total}
-use Rattle.rr_registry.specs.Loading.{IsTaken, gathered}
-use Rattle.rr_load.specs.Dumps.{IsDumpOf, before, entry_object, object_result, objects_from}
+use Rattle.rr_registry.specs.Loading.{gathered}
+use Rattle.rr_load.specs.Dumps.{before, entry_object, object_result, objects_from}
 use Rattle.rr_load.specs.Laws.{DumpsAreOfTheirSource}
 use Rattle.rr_load.specs.declared.fault.DumpReadFault.{DumpReadFault}
 

@@ -1,9 +1,7 @@
 -- The objects of a dump: the entries of a text, each an object of one source, or the first that is
 -- none (profile).
 use Rattle.std.specs.Prelude.{◌≡◌, ℕ, ◌+◌, List, [], ◌∷◌, Result, Ok, Err}
-use Rattle.rr_text.specs.declared.fault.TextFault.{TextFault}
 use Rattle.rr_text.specs.Entries.{entries}
-use Rattle.rr_text.specs.Fields.{Field}
 use Rattle.rr_text.specs.ParagraphReaders.{Entry}
 use Rattle.rr_object.specs.declared.fault.ObjectFault.{ObjectFault}
 use Rattle.rr_object.specs.Faults.{code_of}

@@ -1,5 +1,5 @@
 -- What the reading of a dump comes to (profile).
-use Rattle.std.specs.Prelude.{◌≡◌, ◌⊎◌, ℕ, List, Ok, Err}
+use Rattle.std.specs.Prelude.{◌≡◌, ◌⊎◌, ℕ, List, Result, Ok, Err, MatchResult}
 use Rattle.rr_io.specs.Told.{Told}
 use Rattle.rr_io.specs.Receiving.{Reads}
 use Rattle.rr_io.specs.declared.receiving.ReadEnd.{ReadEnd}
@@ -35,3 +35,10 @@ FailsToRead source start now Endless = EndsSo start now end.Endless
 FailsToRead source start now (Text n) = HasFault source start now (Text n)
 FailsToRead source start now (Object n code) = HasFault source start now (Object n code)
 FailsToRead source start now Memory = (now ≡ start) ⊎ EndsSo start now end.Whole
+
+-- what reading a dump comes to: its objects, as they are listed in the answer, or a fault (profile)
+abbrev pub ReadsDump : {V : Type 0} → Result V DumpReadFault → (V → List Obj) → List ℕ → Told
+    → Told → Type 0
+ReadsDump result items source start now =
+    MatchResult result (λ objects. HasRead source start now (items objects))
+    (FailsToRead source start now)

@@ -1,13 +1,13 @@
 //! The objects of a dump, read entry by entry.
 
 ghost use Rattle.std.specs.Prelude.{◌≡◌, ◌⊎◌, ◌+◌, ◌<◌, ◌++◌, List, []};
-ghost use Rattle.std.specs.Prelude.{◌∷◌, Ok, Err, IfErr, IfOk, MatchResult, OnSome, length};
+ghost use Rattle.std.specs.Prelude.{◌∷◌, Ok, Err, IfOk, MatchResult, OnSome, length};
 ghost use Rattle.rr_io.specs.Told.{Told};
 ghost use Rattle.rr_text.specs.ParagraphReaders.{Entry, HasGiven, left_of};
 ghost use Rattle.rr_object.specs.Readings.{object_of};
 ghost use Rattle.rr_load.specs.Dumps.{entry_object, object_result, objects_from};
 ghost use Rattle.rr_load.specs.Private.{FindsEntry, IsEntryOf, IsFaultSoFar};
-ghost use Rattle.rr_load.specs.Readings.{FailsToRead, HasRead};
+ghost use Rattle.rr_load.specs.Readings.{ReadsDump};
 ghost use Rattle.rr_load.specs.declared.fault.DumpReadFault.TheVariants.{Memory};
 
 use crate::fault::DumpReadFault;
@@ -19,16 +19,15 @@ use std::alloc::Global;
 
 /// The objects of the dump that this reader gives, in its order, as those of a registry of this
 /// source. The dump is any RPSL text, and is read to its end in any case, one paragraph at a time:
-/// a failed read and too many of them come before the first entry that is not an object. Want of
-/// memory may come in place of an entry's fault.
+/// a failed read and too many of them come before the first entry that is not an object. Where
+/// memory runs out, that may come in place of an entry's fault.
 pub fn read_dump<R: Source>(
     alloc: Global,
     reader: &mut R,
     source: &Name,
 ) -> Result<Vec<Object>, DumpReadFault>
-    ensures reads { MatchResult result
-        (λ objects. HasRead source.now (R.told reader.old) (R.told reader.new) objects.items)
-        (FailsToRead source.now (R.told reader.old) (R.told reader.new)) }
+    ensures reads { ReadsDump result (λ objects. objects.items) source.now (R.told reader.old)
+        (R.told reader.new) }
     ensures aside { R.aside reader.new ≡ R.aside reader.old }
 {
     match Paragraphs::new(alloc) {
@@ -45,9 +44,8 @@ fn read_entries<R: Source>(
     source: &Name,
 ) -> Result<Vec<Object>, DumpReadFault>
     requires { HasGiven (R.told reader.old) (R.told reader.old) paragraphs.old [] }
-    ensures reads { MatchResult result
-        (λ objects. HasRead source.now (R.told reader.old) (R.told reader.new) objects.items)
-        (FailsToRead source.now (R.told reader.old) (R.told reader.new)) }
+    ensures reads { ReadsDump result (λ objects. objects.items) source.now (R.told reader.old)
+        (R.told reader.new) }
     ensures aside { R.aside reader.new ≡ R.aside reader.old }
 {
     let mut read = Ok(Vec::new(alloc));

@@ -24,8 +24,8 @@ ranged_of-spelled text ranged read =
     option_and_then_some _ (prefix_of (before_first (λ b. b == caret) text)) ranged read (λ prefix is_prefix rest.
     option_map-some _ (operator_of (from_first caret text)) ranged rest (λ operator is_operator value.
     subst (λ (r : PrefixParts × Operator). IsRanged text r.0 r.1) value (record {
-      front = before_first (λ b. b == caret) text;
-      back = from_first caret text;
+      before = before_first (λ b. b == caret) text;
+      rest = from_first caret text;
       spelled = sym (take-append-drop (position_or_len (λ b. b == caret) text) text);
       first = prefix_of-spelled _ prefix is_prefix;
       second = operator_of-spelled _ operator is_operator;
@@ -50,22 +50,22 @@ lacks-prefix text p spelled =
 pub ranged_of-read : (text : List ℕ) (p : PrefixParts) (o : Operator) → IsRanged text p o → ranged_of text ≡ Some (p, o)
 unfolding ranged_of ranged_from
 ranged_of-read text p o spelled =
-    let place : position_or_len (λ b. b == caret) (spelled.front ++ spelled.back) ≡ length spelled.front =
-    place_after caret spelled.front spelled.back (lacks-prefix _ p spelled.first) (begins _ o spelled.second) in
-    let front : before_first (λ b. b == caret) (spelled.front ++ spelled.back) ≡ spelled.front =
-    take_at spelled.front spelled.back _ (sym place) in
-    let back : from_first caret (spelled.front ++ spelled.back) ≡ spelled.back =
-    drop_at spelled.front spelled.back _ (sym place) in
-    let at_prefix : prefix_of spelled.front ≡ Some p = prefix_of-read _ p spelled.first in
-    let at_operator : operator_of spelled.back ≡ Some o = operator_of-read _ o spelled.second in
-    rw (spelled.spelled, front, back, at_prefix, at_operator) refl
+    let place : position_or_len (λ b. b == caret) (spelled.before ++ spelled.rest) ≡ length spelled.before =
+    place_after caret spelled.before spelled.rest (lacks-prefix _ p spelled.first) (begins _ o spelled.second) in
+    let before : before_first (λ b. b == caret) (spelled.before ++ spelled.rest) ≡ spelled.before =
+    take_at spelled.before spelled.rest _ (sym place) in
+    let rest : from_first caret (spelled.before ++ spelled.rest) ≡ spelled.rest =
+    drop_at spelled.before spelled.rest _ (sym place) in
+    let at_prefix : prefix_of spelled.before ≡ Some p = prefix_of-read _ p spelled.first in
+    let at_operator : operator_of spelled.rest ≡ Some o = operator_of-read _ o spelled.second in
+    rw (spelled.spelled, before, rest, at_prefix, at_operator) refl
 
 -- the text of a range spells its prefix and its operator
 pub IsRanged-text : (r : RangeParts) → IsRange r → IsRanged (range_text r) r.prefix (operator_for r)
 unfolding range_text
 IsRanged-text r is = record {
-  front = prefix_text r.prefix;
-  back = operator_text (operator_for r);
+  before = prefix_text r.prefix;
+  rest = operator_text (operator_for r);
   spelled = refl;
   first = IsPrefix-text r.prefix is.masked;
   second = IsOperator-text (operator_for r) (IsOperatorValue-for r is);

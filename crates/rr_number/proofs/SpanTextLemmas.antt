@@ -1,5 +1,5 @@
 -- Lemmas on the texts of spans of addresses.
-use Rattle.std.proofs.Common.{◌≡◌, ℕ, ◌≤◌, true, List, [], ◌∷◌, Option, Some, None, refl, sym, ap, inl, inr, arith}
+use Rattle.std.proofs.Common.{◌≡◌, ℕ, true, List, [], ◌∷◌, Option, Some, None, refl, sym, ap, inl, inr, arith}
 use Rattle.std.proofs.lemmas.Bool.Decides.{nat_tests}
 use Rattle.rr_number.specs.Addresses.{IsAddress, address_of, address_text}
 use Rattle.rr_number.specs.Dashes.{dash, dashed_of}

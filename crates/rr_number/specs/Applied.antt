@@ -18,17 +18,17 @@ applied operator r = option_map (range_of r.prefix) (lengths_under operator (bou
 
 -- A prefix carries an operator, or none, right after it (RFC 2622, 2).
 pub record IsRanged (text : List ℕ) (prefix : PrefixParts) (operator : Operator) : Type 0 where
-  pub front : List ℕ
-  pub back : List ℕ
-  pub spelled : text ≡ front ++ back
-  pub first : IsPrefix front prefix
-  pub second : IsOperator back operator
+  pub before : List ℕ
+  pub rest : List ℕ
+  pub spelled : text ≡ before ++ rest
+  pub first : IsPrefix before prefix
+  pub second : IsOperator rest operator
 
 -- The prefix and the operator of two texts, if they spell them (RFC 2622, 2).
 unfoldable pub ranged_from : List ℕ → List ℕ → Option (PrefixParts × Operator)
-ranged_from front back =
-    option_and_then (λ prefix. option_map (λ operator. (prefix, operator)) (operator_of back))
-    (prefix_of front)
+ranged_from before rest =
+    option_and_then (λ prefix. option_map (λ operator. (prefix, operator)) (operator_of rest))
+    (prefix_of before)
 
 -- The prefix with its operator that the text spells, if it does (RFC 2622, 2).
 unfoldable pub ranged_of : List ℕ → Option (PrefixParts × Operator)

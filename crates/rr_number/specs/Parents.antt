@@ -14,13 +14,13 @@ but_last (c ∷ []) = []
 but_last (c ∷ d ∷ ds) = c ∷ but_last (d ∷ ds)
 
 -- Some components as one text, with colons between them (RFC 2622, 5).
-abbrev pub front_by : List (List ℕ) → Option (List ℕ)
-front_by [] = None
-front_by (c ∷ cs) = Some (join_with_byte 58 (c ∷ cs))
+abbrev pub parent_text_by : List (List ℕ) → Option (List ℕ)
+parent_text_by [] = None
+parent_text_by (c ∷ cs) = Some (join_with_byte 58 (c ∷ cs))
 
 -- The text of all components but the last, if there are several (RFC 2622, 5).
-unfoldable pub front_of : List ℕ → Option (List ℕ)
-front_of text = front_by (but_last (components text))
+unfoldable pub parent_text : List ℕ → Option (List ℕ)
+parent_text text = parent_text_by (but_last (components text))
 
 -- A text names an AS, or nothing where it has AS numbers alone, several of them, or else a set
 -- (RFC 2622, 5; profile).
@@ -30,4 +30,4 @@ named_by text = option_map_or Number (as_number_of text)
 
 -- A set is below what all components of its name but the last name (RFC 2622, 5; RFC 2725, 9).
 abbrev pub parent_of : List ℕ → Option Parent
-parent_of text = option_map named_by (front_of text)
+parent_of text = option_map named_by (parent_text text)

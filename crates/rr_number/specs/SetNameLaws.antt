@@ -1,7 +1,7 @@
 -- How the names of sets, their spellings and their kinds go together.
 use Rattle.std.specs.Prelude.{◌≡◌, ℕ, true, false, List, [], ◌∷◌, ◌++◌, map, Some}
 use Rattle.rr_bytes.specs.LetterCase.{upper}
-use Rattle.rr_number.specs.Parents.{front_of}
+use Rattle.rr_number.specs.Parents.{parent_text}
 use Rattle.rr_number.specs.SetNames.{component_text, components, is_any_set, is_name_of_kind}
 use Rattle.rr_number.specs.SetNames.{kind_of, set_name_of, IsSetText}
 
@@ -25,8 +25,8 @@ KindsAreTold =
     (name : List ℕ) → IsSetText name → is_any_set name ≡ false
     → is_name_of_kind (kind_of name) name ≡ true
 
--- The components of a name are those of its front, and one more.
-abbrev pub FrontsLackTheLast : Type 0
-FrontsLackTheLast =
-    (name front : List ℕ) → front_of name ≡ Some front
-    → (last : List ℕ) × (components name ≡ components front ++ (last ∷ []))
+-- The components of a name are those of its parent, and one more.
+abbrev pub ParentsLackTheLast : Type 0
+ParentsLackTheLast =
+    (name parent : List ℕ) → parent_text name ≡ Some parent
+    → (last : List ℕ) × (components name ≡ components parent ++ (last ∷ []))

@@ -7,7 +7,7 @@ ghost use Rattle.rr_number.specs.Addresses.{octet_of};
 
 use crate::digits::read_number;
 use crate::ends::End;
-use crate::short_text::ShortText;
+use crate::number_text::{NUMBER_SIZE, NumberText};
 use rr_bytes::cut_at;
 use rr_io::{Sink, write_all};
 use std::marker::Model;
@@ -56,15 +56,15 @@ impl Address {
     }
 
     /// The address as four numbers joined by dots, without leading zeros.
-    pub fn text(self) -> ShortText
+    pub fn text(self) -> NumberText
         ensures { result ≡ address_text self }
     {
-        let mut text = ShortText::new();
+        let mut text = NumberText::new();
         self.push_to(&mut text);
         text
     }
 
-    /// Writes the address's text. After a fault the writer has taken a front of it.
+    /// Writes the address's text. After a fault the writer has taken the beginning of it.
     pub fn print_to<W: Sink>(&self, writer: &mut W) -> io::Result<()>
         ensures writes { Writes (W.told writer.old) (W.told writer.new)
             (address_text self.now) result }
@@ -75,8 +75,8 @@ impl Address {
 
     /// Appends the address's text, at most 15 bytes.
     #[tactic(auto, unfolding(crate::specs::Addresses::address_text))]
-    pub(crate) fn push_to(self, text: &mut ShortText)
-        requires { length text.old + 15 ≤ 40 }
+    pub(crate) fn push_to(self, text: &mut NumberText)
+        requires { length text.old + 15 ≤ NUMBER_SIZE }
         ensures value { text.new ≡ text.old ++ address_text self }
         ensures short { length text.new ≤ length text.old + 15 }
     {
@@ -101,7 +101,7 @@ impl End for Address {
         Some(Address::read(text)?.to_bits())
     }
 
-    fn push_end(number: u32, text: &mut ShortText) {
+    fn push_end(number: u32, text: &mut NumberText) {
         Address::from_bits(number).push_to(text);
     }
 }

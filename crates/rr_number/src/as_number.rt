@@ -8,7 +8,7 @@ ghost use Rattle.rr_number.specs.AsNumbers.{IsAsNumber};
 
 use crate::digits::read_number;
 use crate::ends::End;
-use crate::short_text::ShortText;
+use crate::number_text::{NUMBER_SIZE, NumberText};
 use rr_bytes::is_keyword;
 use rr_io::{Sink, write_all};
 use std::marker::Model;
@@ -69,15 +69,15 @@ impl AsNumber {
     }
 
     /// The printed text: `AS` and the number without leading zeros.
-    pub fn text(self) -> ShortText
+    pub fn text(self) -> NumberText
         ensures { result ≡ as_number_text self }
     {
-        let mut text = ShortText::new();
+        let mut text = NumberText::new();
         push_text(self.number, &mut text);
         text
     }
 
-    /// Writes the printed text. After a fault the writer has taken a front of it.
+    /// Writes the printed text. After a fault the writer has taken the beginning of it.
     pub fn print_to<W: Sink>(&self, writer: &mut W) -> io::Result<()>
         ensures writes { Writes (W.told writer.old) (W.told writer.new)
             (as_number_text self.now) result }
@@ -96,14 +96,14 @@ impl End for AsNumber {
         Some(AsNumber::read(text)?.number())
     }
 
-    fn push_end(number: u32, text: &mut ShortText) {
+    fn push_end(number: u32, text: &mut NumberText) {
         push_text(number, text);
     }
 }
 
 /// Appends the printed text of the number, at most 12 bytes.
-fn push_text(number: u32, text: &mut ShortText)
-    requires { length text.old + 12 ≤ 40 }
+fn push_text(number: u32, text: &mut NumberText)
+    requires { length text.old + 12 ≤ NUMBER_SIZE }
     ensures value { text.new ≡ text.old ++ as_number_text number }
     ensures short { length text.new ≤ length text.old + 12 }
 {
@@ -118,13 +118,6 @@ impl fmt::Display for AsNumber {
         f.pad(self.text().as_str())
     }
 }
-
-/// An AS number is read again from its printed text.
-pub fn as_numbers_are_read_again()
-    ensures spelled { (n : ℕ) → n ≤ greatest_as_number → IsAsNumber (as_number_text n) n }
-    ensures again { (n : ℕ) → n ≤ greatest_as_number
-        → as_number_of (as_number_text n) ≡ Some n }
-{}
 
 #[tactic(auto, unfolding(crate::specs::AsNumbers::as_number_of))]
 fn number_at(bytes: &[u8]) -> Option<u32>

@@ -7,7 +7,7 @@ ghost use Rattle.rr_number.specs.Spans.{Ends};
 
 use crate::dash::cut_at_dash;
 use crate::ends::{ends_text, read_between};
-use crate::short_text::ShortText;
+use crate::number_text::NumberText;
 use crate::{AsNumber, Span};
 use rr_io::{Sink, write_all};
 use std::marker::Model;
@@ -77,13 +77,13 @@ impl AsSpan {
     }
 
     /// The printed text: the two AS numbers with ` - ` between them.
-    pub fn text(self) -> ShortText
+    pub fn text(self) -> NumberText
         ensures { result ≡ as_span_text self }
     {
         ends_text::<AsNumber>(self.span)
     }
 
-    /// Writes the printed text. After a fault the writer has taken a front of it.
+    /// Writes the printed text. After a fault the writer has taken the beginning of it.
     pub fn print_to<W: Sink>(&self, writer: &mut W) -> io::Result<()>
         ensures writes { Writes (W.told writer.old) (W.told writer.new)
             (as_span_text self.now) result }
@@ -108,8 +108,3 @@ impl fmt::Display for AsSpan {
         f.pad(self.text().as_str())
     }
 }
-
-/// A block is read again from its printed text.
-pub fn printed_blocks_are_read()
-    ensures { (block : Ends) → IsAsSpan block → IsAsSpanText (as_span_text block) block }
-{}

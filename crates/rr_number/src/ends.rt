@@ -4,7 +4,7 @@ ghost use Rattle.std.specs.Prelude.{◌≡◌, ◌+◌, ◌++◌, ◌≤◌, Lis
 ghost use Rattle.std.specs.Prelude.{ℕ};
 ghost use Rattle.rr_number.specs.EndsTexts.{ends_between, ends_text};
 
-use crate::short_text::ShortText;
+use crate::number_text::{NUMBER_SIZE, NumberText};
 use crate::span::Span;
 
 /// How the ends of a kind of spans are spelled and printed.
@@ -20,8 +20,8 @@ pub(crate) trait End {
         ensures { result ≡ end_of text.now };
 
     /// Appends the number's text, at most 15 bytes.
-    fn push_end(number: u32, text: &mut ShortText)
-        requires { length text.old + 15 ≤ 40 }
+    fn push_end(number: u32, text: &mut NumberText)
+        requires { length text.old + 15 ≤ NUMBER_SIZE }
         ensures value { text.new ≡ text.old ++ end_text number }
         ensures short { length text.new ≤ length text.old + 15 };
 }
@@ -42,10 +42,10 @@ pub(crate) fn read_between<E: End>(first: &[u8], last: &[u8]) -> Option<Span>
 }
 
 /// The span's ends with ` - ` between them.
-pub(crate) fn ends_text<E: End>(span: Span) -> ShortText
+pub(crate) fn ends_text<E: End>(span: Span) -> NumberText
     ensures { result ≡ ends_text E.end_text span }
 {
-    let mut text = ShortText::new();
+    let mut text = NumberText::new();
     E::push_end(span.first(), &mut text);
     text.push_str(" - ");
     E::push_end(span.last(), &mut text);

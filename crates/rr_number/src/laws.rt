@@ -1,8 +1,13 @@
-//! What holds of addresses, prefixes, operators and ranges together. Each function states a law and
-//! does nothing.
-ghost use Rattle.std.specs.Prelude.{◌≡◌, ℕ, ◌<◌, ◌^◌};
+//! What holds of addresses, prefixes, operators, ranges, spans, AS numbers and names together. Each
+//! function states a law and does nothing.
+ghost use Rattle.std.specs.Prelude.{◌≡◌, ℕ, ◌<◌, ◌≤◌, ◌^◌, List, Some};
 ghost use Rattle.std.specs.Ordering.{nat_cmp};
+ghost use Rattle.rr_bytes.specs.LetterCase.{upper};
 ghost use Rattle.rr_number.specs.Addresses.{IsAddress, address_text};
+ghost use Rattle.rr_number.specs.AsNumbers.{IsAsNumber, as_number_of, as_number_text};
+ghost use Rattle.rr_number.specs.AsNumbers.{greatest_as_number};
+ghost use Rattle.rr_number.specs.AsSpans.{IsAsSpan, IsAsSpanText, as_span_text};
+ghost use Rattle.rr_number.specs.Names.{IsUpperName, name_of};
 ghost use Rattle.rr_number.specs.Operators.{IsOperator, IsOperatorValue, operator_cmp};
 ghost use Rattle.rr_number.specs.Operators.{operator_text};
 ghost use Rattle.rr_number.specs.PrefixLaws.{CoverEachOtherAlone, CoversLonger, PrefixesAreOrdered};
@@ -14,6 +19,11 @@ ghost use Rattle.rr_number.specs.RangeLaws.{OperatorsAdmit, OperatorsAreOrdered}
 ghost use Rattle.rr_number.specs.RangeLaws.{OperatorsKeepRanges, PrintedOperatorsMakeRanges};
 ghost use Rattle.rr_number.specs.RangeLaws.{PrintedRangesAreRead, RangesAreOrdered};
 ghost use Rattle.rr_number.specs.Ranges.{RangeParts, range_cmp};
+ghost use Rattle.rr_number.specs.SetNameLaws.{ComponentsArePrinted, ParentsLackTheLast};
+ghost use Rattle.rr_number.specs.SetNameLaws.{KindsAreTold, SetNamesAreReadAgain};
+ghost use Rattle.rr_number.specs.SetNameLaws.{SetNamesIgnoreCase};
+ghost use Rattle.rr_number.specs.SpanTexts.{IsSpanText, span_text};
+ghost use Rattle.rr_number.specs.Spans.{Ends, IsSpan};
 ghost use Rattle.rr_number.specs.declared.operator.Operator.{Operator};
 
 use crate::address::Address;
@@ -43,6 +53,40 @@ pub fn printed_operators_are_read()
 pub fn printed_ranges_are_read()
     ensures spelled { PrintedRangesAreRead }
     ensures made { PrintedOperatorsMakeRanges }
+{}
+
+/// What is printed is read again: the text of a span of addresses spells it.
+pub fn printed_spans_are_read()
+    ensures { (span : Ends) → IsSpan span → IsSpanText (span_text span) span }
+{}
+
+/// An AS number is read again from its printed text.
+pub fn as_numbers_are_read_again()
+    ensures spelled { (n : ℕ) → n ≤ greatest_as_number → IsAsNumber (as_number_text n) n }
+    ensures again { (n : ℕ) → n ≤ greatest_as_number
+        → as_number_of (as_number_text n) ≡ Some n }
+{}
+
+/// A block is read again from its printed text.
+pub fn printed_blocks_are_read()
+    ensures { (block : Ends) → IsAsSpan block → IsAsSpanText (as_span_text block) block }
+{}
+
+/// A name is read again from its bytes, and letter case makes no difference to what is read.
+pub fn names_are_read_again()
+    ensures again { (name : List ℕ) → IsUpperName name → name_of name ≡ Some name }
+    ensures case_ignored { (a b : List ℕ) → upper a ≡ upper b → name_of a ≡ name_of b }
+    ensures kept { (bs name : List ℕ) → name_of bs ≡ Some name → IsUpperName name }
+{}
+
+/// A set's name is read again from its printed text, in any letter case; the components beside AS
+/// numbers tell its kind, and its parent has all of them but the last.
+pub fn set_names_are_read_again()
+    ensures again { SetNamesAreReadAgain }
+    ensures case_ignored { SetNamesIgnoreCase }
+    ensures components { ComponentsArePrinted }
+    ensures kinds { KindsAreTold }
+    ensures parents { ParentsLackTheLast }
 {}
 
 /// The span of a prefix has its ends in order and below 2^32.

@@ -109,7 +109,7 @@ impl Name {
         !self.is_reserved() && !bytes.starts_with(b"AS-") && !bytes.starts_with(b"RS-")
     }
 
-    /// Writes the name. After a fault the writer has taken a front of it.
+    /// Writes the name. After a fault the writer has taken the beginning of it.
     pub fn print_to<W: Sink>(&self, writer: &mut W) -> io::Result<()>
         ensures writes { Writes (W.told writer.old) (W.told writer.new) self.now result }
         ensures aside { W.aside writer.new ≡ W.aside writer.old }
@@ -162,10 +162,3 @@ fn is_spelled_among(word: &[u8], words: &[&[u8]]) -> bool
 {
     words.iter().any(|other| is_keyword(word, other))
 }
-
-/// A name is read again from its bytes, and letter case makes no difference to what is read.
-pub fn names_are_read_again()
-    ensures again { (name : List ℕ) → IsUpperName name → name_of name ≡ Some name }
-    ensures case_ignored { (a b : List ℕ) → upper a ≡ upper b → name_of a ≡ name_of b }
-    ensures kept { (bs name : List ℕ) → name_of bs ≡ Some name → IsUpperName name }
-{}

@@ -11,9 +11,9 @@ ghost use Rattle.rr_number.specs.Operators.{one_length_of, operator_of, operator
 ghost use Rattle.rr_number.specs.Operators.{two_lengths_of};
 ghost use Rattle.rr_number.specs.declared.operator.Operator.{Operator};
 
+use crate::number_text::{NUMBER_SIZE, NumberText};
 use crate::prefix::read_length;
 use crate::range::Range;
-use crate::short_text::ShortText;
 use rr_bytes::cut_at;
 use rr_io::{Sink, write_all};
 use std::marker::Model;
@@ -121,15 +121,15 @@ impl Operator {
     }
 
     /// The operator as it is spelled, `^n` where both lengths are n.
-    pub fn text(self) -> ShortText
+    pub fn text(self) -> NumberText
         ensures { result ≡ operator_text self }
     {
-        let mut text = ShortText::new();
+        let mut text = NumberText::new();
         self.push_to(&mut text);
         text
     }
 
-    /// Writes the operator's text. After a fault the writer has taken a front of it.
+    /// Writes the operator's text. After a fault the writer has taken the beginning of it.
     pub fn print_to<W: Sink>(&self, writer: &mut W) -> io::Result<()>
         ensures writes { Writes (W.told writer.old) (W.told writer.new)
             (operator_text self.now) result }
@@ -140,8 +140,8 @@ impl Operator {
 
     /// Appends the operator's text, at most 8 bytes.
     #[tactic(auto, unfolding(crate::specs::Operators::operator_text))]
-    pub(crate) fn push_to(self, text: &mut ShortText)
-        requires { length text.old + 8 ≤ 40 }
+    pub(crate) fn push_to(self, text: &mut NumberText)
+        requires { length text.old + 8 ≤ NUMBER_SIZE }
         ensures value { text.new ≡ text.old ++ operator_text self }
         ensures short { length text.new ≤ length text.old + 8 }
     {
@@ -162,8 +162,8 @@ impl fmt::Display for Operator {
     }
 }
 
-fn push_lengths(text: &mut ShortText, low: u8, high: u8)
-    requires { length text.old + 8 ≤ 40 }
+fn push_lengths(text: &mut NumberText, low: u8, high: u8)
+    requires { length text.old + 8 ≤ NUMBER_SIZE }
     ensures value { text.new ≡ text.old ++ lengths_text low high }
     ensures short { length text.new ≤ length text.old + 8 }
 {

@@ -8,7 +8,7 @@ ghost use Rattle.rr_number.specs.Spans.{covers};
 
 use crate::address::Address;
 use crate::digits::read_number;
-use crate::short_text::ShortText;
+use crate::number_text::{NUMBER_SIZE, NumberText};
 use crate::span::Span;
 use rr_bytes::cut_at;
 use rr_io::{Sink, write_all};
@@ -94,15 +94,15 @@ impl Prefix {
     }
 
     /// The prefix as its address, a slash and its length.
-    pub fn text(self) -> ShortText
+    pub fn text(self) -> NumberText
         ensures { result ≡ prefix_text self }
     {
-        let mut text = ShortText::new();
+        let mut text = NumberText::new();
         self.push_to(&mut text);
         text
     }
 
-    /// Writes the prefix's text. After a fault the writer has taken a front of it.
+    /// Writes the prefix's text. After a fault the writer has taken the beginning of it.
     pub fn print_to<W: Sink>(&self, writer: &mut W) -> io::Result<()>
         ensures writes { Writes (W.told writer.old) (W.told writer.new)
             (prefix_text self.now) result }
@@ -113,8 +113,8 @@ impl Prefix {
 
     /// Appends the prefix's text, at most 19 bytes.
     #[tactic(auto, unfolding(crate::specs::Prefixes::prefix_text))]
-    pub(crate) fn push_to(self, text: &mut ShortText)
-        requires { length text.old + 19 ≤ 40 }
+    pub(crate) fn push_to(self, text: &mut NumberText)
+        requires { length text.old + 19 ≤ NUMBER_SIZE }
         ensures value { text.new ≡ text.old ++ prefix_text self }
         ensures short { length text.new ≤ length text.old + 19 }
     {

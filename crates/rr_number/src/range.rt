@@ -1,5 +1,5 @@
 //! Ranges of prefixes.
-ghost use Rattle.std.specs.Prelude.{◌≡◌, ◌+◌, ◌≤◌, ◌++◌, IfSome};
+ghost use Rattle.std.specs.Prelude.{◌≡◌, ◌≤◌, IfSome};
 ghost use Rattle.std.specs.Prelude.{if◌then◌else◌, length, nat_le, Some};
 ghost use Rattle.rr_io.specs.Sending.{Writes};
 ghost use Rattle.rr_number.specs.Applied.{IsRanged, operator_for, ranged_from, range_text};
@@ -8,9 +8,9 @@ ghost use Rattle.rr_number.specs.Prefixes.{PrefixParts};
 ghost use Rattle.rr_number.specs.Ranges.{admits, bare, IsRange};
 ghost use Rattle.rr_number.specs.declared.operator.Operator.{Operator};
 
+use crate::number_text::NumberText;
 use crate::operator::{LengthBounds, Operator};
 use crate::prefix::Prefix;
-use crate::short_text::ShortText;
 use rr_bytes::cut_before;
 use rr_io::{Sink, write_all};
 use std::marker::Model;
@@ -116,16 +116,16 @@ impl Range {
 
     /// The range as its prefix and the operator that makes it of the prefix alone.
     #[tactic(auto, unfolding(crate::specs::Applied::range_text))]
-    pub fn text(self) -> ShortText
+    pub fn text(self) -> NumberText
         ensures { result ≡ range_text self }
     {
-        let mut text = ShortText::new();
+        let mut text = NumberText::new();
         self.prefix.push_to(&mut text);
         self.operator().push_to(&mut text);
         text
     }
 
-    /// Writes the range's text. After a fault the writer has taken a front of it.
+    /// Writes the range's text. After a fault the writer has taken the beginning of it.
     pub fn print_to<W: Sink>(&self, writer: &mut W) -> io::Result<()>
         ensures writes { Writes (W.told writer.old) (W.told writer.new)
             (range_text self.now) result }
@@ -155,11 +155,11 @@ pub fn read_ranged(text: &[u8]) -> Option<(Prefix, Operator)>
 }
 
 #[tactic(auto, unfolding(crate::specs::Applied::ranged_from))]
-fn read_pair(front: &[u8], back: &[u8]) -> Option<(Prefix, Operator)>
-    ensures { result ≡ ranged_from front.now back.now }
+fn read_pair(before: &[u8], rest: &[u8]) -> Option<(Prefix, Operator)>
+    ensures { result ≡ ranged_from before.now rest.now }
 {
-    let prefix = Prefix::read(front)?;
-    let operator = Operator::read(back)?;
+    let prefix = Prefix::read(before)?;
+    let operator = Operator::read(rest)?;
     Some((prefix, operator))
 }
 
@@ -167,6 +167,6 @@ fn read_pair(front: &[u8], back: &[u8]) -> Option<(Prefix, Operator)>
 fn read_both(text: &[u8]) -> Option<(Prefix, Operator)>
     ensures { result ≡ ranged_of text.now }
 {
-    let (front, back) = cut_before(text, b'^');
-    read_pair(front, back)
+    let (before, rest) = cut_before(text, b'^');
+    read_pair(before, rest)
 }

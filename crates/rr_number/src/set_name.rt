@@ -6,9 +6,6 @@ ghost use Rattle.std.specs.List.{list_all, list_any, starts_with};
 ghost use Rattle.rr_io.specs.Sending.{Writes};
 ghost use Rattle.rr_bytes.specs.LetterCase.{upper};
 ghost use Rattle.rr_number.specs.AnySets.{as_any, rs_any};
-ghost use Rattle.rr_number.specs.SetNameLaws.{ComponentsArePrinted, FrontsLackTheLast};
-ghost use Rattle.rr_number.specs.SetNameLaws.{KindsAreTold, SetNamesAreReadAgain};
-ghost use Rattle.rr_number.specs.SetNameLaws.{SetNamesIgnoreCase};
 ghost use Rattle.rr_number.specs.SetNames.{has_word_start, kind_of, IsSetText, component_text};
 ghost use Rattle.rr_number.specs.SetNames.{components, is_any_set, is_as_number, is_component};
 ghost use Rattle.rr_number.specs.SetNames.{is_name_of_kind, is_set_name, is_set_word, word_start};
@@ -105,7 +102,7 @@ impl SetName {
         self.as_bytes() == RS_ANY
     }
 
-    /// Writes the name. After a fault the writer has taken a front of it.
+    /// Writes the name. After a fault the writer has taken the beginning of it.
     pub fn print_to<W: Sink>(&self, writer: &mut W) -> io::Result<()>
         ensures writes { Writes (W.told writer.old) (W.told writer.new) self.now result }
         ensures aside { W.aside writer.new ≡ W.aside writer.old }
@@ -202,10 +199,10 @@ fn begins_as(kind: SetKind, component: &[u8]) -> bool
     if component.len() < 3 {
         return false;
     }
-    let (front, _) = component.split_at(3);
+    let (start, _) = component.split_at(3);
     match kind {
-        SetKind::AsSet => is_keyword(front, b"AS-"),
-        SetKind::RouteSet => is_keyword(front, b"RS-"),
+        SetKind::AsSet => is_keyword(start, b"AS-"),
+        SetKind::RouteSet => is_keyword(start, b"RS-"),
     }
 }
 
@@ -235,13 +232,3 @@ fn push_component(alloc: Global, text: &mut Vec<u8>, component: &[u8]) -> Result
     }
     Ok(())
 }
-
-/// A set's name is read again from its printed text, in any letter case; the components beside AS
-/// numbers tell its kind, and its parent has all of them but the last.
-pub fn set_names_are_read_again()
-    ensures again { SetNamesAreReadAgain }
-    ensures case_ignored { SetNamesIgnoreCase }
-    ensures components { ComponentsArePrinted }
-    ensures kinds { KindsAreTold }
-    ensures fronts { FrontsLackTheLast }
-{}

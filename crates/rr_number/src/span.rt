@@ -10,8 +10,8 @@ pub mod laws;
 use crate::address::Address;
 use crate::dash::cut_at_dash;
 use crate::ends::{ends_text, read_between};
+use crate::number_text::NumberText;
 use crate::prefix::Prefix;
-use crate::short_text::ShortText;
 use rr_io::{Sink, write_all};
 use std::marker::Model;
 use std::{fmt, io};
@@ -101,13 +101,14 @@ impl Span {
 
     /// The span of addresses as its two ends with ` - ` between them.
     #[tactic(auto, unfolding(crate::specs::SpanTexts::span_text))]
-    pub fn text(self) -> ShortText
+    pub fn text(self) -> NumberText
         ensures { result ≡ span_text self }
     {
         ends_text::<Address>(self)
     }
 
-    /// Writes the text of the span of addresses. After a fault the writer has taken a front of it.
+    /// Writes the text of the span of addresses. After a fault the writer has taken the beginning
+    /// of it.
     pub fn print_to<W: Sink>(&self, writer: &mut W) -> io::Result<()>
         ensures writes { Writes (W.told writer.old) (W.told writer.new)
             (span_text self.now) result }
@@ -124,11 +125,6 @@ impl fmt::Display for Span {
         f.pad(self.text().as_str())
     }
 }
-
-/// What is printed is read again: the text of a span of addresses spells it.
-pub fn printed_spans_are_read()
-    ensures { (span : Ends) → IsSpan span → IsSpanText (span_text span) span }
-{}
 
 #[inline]
 #[tactic(auto, unfolding(crate::specs::SpanTexts::spelled_span))]

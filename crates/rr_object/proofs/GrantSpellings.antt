@@ -222,7 +222,7 @@ ended (Named name) items grants begins e =
     let same : for_each_prefix name ∷ [] ≡ grants = cc in
     let entry : IsGrant items (for_each_prefix name) =
     inl (record { item = begins.item; spelled = begins.spelled; named = begins.named; value = refl }) in
-    rw (← same) (record { front = items; rest = []; cut = sym (append-nil items); first = entry; others = refl })
+    rw (← same) (record { head = items; rest = []; cut = sym (append-nil items); first = entry; others = refl })
 ended (Braced grant) items grants begins e = cc
 
 -- the entry that was ended goes before those after it
@@ -230,7 +230,7 @@ put_before : (over : Option GrantParts) (done rest : List (List ℕ)) (entries :
     → AreGrants (option_to_list over ++ entries) (done ++ rest)
 put_before None done rest entries ends others = rw ends others
 put_before (Some grant) done rest entries ends others =
-    record { front = done; rest = rest; cut = refl; first = ends; others = others }
+    record { head = done; rest = rest; cut = refl; first = ends; others = others }
 
 all_after : (whole done left rest : List (List ℕ)) (over : Option GrantParts) (entries grants : List GrantParts)
     → whole ≡ done ++ (left ++ rest) → option_to_list over ++ entries ≡ grants
@@ -277,7 +277,7 @@ entry_led grant items rest (inr (inr e)) =
 
 entries_led : (grants : List GrantParts) (items : List (List ℕ)) → AreGrants grants items → (items ≡ []) ⊎ IsLed items
 entries_led [] items e = inl e
-entries_led (grant ∷ grants) items e = inr (rw e.cut (entry_led grant e.front e.rest e.first))
+entries_led (grant ∷ grants) items e = inr (rw e.cut (entry_led grant e.head e.rest e.first))
 
 -- the keyword and the braces are no names, and a brace is no range
 upper_lowered : (bs : List ℕ) → upper (lowered bs) ≡ upper bs
@@ -418,7 +418,7 @@ unfolding grants_after
 spelled_after [] items e = rw e refl
 spelled_after (grant ∷ grants) items e =
     rw e.cut
-    (entry_read grant e.front e.rest e.first (entries_led grants e.rest e.others)
+    (entry_read grant e.head e.rest e.first (entries_led grants e.rest e.others)
     ∙ ap (option_map (λ es. grant ∷ es)) (spelled_after grants e.rest e.others))
 
 pub spelled_grants_are_read : SpelledGrantsAreRead

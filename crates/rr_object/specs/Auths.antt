@@ -12,6 +12,10 @@ use Rattle.rr_bytes.specs.Parts.{words}
 use Rattle.rr_object.specs.Items.{only}
 use Rattle.rr_object.specs.Parts.{AuthParts}
 
+-- a SHA-256 digest has so many bytes (FIPS 180-4)
+abbrev pub digest_bytes : ℕ
+digest_bytes = 32
+
 -- a salt is 0 to 16 letters or digits (profile)
 abbrev pub is_salt : List ℕ → Bool
 is_salt salt = nat_le (length salt) 16 && list_all is_ascii_alphanumeric salt
@@ -22,7 +26,7 @@ salted_digest_of word =
     let salt = before_first is_colon word in
     if is_salt salt then
     option_map (λ digest. record { salt = salt; digest = digest })
-    (result_ok (decode_sized (after_first is_colon word) 32))
+    (result_ok (decode_sized (after_first is_colon word) digest_bytes))
     else None
 
 -- the scheme whose lines are read, in any letter case (profile)

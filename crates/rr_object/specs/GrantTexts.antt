@@ -39,19 +39,19 @@ IsGrant items grant =
 
 -- items spell entries where they are those of the first and, after them, those of the others
 -- (RFC 2725, 10)
-pub record IsFrontThenRest (Front Rest : List (List ℕ) → Type 0)
+pub record IsHeadThenRest (Head Rest : List (List ℕ) → Type 0)
     (items : List (List ℕ)) : Type 0 where
-  pub front : List (List ℕ)
+  pub head : List (List ℕ)
   pub rest : List (List ℕ)
-  pub cut : items ≡ front ++ rest
-  pub first : Front front
+  pub cut : items ≡ head ++ rest
+  pub first : Head head
   pub others : Rest rest
 
 -- items that spell these entries, one after another (RFC 2725, 10)
 abbrev pub AreGrants : List GrantParts → List (List ℕ) → Type 0
 AreGrants [] items = items ≡ []
 AreGrants (grant ∷ grants) items =
-    IsFrontThenRest (λ front. IsGrant front grant) (AreGrants grants) items
+    IsHeadThenRest (λ head. IsGrant head grant) (AreGrants grants) items
 
 -- what is read of items is what they spell (RFC 2725, 10)
 abbrev pub ReadGrantsAreSpelled : Type 0

@@ -2,6 +2,7 @@
 use Rattle.rr_object.specs.declared.object.Object.TheInside.{Inside}
 use Rattle.rr_object.specs.Objects.{Obj}
 
+-- the parts of what an object keeps
 abbrev pub parts_of : Inside → Obj
 parts_of o = record {
   key = o.key;

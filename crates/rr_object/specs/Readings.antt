@@ -106,9 +106,9 @@ member_item class.RouteSet item = route_set_item item
 abbrev pub source_of : List Field → Option (List ℕ)
 source_of fields = option_and_then name_of (only (values_of (kind_name Source) fields))
 
--- the names of attributes that submissions use, and no object has (profile)
-abbrev pub is_kept_out : Field → Bool
-is_kept_out field = has_name (codes "password") field || has_name (codes "delete") field
+-- the pseudo-attributes, which stand in submissions and in no object (profile)
+abbrev pub is_pseudo_attribute : Field → Bool
+is_pseudo_attribute field = has_name (codes "password") field || has_name (codes "delete") field
 
 -- the maintainers that an attribute of an object names (RFC 2622, 3)
 abbrev pub maintainers_of : Kind → Class → List Field → List (List ℕ)
@@ -118,9 +118,9 @@ maintainers_of kind class fields = meant maintainer_item (items_read kind class 
 abbrev pub are_maintainers : Kind → Class → List Field → Bool
 are_maintainers kind class fields = are_good maintainer_item (items_read kind class fields)
 
--- an attribute of a name that is kept out, or a source that is not a name (profile; RFC 2622, 2)
+-- a pseudo-attribute, or a source that is not a name (profile; RFC 2622, 2)
 unfoldable pub has_bad_text : List Field → Bool
-has_bad_text fields = list_any is_kept_out fields || is_none (source_of fields)
+has_bad_text fields = list_any is_pseudo_attribute fields || is_none (source_of fields)
 
 -- a bad value of `mnt-by`, `mnt-lower`, `mnt-routes` or `auth` (RFC 2622, 3; RFC 2725, 10)
 unfoldable pub has_bad_authority : Class → List Field → Bool

@@ -28,7 +28,7 @@ const SPAN_LENGTH: usize = NUMBER_LENGTH + 1 + NUMBER_LENGTH;
 const ROUTE_LENGTH: usize = NUMBER_LENGTH + 1 + 2 + 1 + NUMBER_LENGTH;
 
 impl Key {
-    /// Writes the key as reports print it. After a fault the writer has taken a front of it.
+    /// Writes the key as reports print it. After a fault the writer has taken the beginning of it.
     pub fn print_to<W: Sink>(&self, writer: &mut W) -> io::Result<()>
         ensures writes { Writes (W.told writer.old) (W.told writer.new) (key_text self.now) result }
         ensures aside { W.aside writer.new ≡ W.aside writer.old }
@@ -44,8 +44,8 @@ impl Key {
         }
     }
 
-    /// The bytes by which the keys of a class are ordered and stored; the error is that memory ran
-    /// out.
+    /// The bytes of the key's parts, each of which is well formed, by which the keys of a class are
+    /// ordered and stored; the error is that memory ran out.
     pub fn bytes(&self, alloc: Global) -> Result<Vec<u8>, AllocError>
         ensures value { IfOk result (λ bytes. bytes.items ≡ key_bytes self.now) }
         ensures parts { HasKeyParts self.now }

@@ -1,6 +1,6 @@
 //! The values of a paragraph's attributes, and the items of lists.
 
-ghost use Rattle.std.specs.Prelude.{◌≡◌, IfOk, count_by, map};
+ghost use Rattle.std.specs.Prelude.{◌≡◌, IfOk, map};
 ghost use Rattle.rr_text.specs.Fields.{has_name};
 ghost use Rattle.rr_object.specs.Items.{items, joined, spaced, values_of};
 ghost use Rattle.rr_object.specs.Readings.{count_named};

@@ -186,7 +186,7 @@ fn read_of_any_source(alloc: Global, key: Key, paragraph: Paragraph) -> Result<S
     ensures fault { IfErr result (λ fault. fault ≢ Memory → obj_of paragraph ≡ Err fault) }
 {
     let said = read_said(alloc, &key, &paragraph)?;
-    let object = made_of(key, paragraph, said.authority, said.membership);
+    let object = object_with(key, paragraph, said.authority, said.membership);
     let source = said.source;
     Ok(Sourced { object, source })
 }
@@ -225,8 +225,13 @@ fn read_said(alloc: Global, key: &Key, paragraph: &Paragraph) -> Result<Said, Ob
     })
 }
 
-/// The object that is made of what was read.
-fn made_of(key: Key, paragraph: Paragraph, authority: Authority, membership: Membership) -> Object
+/// The object of this key and paragraph, with what the paragraph says of authority and of sets.
+fn object_with(
+    key: Key,
+    paragraph: Paragraph,
+    authority: Authority,
+    membership: Membership,
+) -> Object
     requires { obj_of paragraph ≡ Ok (said key paragraph authority membership) }
     ensures { obj_of paragraph ≡ Ok result }
 {

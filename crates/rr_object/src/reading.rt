@@ -9,8 +9,8 @@ ghost use Rattle.rr_object.specs.Auths.{auth_item};
 ghost use Rattle.rr_object.specs.Grants.{grants_of, is_any};
 ghost use Rattle.rr_object.specs.Items.{are_good, items, meant, only, values_of};
 ghost use Rattle.rr_object.specs.Readings.{by_ref_of, has_bad_authority, has_bad_membership};
-ghost use Rattle.rr_object.specs.Readings.{has_bad_text, is_kept_out, items_read, maintainers_of};
-ghost use Rattle.rr_object.specs.Readings.{member_item, source_of};
+ghost use Rattle.rr_object.specs.Readings.{has_bad_text, is_pseudo_attribute, items_read};
+ghost use Rattle.rr_object.specs.Readings.{maintainers_of, member_item, source_of};
 ghost use Rattle.rr_object.specs.Kinds.{kind_name};
 ghost use Rattle.rr_object.specs.Members.{by_ref_item, set_item};
 ghost use Rattle.rr_object.specs.declared.fault.ObjectFault.TheVariants.{BadValue, Memory};
@@ -49,8 +49,8 @@ pub(crate) struct Membership {
     pub(crate) member_of: Vec<SetName>,
 }
 
-/// The source that a paragraph names. It is a fault that it names none, and that an attribute has a
-/// name that is kept out.
+/// The source that a paragraph names. It is a fault that it names none, and that it has a
+/// pseudo-attribute.
 #[tactic(auto, unfolding(crate::specs::Readings::has_bad_text))]
 pub(crate) fn read_source(
     alloc: Global,
@@ -63,7 +63,7 @@ pub(crate) fn read_source(
     ensures bad { IfErr result (λ fault. fault ≢ Memory
         → (fault ≡ BadValue) × (has_bad_text paragraph.now ≡ true)) }
 {
-    if has_kept_out(paragraph) {
+    if has_pseudo_attribute(paragraph) {
         return Err(ObjectFault::BadValue);
     }
     match source_among(alloc, sources)? {
@@ -72,16 +72,16 @@ pub(crate) fn read_source(
     }
 }
 
-fn has_kept_out(paragraph: &Paragraph) -> bool
-    ensures { result ≡ list_any is_kept_out paragraph.now }
+fn has_pseudo_attribute(paragraph: &Paragraph) -> bool
+    ensures { result ≡ list_any is_pseudo_attribute paragraph.now }
 {
     paragraph
         .attributes()
-        .any(|attribute| is_kept_out(&attribute))
+        .any(|attribute| is_pseudo_attribute(&attribute))
 }
 
-fn is_kept_out(attribute: &Attribute) -> bool
-    ensures { result ≡ is_kept_out attribute.now }
+fn is_pseudo_attribute(attribute: &Attribute) -> bool
+    ensures { result ≡ is_pseudo_attribute attribute.now }
 {
     attribute.has_name(b"password") || attribute.has_name(b"delete")
 }

@@ -57,7 +57,7 @@ after_foreign : (h : Holding) (begun r s q : Reg) (secrets : List (List ℕ)) (a
 after_foreign h begun r s q secrets (Ok item) outcome b formed foreign (inl done) =
     let left = foreign_items_leave h r secrets item b.sound b.held formed (foreign_here h begun r q secrets b foreign) in
     beside_same h begun (step r secrets item) s q (beside_left h begun r (step r secrets item) q b (stays_sound r secrets item b.sound formed) left) done.effect
-after_foreign h begun r s q secrets (Ok item) outcome b formed foreign (inr want) = beside_same h begun r s q b want.effect
+after_foreign h begun r s q secrets (Ok item) outcome b formed foreign (inr out) = beside_same h begun r s q b out.effect
 after_foreign h begun r s q secrets (Err code) outcome b formed foreign d = beside_same h begun r s q b d.1
 
 -- and what is held as it was
@@ -66,7 +66,7 @@ left_by_foreign : (h : Holding) (begun r s q : Reg) (secrets : List (List ℕ)) 
 left_by_foreign h begun r s q secrets (Ok item) outcome b formed foreign (inl done) =
     let left = foreign_items_leave h r secrets item b.sound b.held formed (foreign_here h begun r q secrets b foreign) in
     subst (λ t. Agree h r t) (sym done.effect) left.agree
-left_by_foreign h begun r s q secrets (Ok item) outcome b formed foreign (inr want) = subst (λ t. Agree h r t) (sym want.effect) (λ k e. refl)
+left_by_foreign h begun r s q secrets (Ok item) outcome b formed foreign (inr out) = subst (λ t. Agree h r t) (sym out.effect) (λ k e. refl)
 left_by_foreign h begun r s q secrets (Err code) outcome b formed foreign d = subst (λ t. Agree h r t) (sym d.1) (λ k e. refl)
 
 -- what is the holders' own is decided alike in both, and leaves them beside each other
@@ -95,8 +95,8 @@ after_own h begun r s q secrets (Ok item) outcome b formed own (inl done) =
       decides = inl (record { outcome_is = done.outcome_is ∙ ap outcome_of alike.verdicts; effect = refl });
       beside = subst (λ t. Beside h begun t (step q secrets item)) (sym done.effect) (beside_own h begun r q secrets item b formed own alike);
     }
-after_own h begun r s q secrets (Ok item) outcome b formed own (inr want) =
-    record { other = q; decides = inr (record { outcome_is = want.outcome_is; effect = refl }); beside = beside_same h begun r s q b want.effect }
+after_own h begun r s q secrets (Ok item) outcome b formed own (inr out) =
+    record { other = q; decides = inr (record { outcome_is = out.outcome_is; effect = refl }); beside = beside_same h begun r s q b out.effect }
 after_own h begun r s q secrets (Err code) outcome b formed own d =
     record { other = q; decides = (d.0, refl); beside = beside_same h begun r s q b d.1 }
 
@@ -188,8 +188,8 @@ pub step_leaves_others : (r : Reg) (secrets : List (List ℕ)) (item : Item) (ou
     → (h : Holding) → IsHeld h r → is_foreign h r secrets ≡ true → IsLeft h r s
 step_leaves_others r secrets item outcome s sound formed (inl done) h held foreign =
     subst (λ t. IsLeft h r t) (sym done.effect) (foreign_items_leave h r secrets item sound held formed foreign)
-step_leaves_others r secrets item outcome s sound formed (inr want) h held foreign =
-    subst (λ t. IsLeft h r t) (sym want.effect) (record { agree = λ k e. refl; held = held })
+step_leaves_others r secrets item outcome s sound formed (inr out) h held foreign =
+    subst (λ t. IsLeft h r t) (sym out.effect) (record { agree = λ k e. refl; held = held })
 
 -- what a run that was done confines
 pub confined_result : {V E : Type 0} (r s : Reg) (submitted : List Submitted) (outcomes_of : V → List Outcome) (result : Result V E) → Sound r → OnOk result (AreFormed submitted)

@@ -15,7 +15,7 @@ use Rattle.rr_object.specs.Objects.{Obj, names_of}
 use Rattle.rr_object.specs.KeyOrders.{IsKeyValue, key_cmp}
 use Rattle.rr_auth.specs.Conditions.{crosses_registered}
 use Rattle.rr_object.specs.Keys.{is_mntner_of}
-use Rattle.rr_auth.specs.Registries.{Reg, maintainer, names_nobody, keys_cross}
+use Rattle.rr_auth.specs.Registries.{Reg, maintainer, some_is_unknown, keys_cross}
 use Rattle.rr_object.proofs.KeyLaws.{keys_total}
 use Rattle.rr_auth.proofs.Crossing.{keys_cross_back, crosses_itself}
 use Rattle.rr_auth.proofs.Members.{IsIn, found_in, none_passes}
@@ -128,8 +128,8 @@ gathered_is_book os grown g e =
         keyed = g.apart.keyed;
         formed = g.apart.formed;
         named = λ k o f.
-            subst (λ m. names_nobody m (names_of o) ≡ false) (sym whole)
-            (none_passes (λ x. names_nobody r (names_of x)) o os (no_place (λ x. names_nobody r (names_of x)) os (unmapped _ e))
+            subst (λ m. some_is_unknown m (names_of o) ≡ false) (sym whole)
+            (none_passes (λ x. some_is_unknown r (names_of x)) o os (no_place (λ x. some_is_unknown r (names_of x)) os (unmapped _ e))
             (of_list os k o (gathered_from empty os k o (sym (ap (λ m. get m k) whole) ∙ f))));
         apart = g.apart.apart;
       };
@@ -146,7 +146,7 @@ known_in_list os n =
     ap not (stands_gathered empty os (Mntner n) ∙ ap (λ s. is_some s || is_some (find (λ o. eq_by_cmp key_cmp (Mntner n) o.key) os)) (get-empty key_cmp (Mntner n))
     ∙ ap is_some (by_name n os) ∙ found_any (λ x. is_mntner_of n x.key) os)
 
-all_known : (os : List Obj) (ns : List (List ℕ)) → names_nobody (gathered empty os) ns ≡ list_any (λ n. not (list_any (λ x. is_mntner_of n x.key) os)) ns
+all_known : (os : List Obj) (ns : List (List ℕ)) → some_is_unknown (gathered empty os) ns ≡ list_any (λ n. not (list_any (λ x. is_mntner_of n x.key) os)) ns
 all_known os [] = refl
 all_known os (n ∷ ns) = λ i. known_in_list os n i || all_known os ns i
 

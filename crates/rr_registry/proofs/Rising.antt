@@ -80,21 +80,21 @@ below_last : (k : Key) (os : List Obj) (o : Obj) → below_all key_cmp k (map en
 below_last k [] o e = less _ (and_parts (is_lt (key_cmp k o.key)) true e).0
 below_last k (x ∷ os) o e = below_last k os o (and_parts (is_lt (key_cmp k x.key)) (below_all key_cmp k (map entry (os ++ o ∷ []))) e).1
 
-below_front : (k : Key) (xs ys : List Obj) → below_all key_cmp k (map entry (xs ++ ys)) ≡ true → below_all key_cmp k (map entry xs) ≡ true
-below_front k [] ys e = refl
-below_front k (x ∷ xs) ys e =
-    let parts = and_parts (is_lt (key_cmp k x.key)) (below_all key_cmp k (map entry (xs ++ ys))) e in and_from _ _ parts.0 (below_front k xs ys parts.1)
+below_prefix : (k : Key) (xs ys : List Obj) → below_all key_cmp k (map entry (xs ++ ys)) ≡ true → below_all key_cmp k (map entry xs) ≡ true
+below_prefix k [] ys e = refl
+below_prefix k (x ∷ xs) ys e =
+    let parts = and_parts (is_lt (key_cmp k x.key)) (below_all key_cmp k (map entry (xs ++ ys))) e in and_from _ _ parts.0 (below_prefix k xs ys parts.1)
 
-front : (xs ys : List Obj) → is_in_order (xs ++ ys) ≡ true → is_in_order xs ≡ true
-front [] ys e = refl
-front (x ∷ xs) ys e =
-    let parts = and_parts (below_all key_cmp x.key (map entry (xs ++ ys))) (is_in_order (xs ++ ys)) e in and_from _ _ (below_front x.key xs ys parts.0) (front xs ys parts.1)
+prefix_in_order : (xs ys : List Obj) → is_in_order (xs ++ ys) ≡ true → is_in_order xs ≡ true
+prefix_in_order [] ys e = refl
+prefix_in_order (x ∷ xs) ys e =
+    let parts = and_parts (below_all key_cmp x.key (map entry (xs ++ ys))) (is_in_order (xs ++ ys)) e in and_from _ _ (below_prefix x.key xs ys parts.0) (prefix_in_order xs ys parts.1)
 
 -- the first objects of some that rise, with the next of them
 first_rise : (os : List Obj) (i : ℕ) (o : Obj) → i < length os → o ≡ get_or os i o → is_in_order os ≡ true → is_in_order (take i os ++ o ∷ []) ≡ true
 first_rise os i o inside is rise =
     let cut : take (i + 1) os ≡ take i os ++ o ∷ [] = take_more os i o inside ∙ ap (λ x. take i os ++ x ∷ []) (sym is) in
-    ap is_in_order (sym cut) ∙ front (take (i + 1) os) (drop (i + 1) os) (ap is_in_order (take-append-drop (i + 1) os) ∙ rise)
+    ap is_in_order (sym cut) ∙ prefix_in_order (take (i + 1) os) (drop (i + 1) os) (ap is_in_order (take-append-drop (i + 1) os) ∙ rise)
 
 module _ (o : Obj) where
   -- the key of the last is none of those before it, and that is where the object is put

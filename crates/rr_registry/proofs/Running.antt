@@ -21,17 +21,17 @@ run_append r s t (i ∷ is) later (o ∷ os) others a b = (a.0, a.1, run_append 
 
 pub run_split : (r t : Reg) (first later : List Submitted) (outcomes : List Outcome)
     → Run r (first ++ later) outcomes t → IsSplit r t first later outcomes
-run_split r t [] later outcomes run = record { between = r; fore = []; others = outcomes; cut = refl; front = refl; back = run }
+run_split r t [] later outcomes run = record { between = r; first_outcomes = []; later_outcomes = outcomes; cut = refl; first_run = refl; later_run = run }
 run_split r t (i ∷ is) later [] run = absurd run
 run_split r t (i ∷ is) later (o ∷ os) run =
     let rest = run_split run.0 t is later os run.2 in
     record {
       between = rest.between;
-      fore = o ∷ rest.fore;
-      others = rest.others;
+      first_outcomes = o ∷ rest.first_outcomes;
+      later_outcomes = rest.later_outcomes;
       cut = ap (λ more. o ∷ more) rest.cut;
-      front = (run.0, run.1, rest.front);
-      back = rest.back;
+      first_run = (run.0, run.1, rest.first_run);
+      later_run = rest.later_run;
     }
 
 -- one more
@@ -43,7 +43,7 @@ run_more r s t items submitted outcomes outcome a b = run_append r s t items (su
 decided_sound : (r s : Reg) (secrets : List (List ℕ)) (action : Result Item Code) (outcome : Outcome)
     → Sound r → IfOk action IsItem → Decides r secrets action outcome s → Sound s
 decided_sound r s secrets (Ok item) outcome sound formed (inl done) = subst Sound (sym done.effect) (stays_sound r secrets item sound formed)
-decided_sound r s secrets (Ok item) outcome sound formed (inr want) = subst Sound (sym want.effect) sound
+decided_sound r s secrets (Ok item) outcome sound formed (inr out) = subst Sound (sym out.effect) sound
 decided_sound r s secrets (Err code) outcome sound formed d = subst Sound (sym d.1) sound
 
 pub run_stays_sound : (r s : Reg) (submitted : List Submitted) (outcomes : List Outcome)
@@ -58,7 +58,7 @@ decided_of_source : (source : List ℕ) (r s : Reg) (secrets : List (List ℕ)) 
     → IsRegistryOf source r → IfOk action (IsReadIn source) → Decides r secrets action outcome s → IsRegistryOf source s
 decided_of_source source r s secrets (Ok item) outcome of read (inl done) =
     subst (IsRegistryOf source) (sym done.effect) (stays_of_source source r secrets item of read)
-decided_of_source source r s secrets (Ok item) outcome of read (inr want) = subst (IsRegistryOf source) (sym want.effect) of
+decided_of_source source r s secrets (Ok item) outcome of read (inr out) = subst (IsRegistryOf source) (sym out.effect) of
 decided_of_source source r s secrets (Err code) outcome of read d = subst (IsRegistryOf source) (sym d.1) of
 
 pub run_stays_of_source : (source : List ℕ) (r s : Reg) (submitted : List Submitted) (outcomes : List Outcome)

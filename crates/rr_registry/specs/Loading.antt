@@ -8,7 +8,7 @@ use Rattle.std.specs.FinMap.{empty, insert}
 use Rattle.rr_object.specs.declared.key.Key.{Key}
 use Rattle.rr_object.specs.KeyOrders.{key_cmp}
 use Rattle.rr_object.specs.Objects.{Obj, names_of}
-use Rattle.rr_auth.specs.Registries.{Reg, keys_cross, names_nobody}
+use Rattle.rr_auth.specs.Registries.{Reg, keys_cross, some_is_unknown}
 use Rattle.rr_registry.specs.declared.load.LoadFault.{LoadFault}
 use Rattle.rr_registry.specs.declared.load.LoadFault.TheVariants.{Duplicate, Overlap, Unnamed}
 use Rattle.rr_registry.specs.declared.load.LoadFault.TheVariants.{Memory}
@@ -40,7 +40,7 @@ clash before n (o ∷ os) = option_or (clash_of before n o) (clash (before ++ o 
 
 -- The first object of a list that names a maintainer who is not in the registry.
 abbrev pub unnamed : Reg → List Obj → Option LoadFault
-unnamed r os = option_map (λ i. Unnamed (i + 1)) (position (λ o. names_nobody r (names_of o)) os)
+unnamed r os = option_map (λ i. Unnamed (i + 1)) (position (λ o. some_is_unknown r (names_of o)) os)
 
 -- What is the matter with a list of objects, counted from 1: first a key that stands twice or spans
 -- that cross, then a maintainer who is not in the list (profile).

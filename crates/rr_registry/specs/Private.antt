@@ -19,6 +19,8 @@ use Rattle.rr_auth.specs.Verdicts.{verdict}
 use Rattle.rr_book.specs.Books.{book_of, entry, is_in_order}
 use Rattle.rr_cover.specs.SpanMaps.{SpanMap}
 use Rattle.rr_registry.specs.declared.gathered.Gathered.{Gathered}
+use Rattle.rr_registry.specs.declared.load.LoadFault.{LoadFault}
+use Rattle.rr_registry.specs.declared.load.LoadFault.TheVariants.{Memory}
 use Rattle.rr_registry.specs.Loading.{clash, clash_of, gathered, is_crossed_by_some, is_key_of_some}
 
 -- Objects in order whose registry has each under its own well formed key and no two that cross:
@@ -42,6 +44,11 @@ pub record IsGathered (os : List Obj) (grown : List Obj) : Type 0 where
   pub free : clash [] 1 os ≡ None
   pub apart : IsApart grown
   pub whole : book_of grown ≡ gathered empty os
+
+-- The fault is that of the first object of a list whose key stands twice or whose span crosses one
+-- before it, or memory ran out.
+abbrev pub IsClashOf : List Obj → LoadFault → Type 0
+IsClashOf os fault = (fault ≡ Memory) ⊎ (clash [] 1 os ≡ Some fault)
 
 -- The key of an object is below that of the first of others, if there is one.
 abbrev pub is_below : Obj → List Obj → Bool

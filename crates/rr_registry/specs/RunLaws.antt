@@ -19,11 +19,11 @@ RunsJoin =
 pub record IsSplit (r t : Reg) (first later : List Submitted)
     (outcomes : List Outcome) : Type 0 where
   pub between : Reg
-  pub fore : List Outcome
-  pub others : List Outcome
-  pub cut : outcomes ≡ fore ++ others
-  pub front : Run r first fore between
-  pub back : Run between later others t
+  pub first_outcomes : List Outcome
+  pub later_outcomes : List Outcome
+  pub cut : outcomes ≡ first_outcomes ++ later_outcomes
+  pub first_run : Run r first first_outcomes between
+  pub later_run : Run between later later_outcomes t
 
 -- A run of both lists is a run of the first and then a run of the second.
 abbrev pub RunsPart : Type 0

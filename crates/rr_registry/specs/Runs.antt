@@ -4,20 +4,21 @@ use Rattle.rr_object.specs.declared.code.Code.{Code}
 use Rattle.rr_object.specs.declared.code.Code.TheVariants.{E90}
 use Rattle.rr_auth.specs.declared.item.Item.{Item}
 use Rattle.rr_auth.specs.declared.verdict.Verdict.{Verdict}
-use Rattle.rr_auth.specs.declared.verdict.Verdict.TheVariants.{Add, Change, Same, Delete, Refuse}
+use Rattle.rr_auth.specs.declared.verdict.Verdict.TheVariants.{Add, Change, Delete, Refuse}
+use Rattle.rr_auth.specs.declared.verdict.Verdict.TheVariants as verdicts
 use Rattle.rr_auth.specs.Registries.{Reg}
 use Rattle.rr_auth.specs.Verdicts.{verdict, after}
 use Rattle.rr_registry.specs.declared.outcome.Outcome.{Outcome}
 use Rattle.rr_registry.specs.declared.run.Submitted.{Submitted}
 use Rattle.rr_registry.specs.declared.outcome.Outcome.TheVariants.{Added, Changed}
-use Rattle.rr_registry.specs.declared.outcome.Outcome.TheVariants.{Same as Unchanged, Deleted}
+use Rattle.rr_registry.specs.declared.outcome.Outcome.TheVariants.{Unchanged, Deleted}
 use Rattle.rr_registry.specs.declared.outcome.Outcome.TheVariants.{Refused}
 
 -- The outcome that a verdict leads to.
 abbrev pub outcome_of : Verdict → Outcome
 outcome_of Add = Added
 outcome_of Change = Changed
-outcome_of Same = Unchanged
+outcome_of verdicts.Unchanged = Unchanged
 outcome_of Delete = Deleted
 outcome_of (Refuse code) = Refused code
 
@@ -29,14 +30,14 @@ pub record HasEffect (before : Reg) (judged : Verdict) (item : Item) (outcome : 
   pub effect : then ≡ after judged before item
 
 -- Memory ran out: the item is refused and nothing changes (profile).
-pub record IsWant (before : Reg) (outcome : Outcome) (then : Reg) : Type 0 where
+pub record IsOutOfMemory (before : Reg) (outcome : Outcome) (then : Reg) : Type 0 where
   pub outcome_is : outcome ≡ Refused E90
   pub effect : then ≡ before
 
 -- A verdict on an item was carried out, or memory ran out.
 abbrev pub IsCarriedOut : Reg → Verdict → Item → Outcome → Reg → Type 0
 IsCarriedOut before judged item outcome then =
-    HasEffect before judged item outcome then ⊎ IsWant before outcome then
+    HasEffect before judged item outcome then ⊎ IsOutOfMemory before outcome then
 
 -- What one item, with the secrets given with it, does to a registry.
 abbrev pub IsStep : Reg → List (List ℕ) → Item → Outcome → Reg → Type 0

@@ -1,6 +1,6 @@
 //! Lists of objects taken as registries.
 
-ghost use Rattle.std.specs.Prelude.{◌≡◌, ◌⊎◌, ◌||◌, ◌<◌, ℕ, [], List, Some};
+ghost use Rattle.std.specs.Prelude.{◌≡◌, ◌||◌, ◌<◌, ℕ, List};
 ghost use Rattle.std.specs.Prelude.{IfOk, IfSome, MatchResult, OnOk, length, not, position};
 ghost use Rattle.std.specs.BTreeSet.{contains};
 ghost use Rattle.std.specs.Cmp.Lexicographic.{slice_cmp};
@@ -8,8 +8,7 @@ ghost use Rattle.std.specs.List.{list_any};
 ghost use Rattle.std.specs.Ordering.{nat_cmp};
 ghost use Rattle.rr_object.specs.Objects.{names_of};
 ghost use Rattle.rr_object.specs.Keys.{is_mntner_of};
-ghost use Rattle.rr_registry.specs.Loading.{clash};
-ghost use Rattle.rr_registry.specs.Private.{IsGathered};
+ghost use Rattle.rr_registry.specs.Private.{IsClashOf, IsGathered};
 
 use crate::gathered::Gathered;
 use crate::in_order::are_gathered;
@@ -122,11 +121,11 @@ fn first_without(objects: &[Object], mntners: &BTreeSet<Name>) -> Option<usize>
 {
     objects
         .iter()
-        .position(|object| names_nobody(object, mntners))
+        .position(|object| names_unknown(object, mntners))
 }
 
 /// Whether the object names a maintainer who is not one of these.
-fn names_nobody(object: &Object, mntners: &BTreeSet<Name>) -> bool
+fn names_unknown(object: &Object, mntners: &BTreeSet<Name>) -> bool
     ensures { result ≡ list_any (λ n. not (contains (slice_cmp nat_cmp) mntners.now n))
         (names_of object.now) }
 {
@@ -138,9 +137,8 @@ fn names_nobody(object: &Object, mntners: &BTreeSet<Name>) -> bool
 /// The objects in order, or the first whose key stands twice or whose span crosses one before it.
 /// Those that stand so already are not put together.
 fn gather(alloc: Global, objects: Vec<Object>) -> Result<Vec<Object>, LoadFault>
-    ensures { MatchResult result
-        (λ gathered. IsGathered objects.items gathered.items)
-        (λ fault. (fault ≡ LoadFault.Memory) ⊎ (clash [] 1 objects.items ≡ Some fault)) }
+    ensures { MatchResult result (λ gathered. IsGathered objects.items gathered.items)
+        (IsClashOf objects.items) }
 {
     if are_gathered(alloc, &objects)? {
         return Ok(objects);
@@ -151,9 +149,8 @@ fn gather(alloc: Global, objects: Vec<Object>) -> Result<Vec<Object>, LoadFault>
 /// The objects in order, or the first whose key stands twice or whose span crosses one before it.
 #[tactic(auto, using(crate::proofs::Gathering::clash_next))]
 fn put_in_order(alloc: Global, objects: Vec<Object>) -> Result<Vec<Object>, LoadFault>
-    ensures { MatchResult result
-        (λ gathered. IsGathered objects.items gathered.items)
-        (λ fault. (fault ≡ LoadFault.Memory) ⊎ (clash [] 1 objects.items ≡ Some fault)) }
+    ensures { MatchResult result (λ gathered. IsGathered objects.items gathered.items)
+        (IsClashOf objects.items) }
 {
     let mut gathered = Gathered::new(alloc);
     let mut n = 0;

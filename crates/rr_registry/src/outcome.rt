@@ -10,7 +10,7 @@ pub enum Outcome {
     /// The object took the place of the stored one.
     Changed,
     /// The object has the text of the stored one; nothing changed.
-    Same,
+    Unchanged,
     /// The object was deleted.
     Deleted,
     /// The item was refused; nothing changed.

@@ -7,7 +7,7 @@ ghost use Rattle.rr_auth.specs.Verdicts.{is_met_by};
 ghost use Rattle.rr_auth.specs.Laws.{IsItem};
 ghost use Rattle.rr_confinement.specs.Laws.{LeavesOthers};
 ghost use Rattle.rr_registry.specs.Private.{IsJudged};
-ghost use Rattle.rr_registry.specs.Runs.{IsCarriedOut, IsStep, IsWant};
+ghost use Rattle.rr_registry.specs.Runs.{IsCarriedOut, IsOutOfMemory, IsStep};
 
 use crate::outcome::Outcome;
 use rr_auth::{Item, Secrets, Verdict, judge};
@@ -95,9 +95,10 @@ impl<B: Keeper> Registry<B> {
         self.book.inside(alloc, span)
     }
 
-    /// Does with the item what its verdict says, over this registry and these secrets (RFC 2725, 9;
-    /// profile). If memory runs out the item is refused with E90 and nothing changes. What the
-    /// holders of a prefix hold stays as it was where none of the secrets is theirs.
+    /// Does with the item, which is well formed, what its verdict says, over this registry and
+    /// these secrets (RFC 2725, 9; profile). If memory runs out the item is refused with E90 and
+    /// nothing changes. What the holders of a prefix hold stays as it was where none of the secrets
+    /// is theirs.
     pub fn apply(&mut self, alloc: Global, secrets: &mut Secrets, item: Item) -> Outcome
         ensures step { IsStep self.old secrets.old item result self.new }
         ensures leaves { LeavesOthers self.old secrets.old self.new }
@@ -145,7 +146,7 @@ impl<B: Keeper> Registry<B> {
         match judged {
             Verdict::Add => self.put(alloc, object, Outcome::Added),
             Verdict::Change => self.put(alloc, object, Outcome::Changed),
-            Verdict::Same => Outcome::Same,
+            Verdict::Unchanged => Outcome::Unchanged,
             Verdict::Refuse(code) => Outcome::Refused(code),
             Verdict::Delete => unreachable!(),
         }
@@ -155,7 +156,7 @@ impl<B: Keeper> Registry<B> {
     fn put(&mut self, alloc: Global, object: Object, done: Outcome) -> Outcome
         requires { Sound (insert self.old object.key object) }
         ensures { ((result ≡ done) × (self.new ≡ insert self.old object.key object))
-            ⊎ IsWant self.old result self.new }
+            ⊎ IsOutOfMemory self.old result self.new }
     {
         match self.book.insert(alloc, object) {
             Ok(()) => done,
@@ -175,7 +176,7 @@ impl<B: Keeper> Registry<B> {
                 Outcome::Deleted
             }
             Verdict::Refuse(code) => Outcome::Refused(code),
-            Verdict::Add | Verdict::Change | Verdict::Same => unreachable!(),
+            Verdict::Add | Verdict::Change | Verdict::Unchanged => unreachable!(),
         }
     }
 }

@@ -9,7 +9,7 @@ use Rattle.sqlite.specs.Effect.{Database}
 use Rattle.sqlite.proofs.Callers.{one_permutation}
 use Rattle.rr_rows.specs.Contents.{IsTidy, columns, contents, meta_values, setting, settings}
 use Rattle.rr_rows.specs.Entries.{Entry, object_row, named_rows, AreRowsOf, IsAdded}
-use Rattle.rr_rows.specs.Maps.{HasVersion, IsFilled, this_version}
+use Rattle.rr_rows.specs.Maps.{IsFilled, this_version}
 use Rattle.rr_rows.proofs.OtherLemmas.{others_itself, others_then}
 
 pub flat_map-append : {A B : Type 0} (f : A → List B) (xs ys : List A) → flat_map f (xs ++ ys) ≡ flat_map f xs ++ flat_map f ys

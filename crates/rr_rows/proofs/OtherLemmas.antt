@@ -8,7 +8,7 @@ use Rattle.sqlite_trees.proofs.ListLemmas.{all_both, all_of}
 use Rattle.sqlite.specs.Effect.{Database}
 use Rattle.rr_rows.specs.Contents.{IsOfOther, KeepsOthers}
 use Rattle.rr_rows.specs.Entries.{Entry}
-use Rattle.rr_rows.specs.Made.{HasItsTables, IsBare, no_schema, with_named}
+use Rattle.rr_rows.specs.Made.{HasItsTables, no_schema, with_named}
 use Rattle.rr_rows.specs.Maps.{IsFilled}
 use Rattle.rr_rows.specs.Tables.{HasTables, laid}
 

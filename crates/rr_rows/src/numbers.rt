@@ -1,6 +1,6 @@
 //! Whether rows have numbers of their own.
 
-ghost use Rattle.std.specs.Prelude.{◌≡◌, IsTrue, IfOk};
+ghost use Rattle.std.specs.Prelude.{IsTrue, IfOk};
 ghost use Rattle.rr_rows.specs.Contents.{AreKeyed, AreRising, IsPast};
 
 use sqlite::{Error, Row};

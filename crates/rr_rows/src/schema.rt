@@ -1,6 +1,6 @@
 //! Whether a schema has the three tables.
 
-ghost use Rattle.std.specs.Prelude.{◌≡◌, [], ◌∷◌, true, false, codes, IsTrue, None};
+ghost use Rattle.std.specs.Prelude.{◌≡◌, [], ◌∷◌, true, false, codes, IsTrue};
 ghost use Rattle.std.specs.List.{list_all};
 ghost use Rattle.sqlite_schema.specs.declared.schema.Kind.TheVariants as kind;
 ghost use Rattle.rr_rows.specs.Tables.{HasTables, IsPlain, meta, named, object, refers_elsewhere};

@@ -82,8 +82,8 @@ struct Room {
 }
 
 impl Trial for Room {
-    /// Asserts the answer, that the front of the report was written, and how many of the three
-    /// stand in the tables.
+    /// Asserts the answer, that a prefix of the report was written, and how many of the three stand
+    /// in the tables.
     fn tried<D: Office + Drop, R: Abort + AllocGlobal>(
         &self,
         rt: &R,

@@ -493,14 +493,14 @@ const REPLIED: &[(&str, &str)] = &[
     ("root-mnt\n", ROOT),
 ];
 
-/// A request, and its reply, of which a front is written where a write fails.
+/// A request, and its reply, of which a prefix is written where a write fails.
 #[derive(Drop)]
-struct Fronts {
+struct Prefixes {
     request: &'static str,
     reply: &'static str,
 }
 
-impl Trial for Fronts {
+impl Trial for Prefixes {
     fn tried<D: Office + Drop, R: Abort + AllocGlobal>(
         &self,
         rt: &R,
@@ -522,7 +522,7 @@ impl Trial for Fronts {
 #[test]
 fn a_write_fails_at_each_place(rt: HostRuntime) -> Result<(), Fail> {
     for (request, reply) in REPLIED {
-        try_new(&rt, &Fronts { request, reply })?;
+        try_new(&rt, &Prefixes { request, reply })?;
     }
     Ok(())
 }

@@ -1,7 +1,7 @@
 -- The orders of sets and of ranges tell them apart, and an operator looks at the lengths of a range
 -- alone. These are proofs; they stand here because ghost items of src, by which the graph of
 -- route-sets promises this, name them.
-use Rattle.std.proofs.Common.{◌≡◌, ◌∙◌, ℕ, Option, None, Some, refl, sym, ap, subst}
+use Rattle.std.proofs.Common.{◌≡◌, ℕ, Option, None, Some, refl, ap, subst}
 use Rattle.std.specs.Option.{option_map}
 use Rattle.std.specs.Ordering.{nat_cmp, ordering_then}
 use Rattle.std.proofs.lemmas.Map.Lookups.{CmpEqualImpliesEq, exact_bytes, exact_pairs}

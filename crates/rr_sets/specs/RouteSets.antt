@@ -1,10 +1,11 @@
 -- Which ranges of prefixes a set stands for.
-use Rattle.std.specs.Prelude.{◌≡◌, ℕ, ◌⊎◌, Bool, false, ◌||◌, List, Contains}
+use Rattle.std.specs.Prelude.{◌≡◌, ℕ, ◌⊎◌, ◌↔◌, Bool, false, ◌||◌, List, Contains}
 use Rattle.std.specs.Prelude.{IsTrue, Option, Some, is_some}
 use Rattle.std.specs.FinMap.{get}
 use Rattle.std.specs.Str.{bytes_eq}
 use Rattle.rr_auth.specs.Registries.{Reg}
 use Rattle.rr_graph.specs.Carried as carried
+use Rattle.rr_graph.specs.declared.labels.Edge.{Edge}
 use Rattle.rr_number.specs.AnySets.{as_any, rs_any}
 use Rattle.rr_number.specs.Applied.{applied}
 use Rattle.rr_number.specs.Prefixes.{PrefixParts}
@@ -55,6 +56,11 @@ abbrev pub Refers : Reg → MemberSet → MemberSet → Operator → Type 0
 Refers r (AutNum n) other operator = ⊥
 Refers r (Set name) other operator = RefersAs (kind_of name) r name other operator
 
+-- The references are exactly those of the set.
+abbrev pub AreReferences : Reg → MemberSet → List (Edge MemberSet Operator) → Type 0
+AreReferences r set references = (other : MemberSet) (operator : Operator)
+    → Contains references (record { to = other; label = operator }) ↔ Refers r set other operator
+
 -- A route of the AS is registered, and the range is that of its prefix alone (RFC 2622, 5).
 abbrev pub IsOriginated : Reg → ℕ → RangeParts → Type 0
 IsOriginated r n range = (prefix : PrefixParts) × (o : Obj)
@@ -102,6 +108,15 @@ IsReachedFrom r start set = carried.IsNamed (Refers r) (Set start) set
 -- A chain of references leads to a name that is not a set's (profile).
 abbrev pub IsMissingName : Reg → List ℕ → List ℕ → Type 0
 IsMissingName r start name = IsReachedFrom r start (Set name) × (has_set r name ≡ false)
+
+-- The ranges are exactly those that the set stands for.
+abbrev pub AreRangesIn : Reg → List ℕ → List RangeParts → Type 0
+AreRangesIn r start ranges = (range : RangeParts) → Contains ranges range ↔ InRouteSet r start range
+
+-- The names are exactly those that chains of references lead to in vain.
+abbrev pub AreMissingNames : Reg → List ℕ → List (List ℕ) → Type 0
+AreMissingNames r start names =
+    (name : List ℕ) → Contains names name ↔ IsMissingName r start name
 
 -- References lead to more than `limit` sets, or to more than `limit` pairs of such a set and a
 -- range that it stands for (profile).

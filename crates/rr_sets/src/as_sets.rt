@@ -4,14 +4,13 @@ ghost use Rattle.std.specs.Prelude.{◌≡◌, ◌↔◌, ℕ, List, not, true, 
 ghost use Rattle.std.specs.Prelude.{IfOk, OnOk, filter};
 ghost use Rattle.std.specs.BTreeSet.{IsFromIterResult};
 ghost use Rattle.std.specs.Option.{option_copied};
-ghost use Rattle.std.specs.Ordering.{nat_cmp};
-ghost use Rattle.std.specs.Cmp.Lexicographic.{slice_cmp};
 ghost use Rattle.std.specs.List.{filter_map};
 ghost use Rattle.std.specs.List.Sorted.{IsStrictlySortedBy};
 ghost use Rattle.std.proofs.lemmas.Map.Lookups.{CmpEqualImpliesEq};
 ghost use Rattle.rr_graph.specs.Chain.{MoreThan};
-ghost use Rattle.rr_sets.specs.AsSets.{InAsSet, IsDirect, IsMissing, IsReachedSet, ListsSet};
-ghost use Rattle.rr_sets.specs.AsSets.{has_as_set};
+ghost use Rattle.rr_sets.specs.AsSets.{AreMissing, AreNumbersIn, IsDirect, IsReachedSet};
+ghost use Rattle.rr_sets.specs.AsSets.{ListsSet, has_as_set};
+ghost use Rattle.rr_sets.specs.Lists.{AreAscendingNames};
 ghost use Rattle.rr_sets.specs.SetObjects.{set_listed};
 
 use crate::book::SetBook;
@@ -41,14 +40,13 @@ pub fn expand_as_set<B: SetBook>(
     name: &SetName,
     limit: usize,
 ) -> Result<Members<AsNumber>, ExpandFault>
-    ensures found { IfOk result (λ members. (n : ℕ)
-        → Contains members.found.items n ↔ InAsSet (B.contents book.now) name.now n) }
-    ensures missing { IfOk result (λ members. (s : List ℕ)
-        → Contains members.missing.items s ↔ IsMissing (B.contents book.now) name.now s) }
+    ensures found { IfOk result
+        (λ members. AreNumbersIn (B.contents book.now) name.now members.found.items) }
+    ensures missing { IfOk result
+        (λ members. AreMissing (B.contents book.now) name.now members.missing.items) }
     ensures found_sorted { IfOk result
         (λ members. IsStrictlySortedBy ⟦<AsNumber as Ord>⟧.cmp members.found.items) }
-    ensures missing_sorted { IfOk result
-        (λ members. IsStrictlySortedBy (slice_cmp nat_cmp) members.missing.items) }
+    ensures missing_sorted { IfOk result (λ members. AreAscendingNames members.missing.items) }
     ensures known { OnOk result (has_as_set (B.contents book.now) name.now ≡ true) }
     ensures few { OnOk result (¬ MoreThan limit (IsReachedSet (B.contents book.now) name.now)) }
     ensures unknown { result ≡ Err ExpandFault.NoSuchSet
@@ -71,14 +69,13 @@ fn expand_known<B: SetBook>(
     name: &SetName,
     limit: usize,
 ) -> Result<Members<AsNumber>, ExpandFault>
-    ensures found { IfOk result (λ members. (n : ℕ)
-        → Contains members.found.items n ↔ InAsSet (B.contents book.now) name.now n) }
-    ensures missing { IfOk result (λ members. (s : List ℕ)
-        → Contains members.missing.items s ↔ IsMissing (B.contents book.now) name.now s) }
+    ensures found { IfOk result
+        (λ members. AreNumbersIn (B.contents book.now) name.now members.found.items) }
+    ensures missing { IfOk result
+        (λ members. AreMissing (B.contents book.now) name.now members.missing.items) }
     ensures found_sorted { IfOk result
         (λ members. IsStrictlySortedBy ⟦<AsNumber as Ord>⟧.cmp members.found.items) }
-    ensures missing_sorted { IfOk result
-        (λ members. IsStrictlySortedBy (slice_cmp nat_cmp) members.missing.items) }
+    ensures missing_sorted { IfOk result (λ members. AreAscendingNames members.missing.items) }
     ensures few { OnOk result (¬ MoreThan limit (IsReachedSet (B.contents book.now) name.now)) }
     ensures known { result ≡ Err ExpandFault.NoSuchSet → ⊥ }
     ensures many { result ≡ Err ExpandFault.TooMany
@@ -101,8 +98,7 @@ fn members_of<B: SetBook>(
         ↔ (Contains names.now s × (has_as_set (B.contents book.now) s ≡ false))) }
     ensures found_sorted { IfOk result
         (λ members. IsStrictlySortedBy ⟦<AsNumber as Ord>⟧.cmp members.found.items) }
-    ensures missing_sorted { IfOk result
-        (λ members. IsStrictlySortedBy (slice_cmp nat_cmp) members.missing.items) }
+    ensures missing_sorted { IfOk result (λ members. AreAscendingNames members.missing.items) }
 {
     let found = sorted(alloc, numbers_in(alloc, book, names)?)?;
     let missing = sorted(alloc, missing_names(alloc, book, names)?)?;

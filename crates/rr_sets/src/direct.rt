@@ -66,7 +66,7 @@ fn any_numbers<B: SetBook>(
     }
 }
 
-/// The registered as-set of the name; the error is that memory ran out.
+/// The registered as-set of the name in a book, which is sound; the error is that memory ran out.
 pub fn as_set<'a, B: SetBook>(
     alloc: Global,
     book: &'a B,

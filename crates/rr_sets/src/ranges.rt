@@ -76,7 +76,7 @@ fn any_ranges<B: SetBook>(alloc: Global, book: &B, name: &SetName) -> Result<Vec
     }
 }
 
-/// The registered set of the name; the error is that memory ran out.
+/// The registered set of the name in a book, which is sound; the error is that memory ran out.
 pub fn registered_set<'a, B: SetBook>(
     alloc: Global,
     book: &'a B,

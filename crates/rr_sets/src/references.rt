@@ -7,7 +7,7 @@ ghost use Rattle.rr_number.specs.declared.operator.Operator.{Operator};
 ghost use Rattle.rr_object.specs.declared.member.MemberSet.{MemberSet};
 ghost use Rattle.rr_sets.specs.AsSets.{ListsSet};
 ghost use Rattle.rr_sets.specs.MemberParts.{reference_of, number_reference, set_reference};
-ghost use Rattle.rr_sets.specs.RouteSets.{AsSetRefers, Refers, RouteSetRefers};
+ghost use Rattle.rr_sets.specs.RouteSets.{AreReferences, AsSetRefers, RouteSetRefers};
 
 use crate::as_sets::sets_listed;
 use crate::book::SetBook;
@@ -27,9 +27,8 @@ pub fn references_of<B: SetBook>(
     book: &B,
     set: &MemberSet,
 ) -> Result<Vec<Reference>, AllocError>
-    ensures same { IfOk result (λ references. (other : MemberSet) (operator : Operator)
-        → Contains references.items (record { to = other; label = operator })
-        ↔ Refers (B.contents book.now) set.now other operator) }
+    ensures same { IfOk result
+        (λ references. AreReferences (B.contents book.now) set.now references.items) }
     ensures sorted { IfOk result (λ references.
         IsStrictlySortedBy ⟦<Edge<MemberSet, Operator> as Ord>⟧.cmp references.items) }
 {
@@ -44,9 +43,8 @@ fn all_references<B: SetBook>(
     book: &B,
     set: &MemberSet,
 ) -> Result<Vec<Reference>, AllocError>
-    ensures { IfOk result (λ references. (other : MemberSet) (operator : Operator)
-        → Contains references.items (record { to = other; label = operator })
-        ↔ Refers (B.contents book.now) set.now other operator) }
+    ensures { IfOk result
+        (λ references. AreReferences (B.contents book.now) set.now references.items) }
 {
     match set {
         MemberSet::AutNum(_) => Ok(Vec::new(alloc)),

@@ -1,17 +1,16 @@
 //! The expansion of sets into ranges of prefixes.
 
-ghost use Rattle.std.specs.Prelude.{◌≡◌, ◌↔◌, ℕ, List, true, false, Contains, IfOk};
+ghost use Rattle.std.specs.Prelude.{◌≡◌, ◌↔◌, true, false, Contains, IfOk};
 ghost use Rattle.std.specs.Prelude.{OnOk};
-ghost use Rattle.std.specs.Cmp.Lexicographic.{slice_cmp};
 ghost use Rattle.std.specs.List.{filter_map};
 ghost use Rattle.std.specs.List.Sorted.{IsStrictlySortedBy};
 ghost use Rattle.std.specs.Option.{option_copied};
-ghost use Rattle.std.specs.Ordering.{nat_cmp};
-ghost use Rattle.rr_number.specs.Ranges.{RangeParts, range_cmp};
+ghost use Rattle.rr_number.specs.Ranges.{range_cmp};
 ghost use Rattle.rr_object.specs.declared.member.MemberSet.{MemberSet};
+ghost use Rattle.rr_sets.specs.Lists.{AreAscendingNames};
 ghost use Rattle.rr_sets.specs.MemberParts.{missing_name};
-ghost use Rattle.rr_sets.specs.RouteSets.{HasTooMany, InRouteSet, IsMissingName, IsReachedFrom};
-ghost use Rattle.rr_sets.specs.RouteSets.{has_set};
+ghost use Rattle.rr_sets.specs.RouteSets.{AreMissingNames, AreRangesIn, HasTooMany};
+ghost use Rattle.rr_sets.specs.RouteSets.{IsReachedFrom, has_set};
 
 use crate::as_sets::sorted;
 use crate::book::SetBook;
@@ -48,14 +47,13 @@ pub fn expand_route_set<B: SetBook>(
     name: &SetName,
     limit: usize,
 ) -> Result<Members<Range>, ExpandFault>
-    ensures found { IfOk result (λ members. (range : RangeParts) → Contains members.found.items
-        range ↔ InRouteSet (B.contents book.now) name.now range) }
-    ensures missing { IfOk result (λ members. (s : List ℕ)
-        → Contains members.missing.items s ↔ IsMissingName (B.contents book.now) name.now s) }
+    ensures found { IfOk result
+        (λ members. AreRangesIn (B.contents book.now) name.now members.found.items) }
+    ensures missing { IfOk result
+        (λ members. AreMissingNames (B.contents book.now) name.now members.missing.items) }
     ensures found_sorted { IfOk result
         (λ members. IsStrictlySortedBy range_cmp members.found.items) }
-    ensures missing_sorted { IfOk result
-        (λ members. IsStrictlySortedBy (slice_cmp nat_cmp) members.missing.items) }
+    ensures missing_sorted { IfOk result (λ members. AreAscendingNames members.missing.items) }
     ensures known { OnOk result (has_set (B.contents book.now) name.now ≡ true) }
     ensures few { OnOk result (¬ HasTooMany (B.contents book.now) limit name.now) }
     ensures unknown { result ≡ Err ExpandFault.NoSuchSet
@@ -78,14 +76,13 @@ fn expand_known<B: SetBook>(
     name: &SetName,
     limit: usize,
 ) -> Result<Members<Range>, ExpandFault>
-    ensures found { IfOk result (λ members. (range : RangeParts) → Contains members.found.items
-        range ↔ InRouteSet (B.contents book.now) name.now range) }
-    ensures missing { IfOk result (λ members. (s : List ℕ)
-        → Contains members.missing.items s ↔ IsMissingName (B.contents book.now) name.now s) }
+    ensures found { IfOk result
+        (λ members. AreRangesIn (B.contents book.now) name.now members.found.items) }
+    ensures missing { IfOk result
+        (λ members. AreMissingNames (B.contents book.now) name.now members.missing.items) }
     ensures found_sorted { IfOk result
         (λ members. IsStrictlySortedBy range_cmp members.found.items) }
-    ensures missing_sorted { IfOk result
-        (λ members. IsStrictlySortedBy (slice_cmp nat_cmp) members.missing.items) }
+    ensures missing_sorted { IfOk result (λ members. AreAscendingNames members.missing.items) }
     ensures few { OnOk result (¬ HasTooMany (B.contents book.now) limit name.now) }
     ensures known { result ≡ Err ExpandFault.NoSuchSet → ⊥ }
     ensures many { result ≡ Err ExpandFault.TooMany
@@ -171,8 +168,8 @@ fn gathered<B: SetBook>(
 ) -> Result<Gathered<MemberSet, Range>, ReachFault>
     ensures nodes { IfOk result (λ gathered. (set : MemberSet) → Contains gathered.nodes.items
         set ↔ IsReachedFrom (B.contents book.now) name.now set) }
-    ensures values { IfOk result (λ gathered. (range : RangeParts) → Contains
-        gathered.values.items range ↔ InRouteSet (B.contents book.now) name.now range) }
+    ensures values { IfOk result
+        (λ gathered. AreRangesIn (B.contents book.now) name.now gathered.values.items) }
     ensures sorted { IfOk result (λ gathered. IsStrictlySortedBy range_cmp gathered.values.items) }
     ensures few { OnOk result (¬ HasTooMany (B.contents book.now) limit name.now) }
     ensures many { result ≡ Err ReachFault.TooMany

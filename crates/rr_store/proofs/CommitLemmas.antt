@@ -7,7 +7,7 @@ use Rattle.sqlite.specs.Held.{Held, state}
 use Rattle.sqlite.proofs.Callers.{survives_begin}
 use Rattle.sqlite.proofs.StateLemmas.{survives_then, survives_weaker}
 use Rattle.rr_rows.specs.Entries.{TreesOf}
-use Rattle.rr_store.specs.Calls.{IsSettled, Writes}
+use Rattle.rr_store.specs.Calls.{Writes}
 use Rattle.rr_store.proofs.BodyLemmas.{then_ok}
 use Rattle.rr_store.proofs.LookLemmas.{of_both, on_err_as}
 
@@ -37,7 +37,7 @@ module _ {S X Y E F : Type 0} (g : Ghosts S) (old begun mid new : Held S) (work 
 
   module _ (first : Survives (state g begun) (state g mid) (λ _. ⊥)) (kept : HasCleanDisk (state g mid) → KeepsCommit (state g begun) (state g mid)) (settled : IsTrue (state g old).is_open → (state g old).now ≡ (state g old).committed)
       (autocommit : new.in_transaction ≡ false) (done : OnOk result (IsOk work)) (ok : HasCleanDisk (state g new) → OnOk result ((state g new).now ≡ (state g mid).now)) (is_open : HasCleanDisk (state g new) → OnOk result (IsTrue (state g new).is_open))
-      (stands : HasCleanDisk (state g new) → OnOk result (IsSettled g new)) (was_open : HasCleanDisk (state g new) → OnOk result (IsTrue (state g mid).is_open))
+      (was_open : HasCleanDisk (state g new) → OnOk result (IsTrue (state g mid).is_open))
       (err : HasCleanDisk (state g new) → IsTrue (state g new).is_open → OnErr result (((state g new).now ≡ (state g mid).committed) × IsTrue (state g mid).is_open)) where
     earlier : HasCleanDisk (state g new) → HasCleanDisk (state g mid)
     earlier clean = omega (arith, last.clean)
@@ -57,7 +57,6 @@ module _ {S X Y E F : Type 0} (g : Ghosts S) (old begun mid new : Held S) (work 
       opened = λ clean on. open_from clean (of_both result _ (was_open clean) (on_err_as result (err clean on) (λ both. both.1)));
       done = ended_ok done ok;
       is_open = is_open;
-      settled = stands;
       kept = λ clean on. on_err_as result (err clean on) (back clean);
       crash = ended_survives first;
     }
@@ -74,7 +73,6 @@ module _ {S : Type 0} (g : Ghosts S) (old new : Held S) (P Q : Database → Data
     opened = w.opened;
     done = λ clean. then_ok r (w.done clean) (follows clean (state g new).now);
     is_open = w.is_open;
-    settled = w.settled;
     kept = w.kept;
     crash = survives_weaker (state g old) (state g new) (TreesOf (P (state g old).now)) (TreesOf (Q (state g old).now)) (λ clean trees left. (left.0, follows clean left.0 left.1, left.2)) w.crash;
   }
@@ -83,7 +81,7 @@ module _ {S : Type 0} (g : Ghosts S) (old new : Held S) (P Q : Database → Data
   pub writes_failed : {X E Y F : Type 0} (r : Result X E) (q : Result Y F) → IsErr r → IsErr q → Writes g P old new r → Writes g P old new q
   writes_failed (Ok x) q is_r is_q w = absurd (let e = is_r in cc)
   writes_failed (Err e) (Ok y) is_r is_q w = absurd (let e = is_q in cc)
-  writes_failed (Err e) (Err f) is_r is_q w = record { autocommit = w.autocommit; opened = w.opened; done = λ clean. tt; is_open = λ clean. tt; settled = λ clean. tt; kept = w.kept; crash = w.crash }
+  writes_failed (Err e) (Err f) is_r is_q w = record { autocommit = w.autocommit; opened = w.opened; done = λ clean. tt; is_open = λ clean. tt; kept = w.kept; crash = w.crash }
 
   pub writes_ok : {X E Y F : Type 0} (x : X) (r : Result X E) (y : Y) (q : Result Y F) → r ≡ Ok x → q ≡ Ok y → Writes g P old new r → Writes g P old new q
   writes_ok x r y q is_r is_q w = record {
@@ -91,7 +89,6 @@ module _ {S : Type 0} (g : Ghosts S) (old new : Held S) (P Q : Database → Data
     opened = w.opened;
     done = λ clean. rw is_q (rw is_r at (w.done clean));
     is_open = λ clean. rw is_q (rw is_r at (w.is_open clean));
-    settled = λ clean. rw is_q (rw is_r at (w.settled clean));
     kept = λ clean on. rw is_q tt;
     crash = w.crash;
   }

@@ -169,7 +169,6 @@ module _ {S : Type 0} (g : Ghosts S) where
           opened = λ clean on. (same (before clean)).0.was_open;
           done = λ clean. then_ok r (two.done clean) (λ made. subst (λ d. Change d (state g c).now) (same (before clean)).0.now_is made);
           is_open = two.is_open;
-          settled = two.settled;
           kept = λ clean on. on_err_as r (two.kept clean on) (λ is. is ∙ (same (before clean)).0.now_is);
           crash = survives_then (state g a) (state g b) (state g c) (λ _. ⊥) (TreesOf (Change (state g b).now)) (TreesOf (Change (state g a).now)) (λ _ db h. absurd h)
               (λ clean db made. subst (λ d. TreesOf (Change d) db) (same (before clean)).0.now_is made) one.crash two.crash;
@@ -183,7 +182,6 @@ module _ {S : Type 0} (g : Ghosts S) where
     opened = one.opened;
     done = λ clean. tt;
     is_open = λ clean. tt;
-    settled = λ clean. tt;
     kept = one.same;
     crash = survives_weaker (state g a) (state g b) (λ _. ⊥) (TreesOf (Change (state g a).now)) (λ clean db h. absurd h) one.crash;
   }

@@ -24,10 +24,10 @@ module _ {S : Type 0} (g : Ghosts S) where
   abbrev pub IsOpen : Held S → Type 0
   IsOpen conn = OnCleanDisk conn (IsTrue (state g conn).is_open)
 
-  -- a stop leaves the rows that stand, and no others
+  -- while the connection is open, a stop leaves the rows that stand, and no others
   abbrev pub IsSettled : Held S → Type 0
-  IsSettled conn =
-      (trees : Trees) → (state g conn).may_leave trees → trees ≡ (database conn).trees
+  IsSettled conn = IsTrue (state g conn).is_open
+      → (trees : Trees) → (state g conn).may_leave trees → trees ≡ (database conn).trees
 
   -- nothing changes, and a stop leaves what it left before
   pub record Rests (old new : Held S) : Type 0 where
@@ -42,13 +42,12 @@ module _ {S : Type 0} (g : Ghosts S) where
     pub same : OnCleanDisk new (OnOk result (IsUnchanged (state g old) (state g new)))
 
   -- one transaction makes this change, or fails and leaves the rows as they were; a stop leaves one
-  -- of the two, and once the change was made this one
+  -- of the two
   pub record Writes {X E : Type 0} (Change : Database → Database → Type 0) (old new : Held S)
       (result : Result X E) : Type 0 where
     pub autocommit : old.in_transaction ≡ false → new.in_transaction ≡ false
     pub opened : WhileOpen new (IsTrue (state g old).is_open)
     pub done : OnCleanDisk new (OnOk result (Change (database old) (database new)))
     pub is_open : OnCleanDisk new (OnOk result (IsTrue (state g new).is_open))
-    pub settled : OnCleanDisk new (OnOk result (IsSettled new))
     pub kept : WhileOpen new (OnErr result (database new ≡ database old))
     pub crash : Survives (state g old) (state g new) (TreesOf (Change (database old)))

@@ -1,15 +1,17 @@
 -- What private functions that check the rows of tables promise each other. No public clause cites
 -- these.
 use Rattle.std.specs.Prelude.{◌≡◌, ◌≢◌, ℕ, ◌<◌, ◌^◌, List, [], ◌∷◌}
-use Rattle.std.specs.Prelude.{IsPermutation, codes}
+use Rattle.std.specs.Prelude.{IsPermutation, codes, map}
+use Rattle.std.specs.List.{flat_map}
 use Rattle.sqlite_value.specs.Order.{Row}
 use Rattle.rr_object.specs.Objects.{Obj}
 use Rattle.sqlite.specs.Effect.{Database}
-use Rattle.rr_rows.specs.Contents.{AreKeyed, setting}
-use Rattle.rr_rows.specs.Maps.{KeyForm}
+use Rattle.rr_rows.specs.Contents.{AreKeyed, contents, pointed, setting}
+use Rattle.rr_rows.specs.Entries.{named_rows}
+use Rattle.rr_rows.specs.Maps.{KeyForm, entry_in, this_form}
 use Rattle.rr_rows.specs.Tables.{HasTables}
 use Rattle.rr_store.specs.ReadingParts.{AreNone, AreRead}
-use Rattle.rr_store.specs.Versions.{SaysVersion, version_number, version_text}
+use Rattle.rr_store.specs.Versions.{SaysVersion, form_of, version_number, version_text}
 use Rattle.rr_store.specs.declared.version.Version.{Version}
 use Rattle.rr_store.specs.declared.fault.OpenFault.{OpenFault}
 use Rattle.rr_store.specs.declared.fault.OpenFault.TheVariants.{WrongVersion, BadRow, Store, Memory}
@@ -31,6 +33,15 @@ pub record HasSettings (db : Database) : Type 0 where
   pub tables : HasTables db.schema
   pub keyed : AreKeyed (db.trees 0)
 
+-- rows, in some order, are those of the maintainers that the objects name (profile)
+abbrev pub AreNamingRows : Version → List Obj → List Row → Type 0
+AreNamingRows version objects rows =
+    IsPermutation (flat_map named_rows (map (entry_in (form_of version)) objects)) rows
+
+-- the tables name these, and no others
+abbrev pub NamesAre : Version → List Obj → Database → Type 0
+NamesAre version objects db = AreNamingRows version objects (contents (db.trees 4))
+
 -- rows, in some order, are those of these objects (profile)
 pub record HoldsObjects (form : KeyForm) (source : List ℕ) (objects : List Obj) (held : List Row)
     : Type 0 where
@@ -43,3 +54,18 @@ pub record HoldsNone (form : KeyForm) (source : List ℕ) (held : List Row) : Ty
   pub rows : List Row
   pub same : IsPermutation held rows
   pub none : AreNone form source rows
+
+-- `object` holds the rows of these objects
+abbrev pub TableHolds : Version → List ℕ → List Obj → Database → Type 0
+TableHolds version source objects db =
+    HoldsObjects (form_of version) source objects (contents (db.trees 2))
+
+-- or of none
+abbrev pub TableHoldsNone : Version → List ℕ → Database → Type 0
+TableHoldsNone version source db = HoldsNone (form_of version) source (contents (db.trees 2))
+
+-- the objects are those to which `named` points from this maintainer
+abbrev pub NamedPointsTo : List ℕ → List ℕ → List Obj → Database → Type 0
+NamedPointsTo source name objects db =
+    HoldsObjects this_form source objects
+    (pointed name (contents (db.trees 4)) (contents (db.trees 2)))

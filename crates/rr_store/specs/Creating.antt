@@ -1,5 +1,5 @@
 -- What becomes of a call that makes a store.
-use Rattle.std.specs.Prelude.{◌≡◌, false, List, map, IsTrue}
+use Rattle.std.specs.Prelude.{◌≡◌, false, List, map}
 use Rattle.std.specs.List.{AllByRecursion}
 use Rattle.sqlite_trees.specs.declared.store.Store.{Ghosts}
 use Rattle.sqlite.specs.Effect.{Database}
@@ -10,7 +10,7 @@ use Rattle.rr_rows.specs.Entries.{TreesOf, entry_of}
 use Rattle.rr_rows.specs.Made.{HasItsTables, HasRow, IsVacant}
 use Rattle.rr_rows.specs.Maps.{IsFilled, IsObject}
 use Rattle.rr_rows.specs.Tables.{HasTables}
-use Rattle.rr_store.specs.Calls.{IsSettled, OnCleanDisk, WhileOpen, database}
+use Rattle.rr_store.specs.Calls.{IsOpen, IsSettled, OnCleanDisk, WhileOpen, database}
 use Rattle.rr_store.specs.declared.fault.CreateFault.{CreateFault}
 use Rattle.rr_store.specs.declared.fault.CreateFault.TheVariants.{NotEmpty}
 
@@ -25,8 +25,8 @@ module _ {S : Type 0} (g : Ghosts S) (objects : List Obj) (conn : Held S) where
   pub record MakesStore (store : Held S) : Type 0 where
     pub filled : OnCleanDisk g store (IsStoreOf objects (database g store))
     pub tables : OnCleanDisk g store (HasItsTables (database g conn) (database g store))
-    pub is_open : OnCleanDisk g store (IsTrue (state g store).is_open)
-    pub settled : OnCleanDisk g store (IsSettled g store)
+    pub is_open : IsOpen g store
+    pub settled : IsSettled g store
     pub vacant : OnCleanDisk g store (IsVacant (database g conn))
     pub crash : Survives (state g conn) (state g store) (TreesOf (IsStoreOf objects))
     pub crash_tables : Survives (state g conn) (state g store)
@@ -36,6 +36,7 @@ module _ {S : Type 0} (g : Ghosts S) (objects : List Obj) (conn : Held S) where
   pub record FailsToMake (left : Held S) (fault : CreateFault) : Type 0 where
     pub autocommit : left.in_transaction ≡ false
     pub kept : WhileOpen g left (database g left ≡ database g conn)
+    pub settled : IsSettled g left
     pub not_empty : fault ≡ NotEmpty
         → OnCleanDisk g left (HasTables (database g conn).schema × HasRow (database g conn))
     pub crash : Survives (state g conn) (state g left) (TreesOf (IsStoreOf objects))

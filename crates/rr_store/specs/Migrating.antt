@@ -1,6 +1,6 @@
 -- What migration makes of tables of version 1.
 use Rattle.std.specs.Prelude.{◌≡◌, ℕ, Bool, true, false, List, [], ◌∷◌, ◌++◌}
-use Rattle.std.specs.Prelude.{codes, IsTrue}
+use Rattle.std.specs.Prelude.{codes}
 use Rattle.std.specs.List.{list_any}
 use Rattle.sqlite_trees.specs.declared.store.Store.{Ghosts}
 use Rattle.sqlite.specs.Effect.{Database}
@@ -14,7 +14,7 @@ use Rattle.rr_rows.specs.Contents.{KeepsOthers}
 use Rattle.rr_rows.specs.Entries.{TreesOf}
 use Rattle.rr_rows.specs.Maps.{AreOldStored, AreStored}
 use Rattle.rr_rows.specs.Tables.{HasTables}
-use Rattle.rr_store.specs.Calls.{IsSettled, OnCleanDisk, WhileOpen, database}
+use Rattle.rr_store.specs.Calls.{IsOpen, IsSettled, OnCleanDisk, WhileOpen, database}
 use Rattle.rr_store.specs.Opening.{HoldNone, IsNotOld, IsOfNoneButOld}
 use Rattle.rr_store.specs.declared.version.Version.TheVariants.{Old}
 use Rattle.rr_store.specs.declared.fault.MigrateFault.{MigrateFault}
@@ -70,8 +70,8 @@ module _ {S : Type 0} (g : Ghosts S) (root source : List ℕ) (conn : Held S) wh
   -- the tables are migrated, and the store of their objects and the block is open
   pub record MigratesStore (store : Held S) : Type 0 where
     pub migrated : OnCleanDisk g store (IsMigrated root source (database g conn) (database g store))
-    pub is_open : OnCleanDisk g store (IsTrue (state g store).is_open)
-    pub settled : OnCleanDisk g store (IsSettled g store)
+    pub is_open : IsOpen g store
+    pub settled : IsSettled g store
     pub crash : Survives (state g conn) (state g store)
         (TreesOf (IsMigrated root source (database g conn)))
 
@@ -79,6 +79,7 @@ module _ {S : Type 0} (g : Ghosts S) (root source : List ℕ) (conn : Held S) wh
   pub record FailsToMigrate (left : Held S) (fault : MigrateFault) : Type 0 where
     pub autocommit : left.in_transaction ≡ false
     pub kept : WhileOpen g left (database g left ≡ database g conn)
+    pub settled : IsSettled g left
     pub why : OnCleanDisk g left (RefusesOldTables root source (database g conn) fault)
     pub crash : Survives (state g conn) (state g left)
         (TreesOf (IsMigrated root source (database g conn)))

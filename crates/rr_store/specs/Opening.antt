@@ -1,5 +1,5 @@
 -- What becomes of a call that opens a store.
-use Rattle.std.specs.Prelude.{◌≡◌, ◌≢◌, ℕ, ◌<◌, ◌^◌, List, IsTrue}
+use Rattle.std.specs.Prelude.{◌≡◌, ◌≢◌, ℕ, ◌<◌, ◌^◌, List}
 use Rattle.std.specs.List.{AllByRecursion}
 use Rattle.sqlite_trees.specs.declared.store.Store.{Ghosts}
 use Rattle.sqlite.specs.Effect.{Database}
@@ -9,7 +9,7 @@ use Rattle.rr_object.specs.Objects.{Obj}
 use Rattle.rr_rows.specs.Contents.{settings}
 use Rattle.rr_rows.specs.Maps.{AreInOrder, AreStored, AreStoredIn, IsObjectOf}
 use Rattle.rr_rows.specs.Tables.{HasTables}
-use Rattle.rr_store.specs.Calls.{IsSettled, OnCleanDisk, Rests, database}
+use Rattle.rr_store.specs.Calls.{IsOpen, IsSettled, OnCleanDisk, Rests, database}
 use Rattle.rr_store.specs.Versions.{SaysVersion, form_of, version_number, version_text}
 use Rattle.rr_store.specs.declared.fault.OpenFault.{OpenFault}
 use Rattle.rr_store.specs.declared.fault.OpenFault.TheVariants.{WrongVersion, BadRow, Store, Memory}
@@ -26,6 +26,10 @@ SaysOther version number db =
 pub record SaysNoOther (version : Version) (db : Database) : Type 0 where
   pub only : (number : ℕ) → number < 2 ^ 32 → SaysVersion number (settings (db.trees 0))
       → number ≡ version_number version
+
+-- the objects are such as readers make in a registry of the source
+abbrev pub AreObjectsOf : List ℕ → List Obj → Type 0
+AreObjectsOf source = AllByRecursion (IsObjectOf source)
 
 -- the tables of this version hold the rows of these objects, all of the source (profile)
 abbrev pub AreStoredAs : Version → List ℕ → List Obj → Database → Type 0
@@ -83,13 +87,14 @@ module _ {S : Type 0} (g : Ghosts S) (source : List ℕ) (conn : Held S) where
   pub record OpensStore (store : Held S) (objects : List Obj) : Type 0 where
     pub stored : OnCleanDisk g store (AreStored source objects (database g store))
     pub in_order : AreInOrder objects
-    pub of_source : AllByRecursion (IsObjectOf source) objects
+    pub of_source : AreObjectsOf source objects
     pub same : OnCleanDisk g store (database g store ≡ database g conn)
-    pub is_open : OnCleanDisk g store (IsTrue (state g store).is_open)
-    pub settled : OnCleanDisk g store (IsSettled g store)
+    pub is_open : IsOpen g store
+    pub settled : IsSettled g store
     pub crash : Survives (state g conn) (state g store) (λ _. ⊥)
 
   -- the rows are as they were, and the fault says why they are not read
   pub record FailsToOpen (left : Held S) (fault : OpenFault) : Type 0 where
     pub rests : Rests g conn left
+    pub settled : IsSettled g left
     pub why : OnCleanDisk g left (RefusesTables This source (database g conn) fault)

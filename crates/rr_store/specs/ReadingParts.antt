@@ -18,6 +18,8 @@ use Rattle.rr_object.specs.Keys.{class_of}
 use Rattle.rr_object.specs.Objects.{Obj}
 use Rattle.rr_rows.specs.Contents.{object_values}
 use Rattle.rr_rows.specs.Maps.{IsObjectOf, KeyForm}
+use Rattle.rr_store.specs.declared.fault.OpenFault.{OpenFault}
+use Rattle.rr_store.specs.declared.fault.OpenFault.TheVariants.{WrongVersion}
 
 -- the source that the first attribute `source` names (RFC 2622, 3.1)
 abbrev pub first_source : List Field → Option (List ℕ)
@@ -42,6 +44,10 @@ AreRead form source (row ∷ rows) (object ∷ objects) =
 -- rows are those of no objects of a source (profile)
 abbrev pub AreNone : KeyForm → List ℕ → List Row → Type 0
 AreNone form source rows = (objects : List Obj) → AreRead form source rows objects → ⊥
+
+-- the fault tells of no other version
+abbrev pub TellsNoVersion : OpenFault → Type 0
+TellsNoVersion = λ fault. (number : ℕ) → fault ≡ WrongVersion number → ⊥
 
 -- objects in the order of their keys
 abbrev pub by_key : Obj → Obj → Ordering

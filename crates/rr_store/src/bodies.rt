@@ -1,6 +1,6 @@
 //! What a transaction does before its commit.
 
-ghost use Rattle.std.specs.Prelude.{◌≡◌, [], ◌∷◌, map, OnOk, IsTrue};
+ghost use Rattle.std.specs.Prelude.{◌≡◌, [], ◌∷◌, map};
 ghost use Rattle.rr_rows.specs.Contents.{Adds, Alters, IsTidy, Removes, is_name_among};
 ghost use Rattle.rr_rows.specs.Contents.{is_named_of, named_values};
 ghost use Rattle.rr_rows.specs.Entries.{IsAdded, IsPut, IsTakenOut};
@@ -17,6 +17,7 @@ use rr_number::Name;
 use sqlite::{Alter, Error, Transaction};
 use std::alloc::Global;
 
+/// Adds the rows of the names with this class and key.
 fn add_names<S: Alter>(
     tx: &mut Transaction<'_, S>,
     names: &[Name],

@@ -1,19 +1,19 @@
 //! What the rows of the three tables say, each table by itself.
 
-ghost use Rattle.std.specs.Prelude.{◌≡◌, ℕ, [], ◌∷◌, codes, false, IfErr, IfOk};
-ghost use Rattle.std.specs.Prelude.{IsPermutation};
+ghost use Rattle.std.specs.Prelude.{◌≡◌, [], ◌∷◌, codes, false, IfErr, IfOk};
 ghost use Rattle.std.specs.Prelude.{OnOk};
-ghost use Rattle.std.specs.Prelude.{IsSorted, map};
-ghost use Rattle.std.specs.List.{AllByRecursion, flat_map};
+ghost use Rattle.std.specs.Prelude.{IsSorted};
 ghost use Rattle.sqlite.specs.Held.{state};
 ghost use Rattle.sqlite.specs.State.{IsUnchanged};
-ghost use Rattle.rr_rows.specs.Contents.{AreKeyed, by_three, contents, pointed, setting, settings};
-ghost use Rattle.rr_rows.specs.Entries.{named_rows};
-ghost use Rattle.rr_rows.specs.Maps.{AreInOrder, HasVersion, IsObjectOf, entry_in, this_form};
+ghost use Rattle.rr_rows.specs.Contents.{AreKeyed, by_three, contents, setting, settings};
+ghost use Rattle.rr_rows.specs.Maps.{AreInOrder, HasVersion, this_form};
 ghost use Rattle.rr_rows.specs.Tables.{HasTables};
 ghost use Rattle.rr_store.specs.Calls.{Looks, OnCleanDisk, database};
-ghost use Rattle.rr_store.specs.CheckParts.{HoldsNone, HoldsObjects, IsVersionFault};
-ghost use Rattle.rr_store.specs.Versions.{form_of, version_text};
+ghost use Rattle.rr_store.specs.CheckParts.{AreNamingRows, HoldsObjects, IsVersionFault};
+ghost use Rattle.rr_store.specs.CheckParts.{NamedPointsTo, NamesAre, TableHolds, TableHoldsNone};
+ghost use Rattle.rr_store.specs.Opening.{AreObjectsOf};
+ghost use Rattle.rr_store.specs.ReadingParts.{TellsNoVersion};
+ghost use Rattle.rr_store.specs.Versions.{version_text};
 ghost use Rattle.rr_store.specs.declared.fault.OpenFault.TheVariants.{BadRow, Memory, WrongVersion};
 
 use crate::fault::{NO_TABLES, OpenFault};
@@ -31,7 +31,7 @@ use rr_rows::has_tables;
 use sqlite::{Alter, Connection, Row};
 use std::alloc::Global;
 
-/// Whether the settings are the one that says this version.
+/// Checks that the settings are the one that says this version.
 fn judge_version(rows: &[Row], version: Version) -> Result<(), OpenFault>
     ensures ok { OnOk result
         (rows.now ≡ setting (codes "version") (version_text version) ∷ []) }
@@ -47,7 +47,7 @@ fn judge_version(rows: &[Row], version: Version) -> Result<(), OpenFault>
     }
 }
 
-/// Whether the tables are of this version.
+/// Checks that the tables are of this version.
 pub(crate) fn check_version<S: Alter>(
     conn: &mut Connection<S>,
     version: Version,
@@ -77,21 +77,17 @@ pub(crate) fn check_objects<S: Alter>(
     ensures keyed { OnCleanDisk S.Store conn.new (OnOk result
         (AreKeyed ((database S.Store conn.old).trees 2))) }
     ensures read { OnCleanDisk S.Store conn.new (IfOk result (λ objects.
-        HoldsObjects (form_of version) source.now objects.items
-        (contents ((database S.Store conn.old).trees 2)))) }
-    ensures of_source { IfOk result (λ objects.
-        AllByRecursion (IsObjectOf source.now) objects.items) }
+        TableHolds version source.now objects.items (database S.Store conn.old))) }
+    ensures of_source { IfOk result (λ objects. AreObjectsOf source.now objects.items) }
     ensures bad_row { OnCleanDisk S.Store conn.new (IfErr result (λ fault. fault ≡ BadRow →
-        HoldsNone (form_of version) source.now
-        (contents ((database S.Store conn.old).trees 2)))) }
-    ensures no_other { IfErr result
-        (λ fault. (number : ℕ) → fault ≡ WrongVersion number → ⊥) }
+        TableHoldsNone version source.now (database S.Store conn.old))) }
+    ensures no_other { IfErr result TellsNoVersion }
 {
     let count = count_object(conn)?;
     read_objects(conn, alloc, count, source, version)
 }
 
-/// The objects that tables of this version hold, in order of class and key.
+/// The objects that tables of version 2 hold, in order of class and key.
 pub(crate) fn all_objects<S: Alter>(
     conn: &mut Connection<S>,
     alloc: Global,
@@ -103,8 +99,7 @@ pub(crate) fn all_objects<S: Alter>(
         HoldsObjects this_form source.now objects.items
         (contents ((database S.Store conn.old).trees 2)))) }
     ensures in_order { IfOk result (λ objects. AreInOrder objects.items) }
-    ensures of_source { IfOk result (λ objects.
-        AllByRecursion (IsObjectOf source.now) objects.items) }
+    ensures of_source { IfOk result (λ objects. AreObjectsOf source.now objects.items) }
 {
     if !has_tables(conn.schema()) {
         return Err(OpenFault::Store(NO_TABLES));
@@ -113,21 +108,18 @@ pub(crate) fn all_objects<S: Alter>(
     in_order(objects)
 }
 
-/// Whether the rows of `named`, by maintainer, class and key, are those of the maintainers that the
-/// objects name.
+/// Checks that the rows of `named`, by maintainer, class and key, are those of the maintainers that
+/// the objects name.
 fn judge_names(
     alloc: Global,
     rows: &[Row],
     objects: &[Object],
     version: Version,
 ) -> Result<(), OpenFault>
-    ensures ok { OnOk result (IsPermutation
-        (flat_map named_rows (map (entry_in (form_of version)) objects.now)) rows.now) }
+    ensures ok { OnOk result (AreNamingRows version objects.now rows.now) }
     ensures bad_row { IsSorted by_three rows.now → IfErr result (λ fault. fault ≡ BadRow →
-        IsPermutation (flat_map named_rows (map (entry_in (form_of version)) objects.now))
-        rows.now → ⊥) }
-    ensures no_other { IfErr result
-        (λ fault. (number : ℕ) → fault ≡ WrongVersion number → ⊥) }
+        AreNamingRows version objects.now rows.now → ⊥) }
+    ensures no_other { IfErr result TellsNoVersion }
 {
     if are_named(alloc, rows, objects, version)? {
         Ok(())
@@ -136,7 +128,7 @@ fn judge_names(
     }
 }
 
-/// Whether the tables name the maintainers of the objects, and no others, in whatever order.
+/// Checks that the tables name the maintainers of the objects, and no others, in whatever order.
 fn check_sorted_names<S: Alter>(
     conn: &mut Connection<S>,
     alloc: Global,
@@ -146,20 +138,17 @@ fn check_sorted_names<S: Alter>(
     requires autocommit { conn.old.in_transaction ≡ false }
     requires tables { OnCleanDisk S.Store conn.old (HasTables conn.old.schema) }
     ensures looks { Looks S.Store conn.old conn.new result }
-    ensures ok { OnCleanDisk S.Store conn.new (OnOk result (
-        IsPermutation (flat_map named_rows (map (entry_in (form_of version)) objects.now))
-        (contents ((database S.Store conn.old).trees 4)))) }
+    ensures ok { OnCleanDisk S.Store conn.new (OnOk result
+        (NamesAre version objects.now (database S.Store conn.old))) }
     ensures bad_row { OnCleanDisk S.Store conn.new (IfErr result (λ fault. fault ≡ BadRow →
-        IsPermutation (flat_map named_rows (map (entry_in (form_of version)) objects.now))
-        (contents ((database S.Store conn.old).trees 4)) → ⊥)) }
-    ensures no_other { IfErr result
-        (λ fault. (number : ℕ) → fault ≡ WrongVersion number → ⊥) }
+        NamesAre version objects.now (database S.Store conn.old) → ⊥)) }
+    ensures no_other { IfErr result TellsNoVersion }
 {
     let rows = sorted_named_rows(conn)?;
     judge_names(alloc, &rows, objects, version)
 }
 
-/// Whether the tables name the maintainers of the objects, and no others.
+/// Checks that the tables name the maintainers of the objects, and no others.
 fn check_named<S: Alter>(
     conn: &mut Connection<S>,
     alloc: Global,
@@ -169,14 +158,11 @@ fn check_named<S: Alter>(
     requires autocommit { conn.old.in_transaction ≡ false }
     requires tables { OnCleanDisk S.Store conn.old (HasTables conn.old.schema) }
     ensures looks { Looks S.Store conn.old conn.new result }
-    ensures ok { OnCleanDisk S.Store conn.new (OnOk result (
-        IsPermutation (flat_map named_rows (map (entry_in (form_of version)) objects.now))
-        (contents ((database S.Store conn.old).trees 4)))) }
+    ensures ok { OnCleanDisk S.Store conn.new (OnOk result
+        (NamesAre version objects.now (database S.Store conn.old))) }
     ensures bad_row { OnCleanDisk S.Store conn.new (IfErr result (λ fault. fault ≡ BadRow →
-        IsPermutation (flat_map named_rows (map (entry_in (form_of version)) objects.now))
-        (contents ((database S.Store conn.old).trees 4)) → ⊥)) }
-    ensures no_other { IfErr result
-        (λ fault. (number : ℕ) → fault ≡ WrongVersion number → ⊥) }
+        NamesAre version objects.now (database S.Store conn.old) → ⊥)) }
+    ensures no_other { IfErr result TellsNoVersion }
 {
     if names_in_turn(conn, alloc, objects, version)? {
         return Ok(());
@@ -184,7 +170,7 @@ fn check_named<S: Alter>(
     check_sorted_names(conn, alloc, objects, version)
 }
 
-/// Whether the tables name the maintainers of the objects, and no others. Rows of `named` have
+/// Checks that the tables name the maintainers of the objects, and no others. Rows of `named` have
 /// numbers of their own, and stand in the order of the objects unless others wrote them: only then
 /// they are asked for once more, and compared in order.
 pub(crate) fn check_names<S: Alter>(
@@ -198,14 +184,11 @@ pub(crate) fn check_names<S: Alter>(
     ensures looks { Looks S.Store conn.old conn.new result }
     ensures keyed { OnCleanDisk S.Store conn.new (OnOk result
         (AreKeyed ((database S.Store conn.old).trees 4))) }
-    ensures ok { OnCleanDisk S.Store conn.new (OnOk result (
-        IsPermutation (flat_map named_rows (map (entry_in (form_of version)) objects.now))
-        (contents ((database S.Store conn.old).trees 4)))) }
+    ensures ok { OnCleanDisk S.Store conn.new (OnOk result
+        (NamesAre version objects.now (database S.Store conn.old))) }
     ensures bad_row { OnCleanDisk S.Store conn.new (IfErr result (λ fault. fault ≡ BadRow →
-        IsPermutation (flat_map named_rows (map (entry_in (form_of version)) objects.now))
-        (contents ((database S.Store conn.old).trees 4)) → ⊥)) }
-    ensures no_other { IfErr result
-        (λ fault. (number : ℕ) → fault ≡ WrongVersion number → ⊥) }
+        NamesAre version objects.now (database S.Store conn.old) → ⊥)) }
+    ensures no_other { IfErr result TellsNoVersion }
 {
     let _count = count_named(conn)?;
     check_named(conn, alloc, objects, version)
@@ -221,12 +204,9 @@ pub(crate) fn naming_objects<S: Alter>(
     requires autocommit { conn.old.in_transaction ≡ false }
     ensures looks { Looks S.Store conn.old conn.new result }
     ensures read { OnCleanDisk S.Store conn.new (IfOk result (λ objects.
-        HoldsObjects this_form source.now objects.items
-        (pointed name.now (contents ((database S.Store conn.old).trees 4))
-        (contents ((database S.Store conn.old).trees 2))))) }
+        NamedPointsTo source.now name.now objects.items (database S.Store conn.old))) }
     ensures in_order { IfOk result (λ objects. AreInOrder objects.items) }
-    ensures of_source { IfOk result (λ objects.
-        AllByRecursion (IsObjectOf source.now) objects.items) }
+    ensures of_source { IfOk result (λ objects. AreObjectsOf source.now objects.items) }
     ensures memory { OnCleanDisk S.Store conn.new (IfErr result (λ fault. fault ≡ Memory →
         IsUnchanged (state S.Store conn.old) (state S.Store conn.new))) }
 {

@@ -8,6 +8,7 @@ ghost use Rattle.rr_rows.specs.Contents.{columns, named_values, object_values, s
 use sqlite::Row;
 use sqlite_value::value::ValueRef;
 
+/// Whether the row has the number at this place.
 fn has_number(row: &Row, at: usize, number: u8) -> bool
     ensures is { IsTrue result → column row.now at ≡ Int (pos number) }
     ensures only { column row.now at ≡ Int (pos number) → IsTrue result }
@@ -18,6 +19,7 @@ fn has_number(row: &Row, at: usize, number: u8) -> bool
     }
 }
 
+/// Whether the row has the text at this place.
 fn has_text(row: &Row, at: usize, text: &[u8]) -> bool
     ensures is { IsTrue result → column row.now at ≡ Text text.now }
     ensures only { column row.now at ≡ Text text.now → IsTrue result }
@@ -28,6 +30,7 @@ fn has_text(row: &Row, at: usize, text: &[u8]) -> bool
     }
 }
 
+/// Whether the row has the blob of these bytes at this place.
 fn has_blob(row: &Row, at: usize, bytes: &[u8]) -> bool
     ensures is { IsTrue result → column row.now at ≡ Blob bytes.now }
     ensures only { column row.now at ≡ Blob bytes.now → IsTrue result }

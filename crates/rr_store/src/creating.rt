@@ -17,6 +17,7 @@ use rr_rows::has_tables;
 use sqlite::{Alter, Connection};
 use std::alloc::Global;
 
+/// Makes a store in a database with nothing in it.
 fn create_in_blank<S: Alter>(
     conn: &mut Connection<S>,
     alloc: Global,
@@ -35,6 +36,7 @@ fn create_in_blank<S: Alter>(
     end(tx, work)
 }
 
+/// Makes a store in a database with the three tables and no row in them.
 fn create_in_bare<S: Alter>(
     conn: &mut Connection<S>,
     alloc: Global,

@@ -3,7 +3,7 @@
 ghost use Rattle.std.specs.Prelude.{◌≡◌, false, IsOk, IsTrue, OnErr, OnOk};
 ghost use Rattle.sqlite.specs.Held.{state};
 ghost use Rattle.sqlite.specs.State.{Survives};
-ghost use Rattle.rr_store.specs.Calls.{IsSettled, OnCleanDisk, WhileOpen, database};
+ghost use Rattle.rr_store.specs.Calls.{OnCleanDisk, WhileOpen, database};
 
 use crate::fault::StoreFault;
 use sqlite::{Alter, Transaction};
@@ -22,8 +22,6 @@ pub(crate) fn end<S: Alter>(
         (database S.Store tx.exit.0.now ≡ database S.Store tx.entry.conn.now)) }
     ensures is_open { OnCleanDisk S.Store tx.exit.0.now (OnOk result
         (IsTrue (state S.Store tx.exit.0.now).is_open)) }
-    ensures settled { OnCleanDisk S.Store tx.exit.0.now (OnOk result
-        (IsSettled S.Store tx.exit.0.now)) }
     ensures was_open { OnCleanDisk S.Store tx.exit.0.now (OnOk result
         (IsTrue (state S.Store tx.entry.conn.now).is_open)) }
     ensures err { WhileOpen S.Store tx.exit.0.now (OnErr result

@@ -1,6 +1,6 @@
 //! The rows of a list of objects, as a transaction adds them to tables without a row.
 
-ghost use Rattle.std.specs.Prelude.{◌≡◌, map, IsTrue, OnOk};
+ghost use Rattle.std.specs.Prelude.{◌≡◌, map, OnOk};
 ghost use Rattle.std.specs.List.{AllByRecursion};
 ghost use Rattle.rr_rows.specs.Contents.{IsTidy, KeepsOthers};
 ghost use Rattle.rr_rows.specs.Entries.{IsAdded, entry_of};
@@ -17,10 +17,12 @@ use crate::entry::Entry;
 use crate::fault::StoreFault;
 use crate::making::make_tables;
 use crate::statements::add_setting;
+use crate::version::Version;
 use rr_object::Object;
 use sqlite::{Alter, Transaction};
 use std::alloc::Global;
 
+/// Adds the rows of the objects, which are such as readers make.
 pub(crate) fn add_objects<S: Alter>(
     tx: &mut Transaction<'_, S>,
     alloc: Global,
@@ -57,7 +59,7 @@ pub(crate) fn fill<S: Alter>(
     ensures kept { CommitsNothing S.Store tx.old.conn.now tx.new.conn.now }
     ensures survives { LeavesAll S.Store tx.old.conn.now tx.new.conn.now }
 {
-    let _version = add_setting(tx, b"version", b"2")?;
+    let _version = add_setting(tx, b"version", Version::This.text())?;
     add_objects(tx, alloc, objects)
 }
 

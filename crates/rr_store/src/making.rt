@@ -1,6 +1,6 @@
 //! The tables of a new store.
 
-ghost use Rattle.std.specs.Prelude.{◌≡◌, [], IsTrue, OnOk};
+ghost use Rattle.std.specs.Prelude.{◌≡◌, []};
 ghost use Rattle.rr_rows.specs.Made.{Creates, IsBare, meta_table, named_table, no_schema};
 ghost use Rattle.rr_rows.specs.Made.{object_table, with_meta, with_named, with_object};
 ghost use Rattle.rr_store.specs.Calls.{WhileOpen, database};
@@ -8,6 +8,7 @@ ghost use Rattle.rr_store.specs.StepParts.{CommitsNothing, GoesOn, LeavesAll, Ma
 
 use sqlite::{Alter, Error, Transaction};
 
+/// Makes the table `meta`, of the settings.
 fn create_meta<S: Alter>(tx: &mut Transaction<'_, S>) -> Result<usize, Error>
     requires { WhileOpen S.Store tx.old.conn.now
         ((database S.Store tx.old.conn.now).schema ≡ no_schema) }
@@ -25,6 +26,7 @@ fn create_meta<S: Alter>(tx: &mut Transaction<'_, S>) -> Result<usize, Error>
     )
 }
 
+/// Makes the table `object`, of the texts of objects.
 fn create_object<S: Alter>(tx: &mut Transaction<'_, S>) -> Result<usize, Error>
     requires { WhileOpen S.Store tx.old.conn.now
         ((database S.Store tx.old.conn.now).schema ≡ with_meta) }
@@ -43,6 +45,7 @@ fn create_object<S: Alter>(tx: &mut Transaction<'_, S>) -> Result<usize, Error>
     )
 }
 
+/// Makes the table `named`, of who names whom.
 fn create_named<S: Alter>(tx: &mut Transaction<'_, S>) -> Result<usize, Error>
     requires { WhileOpen S.Store tx.old.conn.now
         ((database S.Store tx.old.conn.now).schema ≡ with_object) }

@@ -1,7 +1,6 @@
 //! Tables of version 1, written anew in one transaction as those of version 2.
 
 ghost use Rattle.std.specs.Prelude.{◌≡◌, [], ◌∷◌, ◌++◌, false, map, IfErr, IfOk};
-ghost use Rattle.std.specs.Prelude.{IsTrue, OnOk};
 ghost use Rattle.rr_rows.specs.Contents.{IsTidy, KeepsOthers};
 ghost use Rattle.rr_rows.specs.Entries.{entry_of};
 ghost use Rattle.rr_rows.specs.Made.{IsBare};
@@ -76,6 +75,7 @@ fn replace<S: Alter>(
     end(tx, work)
 }
 
+/// The objects and the block.
 fn with_block(mut objects: Vec<Object>, block: Object) -> Result<Vec<Object>, AllocError>
     ensures { IfOk result (λ all. all.items ≡ objects.items ++ block ∷ []) }
 {

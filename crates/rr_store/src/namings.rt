@@ -1,16 +1,17 @@
 //! Which objects name which maintainers, as the rows of `named` have it.
 
-ghost use Rattle.std.specs.Prelude.{◌≡◌, ◌++◌, [], IfOk, IfSome, IsPermutation, IsSorted};
+ghost use Rattle.std.specs.Prelude.{◌≡◌, ◌++◌, [], IfOk, IsSorted};
 ghost use Rattle.std.specs.Prelude.{IsTrue};
 ghost use Rattle.std.specs.Prelude.{OnOk, map, unwrap_or};
 ghost use Rattle.std.specs.List.{flat_map};
-ghost use Rattle.rr_rows.specs.Contents.{by_three, contents, named_values};
+ghost use Rattle.rr_rows.specs.Contents.{by_three, named_values};
 ghost use Rattle.rr_rows.specs.Entries.{named_rows};
 ghost use Rattle.rr_rows.specs.Maps.{entry_in};
+ghost use Rattle.rr_store.specs.CheckParts.{AreNamingRows};
 ghost use Rattle.rr_store.specs.NamingParts.{naming_row};
 ghost use Rattle.rr_store.specs.Versions.{form_of};
 
-use crate::columns::{is_named_row, is_naming};
+use crate::columns::is_naming;
 use crate::names::maintainers_of;
 use crate::version::Version;
 use rr_number::Name;
@@ -36,6 +37,7 @@ pub(crate) fn key_text(alloc: Global, key: &Key, version: Version) -> Result<Vec
     }
 }
 
+/// Takes in that the object with this class and key names each of the maintainers.
 fn push_namings(
     all: &mut Vec<Naming>,
     alloc: Global,
@@ -56,6 +58,7 @@ fn push_namings(
     Ok(())
 }
 
+/// Takes in whom the object names.
 fn push_object(
     all: &mut Vec<Naming>,
     alloc: Global,
@@ -88,9 +91,8 @@ fn sorted_namings(
     objects: &[Object],
     version: Version,
 ) -> Result<Vec<Naming>, AllocError>
-    ensures same { IfOk result (λ all. IsPermutation
-        (flat_map named_rows (map (entry_in (form_of version)) objects.now))
-        (map naming_row all.items)) }
+    ensures same { IfOk result (λ all.
+        AreNamingRows version objects.now (map naming_row all.items)) }
     ensures sorted { IfOk result (λ all. IsSorted by_three (map naming_row all.items)) }
 {
     let mut all = namings(alloc, objects, version)?;
@@ -123,11 +125,9 @@ pub(crate) fn are_named(
     objects: &[Object],
     version: Version,
 ) -> Result<bool, AllocError>
-    ensures is { IfOk result (λ is. IsTrue is → IsPermutation
-        (flat_map named_rows (map (entry_in (form_of version)) objects.now)) rows.now) }
-    ensures only { IsSorted by_three rows.now → IfOk result (λ is. IsPermutation
-        (flat_map named_rows (map (entry_in (form_of version)) objects.now)) rows.now →
-        IsTrue is) }
+    ensures is { IfOk result (λ is. IsTrue is → AreNamingRows version objects.now rows.now) }
+    ensures only { IsSorted by_three rows.now → IfOk result (λ is.
+        AreNamingRows version objects.now rows.now → IsTrue is) }
 {
     let namings = sorted_namings(alloc, objects, version)?;
     Ok(are_rows_of(rows, &namings))

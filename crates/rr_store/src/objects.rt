@@ -2,7 +2,7 @@
 
 ghost use Rattle.std.specs.Prelude.{◌≡◌, ◌++◌, [], ◌∷◌, IfErr, IfOk, IfSome};
 ghost use Rattle.std.specs.Prelude.{IsPermutation, IsSome};
-ghost use Rattle.std.specs.Prelude.{IsSorted, IsTrue, OnOk, Some, ℕ};
+ghost use Rattle.std.specs.Prelude.{IsSorted, IsTrue, OnOk, Some};
 ghost use Rattle.sqlite.specs.declared.error.Error.{Error};
 ghost use Rattle.rr_text.specs.CanonicalText.{canonical};
 ghost use Rattle.rr_object.specs.Classes.{class_number};
@@ -12,9 +12,9 @@ ghost use Rattle.rr_object.specs.Readings.{ReadsAs};
 ghost use Rattle.rr_rows.specs.Contents.{columns, object_values};
 ghost use Rattle.rr_rows.specs.Maps.{AreApart, AreInOrder, IsObjectOf};
 ghost use Rattle.rr_store.specs.Lent.{lent};
-ghost use Rattle.rr_store.specs.ReadingParts.{IsRowOf, by_key, is_below};
+ghost use Rattle.rr_store.specs.ReadingParts.{IsRowOf, TellsNoVersion, by_key, is_below};
 ghost use Rattle.rr_store.specs.Versions.{form_of};
-ghost use Rattle.rr_store.specs.declared.fault.OpenFault.TheVariants.{BadRow, Store, WrongVersion};
+ghost use Rattle.rr_store.specs.declared.fault.OpenFault.TheVariants.{BadRow, Store};
 
 use crate::columns::{bytes_at, is_object_row};
 use crate::fault::OpenFault;
@@ -120,8 +120,7 @@ pub(crate) fn take_object(
         IsObjectOf source.now object → IsRowOf (form_of version) object (columns row.now)
         → ⊥) }
     ensures no_store { IfErr result (λ fault. (error : Error) → fault ≡ Store error → ⊥) }
-    ensures no_other { IfErr result
-        (λ fault. (number : ℕ) → fault ≡ WrongVersion number → ⊥) }
+    ensures no_other { IfErr result TellsNoVersion }
 {
     match read_object(alloc, row, source, version) {
         Ok(Some(object)) => match objects.push(object) {
@@ -146,6 +145,7 @@ fn is_below(object: &Object, others: &[Object]) -> bool
 {
     match others {
         [other, ..] => {
+            // the clause speaks of the order of keys by their parts
             keys_compare_by_their_parts();
             object.key().cmp(other.key()) == Ordering::Less
         }
@@ -173,6 +173,7 @@ fn sorted(mut objects: Vec<Object>) -> Result<Vec<Object>, AllocError>
     ensures same { IfOk result (λ sorted. IsPermutation objects.items sorted.items) }
     ensures order { IfOk result (λ sorted. IsSorted by_key sorted.items) }
 {
+    // the clause speaks of the order of keys by their parts
     keys_compare_by_their_parts();
     objects.sort_by(|a, b| a.key().cmp(b.key()))?;
     Ok(objects)
@@ -184,8 +185,7 @@ pub(crate) fn in_order(objects: Vec<Object>) -> Result<Vec<Object>, OpenFault>
     ensures same { IfOk result (λ ordered. IsPermutation objects.items ordered.items) }
     ensures order { IfOk result (λ ordered. AreInOrder ordered.items) }
     ensures fault { IfErr result (λ fault. fault ≡ BadRow → AreApart objects.items → ⊥) }
-    ensures no_other { IfErr result
-        (λ fault. (number : ℕ) → fault ≡ WrongVersion number → ⊥) }
+    ensures no_other { IfErr result TellsNoVersion }
 {
     if are_in_order(&objects) {
         return Ok(objects);

@@ -1,13 +1,13 @@
 //! The objects that the tables hold.
 
-ghost use Rattle.std.specs.Prelude.{◌≡◌, ℕ, false, IfErr, IfOk};
-ghost use Rattle.std.specs.List.{AllByRecursion};
-ghost use Rattle.rr_rows.specs.Maps.{AreInOrder, HasVersion, IsObjectOf};
+ghost use Rattle.std.specs.Prelude.{◌≡◌, false, IfErr, IfOk};
+ghost use Rattle.rr_rows.specs.Maps.{AreInOrder, HasVersion};
 ghost use Rattle.rr_store.specs.Calls.{Looks, OnCleanDisk, database};
 ghost use Rattle.rr_store.specs.CheckParts.{HasSettings};
-ghost use Rattle.rr_store.specs.Opening.{AreStoredAs, HoldNone, RefusesTables};
+ghost use Rattle.rr_store.specs.Opening.{AreObjectsOf, AreStoredAs, HoldNone, RefusesTables};
+ghost use Rattle.rr_store.specs.ReadingParts.{TellsNoVersion};
 ghost use Rattle.rr_store.specs.Versions.{version_text};
-ghost use Rattle.rr_store.specs.declared.fault.OpenFault.TheVariants.{BadRow, WrongVersion};
+ghost use Rattle.rr_store.specs.declared.fault.OpenFault.TheVariants.{BadRow};
 
 use crate::checks::{check_names, check_objects, check_version};
 use crate::fault::OpenFault;
@@ -33,12 +33,10 @@ fn checked_objects<S: Alter>(
         HasVersion (version_text version) (database S.Store conn.old) →
         AreStoredAs version source.now objects.items (database S.Store conn.old))) }
     ensures in_order { IfOk result (λ objects. AreInOrder objects.items) }
-    ensures of_source { IfOk result (λ objects.
-        AllByRecursion (IsObjectOf source.now) objects.items) }
+    ensures of_source { IfOk result (λ objects. AreObjectsOf source.now objects.items) }
     ensures bad_row { OnCleanDisk S.Store conn.new (IfErr result (λ fault. fault ≡ BadRow →
         HoldNone version source.now (database S.Store conn.old))) }
-    ensures no_other { IfErr result
-        (λ fault. (number : ℕ) → fault ≡ WrongVersion number → ⊥) }
+    ensures no_other { IfErr result TellsNoVersion }
 {
     let objects = check_objects(conn, alloc, source, version)?;
     check_names(conn, alloc, &objects, version)?;
@@ -58,8 +56,7 @@ fn read_tables<S: Alter>(
     ensures stored { OnCleanDisk S.Store conn.new (IfOk result (λ objects.
         AreStoredAs version source.now objects.items (database S.Store conn.old))) }
     ensures in_order { IfOk result (λ objects. AreInOrder objects.items) }
-    ensures of_source { IfOk result (λ objects.
-        AllByRecursion (IsObjectOf source.now) objects.items) }
+    ensures of_source { IfOk result (λ objects. AreObjectsOf source.now objects.items) }
     ensures why { OnCleanDisk S.Store conn.new (IfErr result
         (RefusesTables version source.now (database S.Store conn.old))) }
 {
@@ -79,8 +76,7 @@ pub(crate) fn stored_objects<S: Alter>(
     ensures stored { OnCleanDisk S.Store conn.new (IfOk result (λ objects.
         AreStoredAs version source.now objects.items (database S.Store conn.old))) }
     ensures in_order { IfOk result (λ objects. AreInOrder objects.items) }
-    ensures of_source { IfOk result (λ objects.
-        AllByRecursion (IsObjectOf source.now) objects.items) }
+    ensures of_source { IfOk result (λ objects. AreObjectsOf source.now objects.items) }
     ensures why { OnCleanDisk S.Store conn.new (IfErr result
         (RefusesTables version source.now (database S.Store conn.old))) }
 {

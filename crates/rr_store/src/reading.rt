@@ -1,23 +1,21 @@
 //! Queries on the three tables.
 
-ghost use Rattle.std.specs.Prelude.{◌≡◌, [], ◌∷◌, false, map, IfErr, IfOk};
-ghost use Rattle.std.specs.Prelude.{IsPermutation, IsTrue};
-ghost use Rattle.std.specs.Prelude.{OnOk, ℕ};
-ghost use Rattle.std.specs.List.{AllByRecursion, flat_map};
+ghost use Rattle.std.specs.Prelude.{◌≡◌, [], false, map, IfErr, IfOk};
+ghost use Rattle.std.specs.Prelude.{IsTrue};
+ghost use Rattle.std.specs.Prelude.{OnOk};
 ghost use Rattle.sqlite.specs.Given.{IsPlain};
 ghost use Rattle.sqlite.specs.Held.{state};
 ghost use Rattle.sqlite.specs.Listing.{understood};
 ghost use Rattle.sqlite.specs.State.{IsUnchanged, Shown};
 ghost use Rattle.sqlite.specs.Values.{bound};
 ghost use Rattle.rr_rows.specs.Contents.{AreKeyed, IsInRank, by_three, by_two, contents, number};
-ghost use Rattle.rr_rows.specs.Contents.{by_one, pointed, settings};
-ghost use Rattle.rr_rows.specs.Entries.{named_rows};
-ghost use Rattle.rr_rows.specs.Maps.{IsObjectOf, entry_in, this_form};
+ghost use Rattle.rr_rows.specs.Contents.{by_one, settings};
 ghost use Rattle.rr_rows.specs.Tables.{HasTables};
 ghost use Rattle.rr_store.specs.Calls.{Looks, OnCleanDisk, database};
-ghost use Rattle.rr_store.specs.CheckParts.{HoldsNone, HoldsObjects};
-ghost use Rattle.rr_store.specs.Versions.{form_of};
-ghost use Rattle.rr_store.specs.declared.fault.OpenFault.TheVariants.{BadRow, Memory, WrongVersion};
+ghost use Rattle.rr_store.specs.CheckParts.{NamedPointsTo, NamesAre, TableHolds, TableHoldsNone};
+ghost use Rattle.rr_store.specs.Opening.{AreObjectsOf};
+ghost use Rattle.rr_store.specs.ReadingParts.{TellsNoVersion};
+ghost use Rattle.rr_store.specs.declared.fault.OpenFault.TheVariants.{BadRow, Memory};
 
 use crate::fault::OpenFault;
 use crate::streams::{count_numbered, take_all_names, take_objects};
@@ -148,15 +146,11 @@ pub(crate) fn read_objects<S: Alter>(
     requires tables { OnCleanDisk S.Store conn.old (HasTables conn.old.schema) }
     ensures looks { Looks S.Store conn.old conn.new result }
     ensures read { OnCleanDisk S.Store conn.new (IfOk result (λ objects.
-        HoldsObjects (form_of version) source.now objects.items
-        (contents ((database S.Store conn.old).trees 2)))) }
-    ensures of_source { IfOk result (λ objects.
-        AllByRecursion (IsObjectOf source.now) objects.items) }
+        TableHolds version source.now objects.items (database S.Store conn.old))) }
+    ensures of_source { IfOk result (λ objects. AreObjectsOf source.now objects.items) }
     ensures bad_row { OnCleanDisk S.Store conn.new (IfErr result (λ fault. fault ≡ BadRow →
-        HoldsNone (form_of version) source.now
-        (contents ((database S.Store conn.old).trees 2)))) }
-    ensures no_other { IfErr result
-        (λ fault. (number : ℕ) → fault ≡ WrongVersion number → ⊥) }
+        TableHoldsNone version source.now (database S.Store conn.old))) }
+    ensures no_other { IfErr result TellsNoVersion }
 {
     // outside a transaction the database is as it was last committed
     let _settled = conn.is_autocommit();
@@ -178,11 +172,9 @@ pub(crate) fn names_in_turn<S: Alter>(
     requires tables { OnCleanDisk S.Store conn.old (HasTables conn.old.schema) }
     ensures looks { Looks S.Store conn.old conn.new result }
     ensures are { OnCleanDisk S.Store conn.new (IfOk result (λ are. IsTrue are →
-        IsPermutation (flat_map named_rows (map (entry_in (form_of version)) objects.now))
-        (contents ((database S.Store conn.old).trees 4)))) }
+        NamesAre version objects.now (database S.Store conn.old))) }
     ensures no_bad_row { IfErr result (λ fault. fault ≡ BadRow → ⊥) }
-    ensures no_other { IfErr result
-        (λ fault. (number : ℕ) → fault ≡ WrongVersion number → ⊥) }
+    ensures no_other { IfErr result TellsNoVersion }
 {
     // outside a transaction the database is as it was last committed
     let _settled = conn.is_autocommit();
@@ -204,11 +196,8 @@ pub(crate) fn read_naming<S: Alter>(
     requires tables { OnCleanDisk S.Store conn.old (HasTables conn.old.schema) }
     ensures looks { Looks S.Store conn.old conn.new result }
     ensures read { OnCleanDisk S.Store conn.new (IfOk result (λ objects.
-        HoldsObjects this_form source.now objects.items
-        (pointed name.now (contents ((database S.Store conn.old).trees 4))
-        (contents ((database S.Store conn.old).trees 2))))) }
-    ensures of_source { IfOk result (λ objects.
-        AllByRecursion (IsObjectOf source.now) objects.items) }
+        NamedPointsTo source.now name.now objects.items (database S.Store conn.old))) }
+    ensures of_source { IfOk result (λ objects. AreObjectsOf source.now objects.items) }
     ensures memory { OnCleanDisk S.Store conn.new (IfErr result (λ fault. fault ≡ Memory →
         IsUnchanged (state S.Store conn.old) (state S.Store conn.new))) }
 {

@@ -1,8 +1,7 @@
 //! One statement of a transaction each.
 
-ghost use Rattle.std.specs.Prelude.{◌≡◌, [], ◌∷◌, codes, filter, true, IfOk};
-ghost use Rattle.std.specs.Prelude.{IsPermutation, IsTrue};
-ghost use Rattle.std.specs.Prelude.{OnOk};
+ghost use Rattle.std.specs.Prelude.{◌≡◌, [], ◌∷◌, filter, true, IfOk};
+ghost use Rattle.std.specs.Prelude.{IsPermutation};
 ghost use Rattle.rr_rows.specs.Contents.{Adds, Alters, IsTidy, Removes, contents};
 ghost use Rattle.rr_rows.specs.Contents.{is_name_of, is_object_of, meta_values, named_values};
 ghost use Rattle.rr_rows.specs.Contents.{object_values};
@@ -12,6 +11,7 @@ ghost use Rattle.rr_store.specs.StepParts.{CommitsNothing, GoesOn, LeavesAll, Ma
 use sqlite::{Alter, Error, Row, Transaction};
 use sqlite_value::value::ValueRef;
 
+/// Adds a row of `meta`.
 pub(crate) fn add_setting<'x, S: Alter>(
     tx: &mut Transaction<'_, S>,
     name: &'x [u8],
@@ -32,6 +32,7 @@ pub(crate) fn add_setting<'x, S: Alter>(
     )
 }
 
+/// Adds a row of `object`.
 pub(crate) fn add_object<'x, S: Alter>(
     tx: &mut Transaction<'_, S>,
     class: u8,
@@ -57,6 +58,7 @@ pub(crate) fn add_object<'x, S: Alter>(
     )
 }
 
+/// Adds a row of `named`.
 pub(crate) fn add_name<'x, S: Alter>(
     tx: &mut Transaction<'_, S>,
     name: &'x [u8],
@@ -82,6 +84,7 @@ pub(crate) fn add_name<'x, S: Alter>(
     )
 }
 
+/// Takes out the rows of `object` with this class and key.
 pub(crate) fn remove_object<S: Alter>(
     tx: &mut Transaction<'_, S>,
     class: u8,
@@ -101,6 +104,7 @@ pub(crate) fn remove_object<S: Alter>(
     )
 }
 
+/// Takes out the rows of `named` of this maintainer, class and key.
 pub(crate) fn remove_name<'x, S: Alter>(
     tx: &mut Transaction<'_, S>,
     name: &'x [u8],
@@ -148,6 +152,7 @@ pub(crate) fn rows_of_key<S: Alter>(
     )
 }
 
+/// Takes out all rows of `meta`.
 pub(crate) fn clear_settings<S: Alter>(tx: &mut Transaction<'_, S>) -> Result<usize, Error>
     requires { WhileOpen S.Store tx.old.conn.now (IsTidy (database S.Store tx.old.conn.now)) }
     ensures same_reference { tx.new.conn.ghost_name ≡ tx.old.conn.ghost_name }
@@ -160,6 +165,7 @@ pub(crate) fn clear_settings<S: Alter>(tx: &mut Transaction<'_, S>) -> Result<us
     tx.execute("DELETE FROM meta", &[])
 }
 
+/// Takes out all rows of `object`.
 pub(crate) fn clear_objects<S: Alter>(tx: &mut Transaction<'_, S>) -> Result<usize, Error>
     requires { WhileOpen S.Store tx.old.conn.now (IsTidy (database S.Store tx.old.conn.now)) }
     ensures same_reference { tx.new.conn.ghost_name ≡ tx.old.conn.ghost_name }
@@ -172,6 +178,7 @@ pub(crate) fn clear_objects<S: Alter>(tx: &mut Transaction<'_, S>) -> Result<usi
     tx.execute("DELETE FROM object", &[])
 }
 
+/// Takes out all rows of `named`.
 pub(crate) fn clear_names<S: Alter>(tx: &mut Transaction<'_, S>) -> Result<usize, Error>
     requires { WhileOpen S.Store tx.old.conn.now (IsTidy (database S.Store tx.old.conn.now)) }
     ensures same_reference { tx.new.conn.ghost_name ≡ tx.old.conn.ghost_name }

@@ -1,24 +1,20 @@
 //! The store.
 
 ghost use Rattle.std.specs.Prelude.{◌≡◌, [], ◌∷◌, false, List, IfErr, IfOk};
-ghost use Rattle.std.specs.List.{AllByRecursion};
 ghost use Rattle.sqlite.specs.Held.{state};
 ghost use Rattle.sqlite.specs.State.{IsUnchanged};
-ghost use Rattle.rr_object.specs.Classes.{class_number};
 ghost use Rattle.rr_object.specs.KeyOrders.{HasKeyParts, IsKeyValue};
-ghost use Rattle.rr_object.specs.Keys.{class_of};
-ghost use Rattle.rr_object.specs.KeyTexts.{key_bytes};
 ghost use Rattle.rr_object.specs.Objects.{Obj};
-ghost use Rattle.rr_rows.specs.Entries.{IsAdded, IsPut, IsTakenOut, entry_of};
-ghost use Rattle.rr_rows.specs.Maps.{AreInOrder, AreOldStored, IsObject, IsObjectOf};
+ghost use Rattle.rr_rows.specs.Entries.{IsAdded, IsPut, entry_of};
+ghost use Rattle.rr_rows.specs.Maps.{AreInOrder, AreOldStored, IsObject};
 ghost use Rattle.rr_rows.specs.Maps.{Puts, TakesOut};
-ghost use Rattle.rr_store.specs.Adding.{AddsTo};
-ghost use Rattle.rr_store.specs.Calls.{Looks, OnCleanDisk, Writes, database};
+ghost use Rattle.rr_store.specs.Adding.{AddsTo, TakesRows};
+ghost use Rattle.rr_store.specs.Calls.{IsSettled, Looks, OnCleanDisk, Writes, database};
 ghost use Rattle.rr_store.specs.Creating.{FailsToMake, MakesStore};
 ghost use Rattle.rr_store.specs.Lent.{lent};
 ghost use Rattle.rr_store.specs.Listing.{AreAll, AreNaming};
 ghost use Rattle.rr_store.specs.Migrating.{FailsToMigrate, MigratesStore};
-ghost use Rattle.rr_store.specs.Opening.{FailsToOpen, OpensStore, RefusesTables};
+ghost use Rattle.rr_store.specs.Opening.{AreObjectsOf, FailsToOpen, OpensStore, RefusesTables};
 ghost use Rattle.rr_store.specs.declared.version.Version.TheVariants.{Old};
 ghost use Rattle.rr_store.specs.declared.fault.StoreFault.TheVariants.{Memory};
 
@@ -58,8 +54,10 @@ impl<S: Alter> Model for Store<S> {
 
 impl<S: Alter> Store<S> {
     /// Makes the store of the objects, no two of one key, in a database with nothing in it or with
-    /// the three tables and no row. The connection is in no transaction. After a fault it is given
-    /// back, with the rows as they were.
+    /// the three tables and no row, by one transaction. The connection is in no transaction. After
+    /// a fault it is given back, with the rows as they were; `NotEmpty` says that one of the tables
+    /// has a row. A stop during the call leaves the rows and tables before it or those of the
+    /// store; one after it, while the connection is open, those that stand.
     pub fn create(
         alloc: Global,
         mut conn: Connection<S>,
@@ -69,15 +67,20 @@ impl<S: Alter> Store<S> {
         ensures makes { IfOk result (MakesStore S.Store (lent objects.now) conn) }
         ensures fails { IfErr result (λ e. FailsToMake S.Store (lent objects.now) conn e.1 e.0) }
     {
-        match create_where_vacant(&mut conn, alloc, objects) {
+        let made = create_where_vacant(&mut conn, alloc, objects);
+        // outside a transaction the database is as it was last committed
+        let _settled = conn.is_autocommit();
+        match made {
             Ok(()) => Ok(Store { conn }),
             Err(fault) => Err((fault, conn)),
         }
     }
 
     /// Opens the store of the objects of the source that the tables of version 2 hold, and gives
-    /// these in order of class and key. The connection is in no transaction. After a fault it is
-    /// given back, and no row is changed in either case.
+    /// these in order of class and key. The connection is in no transaction. After a fault, which
+    /// says why the tables are refused, it is given back. No row is changed in either case: a stop
+    /// during the call leaves what one before it left; one after it, while the connection is open,
+    /// the rows that stand.
     pub fn open_all(
         alloc: Global,
         mut conn: Connection<S>,
@@ -87,15 +90,17 @@ impl<S: Alter> Store<S> {
         ensures opens { IfOk result (λ s. OpensStore S.Store source.now conn s.0 s.1.items) }
         ensures fails { IfErr result (λ e. FailsToOpen S.Store source.now conn e.1 e.0) }
     {
+        let stored = stored_objects(&mut conn, alloc, source, Version::This);
         // outside a transaction the database is as it was last committed
         let _settled = conn.is_autocommit();
-        match stored_objects(&mut conn, alloc, source, Version::This) {
+        match stored {
             Ok(objects) => Ok((Store { conn }, objects)),
             Err(fault) => Err((fault, conn)),
         }
     }
 
-    /// Opens the store as [`Store::open_all`] does, without the objects.
+    /// Opens the store as [`Store::open_all`] does, with the same faults, without giving the
+    /// objects.
     pub fn open(
         alloc: Global,
         conn: Connection<S>,
@@ -112,8 +117,9 @@ impl<S: Alter> Store<S> {
         }
     }
 
-    /// The objects of the source that tables of version 1 hold, in the order of their keys. The
-    /// connection is in no transaction, and nothing changes.
+    /// The objects of the source that tables of version 1 hold, in the order of their keys, or why
+    /// the tables are refused. The connection is in no transaction, and nothing changes, nor what a
+    /// stop leaves.
     pub fn old_objects(
         alloc: Global,
         conn: &mut Connection<S>,
@@ -124,8 +130,7 @@ impl<S: Alter> Store<S> {
         ensures stored { OnCleanDisk S.Store conn.new (IfOk result (λ objects.
             AreOldStored source.now objects.items (database S.Store conn.old))) }
         ensures in_order { IfOk result (λ objects. AreInOrder objects.items) }
-        ensures of_source { IfOk result (λ objects.
-            AllByRecursion (IsObjectOf source.now) objects.items) }
+        ensures of_source { IfOk result (λ objects. AreObjectsOf source.now objects.items) }
         ensures why { OnCleanDisk S.Store conn.new (IfErr result
             (RefusesTables Old source.now (database S.Store conn.old))) }
     {
@@ -134,8 +139,10 @@ impl<S: Alter> Store<S> {
 
     /// The store of the objects that tables of version 1 hold, written anew as those of version 2,
     /// and of the block of the AS numbers of more than two octets, which the root maintains (RFC
-    /// 6793). The connection is in no transaction. After a fault it is given back, with the rows as
-    /// they were.
+    /// 6793), by one transaction; all else in the file stays. The connection is in no transaction.
+    /// After a fault, which says why the tables are refused, it is given back, with the rows as
+    /// they were. A stop during the call leaves the rows before it or the new ones; one after it,
+    /// while the connection is open, those that stand.
     pub fn migrate(
         alloc: Global,
         mut conn: Connection<S>,
@@ -147,21 +154,31 @@ impl<S: Alter> Store<S> {
         ensures fails { IfErr result (λ e.
             FailsToMigrate S.Store root.now source.now conn e.1 e.0) }
     {
-        match migrate_rows(&mut conn, alloc, root, source) {
+        let migrated = migrate_rows(&mut conn, alloc, root, source);
+        // outside a transaction the database is as it was last committed
+        let _settled = conn.is_autocommit();
+        match migrated {
             Ok(()) => Ok(Store { conn }),
             Err(fault) => Err((fault, conn)),
         }
     }
 
-    /// Puts the rows of the object in place of those of its key. After a fault the rows are as they
-    /// were.
+    /// Puts the rows of the object in place of those of its key, and so the object into the map
+    /// that the tables hold, by one transaction. After a fault the rows are as they were. A stop
+    /// during the call leaves the rows before or after it; one after it, while the connection is
+    /// open, those that stand.
     pub fn put(&mut self, alloc: Global, object: &Object) -> Result<(), StoreFault>
         ensures rows { Writes S.Store (IsPut (entry_of object.now)) self.old self.new result }
         ensures puts { Writes S.Store (Puts object.now.key object.now) self.old self.new result }
+        ensures settled { IsSettled S.Store self.new }
     {
-        self.put_rows_of(alloc, object)
+        let written = self.put_rows_of(alloc, object);
+        // outside a transaction the database is as it was last committed
+        let _settled = self.conn.is_autocommit();
+        written
     }
 
+    /// Puts the rows of the object, which is such as readers make.
     fn put_rows_of(&mut self, alloc: Global, object: &Object) -> Result<(), StoreFault>
         ensures rows { Writes S.Store (IsPut (entry_of object.now)) self.old self.new result }
         ensures object { IsObject object.now }
@@ -173,15 +190,21 @@ impl<S: Alter> Store<S> {
 
     /// Adds the rows of an object whose key no stored one has: those of its key are not looked for,
     /// as [`Store::put`] does. Where some stand, the primary key of the tables that
-    /// [`Store::create`] makes refuses them. After a fault the rows are as they were.
+    /// [`Store::create`] makes refuses them. A fault and a stop leave what they leave at
+    /// [`Store::put`].
     pub fn add(&mut self, alloc: Global, object: &Object) -> Result<(), StoreFault>
         ensures rows { Writes S.Store (IsAdded (entry_of object.now ∷ []))
             self.old self.new result }
         ensures adds { Writes S.Store (AddsTo object.now.key object.now) self.old self.new result }
+        ensures settled { IsSettled S.Store self.new }
     {
-        self.add_rows_of(alloc, object)
+        let written = self.add_rows_of(alloc, object);
+        // outside a transaction the database is as it was last committed
+        let _settled = self.conn.is_autocommit();
+        written
     }
 
+    /// Adds the rows of the object, which is such as readers make.
     fn add_rows_of(&mut self, alloc: Global, object: &Object) -> Result<(), StoreFault>
         ensures rows { Writes S.Store (IsAdded (entry_of object.now ∷ []))
             self.old self.new result }
@@ -192,21 +215,22 @@ impl<S: Alter> Store<S> {
         insert_entry(&mut self.conn, &entry)
     }
 
-    /// Takes out the rows of the object with this key, if there is one. After a fault the rows are
-    /// as they were.
+    /// Takes out the rows of the object with this key, and so the object of the map, if there is
+    /// one. A fault and a stop leave what they leave at [`Store::put`].
     pub fn remove(&mut self, alloc: Global, key: &Key) -> Result<(), StoreFault>
-        ensures rows { Writes S.Store
-            (IsTakenOut (class_number (class_of key.now)) (key_bytes key.now))
-            self.old self.new result }
+        ensures rows { Writes S.Store (TakesRows key.now) self.old self.new result }
         ensures takes { Writes S.Store (TakesOut key.now) self.old self.new result }
+        ensures settled { IsSettled S.Store self.new }
     {
-        self.remove_rows_of(alloc, key)
+        let written = self.remove_rows_of(alloc, key);
+        // outside a transaction the database is as it was last committed
+        let _settled = self.conn.is_autocommit();
+        written
     }
 
+    /// Takes out the rows of the object with this key, which has the parts of its class.
     fn remove_rows_of(&mut self, alloc: Global, key: &Key) -> Result<(), StoreFault>
-        ensures rows { Writes S.Store
-            (IsTakenOut (class_number (class_of key.now)) (key_bytes key.now))
-            self.old self.new result }
+        ensures rows { Writes S.Store (TakesRows key.now) self.old self.new result }
         ensures parts { HasKeyParts key.now }
     {
         let class = key.class().number();
@@ -214,19 +238,24 @@ impl<S: Alter> Store<S> {
         remove_entry(&mut self.conn, alloc, class, &bytes)
     }
 
-    /// All objects, in order of class and key. The source is that of the objects; a row that is
-    /// none of one of it is a fault of the store. Nothing changes.
+    /// All objects, in order of class and key, each one of the source; a row that is none of one of
+    /// it is a fault of the store. Nothing changes, nor what a stop during the call leaves; one
+    /// after it, while the connection is open, leaves the rows that stand.
     pub fn all(&mut self, alloc: Global, source: &Name) -> Result<Vec<Object>, StoreFault>
         ensures looks { Looks S.Store self.old self.new result }
         ensures all { OnCleanDisk S.Store self.new (IfOk result (λ all.
             AreAll (database S.Store self.old) all.items)) }
-        ensures of_source { IfOk result (λ all. AllByRecursion (IsObjectOf source.now) all.items) }
+        ensures of_source { IfOk result (λ all. AreObjectsOf source.now all.items) }
+        ensures settled { IsSettled S.Store self.new }
     {
-        Ok(all_objects(&mut self.conn, alloc, source)?)
+        let objects = all_objects(&mut self.conn, alloc, source);
+        // outside a transaction the database is as it was last committed
+        let _settled = self.conn.is_autocommit();
+        Ok(objects?)
     }
 
-    /// The objects that name the maintainer, as [`Store::all`] gives all. A fault of memory comes
-    /// once the rows were read.
+    /// The objects that name the maintainer, as [`Store::all`] gives all, with what that leaves. A
+    /// fault of memory leaves the database as it was.
     pub fn naming(
         &mut self,
         alloc: Global,
@@ -236,15 +265,18 @@ impl<S: Alter> Store<S> {
         ensures looks { Looks S.Store self.old self.new result }
         ensures naming { OnCleanDisk S.Store self.new (IfOk result (λ those.
             AreNaming name.now (database S.Store self.old) those.items)) }
-        ensures of_source { IfOk result (λ those.
-            AllByRecursion (IsObjectOf source.now) those.items) }
+        ensures of_source { IfOk result (λ those. AreObjectsOf source.now those.items) }
         ensures memory { OnCleanDisk S.Store self.new (IfErr result (λ fault. fault ≡ Memory →
             IsUnchanged (state S.Store self.old) (state S.Store self.new))) }
+        ensures settled { IsSettled S.Store self.new }
     {
-        Ok(naming_objects(&mut self.conn, alloc, source, name)?)
+        let objects = naming_objects(&mut self.conn, alloc, source, name);
+        // outside a transaction the database is as it was last committed
+        let _settled = self.conn.is_autocommit();
+        Ok(objects?)
     }
 
-    /// The connection, whose rows stay.
+    /// The connection, whose rows stay, in no transaction.
     pub fn close(self) -> Connection<S>
         ensures same { result ≡ self }
         ensures autocommit { result.in_transaction ≡ false }

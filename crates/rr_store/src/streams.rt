@@ -1,7 +1,7 @@
 //! Rows that are read one at a time, so that only what is made of them takes memory.
 
 ghost use Rattle.std.specs.Prelude.{◌≡◌, ◌++◌, List, IfErr, IfOk, IsTrue, OnOk, map};
-ghost use Rattle.std.specs.List.{AllByRecursion, flat_map};
+ghost use Rattle.std.specs.List.{flat_map};
 ghost use Rattle.sqlite.specs.State.{IsUnchanged};
 ghost use Rattle.sqlite.specs.declared.error.Error.{Error};
 ghost use Rattle.sqlite.specs.Held.{state};
@@ -10,12 +10,13 @@ ghost use Rattle.sqlite_value.specs.Order.{Row as Values};
 ghost use Rattle.sqlite_trees.specs.Tree.{rowid};
 ghost use Rattle.rr_rows.specs.Contents.{AreKeyed, IsPast, contents, named_values};
 ghost use Rattle.rr_rows.specs.Entries.{named_rows};
-ghost use Rattle.rr_rows.specs.Maps.{IsObjectOf, entry_in};
+ghost use Rattle.rr_rows.specs.Maps.{entry_in};
 ghost use Rattle.rr_store.specs.Calls.{IsOpen, OnCleanDisk};
-ghost use Rattle.rr_store.specs.ReadingParts.{AreNone, AreRead};
+ghost use Rattle.rr_store.specs.Opening.{AreObjectsOf};
+ghost use Rattle.rr_store.specs.ReadingParts.{AreNone, AreRead, TellsNoVersion};
 ghost use Rattle.rr_store.specs.StreamParts.{GivesMore, GivesRest, Streams};
 ghost use Rattle.rr_store.specs.Versions.{form_of};
-ghost use Rattle.rr_store.specs.declared.fault.OpenFault.TheVariants.{BadRow, Store, WrongVersion};
+ghost use Rattle.rr_store.specs.declared.fault.OpenFault.TheVariants.{BadRow, Store};
 
 use crate::columns::is_named_row;
 use crate::fault::{BAD_ROWS, OpenFault};
@@ -79,8 +80,7 @@ pub(crate) fn take_objects<S: Alter>(
     ensures read { OnCleanDisk S.Store rows.new.conn.now (IfOk result (λ objects.
         (rest : List Values) × GivesRest S.Store rows.old.conn.now rows.new.conn.now rest ×
         AreRead (form_of version) source.now (contents rest) objects.items)) }
-    ensures of_source { IfOk result (λ objects.
-        AllByRecursion (IsObjectOf source.now) objects.items) }
+    ensures of_source { IfOk result (λ objects. AreObjectsOf source.now objects.items) }
     ensures bad_row { OnCleanDisk S.Store rows.new.conn.now (IfErr result (λ fault.
         fault ≡ BadRow → (more : List Values) ×
         GivesMore S.Store rows.old.conn.now rows.new.conn.now more × ((rest : List Values) →
@@ -88,8 +88,7 @@ pub(crate) fn take_objects<S: Alter>(
     ensures unchanged { OnCleanDisk S.Store rows.new.conn.now (IfErr result (λ fault.
         ((error : Error) → fault ≡ Store error → ⊥) →
         IsUnchanged (state S.Store rows.old.conn.now) (state S.Store rows.new.conn.now))) }
-    ensures no_other { IfErr result
-        (λ fault. (number : _) → fault ≡ WrongVersion number → ⊥) }
+    ensures no_other { IfErr result TellsNoVersion }
 {
     let mut objects = Vec::with_capacity(alloc, count)?;
     'rows: for _ in 0..u64::MAX {
@@ -128,6 +127,7 @@ fn take_names<S: Alter>(
     Ok(true)
 }
 
+/// Whether the next rows are those of the maintainers that the object names.
 fn take_names_of<S: Alter>(
     rows: &mut Rows<'_, S>,
     alloc: Global,
@@ -141,8 +141,7 @@ fn take_names_of<S: Alter>(
         (more : List Values) × GivesMore S.Store rows.old.conn.now rows.new.conn.now more ×
         (contents more ≡ named_rows (entry_in (form_of version) object.now)))) }
     ensures no_bad_row { IfErr result (λ fault. fault ≡ BadRow → ⊥) }
-    ensures no_other { IfErr result
-        (λ fault. (number : _) → fault ≡ WrongVersion number → ⊥) }
+    ensures no_other { IfErr result TellsNoVersion }
 {
     let names = maintainers_of(alloc, object)?;
     let key = key_text(alloc, object.key(), version)?;
@@ -164,8 +163,7 @@ pub(crate) fn take_all_names<S: Alter>(
         (rest : List Values) × GivesRest S.Store rows.old.conn.now rows.new.conn.now rest ×
         (contents rest ≡ flat_map named_rows (map (entry_in (form_of version)) objects.now)))) }
     ensures no_bad_row { IfErr result (λ fault. fault ≡ BadRow → ⊥) }
-    ensures no_other { IfErr result
-        (λ fault. (number : _) → fault ≡ WrongVersion number → ⊥) }
+    ensures no_other { IfErr result TellsNoVersion }
 {
     for object in objects {
         if !take_names_of(rows, alloc, object, version)? {

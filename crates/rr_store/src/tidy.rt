@@ -11,6 +11,7 @@ use crate::reading::meta_numbers;
 use rr_rows::{are_numbered, has_tables};
 use sqlite::{Alter, Connection, Error};
 
+/// Whether the rows of the settings have numbers of their own.
 fn meta_is_keyed<S: Alter>(conn: &mut Connection<S>) -> Result<bool, Error>
     requires autocommit { conn.old.in_transaction ≡ false }
     requires tables { OnCleanDisk S.Store conn.old (HasTables conn.old.schema) }
@@ -22,7 +23,7 @@ fn meta_is_keyed<S: Alter>(conn: &mut Connection<S>) -> Result<bool, Error>
     are_numbered(&rows)
 }
 
-/// Whether the three tables are there, and the rows of the settings have numbers of their own.
+/// Checks that the three tables are there, and the rows of the settings have numbers of their own.
 pub(crate) fn check_settings<S: Alter>(conn: &mut Connection<S>) -> Result<(), Error>
     requires autocommit { conn.old.in_transaction ≡ false }
     ensures looks { Looks S.Store conn.old conn.new result }

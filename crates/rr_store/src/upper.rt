@@ -17,6 +17,7 @@ use std::alloc::{AllocError, Global};
 /// The AS numbers of more than two octets (RFC 6793).
 const UPPER: &[u8] = b"AS65536 - AS4294967295";
 
+/// The attributes of the block.
 #[tactic(auto, using(crate::proofs::UpperLemmas::upper_fields))]
 fn upper_attributes(
     alloc: Global,
@@ -34,6 +35,7 @@ fn upper_attributes(
     Ok(attributes)
 }
 
+/// The paragraph of the block.
 fn upper_paragraph(alloc: Global, root: &Name, source: &Name) -> Result<Paragraph, AllocError>
     ensures value { IfOk result (λ paragraph. paragraph ≡ upper_block root.now source.now) }
     ensures fields { IfOk result AreFields }

@@ -1,6 +1,6 @@
 //! Whether a database has room for a new store.
 
-ghost use Rattle.std.specs.Prelude.{◌≡◌, [], false, IfOk, IsTrue};
+ghost use Rattle.std.specs.Prelude.{◌≡◌, false, IfOk, IsTrue};
 ghost use Rattle.rr_rows.specs.Made.{HasRow, IsBare, no_schema};
 ghost use Rattle.rr_rows.specs.Tables.{HasTables};
 ghost use Rattle.rr_store.specs.Calls.{Looks, OnCleanDisk, database};
@@ -17,6 +17,7 @@ pub(crate) fn is_blank(schema: &Schema) -> bool
     schema.tables.is_empty() && schema.indexes.is_empty() && schema.views.is_empty()
 }
 
+/// Whether `meta` has no row.
 fn meta_is_empty<S: Alter>(conn: &mut Connection<S>) -> Result<bool, Error>
     requires autocommit { conn.old.in_transaction ≡ false }
     requires tables { OnCleanDisk S.Store conn.old (HasTables conn.old.schema) }
@@ -28,6 +29,7 @@ fn meta_is_empty<S: Alter>(conn: &mut Connection<S>) -> Result<bool, Error>
     Ok(rows.as_slice().is_empty())
 }
 
+/// Whether `object` has no row.
 fn object_is_empty<S: Alter>(conn: &mut Connection<S>) -> Result<bool, Error>
     requires autocommit { conn.old.in_transaction ≡ false }
     requires tables { OnCleanDisk S.Store conn.old (HasTables conn.old.schema) }
@@ -39,6 +41,7 @@ fn object_is_empty<S: Alter>(conn: &mut Connection<S>) -> Result<bool, Error>
     Ok(rows.as_slice().is_empty())
 }
 
+/// Whether `named` has no row.
 fn named_is_empty<S: Alter>(conn: &mut Connection<S>) -> Result<bool, Error>
     requires autocommit { conn.old.in_transaction ≡ false }
     requires tables { OnCleanDisk S.Store conn.old (HasTables conn.old.schema) }

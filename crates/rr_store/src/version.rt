@@ -19,6 +19,7 @@ pub(crate) enum Version {
 }
 
 impl Version {
+    /// The number.
     pub(crate) fn number(self) -> u32
         ensures { result ≡ version_number self }
     {
@@ -50,6 +51,7 @@ impl Version {
     }
 }
 
+/// The bytes as a text, if they are one; decimal digits are.
 fn text_of(bytes: &[u8]) -> Option<&str>
     ensures found { IfSome result (λ text. text.now ≡ bytes.now) }
     ensures only { (n : _) → n < 2 ^ 32 → bytes.now ≡ decimal n → result ≡ None → ⊥ }
@@ -60,6 +62,7 @@ fn text_of(bytes: &[u8]) -> Option<&str>
     }
 }
 
+/// The number that a text is read as, if it is one; decimal digits are read as theirs.
 #[tactic(auto, using(crate::proofs::VersionLemmas::decimal_is_read))]
 fn parsed(text: &str) -> Option<u32>
     ensures { (n : _) → n < 2 ^ 32 → text.now ≡ decimal n → result ≡ Some n }
@@ -70,6 +73,7 @@ fn parsed(text: &str) -> Option<u32>
     }
 }
 
+/// Whether the bytes write the number without leading zeros.
 fn is_decimal(bytes: &[u8], number: u32) -> bool
     ensures is { IsTrue result → bytes.now ≡ decimal number }
     ensures only { bytes.now ≡ decimal number → IsTrue result }
@@ -78,6 +82,8 @@ fn is_decimal(bytes: &[u8], number: u32) -> bool
     buffer.format(number).as_bytes() == bytes
 }
 
+/// The number that bytes, given as a text too, write in decimal digits without leading zeros, if
+/// they do.
 fn number_of_text(bytes: &[u8], text: &str) -> Option<u32>
     requires { text.now ≡ bytes.now }
     ensures found { IfSome result (λ n. bytes.now ≡ decimal n) }

@@ -23,6 +23,7 @@ IsDone-whole source sides middle done handled line = record {
   reads = handled.ended.reads;
   are_items = rw handled.ended.spelled handled.handles.are_items;
   runs = handled.handles.runs;
+  confined = handled.handles.confined;
   writes = Takes-then _ _ handled.handles.writes (rw handled.handles.counted at line);
   counted = handled.handles.counted;
   refused = handled.handles.refused;

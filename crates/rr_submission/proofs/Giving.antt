@@ -1,5 +1,5 @@
 -- The secrets that attributes give one after the other.
-use Rattle.std.proofs.Common.{◌≡◌, ℕ, ◌+◌, ◌<◌, Bool, true, false, List, [], ◌∷◌, ◌++◌, length, refl, cond, get_or, drop, drop-cons, add-one, suc}
+use Rattle.std.proofs.Common.{◌≡◌, ◌+◌, Bool, true, false, List, [], ◌∷◌, ◌++◌, refl, cond}
 use Rattle.std.specs.Prelude.{map}
 use Rattle.rr_text.specs.Fields.{Field}
 use Rattle.rr_submission.specs.SubmissionTexts.{is_password, secret_of, secrets_of}
@@ -10,5 +10,5 @@ given_or_not true x xs = refl
 given_or_not false x xs = refl
 
 -- an attribute and those after it
-pub secrets_of-front : (x : Field) (xs : List Field) → secrets_of (x ∷ xs) ≡ secrets_of (x ∷ []) ++ secrets_of xs
-secrets_of-front x xs = given_or_not (is_password x) x _
+pub secrets_of-prefix : (x : Field) (xs : List Field) → secrets_of (x ∷ xs) ≡ secrets_of (x ∷ []) ++ secrets_of xs
+secrets_of-prefix x xs = given_or_not (is_password x) x _

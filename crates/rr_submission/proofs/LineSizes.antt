@@ -11,7 +11,7 @@ use Rattle.rr_object.specs.declared.class.Class.TheVariants.{Mntner, AsBlock, Au
 use Rattle.rr_object.specs.declared.code.Code.{Code}
 use Rattle.rr_object.specs.declared.code.Code.TheVariants.{E01, E02, E03, E04, E05, E06, E07, E10, E11, E12, E13, E14, E15, E16, E17, E18, E90, E91, E92}
 use Rattle.rr_registry.specs.declared.outcome.Outcome.{Outcome}
-use Rattle.rr_registry.specs.declared.outcome.Outcome.TheVariants.{Added, Changed, Same, Deleted, Refused}
+use Rattle.rr_registry.specs.declared.outcome.Outcome.TheVariants.{Added, Changed, Unchanged, Deleted, Refused}
 use Rattle.rr_submission.specs.declared.ending.Ending.{Ending}
 use Rattle.rr_submission.specs.declared.ending.Ending.TheVariants.{Complete, ReadFault, Memory, Stopped}
 use Rattle.rr_submission.specs.Endings.{before_count, after_count}
@@ -60,14 +60,14 @@ code_name_short E92 = lit≤ tt
 pub outcome_word_short : (outcome : Outcome) → length (outcome_word outcome) ≤ 9
 outcome_word_short Added = lit≤ tt
 outcome_word_short Changed = lit≤ tt
-outcome_word_short Same = lit≤ tt
+outcome_word_short Unchanged = lit≤ tt
 outcome_word_short Deleted = lit≤ tt
 outcome_word_short (Refused code) = lit≤ tt
 
 pub refusal_code_short : (outcome : Outcome) → length (refusal_code outcome) ≤ 3
 refusal_code_short Added = lit≤ tt
 refusal_code_short Changed = lit≤ tt
-refusal_code_short Same = lit≤ tt
+refusal_code_short Unchanged = lit≤ tt
 refusal_code_short Deleted = lit≤ tt
 refusal_code_short (Refused code) = code_name_short code
 

@@ -1,5 +1,5 @@
 -- Paragraphs that were passed and are no items, and those that are.
-use Rattle.std.proofs.Common.{◌≡◌, ℕ, true, List, [], ◌∷◌, ◌++◌, length-append, append_assoc, Ok, Err, arith, sym, subst}
+use Rattle.std.proofs.Common.{◌≡◌, ◌≢◌, ℕ, true, List, [], ◌∷◌, ◌++◌, length-append, append_assoc, Ok, Err, arith, sym, subst}
 use Rattle.std.proofs.lemmas.List.{append-nil}
 use Rattle.rr_io.specs.Told.{Told}
 use Rattle.rr_io.specs.declared.receiving.ReadEnd.{ReadEnd}
@@ -67,9 +67,10 @@ passing_end source start now then p given before after ended so all = record {
   none = subst (λ es. AreItems source before es []) (append-nil so.added) (so.stay [] [] at_end);
 }
 
--- a fault ends the reading, or is that of a paragraph
+-- a fault breaks off the reading, or is that of a paragraph
 pub passing_fault : (source : List ℕ) (start now then : Told) (p q : Paragraphs) (given : List Entry) (before after : List (List ℕ)) (fault : TextFault) (ended : ReadEnd)
-    → (so : IsPassing source start now p given before after) → GivesNext start then q (given ++ so.added) (Err fault) → text_code fault ≡ Err ended → FindsNone source start then given before ended
+    → (so : IsPassing source start now p given before after) → GivesNext start then q (given ++ so.added) (Err fault) → text_code fault ≡ Err ended
+    → (ended ≢ end.Whole) × FindsNone source start then given before ended
 passing_fault source start now then p q given before after TooLarge ended so next e = cc
 passing_fault source start now then p q given before after BadByte ended so next e = cc
 passing_fault source start now then p q given before after FirstContinues ended so next e = cc
@@ -78,10 +79,10 @@ passing_fault source start now then p q given before after BadName ended so next
 passing_fault source start now then p q given before after Memory ended so next e = cc
 passing_fault source start now then p q given before after Read ended so next e =
     let is : end.Broken ≡ ended = cc in
-    subst (FindsNone source start then given before) is (passing_end source start now then p given before after end.Broken so next.1)
+    subst (λ by. (by ≢ end.Whole) × FindsNone source start then given before by) is ((λ whole. cc), passing_end source start now then p given before after end.Broken so next.1)
 passing_fault source start now then p q given before after Endless ended so next e =
     let is : end.Endless ≡ ended = cc in
-    subst (FindsNone source start then given before) is (passing_end source start now then p given before after end.Endless so next.1)
+    subst (λ by. (by ≢ end.Whole) × FindsNone source start then given before by) is ((λ whole. cc), passing_end source start now then p given before after end.Endless so next.1)
 
 pub passing_faulty : (source : List ℕ) (start now then : Told) (p q : Paragraphs) (given : List Entry) (before after : List (List ℕ)) (fault : TextFault) (code : Code)
     → (so : IsPassing source start now p given before after) → GivesNext start then q (given ++ so.added) (Err fault) → text_code fault ≡ Ok code

@@ -4,7 +4,7 @@ use Rattle.std.specs.Prelude.{map, ◌^◌, ◌⊎◌}
 use Rattle.std.proofs.lemmas.List.Sums.{sum_by-append}
 use Rattle.std.proofs.lemmas.List.{append-nil}
 use Rattle.rr_io.specs.Told.{Told}
-use Rattle.rr_io.specs.Sending.{Takes, TakesFront, TakesSome}
+use Rattle.rr_io.specs.Sending.{Takes, TakesPrefix, TakesSome}
 use Rattle.rr_io.proofs.Transfers.{Takes-none, Takes-then}
 use Rattle.rr_io.specs.Receiving.{IsSpent}
 use Rattle.rr_text.specs.Entries.{entries}
@@ -15,20 +15,21 @@ use Rattle.rr_text.specs.declared.paragraphs.ReaderState.TheVariants.{Open, Ende
 use Rattle.rr_text.specs.WholePart.{whole_part}
 use Rattle.rr_text.proofs.ReaderLemmas.{held_few, within_limit}
 use Rattle.rr_submission.specs.ItemReaders.{FindsItem}
-use Rattle.rr_auth.specs.Registries.{Reg}
+use Rattle.rr_auth.specs.Registries.{Reg, Sound}
 use Rattle.rr_registry.specs.declared.outcome.Outcome.{Outcome}
 use Rattle.rr_registry.specs.Runs.{Decides, Run}
 use Rattle.rr_submission.specs.declared.ledger.Ledger.{Ghosts}
 use Rattle.rr_submission.specs.declared.stop.Stop.{Stop}
-use Rattle.rr_submission.specs.declared.stop.Stop.TheVariants.{Unwritten, Halted}
+use Rattle.rr_submission.specs.declared.stop.Stop.TheVariants.{Unwritten, LedgerStopped}
 use Rattle.rr_submission.specs.declared.submission.Done.{Done}
 use Rattle.rr_submission.specs.declared.request.Request.{Request}
 use Rattle.rr_submission.specs.SubmissionItems.{AreItems, Asked, submitted}
 use Rattle.rr_submission.specs.SubmissionItems.AreItems.{at_end}
 use Rattle.rr_submission.specs.Refusals.{is_refusal, refusals}
 use Rattle.rr_submission.specs.Reports.{item_line, lines_from, stop_lines}
-use Rattle.rr_submission.specs.Handled.{HaltsAt, ReadsItems, HandlesStopped, HandlesUnwritten}
+use Rattle.rr_submission.specs.Handled.{StopsAt, ReadsItems, HandlesStopped, HandlesUnwritten}
 use Rattle.rr_submission.specs.HandledParts.{HandlesItems, HandlesAll, HandlesOne}
+use Rattle.rr_submission.proofs.Confining.{all_items_confined, items_confined}
 
 -- one item more is decided
 pub Run-more : (old between new : Reg) (items : List Asked) (outcomes : List Outcome) (item : Asked) (outcome : Outcome) →
@@ -59,7 +60,7 @@ lines_from-more number old new (i ∷ is) (o ∷ os) item outcome r =
 pub refusals-more : (outcomes : List Outcome) (outcome : Outcome) → refusals (outcomes ++ outcome ∷ []) ≡ refusals outcomes + cond (is_refusal outcome) 1 0
 refusals-more outcomes outcome = sum_by-append _ outcomes (outcome ∷ []) ∙ ap (λ n. refusals outcomes + n) (zero-add (cond (is_refusal outcome) 1 0))
 
--- of what was given so far the items were decided and their lines written
+-- of what was given so far the items were decided and their lines written, from a sound registry
 pub record ComesTo (source : List ℕ) (given : List Entry) (old new : Reg) (before after : Told) (secrets : List (List ℕ)) (done : Done) : Type 0 where
   pub items : List Asked
   pub outcomes : List Outcome
@@ -70,10 +71,11 @@ pub record ComesTo (source : List ℕ) (given : List Entry) (old new : Reg) (bef
   pub refused : done.refused ≡ refusals outcomes
   pub fewer : done.refused ≤ done.items
   pub few : done.items ≤ length given
+  pub sound : Sound old
 
-pub ComesTo-start : (source : List ℕ) (registry : Reg) (told : Told) → ComesTo source [] registry registry told told [] (record { items = 0; refused = 0 })
+pub ComesTo-start : (source : List ℕ) (registry : Reg) (told : Told) → Sound registry → ComesTo source [] registry registry told told [] (record { items = 0; refused = 0 })
 unfolding lines_from
-ComesTo-start source registry told = record {
+ComesTo-start source registry told sound = record {
   items = [];
   outcomes = [];
   are_items = λ more later h. h;
@@ -83,6 +85,7 @@ ComesTo-start source registry told = record {
   refused = refl;
   fewer = omega arith;
   few = omega arith;
+  sound = sound;
 }
 
 at_most_one : (b : Bool) → cond b 1 0 ≤ 1
@@ -113,40 +116,42 @@ ComesTo-more {source} {given} start now p new after then_secrets then request ou
       refused = refused ∙ (ap (λ n. n + cond (is_refusal outcome) 1 0) so.refused ∙ sym (refusals-more so.outcomes outcome));
       fewer = omega (arith, refused, so.fewer, items, at_most_one (is_refusal outcome));
       few = omega (arith, items, so.few, found.some, length-append given found.added);
+      sound = so.sound;
     }
 
 -- what was given is within the bytes that a reader of paragraphs reads
 pub given_few : (start now : Told) (p : Paragraphs) (given : List Entry) → HasGiven start now p given → length given ≤ 2 ^ 36
 given_few start now p given has =
-    let all : length has.text ≡ length has.front + length (held p) = ap length has.cut ∙ length-append has.front (held p) in
+    let all : length has.text ≡ length has.prefix + length (held p) = ap length has.cut ∙ length-append has.prefix (held p) in
     omega (arith, all, has.few, has.bounded, p.few)
 
--- no item is left behind what was given
+-- no item is left after what was given
 pub HandlesAll-end : {source : List ℕ} {given : List Entry} {old new : Reg} {before after : Told} {secrets : List (List ℕ)} {done : Done} (added : List Entry) →
     ComesTo source given old new before after secrets done → AreItems source secrets added [] → HandlesAll source (given ++ added) old new before after done
-HandlesAll-end added so none = record {
+HandlesAll-end {source} {given} {old} {new} added so none = record {
   items = so.items;
   outcomes = so.outcomes;
   are_items = rw append-nil at (so.are_items added [] none);
   runs = so.runs;
+  confined = items_confined source (given ++ added) so.items [] old new so.outcomes so.sound (so.are_items added [] none) so.runs;
   writes = so.writes;
   counted = so.counted;
   refused = so.refused;
 }
 
-apart_by : (state : ReaderState) (now : Told) (front left : List ℕ) → KeepsApart state now front left → (whole_part front ≡ front) ⊎ ((left ≡ []) × IsSpent now)
-apart_by Open now front left keeps = inl keeps
-apart_by Ended now front left keeps = inr keeps
-apart_by Broken now front left keeps = absurd keeps
-apart_by Endless now front left keeps = absurd keeps
+apart_by : (state : ReaderState) (now : Told) (prefix left : List ℕ) → KeepsApart state now prefix left → (whole_part prefix ≡ prefix) ⊎ ((left ≡ []) × IsSpent now)
+apart_by Open now prefix left keeps = inl keeps
+apart_by Ended now prefix left keeps = inr keeps
+apart_by Broken now prefix left keeps = absurd keeps
+apart_by Endless now prefix left keeps = absurd keeps
 
--- the front that was given
-pub front_read : (start now : Told) (p : Paragraphs) (given : List Entry) (has : HasGiven start now p given) → ReadsItems start now has.front
-front_read start now p given has = record {
+-- the prefix that was given
+pub prefix_read : (start now : Told) (p : Paragraphs) (given : List Entry) (has : HasGiven start now p given) → ReadsItems start now has.prefix
+prefix_read start now p given has = record {
   left = held p;
   gives = rw (← has.cut) has.gives;
   short = held_few p;
-  apart = apart_by (state_of p) now has.front (held p) has.apart;
+  apart = apart_by (state_of p) now has.prefix (held p) has.apart;
   few = within_limit start.reads now.reads (reads_of p) has.counts p.few;
 }
 
@@ -154,11 +159,11 @@ front_read start now p given has = record {
 last_items : {source : List ℕ} {given : List Entry} {old between : Reg} {before middle : Told} {secrets : List (List ℕ)} {done : Done}
     (start now : Told) (p : Paragraphs) (then_secrets : List (List ℕ)) (request : Request) → (so : ComesTo source given old between before middle secrets done) →
     (found : FindsItem source start now p given secrets then_secrets request) →
-    AreItems source [] (entries found.has.front) (so.items ++ record { secrets = then_secrets; request = request } ∷ [])
+    AreItems source [] (entries found.has.prefix) (so.items ++ record { secrets = then_secrets; request = request } ∷ [])
 last_items {source} {given} start now p then_secrets request so found =
     let item : Asked = record { secrets = then_secrets; request = request } in
     let all : AreItems source [] (given ++ (found.added ++ [])) (so.items ++ item ∷ []) = so.are_items (found.added ++ []) (item ∷ []) (found.item [] [] at_end) in
-    let same : entries found.has.front ≡ given ++ (found.added ++ []) = found.has.spelled ∙ ap (λ es. given ++ es) (sym (append-nil found.added)) in
+    let same : entries found.has.prefix ≡ given ++ (found.added ++ []) = found.has.spelled ∙ ap (λ es. given ++ es) (sym (append-nil found.added)) in
     subst (λ es. AreItems source [] es (so.items ++ item ∷ [])) (sym same) all
 
 -- a line could not be written
@@ -166,48 +171,53 @@ pub HandlesSome-cut : {source : List ℕ} {given : List Entry} {old between : Re
     (start now : Told) (p : Paragraphs) (new : Reg) (after : Told) (then_secrets : List (List ℕ)) (count : ℕ) (request : Request) (outcome : Outcome) →
     ComesTo source given old between before middle secrets done → FindsItem source start now p given secrets then_secrets request →
     Decides between then_secrets request.action outcome new → count ≡ done.items + 1 →
-    TakesFront middle after (item_line count request.key outcome) →
+    TakesPrefix middle after (item_line count request.key outcome) →
     HandlesUnwritten source start now old new before after count
-HandlesSome-cut {source} {middle} start now p new after then_secrets count request outcome so found decides items line =
+HandlesSome-cut {source} {old} {between} {middle} start now p new after then_secrets count request outcome so found decides items line =
     let item : Asked = record { secrets = then_secrets; request = request } in
+    let are : AreItems source [] (entries found.has.prefix) (so.items ++ item ∷ []) = last_items start now p then_secrets request so found in
+    let run : Run old (map submitted (so.items ++ item ∷ [])) (so.outcomes ++ outcome ∷ []) new = Run-more old between new so.items so.outcomes item outcome so.runs decides in
     record {
-      front = found.has.front;
-      reads = front_read start now p _ found.has;
+      prefix = found.has.prefix;
+      reads = prefix_read start now p _ found.has;
       handles = record {
         told = so.items;
         last = item;
         outcomes = so.outcomes;
         outcome = outcome;
         between = middle;
-        are_items = last_items start now p then_secrets request so found;
-        runs = Run-more _ _ _ so.items so.outcomes item outcome so.runs decides;
+        are_items = are;
+        runs = run;
+        confined = all_items_confined source (entries found.has.prefix) (so.items ++ item ∷ []) old new (so.outcomes ++ outcome ∷ []) so.sound are run;
         writes = so.writes;
         cut = line;
         counted = items ∙ ap (λ n. n + 1) so.counted;
       };
     }
 
--- the ledger came to a halt
-pub HandlesHalted-cut : {L : Type 0} (g : Ghosts L) {source : List ℕ} {given : List Entry} (old between new : L) {before middle : Told} {secrets : List (List ℕ)} {done : Done}
+-- the ledger stopped
+pub HandlesThenStops-cut : {L : Type 0} (g : Ghosts L) {source : List ℕ} {given : List Entry} (old between new : L) {before middle : Told} {secrets : List (List ℕ)} {done : Done}
     (start now : Told) (p : Paragraphs) (after : Told) (then_secrets : List (List ℕ)) (count : ℕ) (request : Request) →
     ComesTo source given (g.registry old) (g.registry between) before middle secrets done → g.Ready between → FindsItem source start now p given secrets then_secrets request →
-    HaltsAt g between then_secrets request.action new → count ≡ done.items → TakesSome middle after (stop_lines count request.key) →
+    StopsAt g between then_secrets request.action new → count ≡ done.items → TakesSome middle after (stop_lines count request.key) →
     HandlesStopped g source start now old new before after count
-HandlesHalted-cut g {source} old between new {before} {middle} start now p after then_secrets count request so ready found halts items line =
+HandlesThenStops-cut g {source} old between new {before} {middle} start now p after then_secrets count request so ready found stops items line =
     let item : Asked = record { secrets = then_secrets; request = request } in
+    let are : AreItems source [] (entries found.has.prefix) (so.items ++ item ∷ []) = last_items start now p then_secrets request so found in
     record {
-      front = found.has.front;
-      reads = front_read start now p _ found.has;
+      prefix = found.has.prefix;
+      reads = prefix_read start now p _ found.has;
       handles = record {
         told = so.items;
         last = item;
         outcomes = so.outcomes;
         middle = between;
         between = middle;
-        are_items = last_items start now p then_secrets request so found;
+        are_items = are;
         runs = so.runs;
+        confined = items_confined source (entries found.has.prefix) so.items (item ∷ []) (g.registry old) (g.registry between) so.outcomes so.sound are so.runs;
         ready = ready;
-        halts = halts;
+        stops = stops;
         writes = so.writes;
         ends = line;
         counted = items ∙ so.counted;
@@ -221,5 +231,5 @@ pub Handles-cut : {L : Type 0} (g : Ghosts L) {source : List ℕ} {given : List 
     HandlesOne g then_secrets request done between new middle after (Err stop) → HandlesItems g source start now old new before after (Err stop)
 Handles-cut g old between new start now p after then_secrets request (Unwritten count) so ready found one =
     HandlesSome-cut start now p _ after then_secrets count request one.outcome so found one.decides one.items one.writes
-Handles-cut g old between new start now p after then_secrets request (Halted count) so ready found one =
-    HandlesHalted-cut g old between new start now p after then_secrets count request so ready found one.halts one.items one.writes
+Handles-cut g old between new start now p after then_secrets request (LedgerStopped count) so ready found one =
+    HandlesThenStops-cut g old between new start now p after then_secrets count request so ready found one.stops one.items one.writes

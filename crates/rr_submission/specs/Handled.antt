@@ -2,8 +2,8 @@
 use Rattle.std.specs.Prelude.{◌≡◌, ℕ, ◌+◌, ◌≤◌, ◌⊎◌, List, []}
 use Rattle.std.specs.Prelude.{◌∷◌, ◌++◌, length, map, Result, Ok, Err}
 use Rattle.rr_io.specs.Told.{Told}
-use Rattle.rr_io.specs.Receiving.{Gives, IsSpent, read_limit}
-use Rattle.rr_io.specs.Sending.{Takes, TakesFront, TakesSome}
+use Rattle.rr_io.specs.Receiving.{Gives, IsSpent, read_limit, read_size}
+use Rattle.rr_io.specs.Sending.{Takes, TakesPrefix, TakesSome}
 use Rattle.rr_text.specs.Entries.{entries}
 use Rattle.rr_text.specs.WholePart.{whole_part}
 use Rattle.rr_text.specs.Fields.{Field}
@@ -15,6 +15,7 @@ use Rattle.rr_registry.specs.declared.outcome.Outcome.{Outcome}
 use Rattle.rr_registry.specs.Runs.{Run}
 use Rattle.rr_submission.specs.declared.ledger.Ledger.{Ghosts}
 use Rattle.rr_submission.specs.SubmissionItems.{AreItems, Asked, submitted}
+use Rattle.rr_submission.specs.SubmissionLaws.{ConfinesItems}
 use Rattle.rr_submission.specs.Reports.{item_line, lines_from, stop_lines}
 
 -- the line of the last item could not be written: it was decided, the items told before it had been
@@ -28,20 +29,21 @@ pub record HandlesSome (source : List ℕ) (entries : List (Result (List Field) 
   pub between : Told
   pub are_items : AreItems source [] entries (told ++ last ∷ [])
   pub runs : Run old (map submitted (told ++ last ∷ [])) (outcomes ++ outcome ∷ []) new
+  pub confined : ConfinesItems old (told ++ last ∷ []) (outcomes ++ outcome ∷ []) new
   pub writes : Takes before between (lines_from 1 told outcomes)
-  pub cut : TakesFront between after (item_line count last.request.key outcome)
+  pub cut : TakesPrefix between after (item_line count last.request.key outcome)
   pub counted : count ≡ length told + 1
 
--- the ledger came to a halt at what was asked: only an item brings it to that
-abbrev pub HaltsAt : {L : Type 0} → Ghosts L → L → List (List ℕ) → Result Item Code → L
+-- the ledger stopped at what was asked: only an item brings it to that
+abbrev pub StopsAt : {L : Type 0} → Ghosts L → L → List (List ℕ) → Result Item Code → L
     → Type 0
-HaltsAt g old secrets (Ok item) new = g.Halts old secrets item new
-HaltsAt g old secrets (Err code) new = ⊥
+StopsAt g old secrets (Ok item) new = g.Stops old secrets item new
+StopsAt g old secrets (Err code) new = ⊥
 
--- the ledger came to a halt at the last item: the items told before it had been decided and their
--- lines written whole, and it has its line with the code E91 and the last line after that, as far
--- as they could be written
-pub record HandlesHalted {L : Type 0} (g : Ghosts L) (source : List ℕ)
+-- the ledger stopped at the last item: the items told before it had been decided and their lines
+-- written whole, and it has its line with the code E91 and the last line after that, as far as they
+-- could be written
+pub record HandlesThenStops {L : Type 0} (g : Ghosts L) (source : List ℕ)
     (entries : List (Result (List Field) TextFault)) (old new : L) (before after : Told)
     (count : ℕ) : Type 0 where
   pub told : List Asked
@@ -51,32 +53,33 @@ pub record HandlesHalted {L : Type 0} (g : Ghosts L) (source : List ℕ)
   pub between : Told
   pub are_items : AreItems source [] entries (told ++ last ∷ [])
   pub runs : Run (g.registry old) (map submitted told) outcomes (g.registry middle)
+  pub confined : ConfinesItems (g.registry old) told outcomes (g.registry middle)
   pub ready : g.Ready middle
-  pub halts : HaltsAt g middle last.secrets last.request.action new
+  pub stops : StopsAt g middle last.secrets last.request.action new
   pub writes : Takes before between (lines_from 1 told outcomes)
   pub ends : TakesSome between after (stop_lines count last.request.key)
   pub counted : count ≡ length told
 
--- a front of the text was read, and at most one block after it, whose bytes are passed unread: the
--- front ends with a blank line, so that its entries are the first of the text whatever follows, or
+-- a prefix of the text was read, and at most one block after it, whose bytes are passed unread: the
+-- prefix ends with a blank line, so that its entries are the first of the text whatever follows, or
 -- with the text (profile)
-pub record ReadsItems (start now : Told) (front : List ℕ) : Type 0 where
+pub record ReadsItems (start now : Told) (prefix : List ℕ) : Type 0 where
   pub left : List ℕ
-  pub gives : Gives start now (front ++ left)
-  pub short : length left ≤ 4096
-  pub apart : (whole_part front ≡ front) ⊎ ((left ≡ []) × IsSpent now)
+  pub gives : Gives start now (prefix ++ left)
+  pub short : length left ≤ read_size
+  pub apart : (whole_part prefix ≡ prefix) ⊎ ((left ≡ []) × IsSpent now)
   pub few : now.reads ≤ start.reads + read_limit
 
--- a front of the text was read, up to the item whose line could not be written
+-- a prefix of the text was read, up to the item whose line could not be written
 pub record HandlesUnwritten (source : List ℕ) (start now : Told) (old new : Reg)
     (before after : Told) (count : ℕ) : Type 0 where
-  pub front : List ℕ
-  pub reads : ReadsItems start now front
-  pub handles : HandlesSome source (entries front) old new before after count
+  pub prefix : List ℕ
+  pub reads : ReadsItems start now prefix
+  pub handles : HandlesSome source (entries prefix) old new before after count
 
--- a front of the text was read, up to the item at which the ledger came to a halt
+-- a prefix of the text was read, up to the item at which the ledger stopped
 pub record HandlesStopped {L : Type 0} (g : Ghosts L) (source : List ℕ) (start now : Told)
     (old new : L) (before after : Told) (count : ℕ) : Type 0 where
-  pub front : List ℕ
-  pub reads : ReadsItems start now front
-  pub handles : HandlesHalted g source (entries front) old new before after count
+  pub prefix : List ℕ
+  pub reads : ReadsItems start now prefix
+  pub handles : HandlesThenStops g source (entries prefix) old new before after count

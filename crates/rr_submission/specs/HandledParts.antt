@@ -3,7 +3,7 @@
 use Rattle.std.specs.Prelude.{◌≡◌, ℕ, ◌+◌, List, [], length, map, Result, Ok, Err}
 use Rattle.std.specs.Prelude.{if◌then◌else◌}
 use Rattle.rr_io.specs.Told.{Told}
-use Rattle.rr_io.specs.Sending.{Takes, TakesFront, TakesSome}
+use Rattle.rr_io.specs.Sending.{Takes, TakesPrefix, TakesSome}
 use Rattle.rr_io.specs.declared.receiving.ReadEnd.{ReadEnd}
 use Rattle.rr_text.specs.ParagraphReaders.{HasEnded}
 use Rattle.rr_text.specs.Fields.{Field}
@@ -13,15 +13,16 @@ use Rattle.rr_registry.specs.declared.outcome.Outcome.{Outcome}
 use Rattle.rr_registry.specs.Runs.{Decides, Run}
 use Rattle.rr_submission.specs.declared.ledger.Ledger.{Ghosts}
 use Rattle.rr_submission.specs.declared.stop.Stop.{Stop}
-use Rattle.rr_submission.specs.declared.stop.Stop.TheVariants.{Unwritten, Halted}
+use Rattle.rr_submission.specs.declared.stop.Stop.TheVariants.{Unwritten, LedgerStopped}
 use Rattle.rr_submission.specs.declared.submission.Done.{Done}
 use Rattle.rr_submission.specs.declared.submission.DeskFault.{DeskFault}
 use Rattle.rr_submission.specs.declared.submission.DeskFault.TheVariants as fault
 use Rattle.rr_submission.specs.SubmissionItems.{AreItems, Asked, submitted}
+use Rattle.rr_submission.specs.SubmissionLaws.{ConfinesItems}
 use Rattle.rr_submission.specs.Refusals.{is_refusal, refusals}
 use Rattle.rr_submission.specs.Reports.{item_line, lines_from, stop_lines}
 use Rattle.rr_submission.specs.declared.request.Request.{Request}
-use Rattle.rr_submission.specs.Handled.{HaltsAt, HandlesStopped, HandlesUnwritten}
+use Rattle.rr_submission.specs.Handled.{StopsAt, HandlesStopped, HandlesUnwritten}
 
 -- each item was decided, and its line was written
 pub record HandlesAll (source : List ℕ) (entries : List (Result (List Field) TextFault))
@@ -30,6 +31,7 @@ pub record HandlesAll (source : List ℕ) (entries : List (Result (List Field) T
   pub outcomes : List Outcome
   pub are_items : AreItems source [] entries items
   pub runs : Run old (map submitted items) outcomes new
+  pub confined : ConfinesItems old items outcomes new
   pub writes : Takes before after (lines_from 1 items outcomes)
   pub counted : done.items ≡ length items
   pub refused : done.refused ≡ refusals outcomes
@@ -43,21 +45,21 @@ pub record HandlesRead (source : List ℕ) (start now : Told) (end : ReadEnd) (o
   pub handles : HandlesAll source given old new before after done
 
 -- all of the items, with what is counted; those up to the one whose line could not be written, with
--- their number; or those before the one at which the ledger came to a halt
+-- their number; or those before the one at which the ledger stopped
 abbrev pub HandlesItems : {L : Type 0} → Ghosts L → List ℕ → Told → Told → L → L
     → Told → Told → Result (Done × ReadEnd) Stop → Type 0
 HandlesItems g source start now old new before after (Ok handled) =
     HandlesRead source start now handled.1 (g.registry old) (g.registry new) before after handled.0
 HandlesItems g source start now old new before after (Err (Unwritten count)) =
     HandlesUnwritten source start now (g.registry old) (g.registry new) before after count
-HandlesItems g source start now old new before after (Err (Halted count)) =
+HandlesItems g source start now old new before after (Err (LedgerStopped count)) =
     HandlesStopped g source start now old new before after count
 
--- a fact that holds unless the ledger came to a halt
-abbrev pub UnlessHalted : {T : Type 0} → Result T Stop → Type 0 → Type 0
-UnlessHalted (Ok done) fact = fact
-UnlessHalted (Err (Unwritten count)) fact = fact
-UnlessHalted (Err (Halted count)) fact = Unit {0}
+-- a fact that holds unless the ledger stopped
+abbrev pub UnlessStopped : {T : Type 0} → Result T Stop → Type 0 → Type 0
+UnlessStopped (Ok done) fact = fact
+UnlessStopped (Err (Unwritten count)) fact = fact
+UnlessStopped (Err (LedgerStopped count)) fact = Unit {0}
 
 -- an item was decided and counted, and its line was written
 pub record IsCounted (secrets : List (List ℕ)) (request : Request) (done : Done) (old new : Reg)
@@ -74,26 +76,26 @@ pub record IsUntold (secrets : List (List ℕ)) (request : Request) (done : Done
   pub outcome : Outcome
   pub decides : Decides old secrets request.action outcome new
   pub items : count ≡ done.items + 1
-  pub writes : TakesFront before after (item_line count request.key outcome)
+  pub writes : TakesPrefix before after (item_line count request.key outcome)
 
--- the ledger came to a halt at an item, which is not counted
-pub record HasHalted {L : Type 0} (g : Ghosts L) (secrets : List (List ℕ)) (request : Request)
+-- the ledger stopped at an item, which is not counted
+pub record HasStopped {L : Type 0} (g : Ghosts L) (secrets : List (List ℕ)) (request : Request)
     (done : Done) (old new : L) (before after : Told) (count : ℕ) : Type 0 where
-  pub halts : HaltsAt g old secrets request.action new
+  pub stops : StopsAt g old secrets request.action new
   pub items : count ≡ done.items
   pub writes : TakesSome before after (stop_lines count request.key)
 
--- an item was decided, and its line was written or not, or the ledger came to a halt
+-- an item was decided, and its line was written or not, or the ledger stopped
 abbrev pub HandlesOne : {L : Type 0} → Ghosts L → List (List ℕ) → Request → Done → L
     → L → Told → Told → Result Done Stop → Type 0
 HandlesOne g secrets request done old new before after (Ok counted) =
     IsCounted secrets request done (g.registry old) (g.registry new) before after counted
 HandlesOne g secrets request done old new before after (Err (Unwritten count)) =
     IsUntold secrets request done (g.registry old) (g.registry new) before after count
-HandlesOne g secrets request done old new before after (Err (Halted count)) =
-    HasHalted g secrets request done old new before after count
+HandlesOne g secrets request done old new before after (Err (LedgerStopped count)) =
+    HasStopped g secrets request done old new before after count
 
 -- the fault of a submission whose items could not all be handled
 abbrev pub stop_fault : Stop → DeskFault
 stop_fault (Unwritten items) = fault.WriteFault items
-stop_fault (Halted items) = fault.StoreFault items
+stop_fault (LedgerStopped items) = fault.StoreFault items

@@ -1,7 +1,9 @@
 -- The next item of a text that is read paragraph by paragraph.
-use Rattle.std.specs.Prelude.{ℕ, ◌<◌, List, [], ◌∷◌, ◌++◌, length, Result, Ok, Err}
+use Rattle.std.specs.Prelude.{◌≢◌, ℕ, ◌<◌, List, [], ◌∷◌, ◌++◌, length, Option, Some, None}
+use Rattle.std.specs.Prelude.{Result, Ok, Err}
 use Rattle.rr_io.specs.Told.{Told}
 use Rattle.rr_io.specs.declared.receiving.ReadEnd.{ReadEnd}
+use Rattle.rr_io.specs.declared.receiving.ReadEnd.TheVariants.{Whole}
 use Rattle.rr_text.specs.declared.paragraphs.Paragraphs.{Paragraphs}
 use Rattle.rr_text.specs.ParagraphReaders.{Entry, HasEnded, HasGiven}
 use Rattle.rr_submission.specs.declared.request.Request.{Request}
@@ -25,10 +27,12 @@ pub record FindsNone (source : List ℕ) (start now : Told) (given : List Entry)
   pub all : HasEnded start now ended (given ++ added)
   pub none : AreItems source before added []
 
--- the next item, or how the reading ended after the last one
+-- the next item; none where the text was read to its end; or how the reading broke off before that
 abbrev pub Finds : List ℕ → Told → Told → Paragraphs → List Entry → List (List ℕ)
-    → List (List ℕ) → Result Request ReadEnd → Type 0
-Finds source start now p given before after (Ok request) =
+    → List (List ℕ) → Result (Option Request) ReadEnd → Type 0
+Finds source start now p given before after (Ok (Some request)) =
     FindsItem source start now p given before after request
+Finds source start now p given before after (Ok None) =
+    FindsNone source start now given before Whole
 Finds source start now p given before after (Err ended) =
-    FindsNone source start now given before ended
+    (ended ≢ Whole) × FindsNone source start now given before ended

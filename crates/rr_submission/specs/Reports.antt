@@ -9,8 +9,8 @@ use Rattle.rr_object.specs.declared.code.Code.TheVariants.{E91}
 use Rattle.rr_object.specs.Keys.{class_of}
 use Rattle.rr_object.specs.KeyTexts.{key_text}
 use Rattle.rr_registry.specs.declared.outcome.Outcome.{Outcome}
-use Rattle.rr_registry.specs.declared.outcome.Outcome.TheVariants.{Added, Changed, Same, Deleted}
-use Rattle.rr_registry.specs.declared.outcome.Outcome.TheVariants.{Refused}
+use Rattle.rr_registry.specs.declared.outcome.Outcome.TheVariants.{Added, Changed, Unchanged}
+use Rattle.rr_registry.specs.declared.outcome.Outcome.TheVariants.{Deleted, Refused}
 use Rattle.rr_submission.specs.declared.ending.Ending.{Ending}
 use Rattle.rr_submission.specs.declared.ending.Ending.TheVariants.{Stopped}
 use Rattle.rr_submission.specs.Endings.{last_line}
@@ -20,7 +20,7 @@ use Rattle.rr_submission.specs.SubmissionItems.{Asked}
 abbrev pub outcome_word : Outcome → List ℕ
 outcome_word Added = codes "added"
 outcome_word Changed = codes "changed"
-outcome_word Same = codes "unchanged"
+outcome_word Unchanged = codes "unchanged"
 outcome_word Deleted = codes "deleted"
 outcome_word (Refused code) = codes "refused "
 
@@ -28,9 +28,13 @@ outcome_word (Refused code) = codes "refused "
 abbrev pub refusal_code : Outcome → List ℕ
 refusal_code Added = []
 refusal_code Changed = []
-refusal_code Same = []
+refusal_code Unchanged = []
 refusal_code Deleted = []
 refusal_code (Refused code) = code_name code
+
+-- the most bytes of a key in a report: those of a set's name (profile)
+abbrev pub key_limit : ℕ
+key_limit = 255
 
 -- a class before a key
 abbrev pub class_part : Class → List ℕ
@@ -60,8 +64,8 @@ lines_from number (item ∷ items) [] = []
 lines_from number (item ∷ items) (outcome ∷ outcomes) =
     item_line number item.request.key outcome ++ lines_from (number + 1) items outcomes
 
--- what ends a report where the ledger comes to a halt at an item after so many: the line of the
--- item, and the last line
+-- what ends a report where the ledger stops at an item after so many: the line of the item, and the
+-- last line
 unfoldable pub stop_lines : ℕ → Option Key → List ℕ
 stop_lines count key = item_line (count + 1) key (Refused E91) ++ last_line Stopped count
 

@@ -66,7 +66,7 @@ pub record LacksMemory (fields : List Field) (request : Request) : Type 0 where
   pub refused : request.action ≡ Err E90
   pub shown : IfSome request.key (λ key. key_of (own_fields fields) ≡ Ok key)
 
--- a reading of what a paragraph asks, which may want memory
+-- a reading of what a paragraph asks: exactly that, or memory ran out
 abbrev pub IsRequest : List ℕ → List Field → Request → Type 0
 IsRequest source fields request =
     (request ≡ request_of source fields) ⊎ LacksMemory fields request

@@ -17,6 +17,12 @@ ItemsKeepTheSource =
     → IsRegistryOf source r → AreItems source [] entries items
     → Run r (map submitted items) outcomes s → IsRegistryOf source s
 
+-- this run of items answers the holders of a prefix as if nobody else had submitted anything, and
+-- leaves what they hold to them
+pub record ConfinesItems (before : Reg) (items : List Asked) (outcomes : List Outcome)
+    (after : Reg) : Type 0 where
+  pub confines : Confines before (map submitted items) outcomes after
+
 -- from this registry a run of the first items of a text answers the holders of a prefix as if
 -- nobody else had submitted anything, and leaves what they hold to them
 abbrev pub ConfinesTexts : List ℕ → Reg → Type 0

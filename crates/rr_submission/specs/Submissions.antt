@@ -4,7 +4,7 @@ use Rattle.std.specs.Prelude.{◌≡◌, ◌≢◌, ℕ, List, [], length, map, 
 use Rattle.std.specs.Prelude.{◌⊎◌}
 use Rattle.rr_io.specs.Told.{Told}
 use Rattle.rr_io.specs.Receiving.{Reads}
-use Rattle.rr_io.specs.Sending.{Takes, TakesFront, TakesSome}
+use Rattle.rr_io.specs.Sending.{Takes, TakesPrefix, TakesSome}
 use Rattle.rr_io.specs.declared.receiving.ReadEnd.{ReadEnd}
 use Rattle.rr_io.specs.declared.receiving.ReadEnd.TheVariants.{Whole}
 use Rattle.rr_text.specs.Entries.{entries}
@@ -18,6 +18,7 @@ use Rattle.rr_submission.specs.declared.submission.DeskFault.{DeskFault}
 use Rattle.rr_submission.specs.declared.submission.DeskFault.TheVariants as fault
 use Rattle.rr_submission.specs.declared.ledger.Ledger.{Ghosts}
 use Rattle.rr_submission.specs.SubmissionItems.{AreItems, Asked, submitted}
+use Rattle.rr_submission.specs.SubmissionLaws.{ConfinesItems}
 use Rattle.rr_submission.specs.Refusals.{refusals}
 use Rattle.rr_submission.specs.Endings.{last_line}
 use Rattle.rr_submission.specs.Reports.{lines_from, report}
@@ -32,6 +33,7 @@ pub record Sides : Type 0 where
   pub before : Reg
   pub after : Reg
 
+-- the two sides of these readers, writers and registries, each before and after
 abbrev pub sides : Told → Told → Told → Told → Reg → Reg → Sides
 sides reader_old reader_new writer_old writer_new before after = record {
   reader_before = reader_old;
@@ -50,6 +52,7 @@ pub record IsDone (source : List ℕ) (sides : Sides) (done : Done) : Type 0 whe
   pub reads : Reads sides.reader_before sides.reader_after text Whole
   pub are_items : AreItems source [] (entries text) items
   pub runs : Run sides.before (map submitted items) outcomes sides.after
+  pub confined : ConfinesItems sides.before items outcomes sides.after
   pub writes : Takes sides.writer_before sides.writer_after (report Complete items outcomes)
   pub counted : done.items ≡ length items
   pub refused : done.refused ≡ refusals outcomes
@@ -66,6 +69,7 @@ pub record IsReadFault (source : List ℕ) (sides : Sides) (count : ℕ) : Type 
   pub unended : end ≢ Whole
   pub are_items : AreItems source [] (whole_entries text) items
   pub runs : Run sides.before (map submitted items) outcomes sides.after
+  pub confined : ConfinesItems sides.before items outcomes sides.after
   pub writes : Takes sides.writer_before between (lines_from 1 items outcomes)
   pub ends : TakesSome between sides.writer_after (last_line ReadFault (length items))
   pub counted : count ≡ length items
@@ -87,8 +91,9 @@ pub record IsLastLineFault (source : List ℕ) (sides : Sides) (count : ℕ) : T
   pub reads : Reads sides.reader_before sides.reader_after text Whole
   pub are_items : AreItems source [] (entries text) items
   pub runs : Run sides.before (map submitted items) outcomes sides.after
+  pub confined : ConfinesItems sides.before items outcomes sides.after
   pub writes : Takes sides.writer_before between (lines_from 1 items outcomes)
-  pub cut : TakesFront between sides.writer_after (last_line Complete (length items))
+  pub cut : TakesPrefix between sides.writer_after (last_line Complete (length items))
   pub counted : count ≡ length items
 
 -- a write failed, in the line of an item or in the last line
@@ -96,7 +101,7 @@ abbrev pub IsWriteFault : List ℕ → Sides → ℕ → Type 0
 IsWriteFault source sides count =
     IsLineFault source sides count ⊎ IsLastLineFault source sides count
 
--- the ledger came to a halt at an item: the items before it were decided, and none after it was
+-- the ledger stopped at an item: the items before it were decided, and none after it was
 -- read
 abbrev pub IsStoreFault : {L : Type 0} → Ghosts L → List ℕ → Sides → L → L → ℕ
     → Type 0
@@ -125,7 +130,14 @@ abbrev pub Submits : {L : Type 0} → Ghosts L → List ℕ → Sides → L → 
 Submits g source sides old new (Ok done) = IsDone source sides done
 Submits g source sides old new (Err cause) = FailsBy g source sides old new cause
 
--- a fact that holds unless the ledger came to a halt
+-- what a submission of what this reader gives does, with this writer and this ledger
+abbrev pub SubmitsText : {L : Type 0} → Ghosts L → List ℕ → Told → Told → Told → Told → L → L
+    → Result Done DeskFault → Type 0
+SubmitsText g source reader_old reader_new writer_old writer_new old new result =
+    Submits g source (sides reader_old reader_new writer_old writer_new (g.registry old)
+    (g.registry new)) old new result
+
+-- a fact that holds unless the ledger stopped
 abbrev pub UnlessStoreFault : Result Done DeskFault → Type 0 → Type 0
 UnlessStoreFault (Ok done) fact = fact
 UnlessStoreFault (Err (fault.ReadFault items)) fact = fact

@@ -17,7 +17,7 @@ pub enum Ending {
     ReadFault,
     /// If memory ran out, before its first item.
     Memory,
-    /// With a halt of the ledger at an item, whose line has the code E91.
+    /// With a stop of the ledger at an item, whose line has the code E91.
     Stopped,
 }
 
@@ -44,7 +44,7 @@ impl Ending {
 }
 
 /// Writes the last line of a report on this many items, whole in the first call of the writer.
-/// After a fault the writer has taken a front of it.
+/// After a fault the writer has taken the beginning of it.
 pub fn write_last_line<W: Sink>(writer: &mut W, ending: Ending, items: u64) -> io::Result<()>
     ensures writes { Writes (W.told writer.old) (W.told writer.new)
         (last_line ending items) result }

@@ -7,14 +7,13 @@ ghost use Rattle.rr_text.specs.ParagraphReaders.{HasGiven};
 ghost use Rattle.rr_registry.specs.Runs.{Decides};
 ghost use Rattle.rr_submission.specs.Refusals.{is_refusal};
 ghost use Rattle.rr_submission.specs.Reports.{stop_lines};
-ghost use Rattle.rr_submission.specs.Handled.{HaltsAt};
-ghost use Rattle.rr_submission.specs.HandledParts.{HandlesItems, HandlesOne, UnlessHalted};
-ghost use Rattle.rr_submission.specs.SubmissionLaws.{ConfinesTexts};
-ghost use Rattle.rr_submission.specs.Submissions.{Submits, UnlessStoreFault, sides};
+ghost use Rattle.rr_submission.specs.Handled.{StopsAt};
+ghost use Rattle.rr_submission.specs.HandledParts.{HandlesItems, HandlesOne, UnlessStopped};
+ghost use Rattle.rr_submission.specs.Submissions.{SubmitsText, UnlessStoreFault};
 
 use crate::ending::{Ending, write_last_line};
 use crate::items::next_item;
-use crate::ledger::{Halted, Ledger};
+use crate::ledger::{Ledger, Stopped};
 use crate::line::write_item_line;
 use crate::request::Request;
 use crate::stop::Stop;
@@ -30,11 +29,17 @@ use std::io;
 
 /// Submits what the reader gives to a ledger with a registry of this source, and writes the report.
 /// The items are read, decided and reported one by one, in order, in memory that grows with the
-/// secrets of the text, and with what is remembered of them, but else not with the text. Where the
-/// line of an item cannot be written, that item and those before it stand, and those after it are
-/// not read. Where the ledger comes to a halt at an item, those before it stand, the item has a
-/// line with the code E91, and a last line follows. What the holders of a prefix hold is changed by
-/// nobody else.
+/// secrets of the text, and with what is remembered of them, but else not with the text.
+///
+/// - Where a read fails, or there are too many, the items before that are decided and reported.
+/// - Where the line of an item cannot be written, that item and those before it stand, and those
+///   after it are not read. Where only the last line cannot be written, all items stand.
+/// - Where the ledger stops at an item, those before it stand, the item has a line with the code
+///   E91, and a last line follows. After each other end the ledger is ready.
+/// - Where memory runs out before the first item, nothing is read or decided.
+///
+/// What the holders of a prefix hold is changed by no item of others. Where the ledger stops, this
+/// is said of the items before that one, of which the ledger says what it leaves.
 pub fn submit<L: Ledger, R: Source, W: Sink>(
     alloc: Global,
     ledger: &mut L,
@@ -43,18 +48,16 @@ pub fn submit<L: Ledger, R: Source, W: Sink>(
     writer: &mut W,
 ) -> Result<Done, DeskFault>
     requires { L.Ready ledger.old }
-    ensures submits { Submits L.Ledger source.now (sides (R.told reader.old)
-        (R.told reader.new) (W.told writer.old) (W.told writer.new) (L.registry ledger.old)
-        (L.registry ledger.new)) ledger.old ledger.new result }
+    ensures submits { SubmitsText L.Ledger source.now (R.told reader.old) (R.told reader.new)
+        (W.told writer.old) (W.told writer.new) ledger.old ledger.new result }
     ensures ready { UnlessStoreFault result (L.Ready ledger.new) }
-    ensures confined { ConfinesTexts source.now (L.registry ledger.old) }
     ensures reader_aside { R.aside reader.new ≡ R.aside reader.old }
     ensures writer_aside { W.aside writer.new ≡ W.aside writer.old }
 {
-    ledger.sound();
     match Paragraphs::new(alloc) {
         Ok(mut paragraphs) => report(alloc, ledger, source, &mut paragraphs, reader, writer),
         Err(_) => {
+            // The fault that is told is that of memory, whether or not its line could be written.
             let _ = write_last_line(writer, Ending::Memory, 0);
             Err(DeskFault::Memory)
         }
@@ -72,9 +75,8 @@ fn report<L: Ledger, R: Source, W: Sink>(
 ) -> Result<Done, DeskFault>
     requires ready { L.Ready ledger.old }
     requires unread { HasGiven (R.told reader.old) (R.told reader.old) paragraphs.old [] }
-    ensures submits { Submits L.Ledger source.now (sides (R.told reader.old)
-        (R.told reader.new) (W.told writer.old) (W.told writer.new) (L.registry ledger.old)
-        (L.registry ledger.new)) ledger.old ledger.new result }
+    ensures submits { SubmitsText L.Ledger source.now (R.told reader.old) (R.told reader.new)
+        (W.told writer.old) (W.told writer.new) ledger.old ledger.new result }
     ensures ready { UnlessStoreFault result (L.Ready ledger.new) }
     ensures reader_aside { R.aside reader.new ≡ R.aside reader.old }
     ensures writer_aside { W.aside writer.new ≡ W.aside writer.old }
@@ -87,6 +89,7 @@ fn report<L: Ledger, R: Source, W: Sink>(
                     Err(_) => Err(DeskFault::WriteFault { items: done.items }),
                 }
             } else {
+                // The fault that is told is the reader's, whether or not its line could be written.
                 let _ = write_last_line(writer, Ending::ReadFault, done.items);
                 Err(DeskFault::ReadFault { items: done.items })
             }
@@ -109,10 +112,12 @@ fn handle_items<L: Ledger, R: Source, W: Sink>(
     requires unread { HasGiven (R.told reader.old) (R.told reader.old) paragraphs.old [] }
     ensures handles { HandlesItems L.Ledger source.now (R.told reader.old)
         (R.told reader.new) ledger.old ledger.new (W.told writer.old) (W.told writer.new) result }
-    ensures ready { UnlessHalted result (L.Ready ledger.new) }
+    ensures ready { UnlessStopped result (L.Ready ledger.new) }
     ensures reader_aside { R.aside reader.new ≡ R.aside reader.old }
     ensures writer_aside { W.aside writer.new ≡ W.aside writer.old }
 {
+    // Says that the registry is sound, so that the run confines what is foreign.
+    ledger.sound();
     let mut secrets = Secrets::new(alloc);
     let mut done = Done {
         items: 0,
@@ -120,7 +125,10 @@ fn handle_items<L: Ledger, R: Source, W: Sink>(
     };
     'items: loop {
         match next_item(alloc, paragraphs, reader, source, &mut secrets) {
-            Ok(request) => done = handle_item(alloc, ledger, &mut secrets, request, done, writer)?,
+            Ok(Some(request)) => {
+                done = handle_item(alloc, ledger, &mut secrets, request, done, writer)?;
+            }
+            Ok(None) => return Ok((done, ReadEnd::Whole)),
             Err(end) => return Ok((done, end)),
         }
     }
@@ -140,7 +148,7 @@ fn handle_item<L: Ledger, W: Sink>(
     requires ready { L.Ready ledger.old }
     ensures handles { HandlesOne L.Ledger secrets.old request done ledger.old ledger.new
         (W.told writer.old) (W.told writer.new) result }
-    ensures ready { UnlessHalted result (L.Ready ledger.new) }
+    ensures ready { UnlessStopped result (L.Ready ledger.new) }
     ensures same_secrets { secrets.new ≡ secrets.old }
     ensures aside { W.aside writer.new ≡ W.aside writer.old }
 {
@@ -153,9 +161,10 @@ fn handle_item<L: Ledger, W: Sink>(
                 Err(_) => Err(Stop::Unwritten { items: done.items }),
             }
         }
-        Err(Halted) => {
+        Err(Stopped) => {
+            // The fault that is told is the ledger's, whether or not its lines could be written.
             let _ = write_stop(writer, done.items, &key);
-            Err(Stop::Halted { items: done.items })
+            Err(Stop::LedgerStopped { items: done.items })
         }
     }
 }
@@ -166,12 +175,12 @@ fn decide<L: Ledger>(
     ledger: &mut L,
     secrets: &mut Secrets,
     action: Result<Item, Code>,
-) -> Result<Outcome, Halted>
+) -> Result<Outcome, Stopped>
     requires { L.Ready ledger.old }
     ensures decides { IfOk result (λ outcome. Decides
         (L.registry ledger.old) secrets.old action outcome (L.registry ledger.new)) }
     ensures ready { OnOk result (L.Ready ledger.new) }
-    ensures halts { OnErr result (HaltsAt L.Ledger ledger.old secrets.old action ledger.new) }
+    ensures stops { OnErr result (StopsAt L.Ledger ledger.old secrets.old action ledger.new) }
     ensures same_secrets { secrets.new ≡ secrets.old }
 {
     match action {
@@ -180,7 +189,7 @@ fn decide<L: Ledger>(
     }
 }
 
-/// Writes the line of an item at which the ledger came to a halt, after so many that were decided,
+/// Writes the line of an item at which the ledger stopped, after so many that were decided,
 /// and the last line.
 #[tactic(auto, unfolding(crate::specs::Reports::stop_lines))]
 fn write_stop<W: Sink>(writer: &mut W, items: u64, key: &Option<Key>) -> io::Result<()>

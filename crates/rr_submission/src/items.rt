@@ -1,7 +1,7 @@
 //! The items of a text in turn.
 
 ghost use Rattle.std.specs.Prelude.{◌≡◌, ◌∷◌, ◌++◌, ◌<◌, [], List, IfOk, OnOk};
-ghost use Rattle.std.specs.Prelude.{OnErr};
+ghost use Rattle.std.specs.Prelude.{OnErr, OnSome};
 ghost use Rattle.rr_io.specs.Told.{Told};
 ghost use Rattle.rr_text.specs.ParagraphReaders.{Entry, HasGiven, left_of};
 ghost use Rattle.rr_submission.specs.ItemReaders.{Finds};
@@ -18,36 +18,38 @@ use rr_object::Code;
 use rr_text::{Attribute, Paragraph, Paragraphs, TextFault};
 use std::alloc::{AllocError, Global};
 
-/// What the next item of the text that this reader gives asks; the error is how the reading ended,
-/// where there is no more. The secrets of the paragraphs that it passes are added to `secrets`.
-/// Want of memory is the refusal E90.
+/// What the next item of the text that this reader gives asks; `None` at the end of the text. The
+/// error says how the reading broke off before that, and is never `Whole`. The secrets of the
+/// paragraphs that it passes are added to `secrets`. Where memory runs out, the item is refused
+/// with E90.
 pub fn next_item<R: Source>(
     alloc: Global,
     paragraphs: &mut Paragraphs,
     reader: &mut R,
     source: &Name,
     secrets: &mut Secrets,
-) -> Result<Request, ReadEnd>
+) -> Result<Option<Request>, ReadEnd>
     ensures finds { (start : Told) (given : List Entry)
         → HasGiven start (R.told reader.old) paragraphs.old given
         → Finds source.now start
         (R.told reader.new) paragraphs.new given secrets.old secrets.new result }
-    ensures nearer { OnOk result (left_of paragraphs.new < left_of paragraphs.old) }
+    ensures nearer { IfOk result
+        (λ found. OnSome found (left_of paragraphs.new < left_of paragraphs.old)) }
     ensures aside { R.aside reader.new ≡ R.aside reader.old }
 {
     'paragraphs: loop {
         match paragraphs.next(alloc, reader) {
-            Ok(None) => return Err(ReadEnd::Whole),
+            Ok(None) => return Ok(None),
             Ok(Some(paragraph)) => {
                 match add_secrets(alloc, &paragraph, secrets) {
                     Ok(()) => {}
-                    Err(_) => return Ok(Request::unread(Code::E90)),
+                    Err(_) => return Ok(Some(Request::unread(Code::E90))),
                 }
                 if !is_secrets_alone(&paragraph) {
-                    return Ok(Request::read(alloc, paragraph, source));
+                    return Ok(Some(Request::read(alloc, paragraph, source)));
                 }
             }
-            Err(fault) => return Ok(Request::unread(text_code(fault)?)),
+            Err(fault) => return Ok(Some(Request::unread(text_code(fault)?))),
         }
     }
 }

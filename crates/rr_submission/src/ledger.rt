@@ -9,20 +9,21 @@ use rr_auth::{Book, Item, Secrets};
 use rr_registry::{Keeper, Outcome, Registry};
 use std::alloc::Global;
 
-/// A ledger came to a halt at an item: it decides no more.
+/// A ledger stopped at an item: it decides no more.
 #[derive(Clone, Copy, Debug, PartialEq, Eq)]
-pub struct Halted;
+pub struct Stopped;
 
 /// What keeps a registry and decides items one by one, each for good before the next.
 pub trait Ledger {
     // The registry that it keeps.
     ghost registry: { Self → Reg };
 
-    // It has not come to a halt.
+    // It has not stopped.
     ghost Ready: { Self → Type 0 };
 
-    // What a halt leaves: of the ledger before it, the secrets, the item, and the ledger after it.
-    ghost Halts: { Self → List (List ℕ) → Item → Self → Type 0 };
+    // What it leaves where it stops: of the ledger before, the secrets, the item, and the ledger
+    // after.
+    ghost Stops: { Self → List (List ℕ) → Item → Self → Type 0 };
 
     /// Says that the registry is sound, also to a submission without items, and does nothing.
     fn sound(&self)
@@ -34,24 +35,25 @@ pub trait Ledger {
         alloc: Global,
         secrets: &mut Secrets,
         item: Item,
-    ) -> Result<Outcome, Halted>
+    ) -> Result<Outcome, Stopped>
         requires { Ready self.old }
         ensures decides { IfOk result
             (λ outcome. IsStep (registry self.old) secrets.old item outcome (registry self.new)) }
         ensures ready { OnOk result (Ready self.new) }
-        ensures halts { OnErr result (Halts self.old secrets.old item self.new) }
+        ensures stops { OnErr result (Stops self.old secrets.old item self.new) }
         ensures same_secrets { secrets.new ≡ secrets.old };
 }
 
-/// A registry in memory decides each item by itself, and never comes to a halt.
+/// A registry in memory decides each item by itself, and never stops.
 impl<B: Keeper> Ledger for Registry<B> {
     ghost registry = { λ kept. kept };
 
     ghost Ready = { λ kept. Unit {0} };
 
-    ghost Halts = { λ before secrets item after. ⊥ };
+    ghost Stops = { λ before secrets item after. ⊥ };
 
     fn sound(&self) {
+        // Says that the registry is sound.
         let _book = self.book();
     }
 
@@ -60,7 +62,7 @@ impl<B: Keeper> Ledger for Registry<B> {
         alloc: Global,
         secrets: &mut Secrets,
         item: Item,
-    ) -> Result<Outcome, Halted> {
+    ) -> Result<Outcome, Stopped> {
         Ok(self.apply(alloc, secrets, item))
     }
 }

@@ -18,7 +18,7 @@ mod submission_text;
 pub use ending::{Ending, write_last_line};
 pub use handling::submit;
 pub use items::next_item;
-pub use ledger::{Halted, Ledger};
+pub use ledger::{Ledger, Stopped};
 pub use line::write_item_line;
 pub use request::Request;
 pub use short_text::{SHORT_SIZE, ShortText};

@@ -2,8 +2,6 @@
 
 ghost use Rattle.std.specs.Prelude.{◌≡◌, ◌+◌, ◌≤◌, ◌++◌, length};
 ghost use Rattle.rr_io.specs.Sending.{Writes};
-ghost use Rattle.rr_object.specs.Keys.{class_of};
-ghost use Rattle.rr_object.specs.KeyTexts.{key_text};
 ghost use Rattle.rr_submission.specs.Reports.{class_part, item_line, number_part, outcome_part};
 ghost use Rattle.rr_submission.specs.Reports.{outcome_word, refusal_code, subject};
 
@@ -14,7 +12,7 @@ use rr_registry::Outcome;
 use std::io;
 
 /// Writes the line of an item, whole in the first call of the writer. After a fault the writer has
-/// taken a front of it.
+/// taken the beginning of it.
 pub fn write_item_line<W: Sink>(
     writer: &mut W,
     number: u64,
@@ -91,7 +89,7 @@ fn word(outcome: Outcome) -> &'static str
     match outcome {
         Outcome::Added => "added",
         Outcome::Changed => "changed",
-        Outcome::Same => "unchanged",
+        Outcome::Unchanged => "unchanged",
         Outcome::Deleted => "deleted",
         Outcome::Refused(_) => "refused ",
     }

@@ -32,7 +32,8 @@ impl Request {
         }
     }
 
-    /// What a paragraph asks of a registry of this source. Want of memory is the refusal E90.
+    /// What a paragraph asks of a registry of this source. Where memory runs out, it is refused
+    /// with E90.
     pub fn read(alloc: Global, paragraph: Paragraph, source: &Name) -> Request
         ensures asked { IsRequest source.now paragraph result }
         ensures tied { IsTied source.now result }

@@ -14,8 +14,8 @@ pub enum Stop {
         /// The items that were decided.
         items: u64,
     },
-    /// The ledger came to a halt at an item, after so many that were decided.
-    Halted {
+    /// The ledger stopped at an item, after so many that were decided.
+    LedgerStopped {
         /// The items that were decided.
         items: u64,
     },
@@ -28,7 +28,7 @@ impl Stop {
     {
         match self {
             Stop::Unwritten { items } => DeskFault::WriteFault { items },
-            Stop::Halted { items } => DeskFault::StoreFault { items },
+            Stop::LedgerStopped { items } => DeskFault::StoreFault { items },
         }
     }
 }

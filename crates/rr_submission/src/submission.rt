@@ -22,13 +22,13 @@ pub enum DeskFault {
         /// The items that were decided.
         items: u64,
     },
-    /// The ledger came to a halt at an item.
+    /// The ledger stopped at an item.
     StoreFault {
         /// The items that were decided.
         items: u64,
     },
     /// Memory ran out before the first item.
     Memory,
-    /// The ledger had come to a halt before the submission, of which nothing was read.
+    /// The ledger had stopped before the submission, of which nothing was read.
     Stopped,
 }

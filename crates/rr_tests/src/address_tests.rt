@@ -12,7 +12,7 @@ fn range(text: &str) -> Option<Range> {
 }
 
 /// The address that the text is read as, printed.
-fn address(text: &str) -> Option<ShortText> {
+fn address(text: &str) -> Option<NumberText> {
     Some(Address::read(text.as_bytes())?.text())
 }
 
@@ -50,7 +50,7 @@ fn an_address_has_32_bits(rt: HostRuntime) -> Result<(), Fail> {
 }
 
 /// The prefix that the text is read as, printed.
-fn prefix(text: &str) -> Option<ShortText> {
+fn prefix(text: &str) -> Option<NumberText> {
     Some(Prefix::read(text.as_bytes())?.text())
 }
 
@@ -97,7 +97,7 @@ fn a_prefix_has_its_first_to_last_address(rt: HostRuntime) -> Result<(), Fail> {
 }
 
 /// The range that the text makes, printed.
-fn made(text: &str) -> Option<ShortText> {
+fn made(text: &str) -> Option<NumberText> {
     Some(range(text)?.text())
 }
 
@@ -167,7 +167,7 @@ fn ill_spelled_operators_are_refused(rt: HostRuntime) {
 }
 
 /// What the second operator makes of the range that the first makes of a prefix.
-fn made_of_range(inner: &str, outer: &str) -> Option<ShortText> {
+fn made_of_range(inner: &str, outer: &str) -> Option<NumberText> {
     let range = Range::of(Prefix::read(b"128.9.0.0/16")?);
     let range = Operator::read(inner.as_bytes())?.apply(range)?;
     let range = Operator::read(outer.as_bytes())?.apply(range)?;

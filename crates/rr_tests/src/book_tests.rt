@@ -48,7 +48,7 @@ const FRUITFUL: [&str; 3] = ["inverse origin as1", "expand rs-1", "prefixes as-1
 const WANTED: &[Outcome] = &[
     Outcome::Added,
     Outcome::Changed,
-    Outcome::Same,
+    Outcome::Unchanged,
     Outcome::Deleted,
     Outcome::Refused(Code::E10),
     Outcome::Refused(Code::E11),

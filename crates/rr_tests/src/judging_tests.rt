@@ -102,7 +102,7 @@ fn verdict<B: Keeper>(
 const VERDICTS: &[(&str, bool, &str, Verdict)] = &[
     ("c", false, ALONE, Verdict::Add),
     ("abc", false, ALONE, Verdict::Refuse(Code::E11)),
-    ("c", false, KNOWN, Verdict::Same),
+    ("c", false, KNOWN, Verdict::Unchanged),
     ("c", false, OTHER, Verdict::Change),
     ("abc", false, OTHER, Verdict::Refuse(Code::E11)),
     ("c", false, BELOW, Verdict::Add),
@@ -150,7 +150,7 @@ fn given(
 const RUN: &[(&[&str], bool, Option<&str>, Outcome)] = &[
     (&["c"], false, Some(ALONE), Outcome::Added),
     (&["c"], false, Some(OTHER), Outcome::Changed),
-    (&["c"], false, Some(OTHER), Outcome::Same),
+    (&["c"], false, Some(OTHER), Outcome::Unchanged),
     (&["c"], true, Some(ALONE), Outcome::Deleted),
     (&["c"], false, Some(DEEPER), Outcome::Refused(Code::E13)),
     (&[], false, None, Outcome::Refused(Code::E01)),

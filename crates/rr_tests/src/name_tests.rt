@@ -130,7 +130,7 @@ fn names_of_sets_are_copied(rt: HostRuntime) -> Result<(), Fail> {
 }
 
 /// The number that the text is read as, printed.
-fn number(text: &str) -> Option<ShortText> {
+fn number(text: &str) -> Option<NumberText> {
     Some(AsNumber::read(text.as_bytes())?.text())
 }
 
@@ -164,7 +164,7 @@ fn as_numbers_have_leading_zeros_only_as_spelled(rt: HostRuntime) {
 }
 
 /// The block that the text is read as, printed.
-fn block(text: &str) -> Option<ShortText> {
+fn block(text: &str) -> Option<NumberText> {
     Some(AsSpan::read(text.as_bytes())?.text())
 }
 

@@ -1,6 +1,6 @@
 //! Spans in both spellings.
 use crate::told::is_told;
-use rr_number::{ShortText, Span};
+use rr_number::{NumberText, Span};
 use std::test::Fail;
 
 fn span(text: &str) -> Result<Span, Fail> {
@@ -58,7 +58,7 @@ fn spans_are_prefixes_or_ends_with_a_dash(rt: HostRuntime) -> Result<(), Fail> {
     Ok(())
 }
 
-fn printed(text: &str) -> Option<ShortText> {
+fn printed(text: &str) -> Option<NumberText> {
     Some(Span::read(text.as_bytes())?.text())
 }
 

@@ -76,7 +76,7 @@ fn expect_stand<B: Keeper, R: Abort + AllocGlobal>(
     Ok(())
 }
 
-/// Asserts what comes of the three: what is answered, that this front of the report was written,
+/// Asserts what comes of the three: what is answered, that this prefix of the report was written,
 /// and how many stand.
 fn expect_cut<B: Keeper + Drop, R: Abort + AllocGlobal>(
     rt: &R,
@@ -88,8 +88,8 @@ fn expect_cut<B: Keeper + Drop, R: Abort + AllocGlobal>(
     let mut registry = taken::<B>(rt.alloc(), OPENING.as_bytes())?;
     let (done, written) = submit_cut(rt.alloc(), &mut registry, (given, room))?;
     assert_eq!(rt; done, wanted, "{given} bytes to read, room for {room}");
-    let front = &told.as_bytes()[..room.min(told.len())];
-    assert!(rt; written.as_slice() == front, "room for {room}");
+    let prefix = &told.as_bytes()[..room.min(told.len())];
+    assert!(rt; written.as_slice() == prefix, "room for {room}");
     expect_stand(rt, &registry, items)
 }
 

@@ -1,8 +1,8 @@
 //! What is read, as its printed text.
-use rr_number::ShortText;
+use rr_number::NumberText;
 
 /// Whether this was printed: a text, or nothing where nothing was read.
-pub fn is_told(printed: Option<ShortText>, wanted: Option<&str>) -> bool {
+pub fn is_told(printed: Option<NumberText>, wanted: Option<&str>) -> bool {
     match (printed, wanted) {
         (Some(printed), Some(wanted)) => printed.as_str() == wanted,
         (None, None) => true,

@@ -15,7 +15,7 @@ use Rattle.rr_text.proofs.EntryLemmas.{concat-text_lines}
 
 -- lines of a text, cut between two of them
 pub record IsSplit (xs ys : List (List ℕ)) : Type 0 where
-  pub front : text_lines (concat xs) ≡ xs
+  pub prefix : text_lines (concat xs) ≡ xs
   pub whole : ys ≢ [] → are_whole_lines (concat xs) ≡ true
   pub back : text_lines (concat ys) ≡ ys
 
@@ -25,7 +25,7 @@ split_feed b bs x xs ys h e rec =
     let is : x ≡ b ∷ [] = cc in
     let rest : IsSplit xs ys = rec (cc) in
     rw is record {
-      front = rw h (ap (λ ls. (b ∷ []) ∷ ls) rest.front);
+      prefix = rw h (ap (λ ls. (b ∷ []) ∷ ls) rest.prefix);
       whole = λ some. are_whole_lines-append (b ∷ []) (concat xs) h (rest.whole some);
       back = rest.back;
     }
@@ -42,7 +42,7 @@ some_lines (b ∷ bs) line lines e = omega arith
 
 split_lone : (b : ℕ) (x : List ℕ) (xs ys : List (List ℕ)) → is_line_feed b ≡ false → (b ∷ []) ∷ [] ≡ x ∷ (xs ++ ys) → IsSplit (x ∷ xs) ys
 unfolding text_lines
-split_lone b x [] [] h e = let is : x ≡ b ∷ [] = cc in rw is record { front = rw h refl; whole = λ some. absurd (some refl); back = refl }
+split_lone b x [] [] h e = let is : x ≡ b ∷ [] = cc in rw is record { prefix = rw h refl; whole = λ some. absurd (some refl); back = refl }
 split_lone b x [] (y ∷ ys) h e = cc
 split_lone b x (z ∷ zs) ys h e = cc
 
@@ -54,8 +54,8 @@ split_on b bs l x ls xs ys h lines e rec =
     let under : text_lines bs ≡ (l ∷ xs) ++ ys = cc in
     let rest : IsSplit (l ∷ xs) ys = rec under in
     rw is record {
-      front = rw h (ap (onto_first b) rest.front);
-      whole = λ some. whole_under b (concat (l ∷ xs)) (some_lines (concat (l ∷ xs)) l xs rest.front) (rest.whole some);
+      prefix = rw h (ap (onto_first b) rest.prefix);
+      whole = λ some. whole_under b (concat (l ∷ xs)) (some_lines (concat (l ∷ xs)) l xs rest.prefix) (rest.whole some);
       back = rest.back;
     }
 
@@ -74,7 +74,7 @@ split_by false b bs x xs ys h e rec = split_under b bs x (text_lines bs) xs ys h
 pub lines_split : (text : List ℕ) (xs ys : List (List ℕ)) → text_lines text ≡ xs ++ ys → IsSplit xs ys
 unfolding text_lines are_whole_lines
 lines_split text [] ys e = record {
-  front = refl;
+  prefix = refl;
   whole = λ _. refl;
   back = ap (λ ls. text_lines (concat ls)) (sym e) ∙ (ap text_lines (concat-text_lines text) ∙ e);
 }
@@ -86,7 +86,7 @@ kept_front_by true line others kept rest e = (rest, ap (λ ls. line ∷ ls) e)
 kept_front_by false line others [] rest e = (line ∷ others, refl)
 kept_front_by false line others (next ∷ kept) rest e = (rest, ap (λ ls. line ∷ ls) e)
 
--- what closes is a front of the lines
+-- what closes is the beginning of the lines
 pub closed_front : (lines : List (List ℕ)) → (rest : List (List ℕ)) × (lines ≡ closed_lines lines ++ rest)
 unfolding closed_lines
 closed_front [] = ([], refl)
@@ -141,9 +141,9 @@ whole_closed text line lines e h =
 
 -- lines of which the last one closes
 pub record EndsClosed (lines : List (List ℕ)) : Type 0 where
-  pub front : List (List ℕ)
+  pub prefix : List (List ℕ)
   pub last : List ℕ
-  pub is : lines ≡ front ++ last ∷ []
+  pub is : lines ≡ prefix ++ last ∷ []
   pub closed : closes last ≡ true
 
 last_by : (t : Bool) (line : List ℕ) → closes line ≡ t → kept_before t line [] ≡ line ∷ [] → closes line ≡ true
@@ -158,10 +158,10 @@ later_all false line (next ∷ kept) others e some = cc
 -- lines that count whole end with one that closes
 pub ends_closed : (line : List ℕ) (others : List (List ℕ)) → closed_lines (line ∷ others) ≡ line ∷ others → EndsClosed (line ∷ others)
 unfolding closed_lines
-ends_closed line [] e = record { front = []; last = line; is = refl; closed = last_by (closes line) line refl e }
+ends_closed line [] e = record { prefix = []; last = line; is = refl; closed = last_by (closes line) line refl e }
 ends_closed line (next ∷ others) e =
     let rest : EndsClosed (next ∷ others) = ends_closed next others (later_all (closes line) line (closed_lines (next ∷ others)) (next ∷ others) e (λ z. cc)) in
-    record { front = line ∷ rest.front; last = rest.last; is = ap (λ ls. line ∷ ls) rest.is; closed = rest.closed }
+    record { prefix = line ∷ rest.prefix; last = rest.last; is = ap (λ ls. line ∷ ls) rest.is; closed = rest.closed }
 
 pub closed_on : (lines more : List (List ℕ)) → closed_lines lines ≡ lines → closed_lines (lines ++ more) ≡ lines ++ closed_lines more
 unfolding closed_lines
@@ -175,9 +175,9 @@ closed_on (line ∷ (next ∷ others)) more e =
 pub whole_lines : (text : List ℕ) → whole_part text ≡ text → closed_lines (text_lines text) ≡ text_lines text
 unfolding whole_part
 whole_lines text e =
-    let front = closed_front (text_lines text) in
-    let cut : IsSplit (closed_lines (text_lines text)) front.0 = lines_split text (closed_lines (text_lines text)) front.0 front.1 in
-    sym cut.front ∙ ap text_lines e
+    let prefix = closed_front (text_lines text) in
+    let cut : IsSplit (closed_lines (text_lines text)) prefix.0 = lines_split text (closed_lines (text_lines text)) prefix.0 prefix.1 in
+    sym cut.prefix ∙ ap text_lines e
 
 closes_both : (a b : Bool) → (a && b) ≡ true → (a ≡ true) × (b ≡ true)
 closes_both true b h = (refl, h)
@@ -202,31 +202,31 @@ pub apart : (text line : List ℕ) (others : List (List ℕ)) → text_lines tex
 apart text line others e h =
     let all : closed_lines (line ∷ others) ≡ line ∷ others = ap closed_lines (sym e) ∙ (whole_lines text h ∙ e) in
     let ends : EndsClosed (line ∷ others) = ends_closed line others all in
-    let is : text_lines text ≡ ends.front ++ ends.last ∷ [] = e ∙ ends.is in
-    let cut : IsSplit ends.front (ends.last ∷ []) = lines_split text ends.front (ends.last ∷ []) is in
+    let is : text_lines text ≡ ends.prefix ++ ends.last ∷ [] = e ∙ ends.is in
+    let cut : IsSplit ends.prefix (ends.last ∷ []) = lines_split text ends.prefix (ends.last ∷ []) is in
     let single : text_lines ends.last ≡ ends.last ∷ [] = ap text_lines (sym (append-nil ends.last)) ∙ cut.back in
     let last : IsWholeLine ends.last = closing_whole ends.last ends.closed single in
-    let joined : text ≡ concat ends.front ++ ends.last =
-    sym (concat-text_lines text) ∙ (ap concat is ∙ (concat-append ends.front (ends.last ∷ []) ∙ ap (λ r. concat ends.front ++ r) (append-nil ends.last)))
+    let joined : text ≡ concat ends.prefix ++ ends.last =
+    sym (concat-text_lines text) ∙ (ap concat is ∙ (concat-append ends.prefix (ends.last ∷ []) ∙ ap (λ r. concat ends.prefix ++ r) (append-nil ends.last)))
     in
     record {
-      whole = rw joined (are_whole_lines-append (concat ends.front) ends.last (cut.whole (λ z. cc)) last.ended);
-      lines = record { front = ends.front; last = ends.last; is = is; closed = ends.closed };
+      whole = rw joined (are_whole_lines-append (concat ends.prefix) ends.last (cut.whole (λ z. cc)) last.ended);
+      lines = record { prefix = ends.prefix; last = ends.last; is = is; closed = ends.closed };
     }
 
-entries_apart : (front back : List ℕ) → IsApart front → entries (front ++ back) ≡ entries front ++ entries back
+entries_apart : (prefix back : List ℕ) → IsApart prefix → entries (prefix ++ back) ≡ entries prefix ++ entries back
 unfolding entries
-entries_apart front back h =
+entries_apart prefix back h =
     let blank : is_blank_line h.lines.last ≡ true = (closes_both (is_blank_line h.lines.last) (list_any is_line_feed h.lines.last) h.lines.closed).0 in
-    let all : text_lines (front ++ back) ≡ h.lines.front ++ h.lines.last ∷ text_lines back =
-    text_lines-append front back h.whole ∙ (ap (λ ls. ls ++ text_lines back) h.lines.is ∙ append_assoc h.lines.front (h.lines.last ∷ []) (text_lines back))
+    let all : text_lines (prefix ++ back) ≡ h.lines.prefix ++ h.lines.last ∷ text_lines back =
+    text_lines-append prefix back h.whole ∙ (ap (λ ls. ls ++ text_lines back) h.lines.is ∙ append_assoc h.lines.prefix (h.lines.last ∷ []) (text_lines back))
     in
-    let own : blocks (text_lines front) ≡ blocks h.lines.front =
-    ap blocks h.lines.is ∙ (blocks_apart h.lines.front h.lines.last [] blank ∙ (ap (λ bs. blocks h.lines.front ++ bs) no_blocks ∙ append-nil (blocks h.lines.front)))
+    let own : blocks (text_lines prefix) ≡ blocks h.lines.prefix =
+    ap blocks h.lines.is ∙ (blocks_apart h.lines.prefix h.lines.last [] blank ∙ (ap (λ bs. blocks h.lines.prefix ++ bs) no_blocks ∙ append-nil (blocks h.lines.prefix)))
     in
     ap (λ ls. map block_entry (blocks ls)) all
-    ∙ (ap (map block_entry) (blocks_apart h.lines.front h.lines.last (text_lines back) blank ∙ ap (λ bs. bs ++ blocks (text_lines back)) (sym own))
-    ∙ map-append block_entry (blocks (text_lines front)) (blocks (text_lines back)))
+    ∙ (ap (map block_entry) (blocks_apart h.lines.prefix h.lines.last (text_lines back) blank ∙ ap (λ bs. bs ++ blocks (text_lines back)) (sym own))
+    ∙ map-append block_entry (blocks (text_lines prefix)) (blocks (text_lines back)))
 
 no_text : (text : List ℕ) → text_lines text ≡ [] → text ≡ []
 no_text text e = sym (concat-text_lines text) ∙ ap concat e
@@ -239,28 +239,28 @@ pub no_whole : whole_part [] ≡ []
 unfolding whole_part closed_lines text_lines
 no_whole = refl
 
-joins_by : (lines : List (List ℕ)) (front back : List ℕ) → text_lines front ≡ lines → whole_part front ≡ front → entries (front ++ back) ≡ entries front ++ entries back
-joins_by [] front back e h = let none : front ≡ [] = no_text front e in rw (none, no_entries) refl
-joins_by (line ∷ others) front back e h = entries_apart front back (apart front line others e h)
+joins_by : (lines : List (List ℕ)) (prefix back : List ℕ) → text_lines prefix ≡ lines → whole_part prefix ≡ prefix → entries (prefix ++ back) ≡ entries prefix ++ entries back
+joins_by [] prefix back e h = let none : prefix ≡ [] = no_text prefix e in rw (none, no_entries) refl
+joins_by (line ∷ others) prefix back e h = entries_apart prefix back (apart prefix line others e h)
 
 -- a text that counts whole keeps its entries apart from what follows
-pub entries_after : (front back : List ℕ) → whole_part front ≡ front → entries (front ++ back) ≡ entries front ++ entries back
-entries_after front back h = joins_by (text_lines front) front back refl h
+pub entries_after : (prefix back : List ℕ) → whole_part prefix ≡ prefix → entries (prefix ++ back) ≡ entries prefix ++ entries back
+entries_after prefix back h = joins_by (text_lines prefix) prefix back refl h
 
-whole_by : (lines : List (List ℕ)) (front back : List ℕ) → text_lines front ≡ lines → whole_part front ≡ front → whole_part (front ++ back) ≡ front ++ whole_part back
+whole_by : (lines : List (List ℕ)) (prefix back : List ℕ) → text_lines prefix ≡ lines → whole_part prefix ≡ prefix → whole_part (prefix ++ back) ≡ prefix ++ whole_part back
 unfolding whole_part
-whole_by [] front back e h = let none : front ≡ [] = no_text front e in rw none refl
-whole_by (line ∷ others) front back e h =
-    ap (λ ls. concat (closed_lines ls)) (text_lines-append front back (apart front line others e h).whole)
-    ∙ (ap concat (closed_on (text_lines front) (text_lines back) (whole_lines front h))
-    ∙ (concat-append (text_lines front) (closed_lines (text_lines back)) ∙ ap (λ r. r ++ concat (closed_lines (text_lines back))) (concat-text_lines front)))
+whole_by [] prefix back e h = let none : prefix ≡ [] = no_text prefix e in rw none refl
+whole_by (line ∷ others) prefix back e h =
+    ap (λ ls. concat (closed_lines ls)) (text_lines-append prefix back (apart prefix line others e h).whole)
+    ∙ (ap concat (closed_on (text_lines prefix) (text_lines back) (whole_lines prefix h))
+    ∙ (concat-append (text_lines prefix) (closed_lines (text_lines back)) ∙ ap (λ r. r ++ concat (closed_lines (text_lines back))) (concat-text_lines prefix)))
 
 -- so does its whole part
-pub whole_joined : (front back : List ℕ) → whole_part front ≡ front → whole_part (front ++ back) ≡ front ++ whole_part back
-whole_joined front back h = whole_by (text_lines front) front back refl h
+pub whole_joined : (prefix back : List ℕ) → whole_part prefix ≡ prefix → whole_part (prefix ++ back) ≡ prefix ++ whole_part back
+whole_joined prefix back h = whole_by (text_lines prefix) prefix back refl h
 
-pub joins : (front back : List ℕ) → whole_part front ≡ front → (entries (front ++ back) ≡ entries front ++ entries back) × (whole_entries (front ++ back) ≡ entries front ++ whole_entries back)
-joins front back h = (
-  entries_after front back h,
-  ap entries (whole_joined front back h) ∙ entries_after front (whole_part back) h,
+pub joins : (prefix back : List ℕ) → whole_part prefix ≡ prefix → (entries (prefix ++ back) ≡ entries prefix ++ entries back) × (whole_entries (prefix ++ back) ≡ entries prefix ++ whole_entries back)
+joins prefix back h = (
+  entries_after prefix back h,
+  ap entries (whole_joined prefix back h) ∙ entries_after prefix (whole_part back) h,
 )

@@ -58,8 +58,8 @@ pub blocks_passed : (line : List ℕ) (others : List (List ℕ)) → is_paragrap
 blocks_passed line others h = passed_by (is_blank_line line) (is_skipped_line line) line others refl refl h
 
 -- a text and its rest, one more line on
-pub passed_line : (text rest line after front : List ℕ) → text ≡ front ++ rest → rest ≡ line ++ after → text ≡ (front ++ line) ++ after
-passed_line text rest line after front h e = cc (append_assoc front line after)
+pub passed_line : (text rest line after prefix : List ℕ) → text ≡ prefix ++ rest → rest ≡ line ++ after → text ≡ (prefix ++ line) ++ after
+passed_line text rest line after prefix h e = cc (append_assoc prefix line after)
 
 -- any other line begins a block
 pub blocks_front : (line : List ℕ) (others : List (List ℕ)) → is_blank_line line ≡ false → is_skipped_line line ≡ false
@@ -72,7 +72,7 @@ blocks_front line others h s =
     let rest : filter has_line (map from_unskipped (parts_after (from_blank others))) ≡ blocks (from_blank others) = later_blocks others in
     rw (parts, s, h) (ap (λ bs. (line ∷ until_blank others) ∷ bs) rest)
 
--- done is the front of the text that a search for its first blank line has passed
+-- done is the prefix of the text that a search for its first blank line has passed
 pub record IsTaken (text done rest : List ℕ) : Type 0 where
   pub whole : text ≡ done ++ rest
   pub ended : (are_whole_lines done ≡ true) ⊎ (rest ≡ [])
@@ -116,10 +116,10 @@ unfolding until_blank from_blank
 at_blank rest line after lines h = record { none = rw lines (rw h refl); all = rw lines (rw h refl) }
 
 -- where the search stopped, the text is cut there
-pub taken_front : (text done rest front : List ℕ) → IsTaken text done rest → IsAtBlank rest → front ≡ take (length text - length rest) text → text_lines front ≡ until_blank (text_lines text)
-taken_front text done rest front taken stop cut =
+pub taken_front : (text done rest prefix : List ℕ) → IsTaken text done rest → IsAtBlank rest → prefix ≡ take (length text - length rest) text → text_lines prefix ≡ until_blank (text_lines text)
+taken_front text done rest prefix taken stop cut =
     let lengths : length text ≡ length done + length rest = ap length taken.whole ∙ length-append done rest in
-    let is : front ≡ done = cut ∙ (ap (take (length text - length rest)) taken.whole ∙ take_at done rest (length text - length rest) (omega arith)) in
+    let is : prefix ≡ done = cut ∙ (ap (take (length text - length rest)) taken.whole ∙ take_at done rest (length text - length rest) (omega arith)) in
     ap text_lines is ∙ (sym (append-nil (text_lines done)) ∙ (ap (λ ls. text_lines done ++ ls) (sym stop.none) ∙ sym taken.block))
 
 pub taken_back : (text done rest back : List ℕ) → IsTaken text done rest → IsAtBlank rest → back ≡ drop (length text - length rest) text → text_lines back ≡ from_blank (text_lines text)
@@ -161,32 +161,32 @@ pub record IsPlace (text : List ℕ) (from : ℕ) (after : List ℕ) : Type 0 wh
   pub past : from < length text - length after
   pub rest : drop (length text - length after) text ≡ after
 
-pub place_after : (text : List ℕ) (from : ℕ) (front rest block after : List ℕ) → from ≤ length text → drop from text ≡ front ++ rest → rest ≡ block ++ after → 0 < length block → IsPlace text from after
-place_after text from front rest block after within left cut some =
-    let all : drop from text ≡ (front ++ block) ++ after = passed_line (drop from text) rest block after front left cut in
-    let whole : text ≡ (take from text ++ (front ++ block)) ++ after =
-    sym (take-append-drop from text) ∙ (ap (λ r. take from text ++ r) all ∙ sym (append_assoc (take from text) (front ++ block) after))
+pub place_after : (text : List ℕ) (from : ℕ) (prefix rest block after : List ℕ) → from ≤ length text → drop from text ≡ prefix ++ rest → rest ≡ block ++ after → 0 < length block → IsPlace text from after
+place_after text from prefix rest block after within left cut some =
+    let all : drop from text ≡ (prefix ++ block) ++ after = passed_line (drop from text) rest block after prefix left cut in
+    let whole : text ≡ (take from text ++ (prefix ++ block)) ++ after =
+    sym (take-append-drop from text) ∙ (ap (λ r. take from text ++ r) all ∙ sym (append_assoc (take from text) (prefix ++ block) after))
     in
-    let lengths : length text ≡ (from + (length front + length block)) + length after =
-    ap length whole ∙ (length-append (take from text ++ (front ++ block)) after ∙ ap (λ n. n + length after) (length-append (take from text) (front ++ block) ∙ ap (λ n. n + length (front ++ block)) (length-take-le from text within) ∙ ap (λ n. from + n) (length-append front block)))
+    let lengths : length text ≡ (from + (length prefix + length block)) + length after =
+    ap length whole ∙ (length-append (take from text ++ (prefix ++ block)) after ∙ ap (λ n. n + length after) (length-append (take from text) (prefix ++ block) ∙ ap (λ n. n + length (prefix ++ block)) (length-take-le from text within) ∙ ap (λ n. from + n) (length-append prefix block)))
     in record {
       past = omega arith;
-      rest = ap (drop (length text - length after)) whole ∙ drop_at (take from text ++ (front ++ block)) after (length text - length after)
-          (omega (arith, lengths, length-append (take from text) (front ++ block), length-append front block, length-take-le from text within));
+      rest = ap (drop (length text - length after)) whole ∙ drop_at (take from text ++ (prefix ++ block)) after (length text - length after)
+          (omega (arith, lengths, length-append (take from text) (prefix ++ block), length-append prefix block, length-take-le from text within));
     }
 
 -- what is found where the text from a place on is cut into what stands before its first block, the
 -- block, and what follows it
 pub taken_at : (text : List ℕ) (from : ℕ) (left rest block after : List ℕ) → from ≤ length text → drop from text ≡ left
-    → (front : List ℕ) × (left ≡ front ++ rest) → blocks (text_lines rest) ≡ blocks (text_lines left) → (rest ≡ []) ⊎ (starts_block (text_lines rest) ≡ true) → 0 < length rest
+    → (prefix : List ℕ) × (left ≡ prefix ++ rest) → blocks (text_lines rest) ≡ blocks (text_lines left) → (rest ≡ []) ⊎ (starts_block (text_lines rest) ≡ true) → 0 < length rest
     → rest ≡ block ++ after → text_lines block ≡ until_blank (text_lines rest) → text_lines after ≡ from_blank (text_lines rest)
     → (from < length text - length after) × (length text - length after ≤ length text) × (starts_block (text_lines block) ≡ true)
     × (blocks (text_lines (drop from text)) ≡ text_lines block ∷ blocks (text_lines (drop (length text - length after) text)))
-taken_at text from left rest block after within is_left front same starts some cut is_block is_after =
+taken_at text from left rest block after within is_left prefix same starts some cut is_block is_after =
     let begins : starts_block (text_lines rest) ≡ true = elim starts [ inl e ↦ absurd (omega (arith, ap length e)) | inr h ↦ h ] in
     let first : IsFront (text_lines rest) = front_of (text_lines rest) begins in
     let begun : starts_block (text_lines block) ≡ true = ap starts_block is_block ∙ first.starts in
-    let place : IsPlace text from after = place_after text from front.0 rest block after within (is_left ∙ front.1) cut (some_bytes block begun) in
+    let place : IsPlace text from after = place_after text from prefix.0 rest block after within (is_left ∙ prefix.1) cut (some_bytes block begun) in
     let found : blocks (text_lines rest) ≡ text_lines block ∷ blocks (text_lines after) = cc (first.first, is_block, is_after) in (
       place.past,
       omega arith,

@@ -1,4 +1,4 @@
--- What stands in a text behind a front.
+-- What stands in a text behind a prefix.
 use Rattle.std.proofs.Common.{◌≡◌, ◌≢◌, ◌==◌, ◌&&◌, ◌<◌, ◌+◌, ℕ, Bool, true, false, List, [], ◌∷◌, ◌++◌, length, take, drop, refl, sym, ap, ◌∙◌, arith, cond, Option, Some, None, Bor}
 use Rattle.std.specs.Prelude.{MatchOption}
 use Rattle.std.specs.Cmp.Lexicographic.{pointwise}
@@ -10,27 +10,27 @@ use Rattle.std.proofs.lemmas.Slice.Eq.{strip_prefix_is}
 use Rattle.rr_text.specs.CanonicalText.{value_column, after_blanks, further_line}
 use Rattle.rr_text.specs.PrivateParts.{left_after}
 
-same_first : (b c : ℕ) (front text left : List ℕ) (t : Bool) → (b == c) ≡ t → (left_after front text ≡ Some left → text ≡ front ++ left)
-    → cond t (left_after front text) None ≡ Some left → c ∷ text ≡ b ∷ (front ++ left)
-same_first b c front text left true e more h = let same : b ≡ c = grind (arith, nat_tests) in let rest = more h in cc
-same_first b c front text left false e more h = cc
+same_first : (b c : ℕ) (prefix text left : List ℕ) (t : Bool) → (b == c) ≡ t → (left_after prefix text ≡ Some left → text ≡ prefix ++ left)
+    → cond t (left_after prefix text) None ≡ Some left → c ∷ text ≡ b ∷ (prefix ++ left)
+same_first b c prefix text left true e more h = let same : b ≡ c = grind (arith, nat_tests) in let rest = more h in cc
+same_first b c prefix text left false e more h = cc
 
--- what is left stands behind the front
-pub left_is : (front text left : List ℕ) → left_after front text ≡ Some left → text ≡ front ++ left
+-- what is left stands behind the prefix
+pub left_is : (prefix text left : List ℕ) → left_after prefix text ≡ Some left → text ≡ prefix ++ left
 unfolding left_after
 left_is [] text left h = cc
-left_is (b ∷ front) [] left h = cc
-left_is (b ∷ front) (c ∷ text) left h = same_first b c front text left (b == c) refl (left_is front text left) h
+left_is (b ∷ prefix) [] left h = cc
+left_is (b ∷ prefix) (c ∷ text) left h = same_first b c prefix text left (b == c) refl (left_is prefix text left) h
 
 -- and it is what stands there
-pub left_found : (front left : List ℕ) → left_after front (front ++ left) ≡ Some left
+pub left_found : (prefix left : List ℕ) → left_after prefix (prefix ++ left) ≡ Some left
 unfolding left_after
 left_found [] left = refl
-left_found (b ∷ front) left = let same : (b == b) ≡ true = grind (arith, nat_tests) in rw same (left_found front left)
+left_found (b ∷ prefix) left = let same : (b == b) ≡ true = grind (arith, nat_tests) in rw same (left_found prefix left)
 
-left_none : (front text : List ℕ) (found : Option (List ℕ)) → left_after front text ≡ found → ((left : List ℕ) → text ≢ front ++ left) → found ≡ None
-left_none front text None is none = refl
-left_none front text (Some left) is none = absurd (none left (left_is front text left is))
+left_none : (prefix text : List ℕ) (found : Option (List ℕ)) → left_after prefix text ≡ found → ((left : List ℕ) → text ≢ prefix ++ left) → found ≡ None
+left_none prefix text None is none = refl
+left_none prefix text (Some left) is none = absurd (none left (left_is prefix text left is))
 
 stripped_by : (bytes text : List ℕ) (result : Option (Bor (List ℕ)))
     → MatchOption result ((left : List ℕ) → text ≢ bytes ++ left) (λ left. text ≡ bytes ++ left.now)
@@ -45,18 +45,18 @@ pub stripped : (bytes text : List ℕ) (result : Option (Bor (List ℕ)))
     → option_map (λ left. left.now) result ≡ left_after bytes text
 stripped bytes text result cases = stripped_by bytes text result (strip_prefix_is Decides-eqb text bytes result cases)
 
--- one front behind another
-joined_first : (front back text : List ℕ) (t : Bool)
-    → left_after (front ++ back) text ≡ option_and_then (left_after back) (left_after front text)
-    → cond t (left_after (front ++ back) text) None ≡ option_and_then (left_after back) (cond t (left_after front text) None)
-joined_first front back text true h = h
-joined_first front back text false h = refl
+-- one prefix behind another
+joined_first : (prefix back text : List ℕ) (t : Bool)
+    → left_after (prefix ++ back) text ≡ option_and_then (left_after back) (left_after prefix text)
+    → cond t (left_after (prefix ++ back) text) None ≡ option_and_then (left_after back) (cond t (left_after prefix text) None)
+joined_first prefix back text true h = h
+joined_first prefix back text false h = refl
 
-pub left_joined : (front back text : List ℕ) → left_after (front ++ back) text ≡ option_and_then (left_after back) (left_after front text)
+pub left_joined : (prefix back text : List ℕ) → left_after (prefix ++ back) text ≡ option_and_then (left_after back) (left_after prefix text)
 unfolding left_after
 left_joined [] back text = refl
-left_joined (b ∷ front) back [] = refl
-left_joined (b ∷ front) back (c ∷ text) = joined_first front back text (b == c) (left_joined front back text)
+left_joined (b ∷ prefix) back [] = refl
+left_joined (b ∷ prefix) back (c ∷ text) = joined_first prefix back text (b == c) (left_joined prefix back text)
 
 -- whether nothing is left
 abbrev pub is_all : Option (List ℕ) → Bool
@@ -66,12 +66,12 @@ is_all (Some left) = length left == 0
 some_left : (c : ℕ) (text : List ℕ) → (length (c ∷ text) == 0) ≡ false
 some_left c text = grind (arith, nat_tests)
 
-all_first : (b c : ℕ) (front text : List ℕ) (t : Bool) → is_all (left_after front text) ≡ pointwise eqb front text
-    → is_all (cond t (left_after front text) None) ≡ (t && pointwise eqb front text)
-all_first b c front text true h = h
-all_first b c front text false h = refl
+all_first : (b c : ℕ) (prefix text : List ℕ) (t : Bool) → is_all (left_after prefix text) ≡ pointwise eqb prefix text
+    → is_all (cond t (left_after prefix text) None) ≡ (t && pointwise eqb prefix text)
+all_first b c prefix text true h = h
+all_first b c prefix text false h = refl
 
--- nothing is left behind all of a text, and behind no other front
+-- nothing is left behind all of a text, and behind no other prefix
 pub all_left : (form text : List ℕ) → is_all (left_after form text) ≡ bytes_eq form text
 unfolding left_after
 all_left [] [] = refl

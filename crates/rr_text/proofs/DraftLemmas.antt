@@ -164,11 +164,11 @@ cut_ended text block line piece started cut single = record {
 
 front_more : (over : Bool) (whole : ℕ) (kept new piece block : List ℕ) → (whole ≤ length kept) × (take whole kept ≡ block) → (over ≡ false → new ≡ kept ++ piece) → (over ≡ true → new ≡ kept)
     → (whole ≤ length new) × (take whole new ≡ block)
-front_more true whole kept new piece block front fits left = let e : new ≡ kept = left refl in rw e front
-front_more false whole kept new piece block front fits left =
+front_more true whole kept new piece block prefix fits left = let e : new ≡ kept = left refl in rw e prefix
+front_more false whole kept new piece block prefix fits left =
     let e : new ≡ kept ++ piece = fits refl in
-    let within : whole ≤ length kept = front.0 in
-    (rw e (omega (arith, length-append kept piece)), ap (take whole) e ∙ (take-append-le whole kept piece within ∙ front.1))
+    let within : whole ≤ length kept = prefix.0 in
+    (rw e (omega (arith, length-append kept piece)), ap (take whole) e ∙ (take-append-le whole kept piece within ∙ prefix.1))
 
 large_by : (over : Bool) (block line piece kept : List ℕ) → (over ≡ false → kept ≡ block ++ line) → (over ≡ true → size_limit < length (block ++ line))
     → (over ≡ true) ⊎ (size_limit < length kept + length piece) → size_limit < length (block ++ (line ++ piece))
@@ -186,8 +186,8 @@ pub kept_more : (old new : Draft) (piece block line : List ℕ) → KeepsBlock b
 kept_more old new piece block line kept keeps = record {
   all = λ e. let fits = keeps.fits e in fits.1 ∙ (ap (λ r. r ++ piece) (kept.all fits.0) ∙ append_assoc block line piece);
   large = λ e. large_by old.over block line piece old.kept.items kept.all kept.large (keeps.over e).1;
-  front = λ within. let same : new.whole ≡ old.whole = keeps.whole in rw same (front_more new.over old.whole old.kept.items new.kept.items piece block
-      (kept.front (omega (arith, within, same))) (λ e. (keeps.fits e).1) (λ e. (keeps.over e).0));
+  prefix = λ within. let same : new.whole ≡ old.whole = keeps.whole in rw same (front_more new.over old.whole old.kept.items new.kept.items piece block
+      (kept.prefix (omega (arith, within, same))) (λ e. (keeps.fits e).1) (λ e. (keeps.over e).0));
   too_large = λ past. kept.too_large (omega (arith, past, keeps.whole));
 }
 
@@ -211,7 +211,7 @@ kept_taken old new block line most kept takes =
     record {
       all = λ e. items ∙ (kept.all (sym over ∙ e) ∙ sym same);
       large = λ e. rw same (kept.large (sym over ∙ e));
-      front = λ within. rw items (taken_front old.over new.whole old.kept.items (block ++ line) takes.whole kept.all within);
+      prefix = λ within. rw items (taken_front old.over new.whole old.kept.items (block ++ line) takes.whole kept.all within);
       too_large = λ past. taken_large old.over new.whole old.kept.items (block ++ line) most takes.whole kept.large past;
     }
 
@@ -219,7 +219,7 @@ kept_fresh : (draft : Draft) → HasNoText draft → KeepsBlock [] [] draft.kept
 kept_fresh draft fresh = record {
   all = λ _. fresh.kept;
   large = λ e. let over = fresh.over in cc;
-  front = λ _. (omega (arith, fresh.whole), ap (λ n. take n draft.kept.items) fresh.whole);
+  prefix = λ _. (omega (arith, fresh.whole), ap (λ n. take n draft.kept.items) fresh.whole);
   too_large = λ past. absurd (omega (arith, fresh.whole, past));
 }
 
@@ -326,7 +326,7 @@ fed_taken text piece block line started mid new at h begins most kept takes =
 entry_of : (text block : List ℕ) (draft : Draft) → starts_block (text_lines block) ≡ true
     → (draft.whole ≤ size_limit → (draft.whole ≤ length draft.kept.items) × (take draft.whole draft.kept.items ≡ block)) → (size_limit < draft.whole → size_limit < length block)
     → blocks (text_lines text) ≡ text_lines block ∷ [] → HasEntry text draft
-entry_of text block draft starts front too_large one = record { block = block; starts = starts; front = front; too_large = too_large; one = entries_are text (text_lines block ∷ []) one }
+entry_of text block draft starts prefix too_large one = record { block = block; starts = starts; prefix = prefix; too_large = too_large; one = entries_are text (text_lines block ∷ []) one }
 
 fed_closed : (text piece block line : List ℕ) (mid : Draft) → IsAtFeed text piece true block line → is_blank_line (line ++ piece) ≡ true
     → KeepsBlock block (line ++ piece) mid.kept.items mid.over mid.whole → IsClosed (text ++ piece) mid
@@ -335,7 +335,7 @@ fed_closed text piece block line mid at h kept =
     let lines : text_lines (text ++ piece) ≡ (at.at.passed ++ text_lines block) ++ (line ++ piece) ∷ [] =
     at.at.lines ∙ (ap (λ ls. at.at.passed ++ (text_lines block ++ ls)) at.whole.single ∙ sym (append_assoc at.at.passed (text_lines block) ((line ++ piece) ∷ [])))
     in record {
-      entry = entry_of (text ++ piece) block mid at.at.starts kept.front kept.too_large (closed_end (text ++ piece) block (line ++ piece) at.at h);
+      entry = entry_of (text ++ piece) block mid at.at.starts kept.prefix kept.too_large (closed_end (text ++ piece) block (line ++ piece) at.at h);
       apart = whole_closed (text ++ piece) (line ++ piece) (at.at.passed ++ text_lines block) lines closing;
     }
 
@@ -405,7 +405,7 @@ bare_by : (started closing : Bool) (text block : List ℕ) (old new : Draft) →
 bare_by true closing text block old new cut kept was ends =
     let same : new ≡ old = ends.0 in
     let P : Draft → Type 0 = λ d. Finishes d.started text d in
-    subst P (sym same) (finishes_one old.started text old was (entry_of text block old cut.starts kept.front kept.too_large (bare_end text block true cut ∙ blocks_one (text_lines block) cut.starts cut.unbroken)))
+    subst P (sym same) (finishes_one old.started text old was (entry_of text block old cut.starts kept.prefix kept.too_large (bare_end text block true cut ∙ blocks_one (text_lines block) cut.starts cut.unbroken)))
 bare_by false closing text block old new cut kept was ends =
     finishes_none new.started text new ends.0.started (entries_are text [] (bare_end text block false cut ∙ (ap (λ b. blocks (text_lines b)) (cut.none refl) ∙ (ap blocks no_text_lines ∙ no_blocks))))
 
@@ -417,13 +417,13 @@ ended_by Passed text block line started closing old new at kept was so ends =
 ended_by Taken text block line started closing old new at kept was so ends =
     let more : IsLonger block line = longer text block line started at so.0 so.1 in
     let all : KeepsBlock (block ++ line) [] new.kept.items new.over new.whole = kept_taken old new block line old.most kept ends.0 in
-    finishes_one new.started text new ends.0.started (entry_of text (block ++ line) new more.starts all.front all.too_large (taken_end text block line started at more))
+    finishes_one new.started text new ends.0.started (entry_of text (block ++ line) new more.starts all.prefix all.too_large (taken_end text block line started at more))
 ended_by Closed text block line started closing old new at kept was so ends =
     let same : new ≡ old = ends.0 in
     let begun : started ≡ true = so.0 in
     let whole : IsAtLineEnd text true block line = rw begun at at in
     let P : Draft → Type 0 = λ d. Finishes d.started text d in
-    subst P (sym same) (finishes_one old.started text old (was ∙ begun) (entry_of text block old whole.starts kept.front kept.too_large (closed_end text block line whole so.1)))
+    subst P (sym same) (finishes_one old.started text old (was ∙ begun) (entry_of text block old whole.starts kept.prefix kept.too_large (closed_end text block line whole so.1)))
 
 -- the end of the text, whether or not a line has begun
 pub begun_ended : (text : List ℕ) (old new : Draft) (closing : Bool) → IsBegun text old → EndsLine (end_of_line old.started old.line) old new closing → Finishes new.started text new
@@ -466,9 +466,9 @@ unclosed_begun line h = elim (begun_lines line h) [
   | inr single ↦ ap (list_any closes) single ∙ none_both (closes line) false (unclosed_line line h) refl
 ]
 
-idle_front : (front rest all : List (List ℕ)) → all ≡ front ++ rest → list_any is_paragraph_line all ≡ false → list_any is_paragraph_line front ≡ false
-idle_front front rest all e h =
-    (or_none (list_any is_paragraph_line front) (list_any is_paragraph_line rest) (sym (list_any-append is_paragraph_line front rest) ∙ (ap (list_any is_paragraph_line) (sym e) ∙ h))).0
+idle_front : (prefix rest all : List (List ℕ)) → all ≡ prefix ++ rest → list_any is_paragraph_line all ≡ false → list_any is_paragraph_line prefix ≡ false
+idle_front prefix rest all e h =
+    (or_none (list_any is_paragraph_line prefix) (list_any is_paragraph_line rest) (sym (list_any-append is_paragraph_line prefix rest) ∙ (ap (list_any is_paragraph_line) (sym e) ∙ h))).0
 
 -- of a text whose last block may go on nothing is whole
 pub begun_whole : (text : List ℕ) (draft : Draft) → IsBegun text draft → whole_entries text ≡ []
@@ -482,14 +482,14 @@ begun_whole text draft begun =
     (unclosed_blocks (text_lines begun.block) begun.cut.unbroken) (unclosed_begun begun.line begun.cut.begun)
     in
     let kept : closed_lines (text_lines text) ≡ closed_lines begun.cut.passed = ap closed_lines all ∙ closed_before begun.cut.passed more unclosed in
-    let front = closed_front begun.cut.passed in
-    let cut : IsSplit (closed_lines begun.cut.passed) (front.0 ++ more) =
-    lines_split text (closed_lines begun.cut.passed) (front.0 ++ more)
-    (all ∙ (ap (λ ls. ls ++ more) front.1 ∙ append_assoc (closed_lines begun.cut.passed) front.0 more))
+    let prefix = closed_front begun.cut.passed in
+    let cut : IsSplit (closed_lines begun.cut.passed) (prefix.0 ++ more) =
+    lines_split text (closed_lines begun.cut.passed) (prefix.0 ++ more)
+    (all ∙ (ap (λ ls. ls ++ more) prefix.1 ∙ append_assoc (closed_lines begun.cut.passed) prefix.0 more))
     in
     entries_are (concat (closed_lines (text_lines text))) []
     (ap (λ ls. blocks (text_lines (concat ls))) kept
-    ∙ (ap blocks cut.front ∙ idle_alone (closed_lines begun.cut.passed) (idle_front (closed_lines begun.cut.passed) front.0 begun.cut.passed front.1 begun.cut.idle)))
+    ∙ (ap blocks cut.prefix ∙ idle_alone (closed_lines begun.cut.passed) (idle_front (closed_lines begun.cut.passed) prefix.0 begun.cut.passed prefix.1 begun.cut.idle)))
 
 -- one line more of a text is added
 pub lines_taken : (text done rest piece after : List ℕ) → text ≡ done ++ rest → rest ≡ piece ++ after → text ≡ (done ++ piece) ++ after
@@ -501,11 +501,11 @@ pub lines_closed : (past text done rest piece after : List ℕ) (draft : Draft) 
 lines_closed past text done rest piece after draft h e closed =
     let whole : text ≡ (done ++ piece) ++ after = lines_taken text done rest piece after h e in
     let lengths : length text ≡ length (done ++ piece) + length after = ap length whole ∙ length-append (done ++ piece) after in
-    let front : take (length text - length after) text ≡ done ++ piece =
+    let prefix : take (length text - length after) text ≡ done ++ piece =
     ap (take (length text - length after)) whole ∙ take_at (done ++ piece) after (length text - length after) (omega arith)
     in
     let P : List ℕ → Type 0 = λ t. IsClosed t draft in
-    subst P (append_assoc past done piece ∙ ap (λ r. past ++ r) (sym front)) closed
+    subst P (append_assoc past done piece ∙ ap (λ r. past ++ r) (sym prefix)) closed
 
 pub empty_list : (bs : List ℕ) → length bs ≡ 0 → bs ≡ []
 empty_list [] h = refl

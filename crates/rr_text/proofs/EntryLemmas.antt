@@ -113,14 +113,14 @@ pub entries_end : (text : List ℕ) → entries (drop (length text) text) ≡ []
 unfolding entries text_lines
 entries_end text = rw (drop_all (length text) text (omega arith)) (entries_empty [] (blocks_none [] refl))
 
-pub entries_joined : (front blank back : List ℕ) → are_whole_lines front ≡ true → IsWholeLine blank → is_blank_line blank ≡ true → entries (front ++ (blank ++ back)) ≡ entries front ++ entries back
+pub entries_joined : (prefix blank back : List ℕ) → are_whole_lines prefix ≡ true → IsWholeLine blank → is_blank_line blank ≡ true → entries (prefix ++ (blank ++ back)) ≡ entries prefix ++ entries back
 unfolding entries
-entries_joined front blank back whole line h =
+entries_joined prefix blank back whole line h =
     let behind : text_lines (blank ++ back) ≡ blank ∷ text_lines back = text_lines-append blank back line.ended ∙ ap (λ ls. ls ++ text_lines back) line.single in
-    let lines : text_lines (front ++ (blank ++ back)) ≡ text_lines front ++ blank ∷ text_lines back =
-    text_lines-append front (blank ++ back) whole ∙ ap (λ ls. text_lines front ++ ls) behind
+    let lines : text_lines (prefix ++ (blank ++ back)) ≡ text_lines prefix ++ blank ∷ text_lines back =
+    text_lines-append prefix (blank ++ back) whole ∙ ap (λ ls. text_lines prefix ++ ls) behind
     in ap (λ ls. map block_entry (blocks ls)) lines
-    ∙ (ap (map block_entry) (blocks_apart (text_lines front) blank (text_lines back) h) ∙ map-append block_entry (blocks (text_lines front)) (blocks (text_lines back)))
+    ∙ (ap (map block_entry) (blocks_apart (text_lines prefix) blank (text_lines back) h) ∙ map-append block_entry (blocks (text_lines prefix)) (blocks (text_lines back)))
 
 passed_line_blocks : (t : Bool) (line : List ℕ) (others : List (List ℕ)) → is_blank_line line ≡ t → is_skipped_line line ≡ true → blocks (line ∷ others) ≡ blocks others
 passed_line_blocks true line others h s = blocks_blank line others h

@@ -87,7 +87,7 @@ append_by true b bs more h some rec = rw h (ap (λ lines. (b ∷ []) ∷ lines) 
 append_by false b bs more h some rec = rw h (ap (onto_first b) rec ∙ onto_append b (text_lines bs) (text_lines more) (some refl))
 
 -- whole lines keep what follows them apart
-pub text_lines-append : (front back : List ℕ) → are_whole_lines front ≡ true → text_lines (front ++ back) ≡ text_lines front ++ text_lines back
+pub text_lines-append : (prefix back : List ℕ) → are_whole_lines prefix ≡ true → text_lines (prefix ++ back) ≡ text_lines prefix ++ text_lines back
 unfolding text_lines are_whole_lines
 text_lines-append [] back h = refl
 text_lines-append (b ∷ []) back h = rw h refl
@@ -100,6 +100,6 @@ whole_by c [] [] h e = e
 whole_by c [] (b ∷ bs) h e = h
 whole_by c (d ∷ ds) back h e = whole_by d ds back h e
 
-pub are_whole_lines-append : (front back : List ℕ) → are_whole_lines front ≡ true → are_whole_lines back ≡ true → are_whole_lines (front ++ back) ≡ true
+pub are_whole_lines-append : (prefix back : List ℕ) → are_whole_lines prefix ≡ true → are_whole_lines back ≡ true → are_whole_lines (prefix ++ back) ≡ true
 are_whole_lines-append [] back h e = e
 are_whole_lines-append (c ∷ cs) back h e = whole_by c cs back e h

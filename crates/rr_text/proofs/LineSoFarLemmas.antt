@@ -1,4 +1,4 @@
--- Lemmas on lines of which a front was read.
+-- Lemmas on lines of which a prefix was read.
 use Rattle.std.proofs.Common.{◌≡◌, ◌≢◌, ℕ, ◌-◌, ◌<◌, Bool, true, false, not, ◌&&◌, ◌||◌, nat_eq, List, [], ◌∷◌, ◌++◌, length, length-append, get_or, suc, refl, ap, ◌∙◌, arith}
 use Rattle.std.proofs.lemmas.Bool.Decides.{nat_tests}
 use Rattle.std.proofs.Math.Bool.{and-false}
@@ -67,7 +67,7 @@ with_by false true true b bs more h k m = let all : is_blank_line (b ∷ (bs ++ 
 with_by false true false b bs more h k m = let all : is_blank_line (b ∷ (bs ++ more)) ≡ false = list_all-append is_blank_or_line_feed (b ∷ bs) more ∙ (ap (λ t. t && is_blank_line more) k ∙ m) in rw (h, k, all, m) refl
 with_by false false v b bs more h k m = let all : is_blank_line (b ∷ (bs ++ more)) ≡ false = list_all-append is_blank_or_line_feed (b ∷ bs) more ∙ ap (λ t. t && is_blank_line more) k in rw (h, k, all) refl
 
--- what is known of a front, and then of a longer one
+-- what is known of a prefix, and then of a longer one
 pub line_with-append : (line more : List ℕ) → line_with (line_so_far line) more ≡ line_so_far (line ++ more)
 line_with-append [] more = refl
 line_with-append (b ∷ bs) more = with_by (is_remark_sign b) (is_blank_line (b ∷ bs)) (is_blank_line more) b bs more refl refl refl

@@ -28,6 +28,6 @@ pub starts_then : (old between new : List ℕ) → StartsWith between old → St
 starts_then old between new first then =
     let some = drop (length old) between in
     let more = drop (length between) new in
-    let front : between ≡ old ++ some = sym (take-append-drop (length old) between) ∙ ap (λ text. text ++ some) first in
+    let prefix : between ≡ old ++ some = sym (take-append-drop (length old) between) ∙ ap (λ text. text ++ some) first in
     let whole : new ≡ between ++ more = sym (take-append-drop (length between) new) ∙ ap (λ text. text ++ more) then in
-    starts_more old (some ++ more) new (whole ∙ (ap (λ text. text ++ more) front ∙ append_assoc old some more))
+    starts_more old (some ++ more) new (whole ∙ (ap (λ text. text ++ more) prefix ∙ append_assoc old some more))

@@ -21,13 +21,13 @@ use Rattle.rr_text.specs.ParagraphReaders.{Entry, state_of, reads_of, held, IsNe
 use Rattle.rr_text.proofs.ApartLemmas.{no_entries, no_whole, joins, whole_joined}
 use Rattle.rr_text.proofs.DraftLemmas.{begun_whole}
 
--- a text that is being gathered: a front of what was held and given is in the draft
+-- a text that is being gathered: the beginning of what was held and given is in the draft
 pub record IsGathering (before now : Told) (left : List ℕ) (made : ℕ) (cur : Paragraphs) : Type 0 where
   pub given : List ℕ
-  pub front : List ℕ
+  pub prefix : List ℕ
   pub reading : Reading Open before now left made cur given
-  pub cut : left ++ given ≡ front ++ held cur
-  pub begun : IsBegun front cur.draft
+  pub cut : left ++ given ≡ prefix ++ held cur
+  pub begun : IsBegun prefix cur.draft
 
 -- an entry that is found is the last one
 pub last_found : (text : List ℕ) (answer : Result (Option (List Field)) TextFault) → GivesFound text answer → GivesLast text answer
@@ -58,7 +58,7 @@ counts_none a = record { exact = λ h. omega arith; full = λ h. omega arith }
 pub gathering_none : (now : Told) (cur : Paragraphs) → IsBegun [] cur.draft → IsGathering now now (held cur) (reads_of cur) cur
 gathering_none now cur begun = record {
   given = [];
-  front = [];
+  prefix = [];
   reading = record { gives = Gives-none now; count = 0; counts = counts_none now.reads; reads = omega arith; fruitful = λ _. omega arith; bounded = omega arith };
   cut = append-nil (held cur);
   begun = begun;
@@ -68,7 +68,7 @@ gathering_none now cur begun = record {
 pub gathered_rest : (before now : Told) (left : List ℕ) (made : ℕ) (cur mid : Paragraphs) → IsGathering before now left made cur → reads_of mid ≡ reads_of cur
     → ((past : List ℕ) → IsBegun past cur.draft → TakesAll past cur mid) → GathersRest Open before now left made mid
 gathered_rest before now left made cur mid so reads takes =
-    let all : TakesAll so.front cur mid = takes so.front so.begun in
+    let all : TakesAll so.prefix cur mid = takes so.prefix so.begun in
     record {
       given = so.given;
       reading = record {
@@ -94,7 +94,7 @@ pub gathering_more : (before now after : Told) (left : List ℕ) (made : ℕ) (m
     → IsGathering before after left made new
 gathering_more before now after left made mid new rest fills draft = record {
   given = rest.given ++ held new;
-  front = left ++ rest.given;
+  prefix = left ++ rest.given;
   reading = record {
     gives = Gives-then rest.given (held new) rest.reading.gives fills.gives;
     count = rest.reading.count + 1;
@@ -142,21 +142,21 @@ gathers_end Broken before now after left made mid new rest more fills draft = (
 )
 gathers_end Endless before now after left made mid new rest more fills draft = absurd fills
 
-some_front : (front : List ℕ) (entry : Entry) → entries front ≡ entry ∷ [] → 0 < length front
+some_front : (prefix : List ℕ) (entry : Entry) → entries prefix ≡ entry ∷ [] → 0 < length prefix
 some_front [] entry e = let none : entries [] ≡ [] = no_entries in cc
 some_front (b ∷ bs) entry e = omega arith
 
-keeps_after : (state : ReaderState) (now : Told) (front more left : List ℕ) → whole_part front ≡ front → KeepsApart state now more left → KeepsApart state now (front ++ more) left
-keeps_after Open now front more left whole keeps = whole_joined front more whole ∙ ap (λ r. front ++ r) keeps
-keeps_after Ended now front more left whole keeps = keeps
-keeps_after Broken now front more left whole keeps = absurd keeps
-keeps_after Endless now front more left whole keeps = absurd keeps
+keeps_after : (state : ReaderState) (now : Told) (prefix more left : List ℕ) → whole_part prefix ≡ prefix → KeepsApart state now more left → KeepsApart state now (prefix ++ more) left
+keeps_after Open now prefix more left whole keeps = whole_joined prefix more whole ∙ ap (λ r. prefix ++ r) keeps
+keeps_after Ended now prefix more left whole keeps = keeps
+keeps_after Broken now prefix more left whole keeps = absurd keeps
+keeps_after Endless now prefix more left whole keeps = absurd keeps
 
-open_whole : (start now : Told) (p : Paragraphs) (given : List Entry) (has : HasGiven start now p given) → state_of p ≡ Open → whole_part has.front ≡ has.front
-open_whole start now p given has is = subst (λ (state : ReaderState). KeepsApart state now has.front (held p)) is has.apart
+open_whole : (start now : Told) (p : Paragraphs) (given : List Entry) (has : HasGiven start now p given) → state_of p ≡ Open → whole_part has.prefix ≡ has.prefix
+open_whole start now p given has is = subst (λ (state : ReaderState). KeepsApart state now has.prefix (held p)) is has.apart
 
 -- the bytes of one call, with what it found of them
-pub record Finds (before after : Told) (old new : Paragraphs) (front : List ℕ) : Type 0 where
+pub record Finds (before after : Told) (old new : Paragraphs) (prefix : List ℕ) : Type 0 where
   pub bytes : List ℕ
   pub gives : Gives before after bytes
   pub count : ℕ
@@ -164,53 +164,53 @@ pub record Finds (before after : Told) (old new : Paragraphs) (front : List ℕ)
   pub reads : reads_of new ≡ reads_of old + count
   pub fruitful : state_of new ≡ Open → count ≤ length bytes
   pub bounded : length bytes ≤ 4096 * count
-  pub cut : held old ++ bytes ≡ front ++ held new
-  pub apart : KeepsApart (state_of new) after front (held new)
+  pub cut : held old ++ bytes ≡ prefix ++ held new
+  pub apart : KeepsApart (state_of new) after prefix (held new)
 
 -- one entry more
-pub grown : (start before after : Told) (old new : Paragraphs) (given : List Entry) (front : List ℕ) (entry : Entry) → HasGiven start before old given → state_of old ≡ Open
-    → Finds before after old new front → entries front ≡ entry ∷ [] → HasGiven start after new (given ++ entry ∷ [])
-grown start before after old new given front entry has is finds one =
-    let whole : whole_part has.front ≡ has.front = open_whole start before old given has is in
+pub grown : (start before after : Told) (old new : Paragraphs) (given : List Entry) (prefix : List ℕ) (entry : Entry) → HasGiven start before old given → state_of old ≡ Open
+    → Finds before after old new prefix → entries prefix ≡ entry ∷ [] → HasGiven start after new (given ++ entry ∷ [])
+grown start before after old new given prefix entry has is finds one =
+    let whole : whole_part has.prefix ≡ has.prefix = open_whole start before old given has is in
     record {
       text = has.text ++ finds.bytes;
-      front = has.front ++ front;
+      prefix = has.prefix ++ prefix;
       gives = Gives-then has.text finds.bytes has.gives finds.gives;
       cut = ap (λ t. t ++ finds.bytes) has.cut
-          ∙ (append_assoc has.front (held old) finds.bytes ∙ (ap (λ t. has.front ++ t) finds.cut ∙ sym (append_assoc has.front front (held new))));
-      spelled = (joins has.front front whole).0 ∙ (ap (λ es. es ++ entries front) has.spelled ∙ ap (λ es. given ++ es) one);
-      apart = keeps_after (state_of new) after has.front front (held new) whole finds.apart;
+          ∙ (append_assoc has.prefix (held old) finds.bytes ∙ (ap (λ t. has.prefix ++ t) finds.cut ∙ sym (append_assoc has.prefix prefix (held new))));
+      spelled = (joins has.prefix prefix whole).0 ∙ (ap (λ es. es ++ entries prefix) has.spelled ∙ ap (λ es. given ++ es) one);
+      apart = keeps_after (state_of new) after has.prefix prefix (held new) whole finds.apart;
       counts = subst (λ (n : ℕ). CountsReads start after n) (sym finds.reads) (counts_then _ _ _ (reads_of old) finds.count has.counts finds.counts);
       fruitful = λ open_. let some = finds.fruitful open_ in let before_ = has.fruitful is in omega (arith, some, before_, finds.reads, length-append has.text finds.bytes);
       bounded = omega (arith, has.bounded, finds.bounded, finds.reads, length-append has.text finds.bytes);
-      few = omega (arith, has.few, some_front front entry one, length-append has.front front, length-append given (entry ∷ []));
+      few = omega (arith, has.few, some_front prefix entry one, length-append has.prefix prefix, length-append given (entry ∷ []));
     }
 
 -- the answer with the entry that was found
-pub found_next : (start after : Told) (new : Paragraphs) (given : List Entry) (front : List ℕ) (answer : Result (Option (List Field)) TextFault)
-    → ((entry : Entry) → entries front ≡ entry ∷ [] → HasGiven start after new (given ++ entry ∷ [])) → GivesFound front answer → GivesNext start after new given answer
-found_next start after new given front (Ok None) grow found = absurd found
-found_next start after new given front (Ok (Some fields)) grow found = grow (Ok fields) found.0
-found_next start after new given front (Err fault.TooLarge) grow found = grow (Err fault.TooLarge) found
-found_next start after new given front (Err fault.BadByte) grow found = grow (Err fault.BadByte) found
-found_next start after new given front (Err fault.FirstContinues) grow found = grow (Err fault.FirstContinues) found
-found_next start after new given front (Err fault.NoColon) grow found = grow (Err fault.NoColon) found
-found_next start after new given front (Err fault.BadName) grow found = grow (Err fault.BadName) found
-found_next start after new given front (Err fault.Memory) grow found = (found.0, grow found.0 found.1)
-found_next start after new given front (Err fault.Read) grow found = absurd found
-found_next start after new given front (Err fault.Endless) grow found = absurd found
+pub found_next : (start after : Told) (new : Paragraphs) (given : List Entry) (prefix : List ℕ) (answer : Result (Option (List Field)) TextFault)
+    → ((entry : Entry) → entries prefix ≡ entry ∷ [] → HasGiven start after new (given ++ entry ∷ [])) → GivesFound prefix answer → GivesNext start after new given answer
+found_next start after new given prefix (Ok None) grow found = absurd found
+found_next start after new given prefix (Ok (Some fields)) grow found = grow (Ok fields) found.0
+found_next start after new given prefix (Err fault.TooLarge) grow found = grow (Err fault.TooLarge) found
+found_next start after new given prefix (Err fault.BadByte) grow found = grow (Err fault.BadByte) found
+found_next start after new given prefix (Err fault.FirstContinues) grow found = grow (Err fault.FirstContinues) found
+found_next start after new given prefix (Err fault.NoColon) grow found = grow (Err fault.NoColon) found
+found_next start after new given prefix (Err fault.BadName) grow found = grow (Err fault.BadName) found
+found_next start after new given prefix (Err fault.Memory) grow found = (found.0, grow found.0 found.1)
+found_next start after new given prefix (Err fault.Read) grow found = absurd found
+found_next start after new given prefix (Err fault.Endless) grow found = absurd found
 
-found_some : (front : List ℕ) (answer : Result (Option (List Field)) TextFault) → GivesFound front answer → 0 < length front
-found_some front (Ok None) found = absurd found
-found_some front (Ok (Some fields)) found = some_front front (Ok fields) found.0
-found_some front (Err fault.TooLarge) found = some_front front (Err fault.TooLarge) found
-found_some front (Err fault.BadByte) found = some_front front (Err fault.BadByte) found
-found_some front (Err fault.FirstContinues) found = some_front front (Err fault.FirstContinues) found
-found_some front (Err fault.NoColon) found = some_front front (Err fault.NoColon) found
-found_some front (Err fault.BadName) found = some_front front (Err fault.BadName) found
-found_some front (Err fault.Memory) found = some_front front found.0 found.1
-found_some front (Err fault.Read) found = absurd found
-found_some front (Err fault.Endless) found = absurd found
+found_some : (prefix : List ℕ) (answer : Result (Option (List Field)) TextFault) → GivesFound prefix answer → 0 < length prefix
+found_some prefix (Ok None) found = absurd found
+found_some prefix (Ok (Some fields)) found = some_front prefix (Ok fields) found.0
+found_some prefix (Err fault.TooLarge) found = some_front prefix (Err fault.TooLarge) found
+found_some prefix (Err fault.BadByte) found = some_front prefix (Err fault.BadByte) found
+found_some prefix (Err fault.FirstContinues) found = some_front prefix (Err fault.FirstContinues) found
+found_some prefix (Err fault.NoColon) found = some_front prefix (Err fault.NoColon) found
+found_some prefix (Err fault.BadName) found = some_front prefix (Err fault.BadName) found
+found_some prefix (Err fault.Memory) found = some_front prefix found.0 found.1
+found_some prefix (Err fault.Read) found = absurd found
+found_some prefix (Err fault.Endless) found = absurd found
 
 nearer_by : (answer : Result (Option (List Field)) TextFault) (before after : ℕ) → after < before → Nearer before after answer
 nearer_by (Ok None) before after less = tt
@@ -224,27 +224,27 @@ nearer_by (Err fault.Memory) before after less = less
 nearer_by (Err fault.Read) before after less = tt
 nearer_by (Err fault.Endless) before after less = tt
 
-fewer : (old new : Paragraphs) (bytes front : List ℕ) (count : ℕ) → reads_of new ≡ reads_of old + count → length bytes ≤ 4096 * count → held old ++ bytes ≡ front ++ held new → 0 < length front
+fewer : (old new : Paragraphs) (bytes prefix : List ℕ) (count : ℕ) → reads_of new ≡ reads_of old + count → length bytes ≤ 4096 * count → held old ++ bytes ≡ prefix ++ held new → 0 < length prefix
     → left_of new < left_of old
-fewer old new bytes front count reads bounded cut some =
-    let lengths : length (held old) + length bytes ≡ length front + length (held new) =
-    sym (length-append (held old) bytes) ∙ (ap length cut ∙ length-append front (held new))
+fewer old new bytes prefix count reads bounded cut some =
+    let lengths : length (held old) + length bytes ≡ length prefix + length (held new) =
+    sym (length-append (held old) bytes) ∙ (ap length cut ∙ length-append prefix (held new))
     in omega (arith, reads, bounded, lengths, some, new.few)
 
-pub nearer_found : (old new : Paragraphs) (bytes front : List ℕ) (count : ℕ) (answer : Result (Option (List Field)) TextFault) → reads_of new ≡ reads_of old + count → length bytes ≤ 4096 * count
-    → held old ++ bytes ≡ front ++ held new → GivesFound front answer → Nearer (left_of old) (left_of new) answer
-nearer_found old new bytes front count answer reads bounded cut found =
-    nearer_by answer (left_of old) (left_of new) (fewer old new bytes front count reads bounded cut (found_some front answer found))
+pub nearer_found : (old new : Paragraphs) (bytes prefix : List ℕ) (count : ℕ) (answer : Result (Option (List Field)) TextFault) → reads_of new ≡ reads_of old + count → length bytes ≤ 4096 * count
+    → held old ++ bytes ≡ prefix ++ held new → GivesFound prefix answer → Nearer (left_of old) (left_of new) answer
+nearer_found old new bytes prefix count answer reads bounded cut found =
+    nearer_by answer (left_of old) (left_of new) (fewer old new bytes prefix count reads bounded cut (found_some prefix answer found))
 
-pub fields_found : (front : List ℕ) (answer : Result (Option (List Field)) TextFault) → GivesFound front answer
+pub fields_found : (prefix : List ℕ) (answer : Result (Option (List Field)) TextFault) → GivesFound prefix answer
     → IfOk answer (λ next. IfSome next (λ fields. (0 < length fields) × AreFields fields))
-fields_found front (Ok None) found = absurd found
-fields_found front (Ok (Some fields)) found = (found.1, found.2)
-fields_found front (Err fault) found = tt
+fields_found prefix (Ok None) found = absurd found
+fields_found prefix (Ok (Some fields)) found = (found.1, found.2)
+fields_found prefix (Err fault) found = tt
 
 -- what a block with its blank line was found by
 pub closed_finds : (before after : Told) (old mid new : Paragraphs) (gathers : GathersClosed before after (held old) (reads_of old) mid) → held new ≡ held mid → reads_of new ≡ reads_of mid → state_of new ≡ Open
-    → Finds before after old new gathers.front
+    → Finds before after old new gathers.prefix
 closed_finds before after old mid new gathers same reads is = record {
   bytes = gathers.given;
   gives = gathers.reading.gives;
@@ -253,8 +253,8 @@ closed_finds before after old mid new gathers same reads is = record {
   reads = reads ∙ gathers.reading.reads;
   fruitful = λ _. gathers.reading.fruitful (λ e. cc);
   bounded = gathers.reading.bounded;
-  cut = gathers.cut ∙ ap (λ t. gathers.front ++ t) (sym same);
-  apart = subst (λ (state : ReaderState). KeepsApart state after gathers.front (held new)) (sym is) gathers.closed.apart;
+  cut = gathers.cut ∙ ap (λ t. gathers.prefix ++ t) (sym same);
+  apart = subst (λ (state : ReaderState). KeepsApart state after gathers.prefix (held new)) (sym is) gathers.closed.apart;
 }
 
 -- what the last block of an ended text was found by
@@ -275,8 +275,8 @@ ended_finds before after old mid new gathers same reads is =
     }
 
 -- all of the text and what was given of it
-all_of : (start before : Told) (old : Paragraphs) (given : List Entry) (has : HasGiven start before old given) (bytes : List ℕ) → has.text ++ bytes ≡ has.front ++ (held old ++ bytes)
-all_of start before old given has bytes = ap (λ t. t ++ bytes) has.cut ∙ append_assoc has.front (held old) bytes
+all_of : (start before : Told) (old : Paragraphs) (given : List Entry) (has : HasGiven start before old given) (bytes : List ℕ) → has.text ++ bytes ≡ has.prefix ++ (held old ++ bytes)
+all_of start before old given has bytes = ap (λ t. t ++ bytes) has.cut ∙ append_assoc has.prefix (held old) bytes
 
 pub within_limit : (a b n : ℕ) → Counts a b n → n ≤ 16777216 → b ≤ a + 2 ^ 24
 within_limit a b n counts few = elim (below_or_not (a + n)) [
@@ -303,7 +303,7 @@ ended_none start before after old mid given has is gathers none =
         within_limit start.reads after.reads (reads_of old + gathers.reading.count) counts (omega (arith, gathers.reading.reads, mid.few)),
       );
       spelled = ap entries (all_of start before old given has gathers.given)
-          ∙ ((joins has.front (held old ++ gathers.given) (open_whole start before old given has is)).0
+          ∙ ((joins has.prefix (held old ++ gathers.given) (open_whole start before old given has is)).0
           ∙ (ap (λ es. es ++ entries (held old ++ gathers.given)) has.spelled ∙ (ap (λ es. given ++ es) none ∙ append-nil given)));
     }
 
@@ -311,7 +311,7 @@ whole_all : (start before : Told) (old : Paragraphs) (given : List Entry) (has :
     → whole_entries (has.text ++ bytes) ≡ given
 whole_all start before old given has bytes draft is begun =
     ap whole_entries (all_of start before old given has bytes)
-    ∙ ((joins has.front (held old ++ bytes) (open_whole start before old given has is)).1
+    ∙ ((joins has.prefix (held old ++ bytes) (open_whole start before old given has is)).1
     ∙ (ap (λ es. es ++ whole_entries (held old ++ bytes)) has.spelled ∙ (ap (λ es. given ++ es) (begun_whole (held old ++ bytes) draft begun) ∙ append-nil given)))
 
 -- a text that broke off
@@ -383,16 +383,16 @@ last_fields text (Err fault) last = tt
 
 -- the next answer where a block was closed
 pub closed_next : (start before after : Told) (old mid new : Paragraphs) (given : List Entry) (answer : Result (Option (List Field)) TextFault) → HasGiven start before old given → state_of old ≡ Open
-    → (gathers : GathersClosed before after (held old) (reads_of old) mid) → held new ≡ held mid → reads_of new ≡ reads_of mid → state_of new ≡ Open → GivesFound gathers.front answer → GivesNext start after new given answer
+    → (gathers : GathersClosed before after (held old) (reads_of old) mid) → held new ≡ held mid → reads_of new ≡ reads_of mid → state_of new ≡ Open → GivesFound gathers.prefix answer → GivesNext start after new given answer
 closed_next start before after old mid new given answer has is gathers same reads open_ found =
-    found_next start after new given gathers.front answer
-    (λ entry. grown start before after old new given gathers.front entry has is (closed_finds before after old mid new gathers same reads open_)) found
+    found_next start after new given gathers.prefix answer
+    (λ entry. grown start before after old new given gathers.prefix entry has is (closed_finds before after old mid new gathers same reads open_)) found
 
 -- nothing was given of a text of which nothing was read
 pub given_none : (start : Told) (p : Paragraphs) → IsNew p → HasGiven start start p []
 given_none start p is = record {
   text = [];
-  front = [];
+  prefix = [];
   gives = Gives-none start;
   cut = sym is.none_held;
   spelled = no_entries;

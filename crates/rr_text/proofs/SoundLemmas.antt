@@ -196,8 +196,8 @@ lower_all (b ∷ bs) h = and_both _ _ (lower_byte b (and_left _ _ h)) (lower_all
 
 lower_name : (name : List ℕ) → is_attribute_name name ≡ true → is_attribute_name (lowered name) ≡ true
 lower_name name h =
-    let front = and_left (begins is_ascii_alphabetic name && list_all is_name_byte name) (nat_le (length name) 64) h in
-    and_both _ _ (and_both _ _ (lower_begins name (and_left _ _ front)) (lower_all name (and_right (begins is_ascii_alphabetic name) _ front)))
+    let prefix = and_left (begins is_ascii_alphabetic name && list_all is_name_byte name) (nat_le (length name) 64) h in
+    and_both _ _ (and_both _ _ (lower_begins name (and_left _ _ prefix)) (lower_all name (and_right (begins is_ascii_alphabetic name) _ prefix)))
     (ap (λ n. nat_le n 64) (length-map name to_ascii_lowercase) ∙ and_right (begins is_ascii_alphabetic name && list_all is_name_byte name) _ h)
 
 lower_lower : (name : List ℕ) → lowered (lowered name) ≡ lowered name

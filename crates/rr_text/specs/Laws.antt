@@ -24,9 +24,9 @@ CanonicalSpells = (fields : List Field) → 0 < length fields → AreFields fiel
 
 -- whole lines and a blank line keep their entries apart from what follows
 abbrev pub BlankLineJoins : Type 0
-BlankLineJoins = (front blank back : List ℕ) → are_whole_lines front ≡ true
+BlankLineJoins = (prefix blank back : List ℕ) → are_whole_lines prefix ≡ true
     → IsWholeLine blank → is_blank_line blank ≡ true
-    → entries (front ++ (blank ++ back)) ≡ entries front ++ entries back
+    → entries (prefix ++ (blank ++ back)) ≡ entries prefix ++ entries back
 
 -- a dump is canonical texts, each with an empty line after it
 abbrev pub CanonicalLeads : Type 0
@@ -42,6 +42,6 @@ SkippedLinePassed = (line rest : List ℕ) → IsWholeLine line → is_skipped_l
 -- a text that ends with the last blank line whose LF was read keeps its entries apart from what
 -- follows, which may break off
 abbrev pub ClosedTextJoins : Type 0
-ClosedTextJoins = (front back : List ℕ) → whole_part front ≡ front
-    → (entries (front ++ back) ≡ entries front ++ entries back)
-    × (whole_entries (front ++ back) ≡ entries front ++ whole_entries back)
+ClosedTextJoins = (prefix back : List ℕ) → whole_part prefix ≡ prefix
+    → (entries (prefix ++ back) ≡ entries prefix ++ entries back)
+    × (whole_entries (prefix ++ back) ≡ entries prefix ++ whole_entries back)

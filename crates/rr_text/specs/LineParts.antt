@@ -1,4 +1,4 @@
--- What is known of a line of which a front was read: parts of the reader of paragraphs.
+-- What is known of a line of which a prefix was read: parts of the reader of paragraphs.
 use Rattle.std.specs.Prelude.{ℕ, Bool, List, [], ◌∷◌, if◌then◌else◌}
 use Rattle.rr_text.specs.declared.line_so_far.LineSoFar.{LineSoFar}
 use Rattle.rr_text.specs.declared.line_so_far.LineSoFar.TheVariants.{Nothing, Blank, Skipped, Kept}
@@ -6,14 +6,14 @@ use Rattle.rr_text.specs.declared.line_so_far.LineEnd.{LineEnd}
 use Rattle.rr_text.specs.declared.line_so_far.LineEnd.TheVariants.{Passed, Taken, Closed}
 use Rattle.rr_text.specs.Lines.{is_blank_line, is_skipped_line}
 
--- the kind of a front of a line; that of the line is the same once a byte other than a blank was
--- read
+-- the kind of the beginning of a line; that of the line is the same once a byte other than a blank
+-- was read
 abbrev pub line_so_far : List ℕ → LineSoFar
 line_so_far [] = Nothing
 line_so_far (b ∷ bs) = if is_skipped_line (b ∷ bs) then Skipped
     else (if is_blank_line (b ∷ bs) then Blank else Kept)
 
--- the kind of a front with more bytes after it
+-- the kind of a prefix with more bytes after it
 abbrev pub line_with : LineSoFar → List ℕ → LineSoFar
 line_with Nothing more = line_so_far more
 line_with Blank more = if is_blank_line more then Blank else Kept

@@ -3,7 +3,7 @@ use Rattle.std.specs.Prelude.{◌≡◌, ℕ, ◌+◌, ◌-◌, ◌*◌, ◌<◌
 use Rattle.std.specs.Prelude.{List, [], ◌∷◌, ◌++◌, length, take, drop, Option, Some, None}
 use Rattle.std.specs.Prelude.{Result, Ok, Err}
 use Rattle.rr_io.specs.Told.{Told}
-use Rattle.rr_io.specs.Receiving.{Gives, IsSpent, CountsReads, Reads, read_limit}
+use Rattle.rr_io.specs.Receiving.{Gives, IsSpent, CountsReads, Reads, read_limit, read_size}
 use Rattle.rr_io.specs.declared.receiving.ReadEnd.{ReadEnd}
 use Rattle.rr_io.specs.declared.receiving.ReadEnd.TheVariants as end
 use Rattle.rr_text.specs.declared.fault.TextFault.{TextFault}
@@ -40,24 +40,24 @@ pub record IsNew (p : Paragraphs) : Type 0 where
 
 -- what was given keeps apart from what comes: it ends with a blank line, or nothing comes
 abbrev pub KeepsApart : ReaderState → Told → List ℕ → List ℕ → Type 0
-KeepsApart Open now front left = whole_part front ≡ front
-KeepsApart Ended now front left = (left ≡ []) × IsSpent now
-KeepsApart Broken now front left = ⊥
-KeepsApart Endless now front left = ⊥
+KeepsApart Open now prefix left = whole_part prefix ≡ prefix
+KeepsApart Ended now prefix left = (left ≡ []) × IsSpent now
+KeepsApart Broken now prefix left = ⊥
+KeepsApart Endless now prefix left = ⊥
 
--- of the bytes read from the start on, however they were cut, the entries of a front were given,
+-- of the bytes read from the start on, however they were cut, the entries of a prefix were given,
 -- and the others are held; each read that found bytes gave 1 to 4,096
 pub record HasGiven (start now : Told) (p : Paragraphs) (given : List Entry) : Type 0 where
   pub text : List ℕ
-  pub front : List ℕ
+  pub prefix : List ℕ
   pub gives : Gives start now text
-  pub cut : text ≡ front ++ held p
-  pub spelled : entries front ≡ given
-  pub apart : KeepsApart (state_of p) now front (held p)
+  pub cut : text ≡ prefix ++ held p
+  pub spelled : entries prefix ≡ given
+  pub apart : KeepsApart (state_of p) now prefix (held p)
   pub counts : CountsReads start now (reads_of p)
   pub fruitful : state_of p ≡ Open → reads_of p ≤ length text
-  pub bounded : length text ≤ 4096 * reads_of p
-  pub few : length given ≤ length front
+  pub bounded : length text ≤ read_size * reads_of p
+  pub few : length given ≤ length prefix
 
 -- the entries that count of a text, by how its reading ended: after a failed read, or without an
 -- end, those that a blank line closes
@@ -95,6 +95,12 @@ GivesNext start now p given (Err fault.Read) =
 GivesNext start now p given (Err fault.Endless) =
     (state_of p ≡ Endless) × HasEnded start now end.Endless given
 
+-- the answer of a call goes with whatever was given in the calls before
+abbrev pub GivesOn : Told → Told → Paragraphs → Paragraphs
+    → Result (Option (List Field)) TextFault → Type 0
+GivesOn before after old new answer = (start : Told) (given : List Entry)
+    → HasGiven start before old given → GivesNext start after new given answer
+
 -- at the end, after a failed read or at the limit of reads the answer is the same for good, and
 -- nothing is read
 abbrev pub Stays : {R : Type 0} → ReaderState → R → R → Paragraphs → Paragraphs
@@ -109,7 +115,7 @@ Stays Endless before after old new answer =
 
 -- a bound on how many answers are left before the last one
 abbrev pub left_of : Paragraphs → ℕ
-left_of p = (read_limit - reads_of p) * 4097 + length (held p)
+left_of p = (read_limit - reads_of p) * (read_size + 1) + length (held p)
 
 -- an answer other than the last one leaves fewer of them
 abbrev pub Nearer : ℕ → ℕ → Result (Option (List Field)) TextFault → Type 0

@@ -40,8 +40,8 @@ added_lines line Skipped = []
 added_lines line Continuation = added_value line ∷ []
 added_lines line Opening = []
 
--- what stands in a text after a front, where the text begins with it
+-- what stands in a text after a prefix, where the text begins with it
 unfoldable pub left_after : List ℕ → List ℕ → Option (List ℕ)
 left_after [] text = Some text
-left_after (b ∷ front) [] = None
-left_after (b ∷ front) (c ∷ text) = if b == c then left_after front text else None
+left_after (b ∷ prefix) [] = None
+left_after (b ∷ prefix) (c ∷ text) = if b == c then left_after prefix text else None

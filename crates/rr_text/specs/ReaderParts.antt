@@ -2,7 +2,7 @@
 use Rattle.std.specs.Prelude.{◌≡◌, ◌≢◌, ℕ, ◌+◌, ◌*◌, ◌<◌, ◌≤◌, List}
 use Rattle.std.specs.Prelude.{[], ◌++◌, length, Option, Some, None, Result, Ok, Err}
 use Rattle.rr_io.specs.Told.{Told, Fails}
-use Rattle.rr_io.specs.Receiving.{Gives, IsSpent, CountsReads, BreaksOff, read_limit}
+use Rattle.rr_io.specs.Receiving.{Gives, IsSpent, CountsReads, BreaksOff, read_limit, read_size}
 use Rattle.rr_text.specs.declared.fault.TextFault.{TextFault}
 use Rattle.rr_text.specs.declared.paragraphs.ReaderState.{ReaderState}
 use Rattle.rr_text.specs.declared.paragraphs.ReaderState.TheVariants.{Open, Ended, Broken, Endless}
@@ -14,9 +14,9 @@ use Rattle.rr_text.specs.ParagraphReaders.{reads_of, held}
 
 -- what is held is added up to the line that closes, or all of it
 pub record TakesClosed (past : List ℕ) (old new : Paragraphs) : Type 0 where
-  pub front : List ℕ
-  pub cut : held old ≡ front ++ held new
-  pub closed : IsClosed (past ++ front) new.draft
+  pub prefix : List ℕ
+  pub cut : held old ≡ prefix ++ held new
+  pub closed : IsClosed (past ++ prefix) new.draft
 
 pub record TakesAll (past : List ℕ) (old new : Paragraphs) : Type 0 where
   pub none : held new ≡ []
@@ -67,16 +67,16 @@ pub record Reading (state : ReaderState) (before after : Told) (left : List ℕ)
   pub counts : CountsReads before after count
   pub reads : reads_of new ≡ made + count
   pub fruitful : state ≢ Ended → count ≤ length given
-  pub bounded : length given ≤ 4096 * count
+  pub bounded : length given ≤ read_size * count
 
 -- the text up to the end of a block was read
 pub record GathersClosed (before after : Told) (left : List ℕ) (made : ℕ)
     (new : Paragraphs) : Type 0 where
   pub given : List ℕ
-  pub front : List ℕ
+  pub prefix : List ℕ
   pub reading : Reading Open before after left made new given
-  pub cut : left ++ given ≡ front ++ held new
-  pub closed : IsClosed front new.draft
+  pub cut : left ++ given ≡ prefix ++ held new
+  pub closed : IsClosed prefix new.draft
 
 -- all of the text was read that there is
 pub record GathersRest (state : ReaderState) (before after : Told) (left : List ℕ) (made : ℕ)

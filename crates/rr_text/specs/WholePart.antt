@@ -22,7 +22,7 @@ unfoldable pub closed_lines : List (List ℕ) → List (List ℕ)
 closed_lines [] = []
 closed_lines (line ∷ others) = kept_before (closes line) line (closed_lines others)
 
--- the front of a text that ends with the last blank line whose LF was read (profile)
+-- the prefix of a text that ends with the last blank line whose LF was read (profile)
 unfoldable pub whole_part : List ℕ → List ℕ
 whole_part text = concat (closed_lines (text_lines text))
 

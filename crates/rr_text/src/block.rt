@@ -10,7 +10,7 @@ use crate::line::{is_blank_only, is_of_paragraph, split_line};
 
 /// The text from the first line of its first block on; nothing where it has no block.
 fn skip_to_block(text: &[u8]) -> &[u8]
-    ensures after { (front : List ℕ) × (text.now ≡ front ++ result.now) }
+    ensures after { (prefix : List ℕ) × (text.now ≡ prefix ++ result.now) }
     ensures same { blocks (text_lines result.now) ≡ blocks (text_lines text.now) }
     ensures lines { text_lines result.now ≡ from_block (text_lines text.now) }
     ensures starts { (result.now ≡ []) ⊎ (starts_block (text_lines result.now) ≡ true) }

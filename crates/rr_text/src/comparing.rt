@@ -24,7 +24,7 @@ fn after_bytes<'t>(text: &'t [u8], bytes: &[u8]) -> Option<&'t [u8]>
 /// What stands after a line with so many blanks before it, or after nothing where the line is
 /// empty.
 fn after_after_blanks<'t>(text: &'t [u8], count: usize, line: &[u8]) -> Option<&'t [u8]>
-    requires { count ≤ 16 }
+    requires { count ≤ canon.value_column }
     ensures { option_map (λ left. left.now) result
         ≡ left_after (canon.after_blanks count line.now) text.now }
 {

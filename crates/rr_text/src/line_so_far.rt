@@ -1,4 +1,4 @@
-//! Lines of which a front was read.
+//! Lines of which a prefix was read.
 
 ghost use Rattle.std.specs.Prelude.{◌≡◌, ◌<◌, length};
 ghost use Rattle.rr_text.specs.Lines.{are_whole_lines};
@@ -21,15 +21,15 @@ pub(crate) enum LineSoFar {
 
 impl LineSoFar {
     /// What is known of a line that begins so.
-    fn of(front: &[u8]) -> LineSoFar
-        ensures { result ≡ lines.line_so_far front.now }
+    fn of(prefix: &[u8]) -> LineSoFar
+        ensures { result ≡ lines.line_so_far prefix.now }
     {
-        match front {
+        match prefix {
             [] => LineSoFar::Nothing,
             [_, ..] => {
-                if begins_skipped(front) {
+                if begins_skipped(prefix) {
                     LineSoFar::Skipped
-                } else if is_blank_only(front) {
+                } else if is_blank_only(prefix) {
                     LineSoFar::Blank
                 } else {
                     LineSoFar::Kept

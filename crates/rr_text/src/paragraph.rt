@@ -53,7 +53,7 @@ impl Paragraph {
         Paragraph { text }
     }
 
-    /// The canonical text of the paragraph (profile).
+    /// The canonical text of the paragraph (profile), whose attributes have good names and values.
     pub fn text(&self) -> &[u8]
         ensures canonical { result.now ≡ canonical self.now }
         ensures fields { AreFields self.now }

@@ -1,14 +1,13 @@
 //! Paragraphs read piece by piece, from a reader that is lent to each call.
 
 ghost use Rattle.std.specs.Prelude.{◌≡◌, ◌≤◌, length, take, drop};
-ghost use Rattle.rr_io.specs.Receiving.{read_limit};
+ghost use Rattle.rr_io.specs.Receiving.{read_limit, read_size};
 
 use crate::draft::Draft;
 use crate::fault::TextFault;
 use crate::paragraph::Paragraph;
 use rr_io::{READ_LIMIT, READ_SIZE, Source};
 use std::alloc::{AllocError, Global};
-use std::io;
 
 /// How the reading of a text stands.
 #[derive(Clone, Copy, Debug, PartialEq, Eq)]
@@ -35,7 +34,7 @@ pub struct Paragraphs {
     reads: u32,
     state: ReaderState,
     ghost within: { from ≤ to },
-    ghost room: { to ≤ 4096 },
+    ghost room: { to ≤ read_size },
     ghost few: { reads ≤ read_limit },
 }
 
@@ -45,7 +44,7 @@ impl Paragraphs {
     ghost use Rattle.rr_text.specs.Fields.{AreFields};
     ghost use Rattle.rr_text.specs.DraftParts.{HasEntry, IsBegun};
     ghost use Rattle.rr_text.specs.ReaderParts as parts;
-    ghost use Rattle.rr_text.specs.ParagraphReaders.{Entry, GivesNext, HasGiven, IsNew, Nearer};
+    ghost use Rattle.rr_text.specs.ParagraphReaders.{GivesOn, HasGiven, IsNew, Nearer};
     ghost use Rattle.rr_text.specs.ParagraphReaders.{Stays, held, left_of, reads_of, state_of};
 
     /// The paragraphs of a text of which nothing was read; the error is that memory ran out.
@@ -73,9 +72,7 @@ impl Paragraphs {
         alloc: Global,
         reader: &mut R,
     ) -> Result<Option<Paragraph>, TextFault>
-        ensures given { (start : Told) (given : List Entry)
-            → HasGiven start (R.told reader.old) self.old given
-            → GivesNext start (R.told reader.new) self.new given result }
+        ensures given { GivesOn (R.told reader.old) (R.told reader.new) self.old self.new result }
         ensures stays { Stays (state_of self.old) reader.old reader.new self.old self.new result }
         ensures nearer { Nearer (left_of self.old) (left_of self.new) result }
         ensures fields { IfOk result
@@ -96,9 +93,7 @@ impl Paragraphs {
         reader: &mut R,
     ) -> Result<Option<Paragraph>, TextFault>
         requires { state_of self.old ≡ ReaderState.Open }
-        ensures given { (start : Told) (given : List Entry)
-            → HasGiven start (R.told reader.old) self.old given
-            → GivesNext start (R.told reader.new) self.new given result }
+        ensures given { GivesOn (R.told reader.old) (R.told reader.new) self.old self.new result }
         ensures nearer { Nearer (left_of self.old) (left_of self.new) result }
         ensures fields { IfOk result
             (λ next. IfSome next (λ paragraph. (0 < length paragraph) × AreFields paragraph)) }

@@ -20,7 +20,7 @@ pub(crate) const VALUE_COLUMN: usize = 16;
 /// So many blanks.
 #[inline]
 pub(crate) fn blanks(count: usize) -> &'static [u8]
-    requires { count ≤ 16 }
+    requires { count ≤ canon.value_column }
     ensures { result.now ≡ replicate count 32 }
 {
     let (blanks, _) = b"                ".split_at(count);
@@ -30,7 +30,7 @@ pub(crate) fn blanks(count: usize) -> &'static [u8]
 /// The blanks between the colon after a name of this length and its value.
 pub(crate) fn blanks_after(name_len: usize) -> usize
     requires { name_len < 2 ^ 63 }
-    ensures bound { result ≤ 16 }
+    ensures bound { result ≤ canon.value_column }
     ensures value { result ≡ max 1 (canon.value_column - (name_len + 1)) }
 {
     VALUE_COLUMN.saturating_sub(name_len + 1).max(1)
@@ -38,7 +38,7 @@ pub(crate) fn blanks_after(name_len: usize) -> usize
 
 /// The first line of a value after its blanks, or nothing where it is empty.
 fn push_first_line(out: &mut Vec<u8>, count: usize, line: &[u8]) -> Result<(), AllocError>
-    requires { count ≤ 16 }
+    requires { count ≤ canon.value_column }
     ensures ok { OnOk result
         (out.new.items ≡ out.old.items ++ canon.after_blanks count line.now) }
     ensures err { OnErr result (StartsWith out.new.items out.old.items) }

@@ -24,9 +24,9 @@ pub fn next_paragraph(
     ensures found { IfOk result (λ next. IfSome next (λ found.
         entries (drop from text.now) ≡ Ok found.0 ∷ entries (drop found.1 text.now))) }
     ensures place { IfOk result
-        (λ next. IfSome next (λ found. (from < found.1) × (found.1 ≤ length text.now))) }
-    ensures after { IfOk result
         (λ next. IfSome next (λ found. found.1 ≡ place_after from text.now)) }
+    ensures after { IfOk result
+        (λ next. IfSome next (λ found. (from < found.1) × (found.1 ≤ length text.now))) }
     ensures fields { IfOk result
         (λ next. IfSome next (λ found. (0 < length found.0) × AreFields found.0)) }
     ensures fault { IfErr result (λ fault. fault ≢ TextFault.Memory

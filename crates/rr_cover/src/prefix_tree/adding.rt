@@ -1,12 +1,13 @@
 //! Putting prefixes into a tree.
 
-ghost use Rattle.std.specs.Prelude.{◌≡◌, Bool, true, false, None, Some, IfOk, IfErr, IfSome};
+ghost use Rattle.std.specs.Prelude.{◌≡◌, true, false, None, Some, IfOk, IfErr, IfSome};
 ghost use Rattle.std.specs.Prelude.{OnOk, OnErr};
 ghost use Rattle.std.specs.Option.{option_or};
-ghost use Rattle.rr_number.specs.Prefixes.{PrefixParts, IsMasked, span_of};
+ghost use Rattle.rr_number.specs.Prefixes.{IsMasked, span_of};
 ghost use Rattle.rr_number.specs.Spans.{Ends, covers};
-ghost use Rattle.rr_cover.specs.PrefixTrees.{lies_on, IsFork, IsRootedOn, IsTree};
+ghost use Rattle.rr_cover.specs.PrefixTrees.{IsFork, IsTree};
 ghost use Rattle.rr_cover.specs.TreeParts.{own, standing, is_above, root_of, HoldsWith, IsParting};
+ghost use Rattle.rr_cover.specs.TreeParts.{StaysRooted, StaysRootedWith};
 
 use super::parting::parting;
 use super::reading::{is_same, is_upper};
@@ -31,8 +32,8 @@ fn bare<T: Drop>(alloc: Global, prefix: Prefix) -> Option<Box<Node<T>>>
     }
 }
 
-/// The node with a value over two sides.
-fn hang<T: Drop>(
+/// The node with a value as the root of two trees.
+fn make_root<T: Drop>(
     mut node: Box<Node<T>>,
     value: Option<T>,
     lower: Tree<T>,
@@ -83,9 +84,9 @@ fn above<T: Drop>(node: Box<Node<T>>, value: T, root: Prefix, tree: Tree<T>) -> 
     ensures root { root_of result ≡ Some node.value.prefix }
 {
     if is_upper(node.prefix, root.span()) {
-        hang(node, Some(value), Tree::Empty, tree)
+        make_root(node, Some(value), Tree::Empty, tree)
     } else {
-        hang(node, Some(value), tree, Tree::Empty)
+        make_root(node, Some(value), tree, Tree::Empty)
     }
 }
 
@@ -106,11 +107,11 @@ fn beside<T: Drop>(
     ensures root { root_of result ≡ Some fork.value.prefix }
 {
     let upper = is_upper(fork.prefix, node.prefix.span());
-    let leaf = hang(node, Some(value), Tree::Empty, Tree::Empty);
+    let leaf = make_root(node, Some(value), Tree::Empty, Tree::Empty);
     if upper {
-        hang(fork, None, tree, leaf)
+        make_root(fork, None, tree, leaf)
     } else {
-        hang(fork, None, leaf, tree)
+        make_root(fork, None, leaf, tree)
     }
 }
 
@@ -133,9 +134,7 @@ fn part<T: Drop>(
     ensures err { OnErr result (tree.new ≡ tree.old) }
     ensures back { IfErr result (λ given. given ≡ value) }
     ensures tree { IsTree tree.new }
-    ensures root { (p : PrefixParts) (side : Bool) → IsMasked p
-        → lies_on p side (span_of node.value.prefix) ≡ true
-        → IsRootedOn p side tree.old → IsRootedOn p side tree.new }
+    ensures root { StaysRootedWith (span_of node.value.prefix) tree.old tree.new }
 {
     let Some(fork) = bare(alloc, parting(node.prefix, node.prefix, root)) else {
         return Err(value);
@@ -155,15 +154,13 @@ fn place<T: Drop>(tree: &mut Tree<T>, alloc: Global, prefix: Prefix, value: T) -
     ensures err { OnErr result (tree.new ≡ tree.old) }
     ensures back { IfErr result (λ given. given ≡ value) }
     ensures tree { IsTree tree.new }
-    ensures root { (p : PrefixParts) (side : Bool) → IsMasked p
-        → lies_on p side (span_of prefix) ≡ true
-        → IsRootedOn p side tree.old → IsRootedOn p side tree.new }
+    ensures root { StaysRootedWith (span_of prefix) tree.old tree.new }
 {
     let Some(node) = bare(alloc, prefix) else {
         return Err(value);
     };
     let Some(root) = root(tree) else {
-        *tree = hang(node, Some(value), Tree::Empty, Tree::Empty);
+        *tree = make_root(node, Some(value), Tree::Empty, Tree::Empty);
         return Ok(());
     };
     if !prefix.covers(root) {
@@ -190,9 +187,7 @@ pub(super) fn set<T: Drop>(
     ensures err { OnErr result (tree.new ≡ tree.old) }
     ensures back { IfErr result (λ given. given ≡ value) }
     ensures tree { IsTree tree.new }
-    ensures root { (p : PrefixParts) (side : Bool) → IsMasked p
-        → lies_on p side (span_of prefix) ≡ true
-        → IsRootedOn p side tree.old → IsRootedOn p side tree.new }
+    ensures root { StaysRootedWith (span_of prefix) tree.old tree.new }
 {
     if is_above(tree, prefix) {
         return set_below(tree, alloc, prefix, value);
@@ -219,8 +214,7 @@ fn set_below<T: Drop>(
     ensures err { OnErr result (tree.new ≡ tree.old) }
     ensures back { IfErr result (λ given. given ≡ value) }
     ensures tree { IsTree tree.new }
-    ensures root { (p : PrefixParts) (side : Bool) → IsRootedOn p side tree.old
-        → IsRootedOn p side tree.new }
+    ensures root { StaysRooted tree.old tree.new }
 {
     match tree {
         Tree::Empty => Err(value),

@@ -1,11 +1,11 @@
 //! Changing a tree of prefixes.
 
-ghost use Rattle.std.specs.Prelude.{◌≡◌, true, Bool, None, if◌then◌else◌};
+ghost use Rattle.std.specs.Prelude.{◌≡◌, true, None, if◌then◌else◌};
 ghost use Rattle.std.specs.Ordering.{eq_by_cmp};
-ghost use Rattle.rr_number.specs.Prefixes.{PrefixParts, span_of};
+ghost use Rattle.rr_number.specs.Prefixes.{span_of};
 ghost use Rattle.rr_number.specs.Spans.{Ends, span_cmp};
-ghost use Rattle.rr_cover.specs.PrefixTrees.{IsRootedOn, IsTree};
-ghost use Rattle.rr_cover.specs.TreeParts.{standing, is_empty, is_idle, only_side};
+ghost use Rattle.rr_cover.specs.PrefixTrees.{IsTree};
+ghost use Rattle.rr_cover.specs.TreeParts.{standing, is_empty, is_idle, only_side, StaysRooted};
 
 use super::reading::{is_same, is_upper};
 use super::{Node, Tree};
@@ -43,8 +43,7 @@ fn tidy<T: Drop>(tree: Tree<T>) -> Tree<T>
     requires { IsTree tree }
     ensures all { (s : Ends) → standing result s ≡ standing tree s }
     ensures tree { IsTree result }
-    ensures root { (p : PrefixParts) (side : Bool) → IsRootedOn p side tree
-        → IsRootedOn p side result }
+    ensures root { StaysRooted tree result }
 {
     match tree {
         Tree::Empty => Tree::Empty,
@@ -66,8 +65,7 @@ pub(super) fn take<T: Drop>(tree: &mut Tree<T>, prefix: Prefix) -> Option<T>
     ensures all { (s : Ends) → standing tree.new s
         ≡ (if eq_by_cmp span_cmp s (span_of prefix) then None else standing tree.old s) }
     ensures tree { IsTree tree.new }
-    ensures root { (p : PrefixParts) (side : Bool) → IsRootedOn p side tree.old
-        → IsRootedOn p side tree.new }
+    ensures root { StaysRooted tree.old tree.new }
 {
     let value = take_below(tree, prefix);
     let whole = mem::replace(tree, Tree::Empty);
@@ -84,8 +82,7 @@ fn take_below<T: Drop>(tree: &mut Tree<T>, prefix: Prefix) -> Option<T>
     ensures all { (s : Ends) → standing tree.new s
         ≡ (if eq_by_cmp span_cmp s (span_of prefix) then None else standing tree.old s) }
     ensures tree { IsTree tree.new }
-    ensures root { (p : PrefixParts) (side : Bool) → IsRootedOn p side tree.old
-        → IsRootedOn p side tree.new }
+    ensures root { StaysRooted tree.old tree.new }
 {
     match tree {
         Tree::Empty => None,

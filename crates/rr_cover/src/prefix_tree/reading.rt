@@ -3,10 +3,10 @@
 ghost use Rattle.std.specs.Prelude.{◌≡◌, ◌≤◌, IfSome, IfNone};
 ghost use Rattle.std.specs.Option.{option_copied};
 ghost use Rattle.std.specs.Ordering.{eq_by_cmp};
-ghost use Rattle.rr_number.specs.Prefixes.{span_of, IsMasked};
+ghost use Rattle.rr_number.specs.Prefixes.{span_of};
 ghost use Rattle.rr_number.specs.Spans.{span_cmp};
 ghost use Rattle.rr_cover.specs.PrefixTrees.{in_upper, IsTree};
-ghost use Rattle.rr_cover.specs.TreeParts.{own, standing, room, side_of, IsSmallestCover, NoCover};
+ghost use Rattle.rr_cover.specs.TreeParts.{standing, room, side_of, IsSmallestCover, NoCover};
 
 use super::{Node, Tree};
 use rr_number::{Prefix, Span};

@@ -1,4 +1,4 @@
-//! Changing a search tree and keeping it balanced.
+//! Changing a search tree and keeping it balanced (AVL).
 
 ghost use Rattle.std.specs.Prelude.{◌≡◌, nat_le, None, Some, is_some, IfOk, IfErr, IfSome};
 ghost use Rattle.std.specs.Prelude.{IfNone, OnOk, OnErr};
@@ -6,7 +6,7 @@ ghost use Rattle.std.specs.Option.{option_or};
 ghost use Rattle.rr_number.specs.Spans.{Ends, IsSpan};
 ghost use Rattle.rr_cover.specs.SpanNests.{at_span, is_ahead, standing, Only, Fits, IsBound};
 ghost use Rattle.rr_cover.specs.SpanNests.{HoldsAll, HoldsWith, HoldsWithout, IsNest};
-ghost use Rattle.rr_cover.specs.NestParts.{with_front, with_back, IsTakenApart, Precedes};
+ghost use Rattle.rr_cover.specs.NestParts.{with_before, with_after, IsTakenApart, Precedes};
 
 use super::bounds::Bounds;
 use super::reading::{is_ahead, is_same};
@@ -41,11 +41,11 @@ fn greatest<T>(nest: &Nest<T>) -> u32
 {
     match nest {
         Nest::Empty => 0,
-        Nest::Fork(node) => node.bounds.front.max(node.bounds.back),
+        Nest::Fork(node) => node.bounds.before.max(node.bounds.after),
     }
 }
 
-/// The root of the tree and its two sides, cut off from it.
+/// The root of the tree and its two subtrees, cut off from it.
 fn open<T: Drop>(nest: Nest<T>) -> Option<(Box<Node<T>>, Nest<T>, Nest<T>)>
     requires { IsNest nest }
     ensures some { IfSome result (λ p. IsTakenApart nest p.0.value.span p.0.value.value p.1 p.2) }
@@ -69,13 +69,13 @@ fn bounds_over<T>(span: Span, before: &Nest<T>, after: &Nest<T>) -> Bounds
     let last = span.last();
     Bounds {
         least: least(before).min(last).min(least(after)),
-        front: greatest(before).max(last),
-        back: greatest(after),
+        before: greatest(before).max(last),
+        after: greatest(after),
     }
 }
 
-/// The node over two sides, with what it knows of them.
-fn hang<T: Drop>(
+/// The node as the root of two trees, with a height and bounds that it is given.
+fn link<T: Drop>(
     mut node: Box<Node<T>>,
     height: u8,
     bounds: Bounds,
@@ -95,8 +95,8 @@ fn hang<T: Drop>(
     Nest::Fork(node)
 }
 
-/// The node over two sides.
-fn fork<T: Drop>(node: Box<Node<T>>, before: Nest<T>, after: Nest<T>) -> Nest<T>
+/// The node as the root of two trees, with its height and bounds by theirs.
+fn make_root<T: Drop>(node: Box<Node<T>>, before: Nest<T>, after: Nest<T>) -> Nest<T>
     requires fits { Fits node.value.span before after }
     requires nests { IsNest before × IsNest after }
     ensures all { HoldsAll before node.value.span node.value.value after result }
@@ -104,74 +104,76 @@ fn fork<T: Drop>(node: Box<Node<T>>, before: Nest<T>, after: Nest<T>) -> Nest<T>
 {
     let height = height(&before).max(height(&after)).saturating_add(1);
     let bounds = bounds_over(node.span, &before, &after);
-    hang(node, height, bounds, before, after)
+    link(node, height, bounds, before, after)
 }
 
-/// The node over two sides, turned where one side is two levels higher than the other.
-fn balance<T: Drop>(node: Box<Node<T>>, before: Nest<T>, after: Nest<T>) -> Nest<T>
+/// The node as the root of two trees, rotated where one is two levels higher than the other.
+fn rebalance<T: Drop>(node: Box<Node<T>>, before: Nest<T>, after: Nest<T>) -> Nest<T>
     requires fits { Fits node.value.span before after }
     requires nests { IsNest before × IsNest after }
     ensures all { HoldsAll before node.value.span node.value.value after result }
     ensures nest { IsNest result }
 {
-    let (front, back) = (height(&before), height(&after));
-    if front > back.saturating_add(1) {
-        lift_before(node, before, after)
-    } else if back > front.saturating_add(1) {
-        lift_after(node, before, after)
+    let (height_before, height_after) = (height(&before), height(&after));
+    if height_before > height_after.saturating_add(1) {
+        rotate_right(node, before, after)
+    } else if height_after > height_before.saturating_add(1) {
+        rotate_left(node, before, after)
     } else {
-        fork(node, before, after)
+        make_root(node, before, after)
     }
 }
 
-/// The node over two sides, the front one raised a level.
-fn lift_before<T: Drop>(node: Box<Node<T>>, before: Nest<T>, after: Nest<T>) -> Nest<T>
+/// The node as the root of two trees, rotated to the right: the root of the one before comes to the
+/// top, or, where the inner side of that one is the higher, the root of this: a double rotation.
+fn rotate_right<T: Drop>(node: Box<Node<T>>, before: Nest<T>, after: Nest<T>) -> Nest<T>
     requires fits { Fits node.value.span before after }
     requires nests { IsNest before × IsNest after }
     ensures all { HoldsAll before node.value.span node.value.value after result }
     ensures nest { IsNest result }
 {
-    let Some((front, outer, inner)) = open(before) else {
-        return fork(node, Nest::Empty, after);
+    let Some((root, outer, inner)) = open(before) else {
+        return make_root(node, Nest::Empty, after);
     };
     if height(&outer) >= height(&inner) {
-        let back = fork(node, inner, after);
-        return fork(front, outer, back);
+        let right = make_root(node, inner, after);
+        return make_root(root, outer, right);
     }
     let Some((top, low, high)) = open(inner) else {
-        let back = fork(node, Nest::Empty, after);
-        return fork(front, outer, back);
+        let right = make_root(node, Nest::Empty, after);
+        return make_root(root, outer, right);
     };
-    let front = fork(front, outer, low);
-    let back = fork(node, high, after);
-    fork(top, front, back)
+    let left = make_root(root, outer, low);
+    let right = make_root(node, high, after);
+    make_root(top, left, right)
 }
 
-/// The node over two sides, the back one raised a level.
-fn lift_after<T: Drop>(node: Box<Node<T>>, before: Nest<T>, after: Nest<T>) -> Nest<T>
+/// The node as the root of two trees, rotated to the left: the root of the one after comes to the
+/// top, or, where the inner side of that one is the higher, the root of this: a double rotation.
+fn rotate_left<T: Drop>(node: Box<Node<T>>, before: Nest<T>, after: Nest<T>) -> Nest<T>
     requires fits { Fits node.value.span before after }
     requires nests { IsNest before × IsNest after }
     ensures all { HoldsAll before node.value.span node.value.value after result }
     ensures nest { IsNest result }
 {
-    let Some((back, inner, outer)) = open(after) else {
-        return fork(node, before, Nest::Empty);
+    let Some((root, inner, outer)) = open(after) else {
+        return make_root(node, before, Nest::Empty);
     };
     if height(&outer) >= height(&inner) {
-        let front = fork(node, before, inner);
-        return fork(back, front, outer);
+        let left = make_root(node, before, inner);
+        return make_root(root, left, outer);
     }
     let Some((top, low, high)) = open(inner) else {
-        let front = fork(node, before, Nest::Empty);
-        return fork(back, front, outer);
+        let left = make_root(node, before, Nest::Empty);
+        return make_root(root, left, outer);
     };
-    let front = fork(node, before, low);
-    let back = fork(back, high, outer);
-    fork(top, front, back)
+    let left = make_root(node, before, low);
+    let right = make_root(root, high, outer);
+    make_root(top, left, right)
 }
 
-/// The tree, turned at its root where one side is two levels higher than the other.
-fn balanced<T: Drop>(nest: Nest<T>) -> Nest<T>
+/// The tree, rotated at its root where one side is two levels higher than the other.
+fn rebalanced<T: Drop>(nest: Nest<T>) -> Nest<T>
     requires { IsNest nest }
     ensures all { (s : Ends) → standing result s ≡ standing nest s }
     ensures nest { IsNest result }
@@ -179,12 +181,12 @@ fn balanced<T: Drop>(nest: Nest<T>) -> Nest<T>
     let Some((root, before, after)) = open(nest) else {
         return Nest::Empty;
     };
-    balance(root, before, after)
+    rebalance(root, before, after)
 }
 
-/// Sets the root's height, and tells whether its sides differ by a level at most; else nothing is
-/// done.
-fn raise<T>(nest: &mut Nest<T>) -> bool
+/// Sets the root's height by its sides', and tells whether these differ by a level at most; else
+/// nothing is done.
+fn update_height<T>(nest: &mut Nest<T>) -> bool
     requires { IsNest nest.old }
     ensures all { (s : Ends) → standing nest.new s ≡ standing nest.old s }
     ensures nest { IsNest nest.new }
@@ -192,62 +194,65 @@ fn raise<T>(nest: &mut Nest<T>) -> bool
     match nest {
         Nest::Empty => true,
         Nest::Fork(node) => {
-            let (front, back) = (height(&node.before), height(&node.after));
-            if front.abs_diff(back) > 1 {
+            let (height_before, height_after) = (height(&node.before), height(&node.after));
+            if height_before.abs_diff(height_after) > 1 {
                 return false;
             }
-            node.height = front.max(back).saturating_add(1);
+            node.height = height_before.max(height_after).saturating_add(1);
             true
         }
     }
 }
 
-/// Balances the tree at its root.
-fn settle<T: Drop>(nest: &mut Nest<T>)
+/// Rotates the tree at its root where one side is two levels higher than the other, and sets the
+/// root's height.
+fn rebalance_root<T: Drop>(nest: &mut Nest<T>)
     requires { IsNest nest.old }
     ensures all { (s : Ends) → standing nest.new s ≡ standing nest.old s }
     ensures nest { IsNest nest.new }
 {
-    if !raise(nest) {
+    if !update_height(nest) {
         let whole = mem::replace(nest, Nest::Empty);
-        *nest = balanced(whole);
+        *nest = rebalanced(whole);
     }
 }
 
-/// Lets a last number in on the front side, and tells whether that side rose to the node's height.
-fn grow_front<T>(node: &mut Node<T>, last: u32) -> bool
-    ensures { node.new ≡ record node.old { bounds = with_front node.old.bounds last } }
+/// Lets a last number into the bounds of the side before, and tells whether that side rose to the
+/// node's height.
+fn grow_before<T>(node: &mut Node<T>, last: u32) -> bool
+    ensures { node.new ≡ record node.old { bounds = with_before node.old.bounds last } }
 {
-    node.bounds = node.bounds.with_front(last);
+    node.bounds = node.bounds.with_before(last);
     node.height <= height(&node.before)
 }
 
-/// Lets a last number in on the back side, and tells whether that side rose to the node's height.
-fn grow_back<T>(node: &mut Node<T>, last: u32) -> bool
-    ensures { node.new ≡ record node.old { bounds = with_back node.old.bounds last } }
+/// Lets a last number into the bounds of the side after, and tells whether that side rose to the
+/// node's height.
+fn grow_after<T>(node: &mut Node<T>, last: u32) -> bool
+    ensures { node.new ≡ record node.old { bounds = with_after node.old.bounds last } }
 {
-    node.bounds = node.bounds.with_back(last);
+    node.bounds = node.bounds.with_after(last);
     node.height <= height(&node.after)
 }
 
-/// Hangs a node in whose span is not held.
-#[cycle(putting)]
-fn put<T: Drop>(nest: &mut Nest<T>, leaf: Box<Node<T>>)
+/// Inserts a node whose span is not held.
+#[cycle(inserting)]
+fn insert_node<T: Drop>(nest: &mut Nest<T>, leaf: Box<Node<T>>)
     requires order { IsNest nest.old }
     requires ends { IsSpan leaf.value.span }
     requires missing { standing nest.old leaf.value.span ≡ None }
     ensures all { HoldsWith nest.old leaf.value.span leaf.value.value nest.new }
     ensures nest { IsNest nest.new }
 {
-    if put_below(nest, leaf) {
-        settle(nest);
+    if insert_below(nest, leaf) {
+        rebalance_root(nest);
     }
 }
 
-/// Hangs a node in whose span is not held, and tells whether a side rose to the root's height: then
+/// Inserts a node whose span is not held, and tells whether a side rose to the root's height: then
 /// that is not set anew yet, and the sides may differ by two levels.
-#[cycle(putting)]
-fn put_below<T: Drop>(nest: &mut Nest<T>, leaf: Box<Node<T>>) -> bool
+#[cycle(inserting)]
+fn insert_below<T: Drop>(nest: &mut Nest<T>, leaf: Box<Node<T>>) -> bool
     requires order { IsNest nest.old }
     requires ends { IsSpan leaf.value.span }
     requires missing { standing nest.old leaf.value.span ≡ None }
@@ -256,17 +261,17 @@ fn put_below<T: Drop>(nest: &mut Nest<T>, leaf: Box<Node<T>>) -> bool
 {
     match nest {
         Nest::Empty => {
-            *nest = fork(leaf, Nest::Empty, Nest::Empty);
+            *nest = make_root(leaf, Nest::Empty, Nest::Empty);
             false
         }
         Nest::Fork(node) => {
             let last = leaf.span.last();
             if is_ahead(leaf.span, node.span) {
-                put(&mut node.before, leaf);
-                grow_front(node, last)
+                insert_node(&mut node.before, leaf);
+                grow_before(node, last)
             } else {
-                put(&mut node.after, leaf);
-                grow_back(node, last)
+                insert_node(&mut node.after, leaf);
+                grow_after(node, last)
             }
         }
     }
@@ -285,14 +290,14 @@ fn split_first<T: Drop>(
         → option_or (at_span result.0.value.span result.0.value.value s) (standing result.1 s)
         ≡ option_or (standing before s)
         (option_or (at_span root.value.span root.value.value s) (standing after s)) }
-    ensures behind { Only (λ s. is_ahead result.0.value.span s) result.1 }
+    ensures first { Only (λ s. is_ahead result.0.value.span s) result.1 }
     ensures nest { IsNest result.1 }
 {
     let Some((next, low, high)) = open(before) else {
         return (root, after);
     };
     let (first, rest) = split_first(next, low, high);
-    let rest = balance(root, rest, after);
+    let rest = rebalance(root, rest, after);
     (first, rest)
 }
 
@@ -308,7 +313,7 @@ fn join<T: Drop>(before: Nest<T>, after: Nest<T>) -> Nest<T>
         return before;
     };
     let (first, rest) = split_first(root, low, high);
-    balance(first, before, rest)
+    rebalance(first, before, rest)
 }
 
 /// The value of a node.
@@ -335,10 +340,10 @@ fn take_out<T: Drop>(nest: Nest<T>, span: Span) -> (Option<T>, Nest<T>)
     }
     if is_ahead(span, root.span) {
         let (value, before) = take_out(before, span);
-        (value, balance(root, before, after))
+        (value, rebalance(root, before, after))
     } else {
         let (value, after) = take_out(after, span);
-        (value, balance(root, before, after))
+        (value, rebalance(root, before, after))
     }
 }
 
@@ -383,15 +388,15 @@ fn add<T: Drop>(nest: &mut Nest<T>, alloc: Global, span: Span, value: T) -> Resu
         height: 1,
         bounds: Bounds {
             least: span.last(),
-            front: span.last(),
-            back: 0,
+            before: span.last(),
+            after: 0,
         },
         before: Nest::Empty,
         after: Nest::Empty,
     };
     match Box::new(alloc, node) {
         Ok(node) => {
-            put(nest, node);
+            insert_node(nest, node);
             Ok(())
         }
         Err(refused) => Err(into_value(refused.value)),

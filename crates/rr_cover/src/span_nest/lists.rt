@@ -26,7 +26,7 @@ pub(super) fn push_covering<T>(
     match nest {
         Nest::Empty => Ok(()),
         Nest::Fork(node) => {
-            if node.bounds.front.max(node.bounds.back) < span.last() {
+            if node.bounds.before.max(node.bounds.after) < span.last() {
                 return Ok(());
             }
             push_covering(&node.before, span, out)?;

@@ -59,12 +59,12 @@ pub(super) fn last_reaching<T>(nest: &Nest<T>, below: u64, to: u64) -> Option<&N
         Nest::Empty => None,
         Nest::Fork(node) => {
             if below <= u64::from(node.span.first()) {
-                return last_reaching_in(&node.before, node.bounds.front, below, to);
+                return last_reaching_in(&node.before, node.bounds.before, below, to);
             }
-            match last_reaching_in(&node.after, node.bounds.back, below, to) {
+            match last_reaching_in(&node.after, node.bounds.after, below, to) {
                 Some(found) => Some(found),
                 None if to <= u64::from(node.span.last()) => Some(node),
-                None => last_reaching_in(&node.before, node.bounds.front, below, to),
+                None => last_reaching_in(&node.before, node.bounds.before, below, to),
             }
         }
     }
@@ -114,8 +114,8 @@ fn begins_within<T>(nest: &Nest<T>, span: Span) -> bool
     ensures none { result ≡ false
         → (t : Ends) → is_some (standing nest.now t) ≡ true → begins_in t span ≡ false }
 {
-    let behind = u64::from(span.last()) + 1;
-    match last_reaching(nest, behind, behind) {
+    let next = u64::from(span.last()) + 1;
+    match last_reaching(nest, next, next) {
         Some(held) => span.first() < held.span.first(),
         None => false,
     }

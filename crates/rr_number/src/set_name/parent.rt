@@ -3,7 +3,7 @@
 ghost use Rattle.std.specs.Prelude.{◌≡◌, IfOk};
 ghost use Rattle.std.specs.List.{list_all};
 ghost use Rattle.std.specs.Option.{option_copied};
-ghost use Rattle.rr_number.specs.Parents.{front_of, parent_of};
+ghost use Rattle.rr_number.specs.Parents.{parent_text, parent_of};
 ghost use Rattle.rr_number.specs.SetNames.{components, is_as_number};
 
 use super::{SetName, is_as_number};
@@ -28,24 +28,24 @@ impl SetName {
     pub fn parent(&self, alloc: Global) -> Result<Option<Parent>, AllocError>
         ensures { IfOk result (λ parent. parent ≡ parent_of self.now) }
     {
-        let Some(front) = front(self.as_bytes()) else {
+        let Some(parent) = parent_text(self.as_bytes()) else {
             return Ok(None);
         };
-        if let Some(number) = AsNumber::read(front) {
+        if let Some(number) = AsNumber::read(parent) {
             return Ok(Some(Parent::Number(number)));
         }
-        if has_as_numbers_alone(front) {
+        if has_as_numbers_alone(parent) {
             return Ok(Some(Parent::Bare));
         }
-        let bytes = Vec::from_slice(alloc, front)?;
+        let bytes = Vec::from_slice(alloc, parent)?;
         let text = NameText::from_vec(bytes);
         Ok(Some(Parent::Set(SetName { text })))
     }
 }
 
 /// The text before the last colon, if there is one.
-fn front(bytes: &[u8]) -> Option<&[u8]>
-    ensures { option_copied result ≡ front_of bytes.now }
+fn parent_text(bytes: &[u8]) -> Option<&[u8]>
+    ensures { option_copied result ≡ parent_text bytes.now }
 {
     let mut last = bytes;
     'components: while let Some((_, after)) = cut_at(last, b':') {
@@ -54,8 +54,8 @@ fn front(bytes: &[u8]) -> Option<&[u8]>
     if last.len() == bytes.len() {
         return None;
     }
-    let (front, _) = bytes.split_at(bytes.len() - last.len() - 1);
-    Some(front)
+    let (parent, _) = bytes.split_at(bytes.len() - last.len() - 1);
+    Some(parent)
 }
 
 fn has_as_numbers_alone(bytes: &[u8]) -> bool

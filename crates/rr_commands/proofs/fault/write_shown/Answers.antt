@@ -1,6 +1,6 @@
 use Rattle.std.proofs.Common.{◌++◌, ◌∷◌, [], ◌+◌, ◌∙◌, ap, sym, append_assoc, map, drop}
 use Rattle.std.proofs.lemmas.Result.{err_from_is_err_and}
-use Rattle.rr_io.proofs.Transfers.{Takes-then, TakesFront-then, TakesFront-more}
+use Rattle.rr_io.proofs.Transfers.{Takes-then, TakesPrefix-then, TakesPrefix-more}
 use Rattle.rr_commands.specs.Faults.{shown}
 use Rattle.rr_commands.proofs.ShownLemmas.{map-next}
 use Rattle.rr_commands.proofs.fault.write_shown.Goals as goal
@@ -11,7 +11,7 @@ returns-in_err-write_all-clause-writes g c =
     let before = c.bytes.invariant in
     let next = map-next shown c.args.text.now c.bytes.byte-index 0 c.bytes-test.true in
     rw (exit.1, before.1, next, ← c.shown.ensures)
-    (TakesFront-then _ _ before.2 (TakesFront-more _ _ c.in_err-write_all.ensures.writes))
+    (TakesPrefix-then _ _ before.2 (TakesPrefix-more _ _ c.in_err-write_all.ensures.writes))
 
 pub bytes-preserved : goal.bytes-preserved
 bytes-preserved g c =

@@ -6,33 +6,33 @@ use Rattle.rr_desk.specs.Migrating.{IsGrown}
 use Rattle.rr_desk.proofs.Migrated.{each_err, migrates_then, none_then, why_then}
 use Rattle.rr_desk.proofs.migrating.migrate_stored.Goals as goal
 
-pub migrate_grown-requires-clause-autocommit : goal.migrate_grown-requires-clause-autocommit
-migrate_grown-requires-clause-autocommit g c = c.stored_growth.ensures.looks.rests.autocommit
+pub migrate_tables-requires-clause-autocommit : goal.migrate_tables-requires-clause-autocommit
+migrate_tables-requires-clause-autocommit g c = c.migrated_registry.ensures.looks.rests.autocommit
 
-pub migrate_grown-requires-clause-grown : goal.migrate_grown-requires-clause-grown
-migrate_grown-requires-clause-grown g c = λ clean.
+pub migrate_tables-requires-clause-grown : goal.migrate_tables-requires-clause-grown
+migrate_tables-requires-clause-grown g c = λ clean.
     subst (λ db. IsGrown c.args.settings.now db c.in-Ok.registry) (sym (c.in-Ok.ensures.looks.same clean).0.now_is) (c.in-Ok.ensures.grown clean)
 
 pub returns-in-Ok-clause-of_source : goal.returns-in-Ok-clause-of_source
 returns-in-Ok-clause-of_source g c =
-    IfOk-weaker c.migrate_grown.result _ _ (λ s same. subst (IsRegistryOf c.args.settings.now.source) (sym same) c.in-Ok.ensures.of_source) c.migrate_grown.ensures.registry
+    IfOk-weaker c.migrate_tables.result _ _ (λ s same. subst (IsRegistryOf c.args.settings.now.source) (sym same) c.in-Ok.ensures.of_source) c.migrate_tables.ensures.registry
 
 pub returns-in-Ok-clause-migrates : goal.returns-in-Ok-clause-migrates
 returns-in-Ok-clause-migrates g c =
-    IfOk-weaker c.migrate_grown.result _ _ (λ s. migrates_then g.S.Store c.args.settings.now c.args.conn c.stored_growth.new.conn c.in-Ok.ensures.looks.same c.in-Ok.ensures.looks.rests.crash s) c.migrate_grown.ensures.migrates
+    IfOk-weaker c.migrate_tables.result _ _ (λ s. migrates_then g.S.Store c.args.settings.now c.args.conn c.migrated_registry.new.conn c.in-Ok.ensures.looks.same c.in-Ok.ensures.looks.rests.crash s) c.migrate_tables.ensures.migrates
 
 pub returns-in-Ok-clause-fails : goal.returns-in-Ok-clause-fails
 returns-in-Ok-clause-fails g c =
-    IfErr-weaker c.migrate_grown.result _ _ (λ e. none_then g.S.Store c.args.settings.now c.args.conn c.stored_growth.new.conn c.in-Ok.ensures.looks.same c.in-Ok.ensures.looks.rests.crash e.1) c.migrate_grown.ensures.fails
+    IfErr-weaker c.migrate_tables.result _ _ (λ e. none_then g.S.Store c.args.settings.now c.args.conn c.migrated_registry.new.conn c.in-Ok.ensures.looks.same c.in-Ok.ensures.looks.rests.crash e.1) c.migrate_tables.ensures.fails
 
 pub returns-in-Ok-clause-why : goal.returns-in-Ok-clause-why
 returns-in-Ok-clause-why g c =
-    each_err c.migrate_grown.result _ _ _ c.migrate_grown.ensures.fails c.migrate_grown.ensures.why
-    (λ e. why_then g.S.Store c.args.settings.now c.args.conn c.stored_growth.new.conn c.in-Ok.ensures.looks.same c.in-Ok.ensures.looks.rests.crash e.1 e.0)
+    each_err c.migrate_tables.result _ _ _ c.migrate_tables.ensures.fails c.migrate_tables.ensures.why
+    (λ e. why_then g.S.Store c.args.settings.now c.args.conn c.migrated_registry.new.conn c.in-Ok.ensures.looks.same c.in-Ok.ensures.looks.rests.crash e.1 e.0)
 
 pub returns-in-Err-clause-fails : goal.returns-in-Err-clause-fails
 returns-in-Err-clause-fails g c =
-    let rests = c.stored_growth.ensures.looks.rests in record {
+    let rests = c.migrated_registry.ensures.looks.rests in record {
       autocommit = rests.autocommit;
       kept = rests.same;
       crash = survives_weaker _ _ _ _ (λ clean trees none. absurd none) rests.crash;

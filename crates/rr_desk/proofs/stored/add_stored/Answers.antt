@@ -3,7 +3,7 @@ use Rattle.std.specs.FinMap.{get}
 use Rattle.rr_desk.proofs.Following.{new_follows, writes_as}
 use Rattle.rr_desk.proofs.stored.add_stored.Goals as goal
 
-pub returns : goal.returns
-returns g c =
+pub returns-clause-rows : goal.returns-clause-rows
+returns-clause-rows g c =
     let found = ap (λ r. get r c.args.key.now) (sym c.book.ensures.same) ∙ sym c.in-Some.ensures.found in
     writes_as _ _ _ _ _ _ (λ db. new_follows c.args.key.now c.args.registry.now _ _ db found) c.add.ensures.adds

@@ -1,5 +1,4 @@
-use Rattle.std.proofs.Common.{◌≡◌, ◌++◌, ◌∷◌, [], ◌+◌, List, sym, subst, ap, ◌∙◌, take}
-use Rattle.std.specs.BTreeSet.{Updates, contains}
+use Rattle.std.proofs.Common.{◌++◌, ◌∷◌, [], ◌+◌, List, sym, subst, ap, ◌∙◌, take}
 use Rattle.std.specs.Ordering.{ordering_then}
 use Rattle.std.specs.declared.cmp.Ordering.{Ordering}
 use Rattle.std.proofs.lemmas.Cmp.{on_total, then_total}

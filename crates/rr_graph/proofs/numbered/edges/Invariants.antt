@@ -1,4 +1,4 @@
-use Rattle.std.proofs.Common.{◌≡◌, ◌<◌, ◌↔◌, ℕ, Contains}
+use Rattle.std.proofs.Common.{◌<◌, ◌↔◌, ℕ, Contains}
 use Rattle.std.specs.Ordering.{nat_cmp}
 use Rattle.rr_graph.specs.NumberedParts.{IsAt}
 use Rattle.rr_graph.specs.ReversedParts.{edges_at}

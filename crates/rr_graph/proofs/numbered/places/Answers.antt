@@ -1,6 +1,5 @@
-use Rattle.std.proofs.Common.{◌≡◌, ◌<◌, ◌↔◌, ℕ, None, Some, sym, subst, ◌∙◌, cond, arith}
+use Rattle.std.proofs.Common.{◌≡◌, None, Some, sym, subst, ◌∙◌, cond, arith}
 use Rattle.std.specs.BTreeMap.{get, is_at}
-use Rattle.rr_graph.specs.NumberedParts.{IsAt}
 use Rattle.rr_graph.proofs.Placing.{IsPlaced-more, get_none}
 use Rattle.rr_graph.proofs.numbered.places.Goals as goal
 

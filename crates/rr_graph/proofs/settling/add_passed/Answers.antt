@@ -1,5 +1,5 @@
-use Rattle.std.proofs.Common.{◌≡◌, ◌≤◌, ◌+◌, ◌-◌, ◌↔◌, ◌⊎◌, List, Contains, drop, length, refl, sym, subst, take, arith}
-use Rattle.std.proofs.lemmas.List.{length-drop, length-take-le, take_all}
+use Rattle.std.proofs.Common.{◌≡◌, ◌≤◌, ◌+◌, ◌-◌, ◌↔◌, ◌⊎◌, List, Contains, drop, length, refl, subst, take, arith}
+use Rattle.std.proofs.lemmas.List.{take_all}
 use Rattle.rr_graph.specs.SettledParts.{IsPassed, values_at}
 use Rattle.rr_graph.specs.declared.labels.Edge.{Edge}
 use Rattle.rr_graph.proofs.Runs.{IsPassed-run, IsRun-first, fits_after}

@@ -14,8 +14,8 @@ pub loop-value-preserved : goal.loop-value-preserved
 loop-value-preserved g c =
     let known = c.in_ok-note.ensures (λ _. c.args.run.now) refl c.loop-value.invariant.0 in (
       known,
-      IsMade-more g.G.Labelled.passed c.args.values.now.items c.loop-value.values.items c.pass_each.new.values.items c.freed_of_repeats-last.new.list.items c.args.begun.now c.loop-value.value-index c.value-item.result c.args.node.now c.args.run.now c.in_ok-kept.kept.now
-          c.loop-value-test.true c.value-item.is c.requires (c.in_ok-kept.ensures (λ _. c.args.run.now) refl known) c.loop-value.invariant.1 c.in_ok-pass_each.ensures (c.freed_of_repeats-last.ensures g.met.G.Labelled.exact_values),
+      IsMade-more g.G.Labelled.passed c.args.values.now.items c.loop-value.values.items c.pass_each.new.values.items c.dedup_if_doubled-last.new.list.items c.args.begun.now c.loop-value.value-index c.value-item.result c.args.node.now c.args.run.now c.in_ok-kept.kept.now
+          c.loop-value-test.true c.value-item.is c.requires (c.in_ok-kept.ensures (λ _. c.args.run.now) refl known) c.loop-value.invariant.1 c.in_ok-pass_each.ensures (c.dedup_if_doubled-last.ensures g.met.G.Labelled.exact_values),
     )
 
 pub returns : goal.returns

@@ -9,7 +9,6 @@ returns-clause-submits g c =
 pub returns-clause-keeps : goal.returns-clause-keeps
 returns-clause-keeps g c = record {
   runs = c.submit.ensures.runs c.requires.running;
-  confined = c.submit.ensures.confined c.requires.running;
   kept = c.submit.ensures.kept c.requires.running;
   of_source = c.submit.ensures.of_source;
 }

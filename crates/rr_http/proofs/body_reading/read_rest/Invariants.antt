@@ -2,7 +2,7 @@ use Rattle.std.proofs.Common.{◌≡◌, ◌-◌, ◌≤◌, List, ℕ, ◌++◌
 use Rattle.rr_io.specs.Receiving.{Gives}
 use Rattle.rr_http.proofs.body_reading.read_rest.Given as goal
 
--- what was read so far stands behind the bytes of before
+-- what was read so far stands after the bytes of before
 abbrev pub invariant-reads : goal.invariant-reads
 invariant-reads g l =
     (more : List ℕ) × Gives (g.R.Source.told l.initial.reader) (g.R.Source.told l.reader) more

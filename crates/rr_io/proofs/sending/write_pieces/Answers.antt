@@ -1,6 +1,6 @@
 use Rattle.std.proofs.Common.{◌++◌, ◌∙◌, Bor, List, ℕ, ap, sym, append_assoc}
 use Rattle.std.proofs.lemmas.Result.{err_from_is_err_and}
-use Rattle.rr_io.proofs.Transfers.{Takes-then, TakesFront-then, TakesFront-more, flat_map-next}
+use Rattle.rr_io.proofs.Transfers.{Takes-then, TakesPrefix-then, TakesPrefix-more, flat_map-next}
 use Rattle.rr_io.proofs.sending.write_pieces.Goals as goal
 
 pub returns-in_err-write_all-clause-writes : goal.returns-in_err-write_all-clause-writes
@@ -9,7 +9,7 @@ returns-in_err-write_all-clause-writes g c =
     let before = c.pieces.invariant in
     let next = flat_map-next (λ (piece : Bor (List ℕ)). piece.now) c.args.pieces.now c.pieces.piece-index _ c.pieces-test.true in
     rw (exit.1, before.1, next)
-    (TakesFront-then _ _ before.2 (TakesFront-more _ _ c.in_err-write_all.ensures.writes))
+    (TakesPrefix-then _ _ before.2 (TakesPrefix-more _ _ c.in_err-write_all.ensures.writes))
 
 pub pieces-preserved : goal.pieces-preserved
 pieces-preserved g c =

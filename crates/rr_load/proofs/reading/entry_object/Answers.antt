@@ -1,4 +1,4 @@
-use Rattle.std.proofs.Common.{◌≡◌, Ok, Err, inl, inr, ap, refl, sym, subst, ◌∙◌}
+use Rattle.std.proofs.Common.{◌≡◌, Ok, Err, inl, inr, refl, sym, subst}
 use Rattle.std.specs.Prelude.{◌⊎◌, MatchResult}
 use Rattle.rr_load.specs.Dumps.{entry_object}
 use Rattle.rr_load.specs.declared.fault.DumpReadFault.TheVariants.{Memory}

@@ -1,4 +1,4 @@
-use Rattle.std.proofs.Common.{◌≡◌, Ok, Err, inl, ap, refl, sym, ◌∙◌}
+use Rattle.std.proofs.Common.{Ok, inl, ap, refl, sym, ◌∙◌}
 use Rattle.std.proofs.lemmas.Result.{MatchResult-at_err, MatchResult-at_ok, err_from_is_err_and}
 use Rattle.rr_load.proofs.EntryLists.{fault_stays, first_fault, one_more}
 use Rattle.rr_load.proofs.reading.with_entry.Goals as goal

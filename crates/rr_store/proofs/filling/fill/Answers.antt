@@ -14,7 +14,7 @@ returns-clause-ok g c clean =
     both_ok c.add_objects.result c.add_objects.ensures.read (c.add_objects.ensures.ok clean mid.is_open) (λ read added. record {
       read = read;
       filled = filled_so (map entry_of (lent c.args.objects.now)) (state g.S.Store c.args.tx.now.conn.now).now (state g.S.Store c.add_setting.new.tx.conn.now).now (state g.S.Store c.add_objects.new.tx.conn.now).now
-          (c.requires (omega (arith, last, first)) ((c.in_ok-_version.ensures.kept (omega (arith, last))).was_open mid.is_open)) (c.in_ok-_version.ensures.ok (omega (arith, last))) added;
+          (c.requires (omega (arith, last, first)) ((c.in_ok-_version.ensures.kept (omega (arith, last))).was_open mid.is_open)) (rw c.text.ensures at (c.in_ok-_version.ensures.ok (omega (arith, last)))) added;
     })
 
 pub returns-clause-others : goal.returns-clause-others

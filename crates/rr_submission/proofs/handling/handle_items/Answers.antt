@@ -5,7 +5,7 @@ use Rattle.rr_submission.proofs.Progress.{ComesTo-start, ComesTo-more, Handles-c
 use Rattle.rr_submission.proofs.handling.handle_items.Goals as goal
 
 pub items-init : goal.items-init
-items-init g c = (([], c.requires.unread, rw c.new-secrets.ensures (ComesTo-start _ _ _)), c.requires.ready, refl, refl)
+items-init g c = (([], c.requires.unread, rw c.new-secrets.ensures (ComesTo-start _ _ _ c.sound.ensures)), c.requires.ready, refl, refl)
 
 pub handle_item-requires-clause-items : goal.handle_item-requires-clause-items
 handle_item-requires-clause-items g c =
@@ -17,26 +17,32 @@ handle_item-requires-clause-refused g c =
     let so = c.items.invariant.0 in
     omega (arith, so.2.fewer, so.2.few, given_few _ _ c.items.paragraphs so.0 so.1)
 
-pub returns-in_err-done-in-Ok-clause-handles : goal.returns-in_err-done-in-Ok-clause-handles
-returns-in_err-done-in-Ok-clause-handles g c =
+pub returns-in_err-done-in-Ok-Some-clause-handles : goal.returns-in_err-done-in-Ok-Some-clause-handles
+returns-in_err-done-in-Ok-Some-clause-handles g c =
     let exit = err_from_is_err_and c.from_residual.result c.from_residual.ensures.1 in
     let so = c.items.invariant.0 in
-    let found = c.in-Ok.ensures.finds _ so.0 so.1 in
-    rw (exit.1, exit.2) (Handles-cut g.L.Ledger _ _ _ _ _ _ _ _ _ _ so.2 c.items.invariant.1 found c.in_err-done-in-Ok.ensures.handles)
+    let found = rw c.in-Ok-Some.field-0-is at (c.in-Ok-Some.ensures.finds _ so.0 so.1) in
+    rw (exit.1, exit.2) (Handles-cut g.L.Ledger _ _ _ _ _ _ _ _ _ _ so.2 c.items.invariant.1 found c.in_err-done-in-Ok-Some.ensures.handles)
 
 pub items-preserved : goal.items-preserved
 items-preserved g c =
     let so = c.items.invariant.0 in
-    let found = c.in-Ok.ensures.finds _ so.0 so.1 in
-    let one = c.in_ok-done-in-Ok.ensures.handles in (
-      (so.0 ++ found.added, found.has, rw c.in_ok-done-in-Ok.ensures.same_secrets (ComesTo-more _ _ _ _ _ _ _ _ one.outcome so.2 found one.decides one.items one.refused one.writes)),
-      c.in_ok-done-in-Ok.ensures.ready,
-      c.in-Ok.ensures.aside ∙ c.items.invariant.2,
-      c.in_ok-done-in-Ok.ensures.aside ∙ c.items.invariant.3,
+    let found = rw c.in-Ok-Some.field-0-is at (c.in-Ok-Some.ensures.finds _ so.0 so.1) in
+    let one = c.in_ok-done-in-Ok-Some.ensures.handles in (
+      (so.0 ++ found.added, found.has, rw c.in_ok-done-in-Ok-Some.ensures.same_secrets (ComesTo-more _ _ _ _ _ _ _ _ one.outcome so.2 found one.decides one.items one.refused one.writes)),
+      c.in_ok-done-in-Ok-Some.ensures.ready,
+      c.in-Ok-Some.ensures.aside ∙ c.items.invariant.2,
+      c.in_ok-done-in-Ok-Some.ensures.aside ∙ c.items.invariant.3,
     )
+
+pub returns-in-Ok-None-clause-handles : goal.returns-in-Ok-None-clause-handles
+returns-in-Ok-None-clause-handles g c =
+    let so = c.items.invariant.0 in
+    let none = rw c.in-Ok-None.field-0-is at (c.in-Ok-None.ensures.finds _ so.0 so.1) in
+    record { given = so.0 ++ none.added; ended = none.all; handles = HandlesAll-end none.added so.2 none.none }
 
 pub returns-in-Err-clause-handles : goal.returns-in-Err-clause-handles
 returns-in-Err-clause-handles g c =
     let so = c.items.invariant.0 in
-    let none = c.in-Err.ensures.finds _ so.0 so.1 in
+    let none = (c.in-Err.ensures.finds _ so.0 so.1).1 in
     record { given = so.0 ++ none.added; ended = none.all; handles = HandlesAll-end none.added so.2 none.none }

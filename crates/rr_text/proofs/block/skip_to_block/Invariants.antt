@@ -5,7 +5,7 @@ use Rattle.rr_text.proofs.block.skip_to_block.Given as goal
 
 abbrev pub invariant-lines : goal.invariant-lines
 invariant-lines l = record {
-  after : (front : List ℕ) × (l.text ≡ front ++ l.rest);
+  after : (prefix : List ℕ) × (l.text ≡ prefix ++ l.rest);
   same : blocks (text_lines l.rest) ≡ blocks (text_lines l.text);
   lines : from_block (text_lines l.rest) ≡ from_block (text_lines l.text);
 }

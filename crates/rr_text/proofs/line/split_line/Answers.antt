@@ -15,7 +15,7 @@ returns-in-Some-clause-ended c = inl (cut_some _ _ _ _ c.in-Some.ensures c.split
 
 pub returns-in-None-clause-lines : goal.returns-in-None-clause-lines
 returns-in-None-clause-lines c =
-    let front = c.split_at-in-None.ensures.front in
+    let prefix = c.split_at-in-None.ensures.front in
     let back = c.split_at-in-None.ensures.back in
     let one = cut_none c.args.text.now c.in-None.ensures c.requires in
     grind (arith, common_steps, no_lines)

@@ -32,9 +32,9 @@ invariant_of-self-in-Ok-Some c =
     let before : (n : List ℕ) → contains (slice_cmp nat_cmp) c.in_ok-sets.sets.before n ≡ option_map_or (names_set n) (find (λ x. eq_by_cmp key_cmp o.key x.key) c.self.inside.objects.items) false =
     λ n. c.in_ok-sets.ensures.before n ∙ ap (λ x. option_map_or (names_set n) x false) found in
     indexed_change c.self.inside.objects.items c.self.inside.referrers.keys c.self.invariant c.put.new.objects.items o c.in-Ok-Some.old
-    (contains (slice_cmp nat_cmp) c.in_ok-sets.sets.before) (contains (slice_cmp nat_cmp) c.in_ok-sets.sets.after) c.enter.new.self.keys c.give_up.new.self.keys
+    (contains (slice_cmp nat_cmp) c.in_ok-sets.sets.before) (contains (slice_cmp nat_cmp) c.in_ok-sets.sets.after) c.enter.new.self.keys c.take_and_free.new.self.keys
     (subst (λ r. Sound (insert r o.key o)) (sym c.self.view_is) c.requires) c.in-Ok-Some.ensures.ok (sym c.in-Ok-Some.field-0-is ∙ c.in-Ok-Some.ensures.old)
-    before c.in_ok-sets.ensures.after c.in_ok-sets.ensures.ok c.give_up.ensures
+    before c.in_ok-sets.ensures.after c.in_ok-sets.ensures.ok c.take_and_free.ensures
 
 pub returns-in-Ok-Some-clause-ok : goal.returns-in-Ok-Some-clause-ok
 returns-in-Ok-Some-clause-ok c =
@@ -67,8 +67,8 @@ invariant_of-self-in-Err c =
     let found = rw (c.deref.ensures.value, c.key.ensures.value) at c.find_key-standing.ensures in
     let before : (n : List ℕ) → contains (slice_cmp nat_cmp) c.in_ok-sets.sets.before n ≡ option_map_or (names_set n) (find (λ x. eq_by_cmp key_cmp o.key x.key) c.self.inside.objects.items) false =
     λ n. c.in_ok-sets.ensures.before n ∙ ap (λ x. option_map_or (names_set n) x false) found in
-    subst (λ (os : List Obj). IsIndexed os c.give_up-in-Err.new.self.keys) (sym c.in-Err.ensures.err)
-    (indexed_undone c.self.inside.objects.items c.self.inside.referrers.keys c.self.invariant o (contains (slice_cmp nat_cmp) c.in_ok-sets.sets.before) c.enter.new.self.keys c.give_up-in-Err.new.self.keys
+    subst (λ (os : List Obj). IsIndexed os c.take_and_free-in-Err.new.self.keys) (sym c.in-Err.ensures.err)
+    (indexed_undone c.self.inside.objects.items c.self.inside.referrers.keys c.self.invariant o (contains (slice_cmp nat_cmp) c.in_ok-sets.sets.before) c.enter.new.self.keys c.take_and_free-in-Err.new.self.keys
     before c.in_ok-sets.ensures.ok
-    (subst (λ (x : Obj). (n : List ℕ) (k : Key) → stands_under c.give_up-in-Err.new.self.keys n k ≡ (stands_under c.enter.new.self.keys n k && not (is_meant x (contains (slice_cmp nat_cmp) c.in_ok-sets.sets.before) n k)))
-    c.in-Err.ensures.returned c.give_up-in-Err.ensures))
+    (subst (λ (x : Obj). (n : List ℕ) (k : Key) → stands_under c.take_and_free-in-Err.new.self.keys n k ≡ (stands_under c.enter.new.self.keys n k && not (is_meant x (contains (slice_cmp nat_cmp) c.in_ok-sets.sets.before) n k)))
+    c.in-Err.ensures.returned c.take_and_free-in-Err.ensures))

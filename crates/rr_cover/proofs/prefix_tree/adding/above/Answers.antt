@@ -8,8 +8,8 @@ use Rattle.rr_cover.proofs.TreeAdded.{rooted_on, root_masked, lies_lower, one_wa
 use Rattle.rr_cover.proofs.prefix_tree.adding.above.Goals as goal
 
 -- what is not in the upper half is in the lower one
-pub hang-requires-else-is_upper : goal.hang-requires-else-is_upper
-hang-requires-else-is_upper g c =
+pub make_root-requires-else-is_upper : goal.make_root-requires-else-is_upper
+make_root-requires-else-is_upper g c =
     let node = c.args.node.value in
     let apart : in_upper node.prefix (span_of c.args.root) ≡ false = sym (rw (c.deref.ensures, c.span.ensures) at c.if-is_upper.ensures) in
     let lies = lies_lower node.prefix c.args.root c.requires.masked (root_masked c.args.tree c.args.root c.requires.tree c.requires.root) c.requires.covered (λ same. one_way node.prefix c.args.root c.requires.short same) apart in
@@ -17,4 +17,4 @@ hang-requires-else-is_upper g c =
 
 pub returns-else-is_upper-clause-all : goal.returns-else-is_upper-clause-all
 returns-else-is_upper-clause-all g c = λ s.
-    c.hang-else-is_upper.ensures.all s ∙ above_all (eq_by_cmp span_cmp s (span_of c.args.node.value.prefix)) c.args.value (standing c.args.tree s)
+    c.make_root-else-is_upper.ensures.all s ∙ above_all (eq_by_cmp span_cmp s (span_of c.args.node.value.prefix)) c.args.value (standing c.args.tree s)

@@ -13,19 +13,19 @@ returns-then-is_same-clause-all g t c =
     let same : eq_by_cmp span_cmp c.args.span root.span ≡ true = sym (rw c.deref.ensures at c.if-is_same.ensures) in
     (taken_out c.args.nest root.span root.value c.in-Some.before c.in-Some.after c.in-Some.ensures.some c.args.span (tied_same c.args.span root.span same) c.join-rest.result c.join-rest.ensures.all).all
 
-pub balance-requires-clause-fits : goal.balance-requires-clause-fits
-balance-requires-clause-fits g t c =
+pub rebalance-requires-clause-fits : goal.rebalance-requires-clause-fits
+rebalance-requires-clause-fits g t c =
     let root = c.in-Some.root.value in
     let opened = c.in-Some.ensures.some in
     let first : is_ahead c.args.span root.span ≡ true = sym (rw c.deref-2.ensures at c.if-is_ahead.ensures) in
     record {
       ordered = opened.fits.ordered;
       ahead = only_changed (λ s. is_ahead s root.span) c.in-Some.before c.take_out-value.result.1 c.args.span None (record { all = c.take_out-value.ensures.all }) first opened.fits.ahead;
-      behind = opened.fits.behind;
+      after = opened.fits.after;
     }
 
-pub balance-requires-else-is_ahead-clause-fits : goal.balance-requires-else-is_ahead-clause-fits
-balance-requires-else-is_ahead-clause-fits g t c =
+pub rebalance-requires-else-is_ahead-clause-fits : goal.rebalance-requires-else-is_ahead-clause-fits
+rebalance-requires-else-is_ahead-clause-fits g t c =
     let root = c.in-Some.root.value in
     let opened = c.in-Some.ensures.some in
     let apart : eq_by_cmp span_cmp c.args.span root.span ≡ false = sym (rw c.deref.ensures at c.if-is_same.ensures) in
@@ -33,7 +33,7 @@ balance-requires-else-is_ahead-clause-fits g t c =
     record {
       ordered = opened.fits.ordered;
       ahead = opened.fits.ahead;
-      behind = only_changed (λ s. is_ahead root.span s) c.in-Some.after c.take_out-value-else-is_ahead.result.1 c.args.span None (record { all = c.take_out-value-else-is_ahead.ensures.all }) (ahead_other c.args.span root.span apart behind) opened.fits.behind;
+      after = only_changed (λ s. is_ahead root.span s) c.in-Some.after c.take_out-value-else-is_ahead.result.1 c.args.span None (record { all = c.take_out-value-else-is_ahead.ensures.all }) (ahead_other c.args.span root.span apart behind) opened.fits.after;
     }
 
 pub returns-then-is_ahead-clause-all : goal.returns-then-is_ahead-clause-all
@@ -41,7 +41,7 @@ returns-then-is_ahead-clause-all g t c =
     let root = c.in-Some.root.value in
     let opened = c.in-Some.ensures.some in
     let first : is_ahead c.args.span root.span ≡ true = sym (rw c.deref-2.ensures at c.if-is_ahead.ensures) in
-    (changed_low c.args.nest root.span root.value c.in-Some.before c.in-Some.after opened c.args.span None c.take_out-value.result.1 c.balance.result first (record { all = c.take_out-value.ensures.all }) (record { all = c.balance.ensures.all })).all
+    (changed_low c.args.nest root.span root.value c.in-Some.before c.in-Some.after opened c.args.span None c.take_out-value.result.1 c.rebalance.result first (record { all = c.take_out-value.ensures.all }) (record { all = c.rebalance.ensures.all })).all
 
 pub returns-else-is_ahead-clause-all : goal.returns-else-is_ahead-clause-all
 returns-else-is_ahead-clause-all g t c =
@@ -49,4 +49,4 @@ returns-else-is_ahead-clause-all g t c =
     let opened = c.in-Some.ensures.some in
     let apart : eq_by_cmp span_cmp c.args.span root.span ≡ false = sym (rw c.deref.ensures at c.if-is_same.ensures) in
     let behind : is_ahead c.args.span root.span ≡ false = sym (rw c.deref-2.ensures at c.if-is_ahead.ensures) in
-    (changed_high c.args.nest root.span root.value c.in-Some.before c.in-Some.after opened c.args.span None c.take_out-value-else-is_ahead.result.1 c.balance-else-is_ahead.result (ahead_other c.args.span root.span apart behind) (record { all = c.take_out-value-else-is_ahead.ensures.all }) (record { all = c.balance-else-is_ahead.ensures.all })).all
+    (changed_high c.args.nest root.span root.value c.in-Some.before c.in-Some.after opened c.args.span None c.take_out-value-else-is_ahead.result.1 c.rebalance-else-is_ahead.result (ahead_other c.args.span root.span apart behind) (record { all = c.take_out-value-else-is_ahead.ensures.all }) (record { all = c.rebalance-else-is_ahead.ensures.all })).all

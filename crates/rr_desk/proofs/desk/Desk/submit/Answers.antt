@@ -7,6 +7,3 @@ returns-clause-submits g c = λ running. rw (← c.source.ensures.source) c.subm
 pub returns-clause-of_source : goal.returns-clause-of_source
 returns-clause-of_source g c =
     kept_of_source g.S.Store c.args.self.now.settings.source _ _ _ _ _ _ _ (rw c.source.ensures.source at c.submit-submitted.ensures.submits)
-
-pub returns-clause-confined : goal.returns-clause-confined
-returns-clause-confined g c = λ running. rw (← c.source.ensures.source) c.submit-submitted.ensures.confined

@@ -1,12 +1,38 @@
+use Rattle.std.proofs.Common.{not, ap, ◌∙◌}
 use Rattle.sqlite.specs.Held.{state}
 use Rattle.rr_rows.proofs.ObjectRows.{filled_held}
 use Rattle.rr_store.specs.Lent.{lent}
+use Rattle.rr_store.proofs.SettledLemmas.{settles}
 use Rattle.rr_store.proofs.store.Store.create.Goals as goal
 
 pub invariant_of-result : goal.invariant_of-result
 invariant_of-result g c = record {
-  autocommit = c.create_where_vacant.ensures.makes.autocommit c.requires.autocommit;
+  autocommit = c.create_where_vacant-made.ensures.makes.autocommit c.requires.autocommit;
   held = λ clean on.
       let store = c.in-Ok.ensures.makes.done clean in
-      filled_held (lent c.args.objects.now) (state g.S.Store c.create_where_vacant.new.conn).now store.read store.filled;
+      filled_held (lent c.args.objects.now) (state g.S.Store c.create_where_vacant-made.new.conn).now store.read store.filled;
 }
+
+pub returns-in-Ok-clause-makes : goal.returns-in-Ok-clause-makes
+returns-in-Ok-clause-makes g c =
+    let made = c.in-Ok.ensures.makes in
+    let tables = c.in-Ok.ensures.tables in record {
+      filled = made.done;
+      tables = tables.done;
+      is_open = made.is_open;
+      settled = settles g.S.Store g.met.S.Store.settled c.create_where_vacant-made.new.conn (c.is_autocommit-settled.ensures.settled (c.is_autocommit-settled.ensures.value ∙ ap not (made.autocommit c.requires.autocommit)));
+      vacant = c.in-Ok.ensures.vacant;
+      crash = made.crash;
+      crash_tables = tables.crash;
+    }
+
+pub returns-in-Err-clause-fails : goal.returns-in-Err-clause-fails
+returns-in-Err-clause-fails g c =
+    let made = c.in-Err.ensures.makes in record {
+      autocommit = made.autocommit c.requires.autocommit;
+      kept = made.kept;
+      settled = settles g.S.Store g.met.S.Store.settled c.create_where_vacant-made.new.conn (c.is_autocommit-settled.ensures.settled (c.is_autocommit-settled.ensures.value ∙ ap not (made.autocommit c.requires.autocommit)));
+      not_empty = λ is clean. c.in-Err.ensures.filled clean is;
+      crash = made.crash;
+      crash_tables = c.in-Err.ensures.tables.crash;
+    }

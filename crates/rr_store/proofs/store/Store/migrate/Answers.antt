@@ -1,12 +1,32 @@
-use Rattle.std.proofs.Common.{[], ◌∷◌, ◌++◌}
+use Rattle.std.proofs.Common.{[], ◌∷◌, ◌++◌, not, ap, ◌∙◌}
 use Rattle.sqlite.specs.Held.{state}
 use Rattle.rr_rows.proofs.ObjectRows.{stored_held}
+use Rattle.rr_store.proofs.SettledLemmas.{settles}
 use Rattle.rr_store.proofs.store.Store.migrate.Goals as goal
 
 pub invariant_of-result : goal.invariant_of-result
 invariant_of-result g c = record {
-  autocommit = c.migrate_rows.ensures.migrates.autocommit c.requires.autocommit;
+  autocommit = c.migrate_rows-migrated.ensures.migrates.autocommit c.requires.autocommit;
   held = λ clean on.
       let migrated = c.in-Ok.ensures.migrates.done clean in
-      stored_held c.args.source.now (migrated.objects ++ migrated.block ∷ []) (state g.S.Store c.migrate_rows.new.conn).now migrated.after;
+      stored_held c.args.source.now (migrated.objects ++ migrated.block ∷ []) (state g.S.Store c.migrate_rows-migrated.new.conn).now migrated.after;
 }
+
+pub returns-in-Ok-clause-migrates : goal.returns-in-Ok-clause-migrates
+returns-in-Ok-clause-migrates g c =
+    let migrated = c.in-Ok.ensures.migrates in record {
+      migrated = migrated.done;
+      is_open = migrated.is_open;
+      settled = settles g.S.Store g.met.S.Store.settled c.migrate_rows-migrated.new.conn (c.is_autocommit-settled.ensures.settled (c.is_autocommit-settled.ensures.value ∙ ap not (migrated.autocommit c.requires.autocommit)));
+      crash = migrated.crash;
+    }
+
+pub returns-in-Err-clause-fails : goal.returns-in-Err-clause-fails
+returns-in-Err-clause-fails g c =
+    let migrated = c.in-Err.ensures.migrates in record {
+      autocommit = migrated.autocommit c.requires.autocommit;
+      kept = migrated.kept;
+      settled = settles g.S.Store g.met.S.Store.settled c.migrate_rows-migrated.new.conn (c.is_autocommit-settled.ensures.settled (c.is_autocommit-settled.ensures.value ∙ ap not (migrated.autocommit c.requires.autocommit)));
+      why = c.in-Err.ensures.why;
+      crash = migrated.crash;
+    }

@@ -1,6 +1,16 @@
+use Rattle.std.proofs.Common.{not, ap, ◌∙◌}
 use Rattle.rr_store.proofs.ShownLemmas.{those_told}
+use Rattle.rr_store.proofs.SettledLemmas.{settles}
 use Rattle.rr_store.proofs.store.Store.naming.Goals as goal
 
 pub returns-clause-naming : goal.returns-clause-naming
 returns-clause-naming g c clean objects has =
-    those_told c.args.source.now c.in_ok-naming_objects.field-0.items c.args.name.now objects _ has (rw c.self.view_is at (c.in_ok-naming_objects.ensures.read clean)) c.in_ok-naming_objects.ensures.in_order
+    those_told c.args.source.now c.in_ok-objects.field-0.items c.args.name.now objects _ has (rw c.self.view_is at (c.in_ok-objects.ensures.read clean)) c.in_ok-objects.ensures.in_order
+
+pub returns-clause-settled : goal.returns-clause-settled
+returns-clause-settled g c =
+    settles g.S.Store g.met.S.Store.settled c.naming_objects-objects.new.conn (c.is_autocommit-settled.ensures.settled (c.is_autocommit-settled.ensures.value ∙ ap not c.naming_objects-objects.ensures.looks.rests.autocommit))
+
+pub returns-in_err-objects-clause-settled : goal.returns-in_err-objects-clause-settled
+returns-in_err-objects-clause-settled g c =
+    settles g.S.Store g.met.S.Store.settled c.naming_objects-objects.new.conn (c.is_autocommit-settled.ensures.settled (c.is_autocommit-settled.ensures.value ∙ ap not c.naming_objects-objects.ensures.looks.rests.autocommit))

@@ -2,12 +2,12 @@ use Rattle.std.proofs.Common.{not, sym, ap, subst, ◌∙◌, rules}
 use Rattle.sqlite.specs.Held.{state}
 use Rattle.rr_rows.specs.Maps.{AreOfObjects}
 use Rattle.rr_rows.proofs.ObjectRows.{stored_held}
-use Rattle.rr_store.proofs.SettledLemmas.{still_settled}
+use Rattle.rr_store.proofs.SettledLemmas.{settles}
 use Rattle.rr_store.proofs.store.Store.open_all.Goals as goal
 
 pub invariant_of-result : goal.invariant_of-result
 invariant_of-result g c = record {
-  autocommit = c.stored_objects.ensures.looks.rests.autocommit;
+  autocommit = c.stored_objects-stored.ensures.looks.rests.autocommit;
   held = λ clean on. subst AreOfObjects (sym (c.in-Ok.ensures.looks.same clean).0.now_is) (stored_held c.args.source.now c.in-Ok.objects.items (state g.S.Store c.args.conn).now (c.in-Ok.ensures.stored clean));
 }
 
@@ -18,7 +18,13 @@ returns-in-Ok-clause-opens g c = record {
   of_source = c.in-Ok.ensures.of_source;
   same = search rules;
   is_open = search rules;
-  settled = λ clean.
-      still_settled g.S.Store g.met.S.Store.settled c.args.conn c.stored_objects.new.conn (c.is_autocommit-settled.ensures.settled (c.is_autocommit-settled.ensures.value ∙ ap not c.requires.autocommit)) (c.in-Ok.ensures.looks.same clean);
+  settled = settles g.S.Store g.met.S.Store.settled c.stored_objects-stored.new.conn (c.is_autocommit-settled.ensures.settled (c.is_autocommit-settled.ensures.value ∙ ap not c.in-Ok.ensures.looks.rests.autocommit));
   crash = c.in-Ok.ensures.looks.rests.crash;
+}
+
+pub returns-in-Err-clause-fails : goal.returns-in-Err-clause-fails
+returns-in-Err-clause-fails g c = record {
+  rests = c.in-Err.ensures.looks.rests;
+  settled = settles g.S.Store g.met.S.Store.settled c.stored_objects-stored.new.conn (c.is_autocommit-settled.ensures.settled (c.is_autocommit-settled.ensures.value ∙ ap not c.in-Err.ensures.looks.rests.autocommit));
+  why = c.in-Err.ensures.why;
 }

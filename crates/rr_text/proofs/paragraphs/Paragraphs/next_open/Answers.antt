@@ -7,18 +7,18 @@ use Rattle.rr_text.proofs.paragraphs.Paragraphs.next_open.Goals as goal
 pub returns-in-Open-clause-given : goal.returns-in-Open-clause-given
 returns-in-Open-clause-given g c = λ start given has.
     let closed = c.in-Open.ensures.gathers in
-    closed_next start _ _ _ c.gather-state.new.self _ given _ has c.requires closed refl refl c.in-Open.is (c.entry.ensures closed.front closed.closed.entry)
+    closed_next start _ _ _ c.gather-state.new.self _ given _ has c.requires closed refl refl c.in-Open.is (c.entry.ensures closed.prefix closed.closed.entry)
 
 pub returns-in-Open-clause-nearer : goal.returns-in-Open-clause-nearer
 returns-in-Open-clause-nearer g c =
     let closed = c.in-Open.ensures.gathers in
-    nearer_found c.args.self.now c.gather-state.new.self closed.given closed.front closed.reading.count _ closed.reading.reads closed.reading.bounded closed.cut
-    (c.entry.ensures closed.front closed.closed.entry)
+    nearer_found c.args.self.now c.gather-state.new.self closed.given closed.prefix closed.reading.count _ closed.reading.reads closed.reading.bounded closed.cut
+    (c.entry.ensures closed.prefix closed.closed.entry)
 
 pub returns-in-Open-clause-fields : goal.returns-in-Open-clause-fields
 returns-in-Open-clause-fields g c =
     let closed = c.in-Open.ensures.gathers in
-    fields_found closed.front _ (c.entry.ensures closed.front closed.closed.entry)
+    fields_found closed.prefix _ (c.entry.ensures closed.prefix closed.closed.entry)
 
 pub returns-in-Ended-clause-given : goal.returns-in-Ended-clause-given
 returns-in-Ended-clause-given g c = λ start given has.

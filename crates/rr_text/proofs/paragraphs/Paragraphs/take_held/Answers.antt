@@ -8,7 +8,7 @@ pub returns-in-Some-clause-closed : goal.returns-in-Some-clause-closed
 returns-in-Some-clause-closed c = λ past begun closed.
     let text : c.part.result.now ≡ held c.args.self.now = c.part.ensures in
     record {
-      front = take c.in-Some.taken c.part.result.now;
+      prefix = take c.in-Some.taken c.part.result.now;
       cut = sym text ∙ (sym (take-append-drop c.in-Some.taken c.part.result.now)
           ∙ ap (λ t. take c.in-Some.taken c.part.result.now ++ t) (ap (drop c.in-Some.taken) text ∙ drop-drop c.in-Some.taken c.args.self.now.from (take c.args.self.now.to c.args.self.now.block)));
       closed = c.in-Some.ensures.adds past begun;

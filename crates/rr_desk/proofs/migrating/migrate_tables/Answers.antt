@@ -1,0 +1,55 @@
+use Rattle.std.proofs.Common.{arith}
+use Rattle.std.specs.FinMap.{values}
+use Rattle.rr_desk.proofs.Migrated.{is_rootless, migrated_rows}
+use Rattle.rr_desk.proofs.migrating.migrate_tables.Goals as goal
+
+pub migrate-requires : goal.migrate-requires
+migrate-requires g c = record { autocommit = c.requires.autocommit }
+
+pub of-requires-clause-is_open : goal.of-requires-clause-is_open
+of-requires-clause-is_open g c = c.in-Ok.ensures.migrates.is_open
+
+pub of-requires-clause-settled : goal.of-requires-clause-settled
+of-requires-clause-settled g c = c.in-Ok.ensures.migrates.settled
+
+pub of-requires-clause-rows : goal.of-requires-clause-rows
+of-requires-clause-rows g c = λ clean.
+    let kept = c.in-Ok.ensures.migrates.crash.clean in
+    migrated_rows c.args.settings.now c.args.registry _ _ (c.requires.grown (omega (arith, kept)))
+    (rw (c.root.ensures.root, c.source.ensures.source) at (c.in-Ok.ensures.migrates.migrated clean))
+
+pub returns-in-Ok-clause-running : goal.returns-in-Ok-clause-running
+returns-in-Ok-clause-running g c = c.of.ensures.running
+
+pub returns-in-Ok-clause-registry : goal.returns-in-Ok-clause-registry
+returns-in-Ok-clause-registry g c = c.of.ensures.registry
+
+pub returns-in-Ok-clause-holds : goal.returns-in-Ok-clause-holds
+returns-in-Ok-clause-holds g c = c.of.ensures.held
+
+pub returns-in-Ok-clause-migrates : goal.returns-in-Ok-clause-migrates
+returns-in-Ok-clause-migrates g c =
+    let kept = c.in-Ok.ensures.migrates.crash.clean in record {
+      grown = rw (c.of.ensures.registry, c.of.ensures.store) (λ clean. c.requires.grown (omega (arith, kept)));
+      migrated = rw (c.of.ensures.store, ← c.root.ensures.root, ← c.source.ensures.source) c.in-Ok.ensures.migrates.migrated;
+      crash = rw (c.of.ensures.store, ← c.root.ensures.root, ← c.source.ensures.source) c.in-Ok.ensures.migrates.crash;
+    }
+
+pub returns-in-Err-clause-fails : goal.returns-in-Err-clause-fails
+returns-in-Err-clause-fails g c =
+    let fails = c.in-Err.ensures.fails in record {
+      autocommit = fails.autocommit;
+      kept = fails.kept;
+      crash = rw (← c.root.ensures.root, ← c.source.ensures.source) fails.crash;
+    }
+
+pub returns-in-Err-clause-why : goal.returns-in-Err-clause-why
+returns-in-Err-clause-why g c = λ clean.
+    let kept = c.in-Err.ensures.fails.crash.clean in
+    let why = rw (c.root.ensures.root, c.source.ensures.source) at (c.in-Err.ensures.fails.why clean) in record {
+      wrong_version = why.wrong_version;
+      bad_row = λ is registry of rows. why.bad_row is (values registry) rows;
+      no_other_said = why.no_other_said;
+      tables = why.tables;
+      no_root = λ is. is_rootless c.args.settings.now _ c.args.registry (c.requires.grown (omega (arith, kept))) (why.no_root is);
+    }

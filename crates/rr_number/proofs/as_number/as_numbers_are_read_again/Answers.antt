@@ -1,5 +1,0 @@
-use Rattle.rr_number.proofs.AsNumberLemmas.{IsAsNumber-printed, as_number_of-printed}
-use Rattle.rr_number.proofs.as_number.as_numbers_are_read_again.Goals as goal
-
-pub returns : goal.returns
-returns c = record { spelled = IsAsNumber-printed; again = as_number_of-printed }

@@ -1,5 +1,0 @@
-use Rattle.rr_number.proofs.AsSpanLemmas.{IsAsSpanText-text}
-use Rattle.rr_number.proofs.as_span.printed_blocks_are_read.Goals as goal
-
-pub returns : goal.returns
-returns c = IsAsSpanText-text

@@ -1,5 +1,0 @@
-use Rattle.rr_number.proofs.SpanTextLemmas.{IsSpanText-text}
-use Rattle.rr_number.proofs.span.printed_spans_are_read.Goals as goal
-
-pub returns : goal.returns
-returns c = IsSpanText-text

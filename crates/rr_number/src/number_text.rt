@@ -1,0 +1,79 @@
+//! Printed text on the stack.
+ghost use Rattle.std.specs.Prelude.{◌≡◌, ◌+◌, ◌≤◌, [], ◌++◌, length};
+ghost use Rattle.std.specs.Fmt.{decimal};
+
+use arrayvec::ArrayString;
+use itoa::Buffer;
+use std::marker::Model;
+
+/// The most bytes of the printed text of a number.
+pub const NUMBER_SIZE: usize = 40;
+
+/// The printed text of a number: at most 40 bytes, which lie in the value itself, so printing takes
+/// no memory.
+#[derive(Clone, Drop)]
+pub struct NumberText {
+    text: ArrayString<NUMBER_SIZE>,
+}
+
+impl Model for NumberText {
+    ghost use Rattle.std.specs.Prelude.{ℕ, List};
+
+    ghost Value = { List ℕ };
+
+    ghost view = { λ t. t.text.bytes };
+}
+
+impl NumberText {
+    /// The empty text.
+    pub(crate) fn new() -> Self
+        ensures { result ≡ [] }
+    {
+        NumberText {
+            text: ArrayString::new(),
+        }
+    }
+
+    /// Appends the piece.
+    pub(crate) fn push_str(&mut self, piece: &str)
+        requires { length self.old + length piece.now ≤ NUMBER_SIZE }
+        ensures { self.new ≡ self.old ++ piece.now }
+    {
+        self.text.push_str(piece);
+    }
+
+    /// Appends the number's decimal digits.
+    pub(crate) fn push_number(&mut self, number: u32)
+        requires { length self.old + length (decimal number) ≤ NUMBER_SIZE }
+        ensures { self.new ≡ self.old ++ decimal number }
+    {
+        let mut buffer = Buffer::new();
+        self.text.push_str(buffer.format(number));
+    }
+
+    /// Appends the decimal digits of a number below 256, at most three.
+    #[tactic(auto, using(crate::proofs::Decimals::three_digits))]
+    pub(crate) fn push_byte(&mut self, number: u8)
+        requires { length self.old + 3 ≤ NUMBER_SIZE }
+        ensures value { self.new ≡ self.old ++ decimal number }
+        ensures short { length self.new ≤ length self.old + 3 }
+    {
+        self.push_number(u32::from(number));
+    }
+
+    /// The text.
+    pub fn as_str(&self) -> &str
+        ensures value { result.now ≡ self.now }
+        ensures short { length self.now ≤ NUMBER_SIZE }
+    {
+        self.text.as_str()
+    }
+
+    /// The bytes of the text.
+    pub fn as_bytes(&self) -> &[u8]
+        ensures value { result.now ≡ self.now }
+        ensures short { length self.now ≤ NUMBER_SIZE }
+    {
+        self.text.as_str().as_bytes()
+    }
+}

@@ -197,7 +197,7 @@ def weighed(script):
 
 @case("opened within the memory that served it")
 def reopened(script):
-    """Under each limit, a registry that took submissions until memory was wanting is opened again within a tenth more."""
+    """Under each limit, a registry that took submissions until memory ran out is opened again within a tenth more."""
     told = []
     for limit in script.pick([64, 96], range(48, 400, 32)):
         folder, count = made(script, f"filled{limit}"), 0

@@ -51,7 +51,7 @@ class Submission:
         return "".join(line + "\n" for line in self.lines()).encode()
 
     def short_of_memory(self):
-        """Each report, with the rows that belong to it, on the submission with at most one paragraph refused for want of memory."""
+        """Each report, with the rows that belong to it, on the submission with at most one paragraph refused because memory ran out."""
         if self.reports is None:
             self.reports = {tuple(self.lines()): self.dumps[-1]}
             for place in range(len(self.texts)):

@@ -149,12 +149,12 @@ no_less false true true h = refl
 no_less false false true h = absurd (true≢false (sym (h refl)))
 
 -- whether one of the first names is the name
-abbrev in_front : List (List ℕ) → ℕ → List ℕ → Bool
-in_front names i n = list_any (λ own. bytes_eq own n) (take i names)
+abbrev in_head : List (List ℕ) → ℕ → List ℕ → Bool
+in_head names i n = list_any (λ own. bytes_eq own n) (take i names)
 
-in_front_more : (names : List (List ℕ)) (i : ℕ) (name n : List ℕ) → i < length names → name ≡ get_or names i name → in_front names (i + 1) n ≡ (in_front names i n || bytes_eq name n)
-in_front_more names i name n inside is =
-    list_any_more (λ own. bytes_eq own n) names i name inside ∙ ap (λ m. in_front names i n || bytes_eq m n) (sym is)
+before_more : (names : List (List ℕ)) (i : ℕ) (name n : List ℕ) → i < length names → name ≡ get_or names i name → in_head names (i + 1) n ≡ (in_head names i n || bytes_eq name n)
+before_more names i name n inside is =
+    list_any_more (λ own. bytes_eq own n) names i name inside ∙ ap (λ m. in_head names i n || bytes_eq m n) (sym is)
 
 more : (s e a d b : Bool) → (b ≡ true → d ≡ false) → ((s || (e && (a && not d))) || (b && e)) ≡ (s || (e && ((a || b) && not d)))
 more true e a d b h = refl
@@ -170,7 +170,7 @@ more false true false true true h = absurd (true≢false (h refl))
 
 -- the key was put under those of the first names that are not left out
 abbrev pub AddsFront : (List ℕ → Bool) → List (List ℕ) → Key → ℕ → Sets → Sets → Type 0
-AddsFront out names key i old new = (n : List ℕ) (k : Key) → stands_under new n k ≡ (stands_under old n k || (eq_by_cmp key_cmp key k && (in_front names i n && not (out n))))
+AddsFront out names key i old new = (n : List ℕ) (k : Key) → stands_under new n k ≡ (stands_under old n k || (eq_by_cmp key_cmp key k && (in_head names i n && not (out n))))
 
 pub added_more : (out : List ℕ → Bool) (names : List (List ℕ)) (key : Key) (i : ℕ) (name : List ℕ) (old mid new : Sets) → i < length names → name ≡ get_or names i name → out name ≡ false
     → AddsFront out names key i old mid
@@ -179,22 +179,22 @@ pub added_more : (out : List ℕ → Bool) (names : List (List ℕ)) (key : Key)
 added_more out names key i name old mid new inside is goes before step n k =
     step n k
     ∙ ap (λ b. b || (bytes_eq name n && eq_by_cmp key_cmp key k)) (before n k)
-    ∙ more (stands_under old n k) (eq_by_cmp key_cmp key k) (in_front names i n) (out n) (bytes_eq name n) (λ same. ap out (sym ((bytes_eq-Decides name n).0 same)) ∙ goes)
-    ∙ ap (λ b. stands_under old n k || (eq_by_cmp key_cmp key k && (b && not (out n)))) (sym (in_front_more names i name n inside is))
+    ∙ more (stands_under old n k) (eq_by_cmp key_cmp key k) (in_head names i n) (out n) (bytes_eq name n) (λ same. ap out (sym ((bytes_eq-Decides name n).0 same)) ∙ goes)
+    ∙ ap (λ b. stands_under old n k || (eq_by_cmp key_cmp key k && (b && not (out n)))) (sym (before_more names i name n inside is))
 
 pub passed_more : (out : List ℕ → Bool) (names : List (List ℕ)) (key : Key) (i : ℕ) (name : List ℕ) (old new : Sets) → i < length names → name ≡ get_or names i name → out name ≡ true
     → AddsFront out names key i old new → AddsFront out names key (i + 1) old new
 passed_more out names key i name old new inside is stay before n k =
     before n k
     ∙ ap (λ b. stands_under old n k || (eq_by_cmp key_cmp key k && b))
-    (no_less (in_front names i n) (out n) (bytes_eq name n) (λ same. ap out (sym ((bytes_eq-Decides name n).0 same)) ∙ stay)
-    ∙ ap (λ b. b && not (out n)) (sym (in_front_more names i name n inside is)))
+    (no_less (in_head names i n) (out n) (bytes_eq name n) (λ same. ap out (sym ((bytes_eq-Decides name n).0 same)) ∙ stay)
+    ∙ ap (λ b. b && not (out n)) (sym (before_more names i name n inside is)))
 
-grown : (i : ℕ) (names : List (List ℕ)) (n : List ℕ) → in_front names i n ≡ true → list_any (λ own. bytes_eq own n) names ≡ true
+grown : (i : ℕ) (names : List (List ℕ)) (n : List ℕ) → in_head names i n ≡ true → list_any (λ own. bytes_eq own n) names ≡ true
 grown zero names n is = cc
 grown (suc i) [] n is = cc
 grown (suc i) (x ∷ xs) n is =
-    elim (bytes_eq x n) as (λ b. (b || in_front xs i n) ≡ true → (b || list_any (λ own. bytes_eq own n) xs) ≡ true) [ true ↦ λ e. refl | false ↦ λ e. grown i xs n e ] is
+    elim (bytes_eq x n) as (λ b. (b || in_head xs i n) ≡ true → (b || list_any (λ own. bytes_eq own n) xs) ≡ true) [ true ↦ λ e. refl | false ↦ λ e. grown i xs n e ] is
 
 or_grown : (s e a b d : Bool) → (a ≡ true → b ≡ true) → (s || (e && (a && d))) ≡ true → (s || (e && (b && d))) ≡ true
 or_grown true e a b d h is = refl
@@ -206,22 +206,22 @@ or_grown false true false b d h is = cc
 pub some_of_all : (out : List ℕ → Bool) (names : List (List ℕ)) (key : Key) (i : ℕ) (old mid new : Sets) → AddsFront out names key i old mid → ((n : List ℕ) (k : Key) → stands_under new n k ≡ stands_under mid n k)
     → (n : List ℕ) (k : Key) → IsTrue (stands_under new n k) → IsTrue (stands_under old n k || (eq_by_cmp key_cmp key k && (list_any (λ own. bytes_eq own n) names && not (out n))))
 some_of_all out names key i old mid new before same n k is =
-    or_grown (stands_under old n k) (eq_by_cmp key_cmp key k) (in_front names i n) (list_any (λ own. bytes_eq own n) names) (not (out n)) (grown i names n)
+    or_grown (stands_under old n k) (eq_by_cmp key_cmp key k) (in_head names i n) (list_any (λ own. bytes_eq own n) names) (not (out n)) (grown i names n)
     (sym (before n k) ∙ sym (same n k) ∙ is)
 
 -- one more of the names is in the set of them
 pub set_more : (names : List (List ℕ)) (i : ℕ) (name : List ℕ) (old new : BTreeSet (List ℕ)) → i < length names → name ≡ get_or names i name → Updates (slice_cmp nat_cmp) old new name true
-    → ((n : List ℕ) → contains (slice_cmp nat_cmp) old n ≡ in_front names i n) → (n : List ℕ) → contains (slice_cmp nat_cmp) new n ≡ in_front names (i + 1) n
+    → ((n : List ℕ) → contains (slice_cmp nat_cmp) old n ≡ in_head names i n) → (n : List ℕ) → contains (slice_cmp nat_cmp) new n ≡ in_head names (i + 1) n
 set_more names i name old new inside is update before n =
     update.0 n
     ∙ ap (λ b. cond b true (contains (slice_cmp nat_cmp) old n)) (is_eq-slice_cmp name n)
     ∙ or_last (bytes_eq name n) (contains (slice_cmp nat_cmp) old n)
     ∙ ap (λ b. b || bytes_eq name n) (before n)
-    ∙ sym (in_front_more names i name n inside is)
+    ∙ sym (before_more names i name n inside is)
 
 -- the key was taken from under those of the first names that have not to stay
 abbrev pub TakesPrefix : (List ℕ → Bool) → List (List ℕ) → Key → ℕ → Sets → Sets → Type 0
-TakesPrefix stays names key i old new = (n : List ℕ) (k : Key) → stands_under new n k ≡ (stands_under old n k && not (eq_by_cmp key_cmp key k && (in_front names i n && not (stays n))))
+TakesPrefix stays names key i old new = (n : List ℕ) (k : Key) → stands_under new n k ≡ (stands_under old n k && not (eq_by_cmp key_cmp key k && (in_head names i n && not (stays n))))
 
 pub taken_more : (stays : List ℕ → Bool) (names : List (List ℕ)) (key : Key) (i : ℕ) (name : List ℕ) (old mid new : Sets) → i < length names → name ≡ get_or names i name → stays name ≡ false
     → TakesPrefix stays names key i old mid
@@ -230,16 +230,16 @@ pub taken_more : (stays : List ℕ → Bool) (names : List (List ℕ)) (key : Ke
 taken_more stays names key i name old mid new inside is goes before step n k =
     step n k
     ∙ ap (λ b. b && not (bytes_eq name n && eq_by_cmp key_cmp key k)) (before n k)
-    ∙ less (stands_under old n k) (eq_by_cmp key_cmp key k) (in_front names i n) (stays n) (bytes_eq name n) (λ same. ap stays (sym ((bytes_eq-Decides name n).0 same)) ∙ goes)
-    ∙ ap (λ b. stands_under old n k && not (eq_by_cmp key_cmp key k && (b && not (stays n)))) (sym (in_front_more names i name n inside is))
+    ∙ less (stands_under old n k) (eq_by_cmp key_cmp key k) (in_head names i n) (stays n) (bytes_eq name n) (λ same. ap stays (sym ((bytes_eq-Decides name n).0 same)) ∙ goes)
+    ∙ ap (λ b. stands_under old n k && not (eq_by_cmp key_cmp key k && (b && not (stays n)))) (sym (before_more names i name n inside is))
 
 pub left_more : (stays : List ℕ → Bool) (names : List (List ℕ)) (key : Key) (i : ℕ) (name : List ℕ) (old new : Sets) → i < length names → name ≡ get_or names i name → stays name ≡ true
     → TakesPrefix stays names key i old new → TakesPrefix stays names key (i + 1) old new
 left_more stays names key i name old new inside is stay before n k =
     before n k
     ∙ ap (λ b. stands_under old n k && not (eq_by_cmp key_cmp key k && b))
-    (no_less (in_front names i n) (stays n) (bytes_eq name n) (λ same. ap stays (sym ((bytes_eq-Decides name n).0 same)) ∙ stay)
-    ∙ ap (λ b. b && not (stays n)) (sym (in_front_more names i name n inside is)))
+    (no_less (in_head names i n) (stays n) (bytes_eq name n) (λ same. ap stays (sym ((bytes_eq-Decides name n).0 same)) ∙ stay)
+    ∙ ap (λ b. b && not (stays n)) (sym (before_more names i name n inside is)))
 
 eq_swap : (a b : Key) → eq_by_cmp key_cmp a b ≡ eq_by_cmp key_cmp b a
 eq_swap a b = (eq_by_cmp_equiv keys_total).symm a b

@@ -31,11 +31,11 @@ abbrev Entry : Type 0
 Entry = Key × Obj
 
 -- a key before sorted entries is below theirs
-in_front : (k : Key) (es : List Entry) → T (below_all key_cmp k es) → (e : Entry) → Contains es e → key_cmp k e.0 ≡ Less
-in_front k [] h e has = absurd (Contains-nil e has)
-in_front k (x ∷ xs) h e has = elim (Contains-cons_cases x xs e has) [
+in_head : (k : Key) (es : List Entry) → T (below_all key_cmp k es) → (e : Entry) → Contains es e → key_cmp k e.0 ≡ Less
+in_head k [] h e has = absurd (Contains-nil e has)
+in_head k (x ∷ xs) h e has = elim (Contains-cons_cases x xs e has) [
   | inl same ↦ subst (λ (y : Entry). key_cmp k y.0 ≡ Less) same (is_Less _ (T_parts _ _ h).0)
-  | inr later ↦ in_front k xs (T_parts _ _ h).1 e later
+  | inr later ↦ in_head k xs (T_parts _ _ h).1 e later
 ]
 
 -- a key that is below another is not that one
@@ -48,7 +48,7 @@ found_by_key [] h e has = absurd (Contains-nil e has)
 found_by_key (x ∷ xs) h e has = elim (Contains-cons_cases x xs e has) [
   | inl same ↦ subst (λ (y : Entry). cond (eq_by_cmp key_cmp y.0 x.0) (Some x.1) (find_entry key_cmp y.0 xs) ≡ Some y.1) same
       (ap (λ r. cond (is_eq r) (Some x.1) (find_entry key_cmp x.0 xs)) (tied_itself keys_total x.0))
-  | inr later ↦ ap (λ b. cond b (Some x.1) (find_entry key_cmp e.0 xs)) (below_is_other x.0 e.0 (in_front x.0 xs (T_parts _ _ h).0 e later))
+  | inr later ↦ ap (λ b. cond b (Some x.1) (find_entry key_cmp e.0 xs)) (below_is_other x.0 e.0 (in_head x.0 xs (T_parts _ _ h).0 e later))
       ∙ found_by_key xs (T_parts _ _ h).1 e later
 ]
 
@@ -66,7 +66,7 @@ differs : (x : Entry) (xs : List Entry) → T (below_all key_cmp x.0 xs) → x.1
 differs x xs h own keyed o has same =
     let e = (Contains-map (λ (y : Entry). y.1) xs o).0 has in
     let keys : x.0 ≡ e.0.0 = sym own ∙ ap (λ (y : Obj). y.key) (same ∙ sym e.2) ∙ keyed e.0 e.1 in
-    let below : key_cmp x.0 e.0.0 ≡ Less = in_front x.0 xs h e.0 e.1 in
+    let below : key_cmp x.0 e.0.0 ≡ Less = in_head x.0 xs h e.0 e.1 in
     let tied : key_cmp x.0 e.0.0 ≡ Equal = ap (key_cmp x.0) (sym keys) ∙ tied_itself keys_total x.0 in
     let wrong : Less ≡ Equal = sym below ∙ tied in cc
 

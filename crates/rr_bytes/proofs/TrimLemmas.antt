@@ -1,4 +1,4 @@
--- Lemmas on texts less the bytes before and behind them that pass a test.
+-- Lemmas on texts less the bytes before and after them that pass a test.
 use Rattle.std.proofs.Common.{◌≡◌, ℕ, Bool, true, false, List, [], ◌∷◌, ◌++◌, length, arith, refl, ap, ◌∙◌}
 use Rattle.rr_bytes.specs.Trims.{trim_start, trim_end, before_trimmed}
 

@@ -33,7 +33,7 @@ pub fn cut_at(text: &[u8], byte: u8) -> Option<(&[u8], &[u8])>
 #[inline]
 pub fn cut_before(text: &[u8], byte: u8) -> (&[u8], &[u8])
     ensures before { result.0.now ≡ before_first (λ b. b == byte) text.now }
-    ensures back { result.1.now ≡ from_first byte text.now }
+    ensures rest { result.1.now ≡ from_first byte text.now }
 {
     text.split_at(end_of_before(text, byte))
 }
@@ -43,12 +43,12 @@ pub fn cut_before(text: &[u8], byte: u8) -> (&[u8], &[u8])
 #[inline]
 pub fn cut_around(text: &[u8], byte: u8) -> (&[u8], &[u8])
     ensures before { result.0.now ≡ before_first (λ b. b == byte) text.now }
-    ensures back { result.1.now ≡ after_first (λ b. b == byte) text.now }
+    ensures after { result.1.now ≡ after_first (λ b. b == byte) text.now }
 {
     let place = end_of_before(text, byte);
-    let (before, back) = text.split_at(place);
-    if back.is_empty() {
-        return (before, back);
+    let (before, rest) = text.split_at(place);
+    if rest.is_empty() {
+        return (before, rest);
     }
     let (_, after) = text.split_at(place + 1);
     (before, after)

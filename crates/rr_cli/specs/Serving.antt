@@ -1,12 +1,14 @@
 -- What the serving of a command does, and what it prints (profile).
 use Rattle.std.specs.Prelude.{◌≡◌, ◌⊎◌, ℕ, List, ◌++◌, Ok, Err, codes, decimal}
 use Rattle.sqlite_trees.specs.declared.store.Store.{Ghosts}
-use Rattle.rr_io.specs.Sending.{Takes, TakesPrefix, Writes}
+use Rattle.rr_io.specs.Sending.{Takes, TakesPrefix}
 use Rattle.rr_io.specs.Told.{Told}
 use Rattle.rr_desk.specs.Turns.{Serving, TakesTurns, Tally}
 use Rattle.rr_desk.specs.declared.desk.Desk.{Desk}
+use Rattle.rr_commands.specs.declared.cause.Cause.{Cause}
 use Rattle.rr_commands.specs.declared.trouble.Trouble.{Trouble}
-use Rattle.rr_commands.specs.declared.trouble.Trouble.TheVariants.{ListenerUnopened, Unwritten}
+use Rattle.rr_commands.specs.declared.trouble.Trouble.TheVariants.{ListenerUnopened, Unaccepted}
+use Rattle.rr_commands.specs.declared.trouble.Trouble.TheVariants.{Unwritten}
 use Rattle.rr_commands.specs.Commands.{Answer, AtDesk, Commands, DeskAction, Ending, Gives}
 
 -- the line that says how many turns were served, and how many failed (profile)
@@ -14,17 +16,33 @@ unfoldable pub served_line : ℕ → ℕ → List ℕ
 served_line served failed =
     codes "served " ++ (decimal served ++ (codes ", failed " ++ (decimal failed ++ codes "\n")))
 
--- so many turns of a listener were taken, and how many were served and how many failed was printed:
--- the status is 0, also where some failed, and the one fault is that this could not be printed
--- whole (profile)
+-- no turn was served, and the fault is why a connection could not be accepted (profile)
+pub record IsUnaccepted (served : ℕ) (result : Answer) : Type 0 where
+  pub cause : Cause
+  pub told : result ≡ Err (Unaccepted cause)
+  pub none : served ≡ 0
+
+-- how serving ends once that line was printed: the status is 0, also where some turns failed, but a
+-- fault may be told if none was served (profile)
+abbrev pub AnswersServed : ℕ → Answer → Type 0
+AnswersServed served result = (result ≡ Ok 0) ⊎ IsUnaccepted served result
+
+-- that line was printed whole, and serving ends so; or it could not be printed whole, which is the
+-- fault then (profile)
+abbrev pub EndsServed : ℕ → ℕ → Told → Told → Answer → Type 0
+EndsServed served failed old new result =
+    (Takes old new (served_line served failed) × AnswersServed served result)
+    ⊎ (TakesPrefix old new (served_line served failed) × (result ≡ Err Unwritten))
+
+-- so many turns of a listener were taken, how many were served and how many failed was printed, and
+-- serving ended so (profile)
 pub record HasServed {S : Type 0} (g : Ghosts S) (serves : Serving) (count : ℕ)
     (before after : Desk S) (tally_before tally_after : Tally) (output_before output_after : Told)
     (result : Answer) : Type 0 where
   pub served : ℕ
   pub failed : ℕ
   pub turns : TakesTurns g serves count before after tally_before tally_after served failed
-  pub prints : Writes output_before output_after (served_line served failed) result
-  pub status : (result ≡ Ok 0) ⊎ (result ≡ Err Unwritten)
+  pub ends : EndsServed served failed output_before output_after result
 
 -- what the line begins with that says where the program listens (profile)
 unfoldable pub listening_head : List ℕ

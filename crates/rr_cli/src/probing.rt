@@ -5,6 +5,7 @@ ghost use Rattle.rr_commands.specs.Commands.{AtDesk};
 ghost use Rattle.rr_cli.specs.Probing.{AsksInVain, PrintsReply, ProbesBy, ProbesDesk};
 ghost use Rattle.rr_cli.specs.Probing.{TakesOneTurn, reply_status};
 
+use crate::hearing::Hearing;
 use rr_commands::{
     Cause, Databases, Output, ProgramFault, Trouble, close, ended, open_desk, read_settings_file,
 };
@@ -103,7 +104,7 @@ fn ask_for_root<S: Alter>(rt: &HostRuntime, desk: &mut Desk<S>) -> Result<Vec<u8
 }
 
 /// Serves the connection of a peer that has asked, and reads the reply for it.
-fn serve_asked<S: Alter, P: Peers>(
+fn serve_asked<S: Alter, P: Hearing>(
     alloc: Global,
     desk: &mut Desk<S>,
     peers: &mut P,
@@ -122,7 +123,15 @@ fn serve_asked<S: Alter, P: Peers>(
             Err(error) => Err(trouble_of(&error)),
         }
     } else {
-        Err(Trouble::ProbeFailed(Cause::Unnumbered))
+        Err(untaken(peers.cause()))
+    }
+}
+
+/// What went wrong if a turn failed: why no connection was accepted, if that is the cause.
+fn untaken(cause: Option<Cause>) -> Trouble {
+    match cause {
+        Some(cause) => Trouble::ProbeFailed(cause),
+        None => Trouble::ProbeFailed(Cause::Unnumbered),
     }
 }
 

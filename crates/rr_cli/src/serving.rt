@@ -4,15 +4,16 @@ ghost use Rattle.std.specs.Prelude.{◌≡◌, ◌+◌, ◌<◌, ◌^◌, false,
 ghost use Rattle.rr_io.specs.Sending.{Writes};
 ghost use Rattle.rr_desk.specs.Stocks.{IsStocked};
 ghost use Rattle.rr_commands.specs.Commands.{AtDesk, EndsAs};
-ghost use Rattle.rr_cli.specs.Serving.{HasServed, ServesBy, ServesDesk, listening_head};
-ghost use Rattle.rr_cli.specs.Serving.{listening_line, served_line};
+ghost use Rattle.rr_cli.specs.Serving.{AnswersServed, HasServed, ServesBy, ServesDesk};
+ghost use Rattle.rr_cli.specs.Serving.{listening_head, listening_line, served_line};
 
+use crate::hearing::Hearing;
 use itoa::Buffer;
 use rr_commands::{
     Cause, DatabaseCause, Databases, Output, ProgramFault, Trouble, close, ended, open_desk,
     read_settings_file,
 };
-use rr_desk::{ConnFault, Desk, Peers, Served, Service, Settings, serve_all};
+use rr_desk::{ConnFault, Desk, Served, Service, Settings, serve_all};
 use rr_http::Both;
 use rr_io::{Connection, Counted, Sink, write_pieces};
 use rr_listener::Listener;
@@ -22,8 +23,8 @@ use std::io;
 
 /// Serves so many connections to this port of 127.0.0.1, by whois and HTTP, from the registry that
 /// the settings name. Prints where it listens, and at the end how many connections were served and
-/// how many failed: the status is 0 in any case. If the database fails meanwhile, that is said once
-/// on standard error.
+/// how many failed: the status is 0, unless none was served because none could be accepted. If the
+/// database fails meanwhile, that is said once on standard error.
 pub fn serve<'a, D: Databases, W: Output>(
     rt: &HostRuntime,
     databases: &D,
@@ -55,6 +56,9 @@ fn ended_at<'a, W: Output>(
     match answer {
         Err(Trouble::ListenerUnopened(cause)) => {
             Err(about_port(alloc, Trouble::ListenerUnopened(cause), port))
+        }
+        Err(Trouble::Unaccepted(cause)) => {
+            Err(about_port(alloc, Trouble::Unaccepted(cause), port))
         }
         _ => ended(answer, settings, path, output),
     }
@@ -153,7 +157,7 @@ impl Service for Watched<'_> {
 }
 
 /// Takes so many turns of a listener, and prints how many were served and how many failed.
-fn serve_turns<S: Alter, P: Peers, V: Service, W: Sink>(
+fn serve_turns<S: Alter, P: Hearing, V: Service, W: Sink>(
     alloc: Global,
     desk: &mut Desk<S>,
     peers: &mut P,
@@ -169,8 +173,19 @@ fn serve_turns<S: Alter, P: Peers, V: Service, W: Sink>(
 {
     let served = serve_all(alloc, desk, peers, service, count);
     match write_served(output, served) {
-        Ok(()) => Ok(0),
+        Ok(()) => answer_served(served, peers.cause()),
         Err(_) => Err(Trouble::Unwritten),
+    }
+}
+
+/// The status is 0, unless no turn was served and no connection could be accepted in the last one:
+/// then the fault is its cause.
+fn answer_served(served: Served, cause: Option<Cause>) -> Result<u8, Trouble>
+    ensures { AnswersServed served.served result }
+{
+    match cause {
+        Some(cause) if served.served == 0 => Err(Trouble::Unaccepted(cause)),
+        _ => Ok(0),
     }
 }
 

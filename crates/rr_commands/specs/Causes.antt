@@ -18,48 +18,48 @@ numbered (Some (pos number)) = cause.Numbered number
 numbered (Some (negsuc number)) = cause.Unnumbered
 
 -- the cause of an error of the system, by its kind, and else by its number (profile)
-abbrev pub cause_of : ErrorKind → Option ℤ → Cause
-cause_of kind.NotFound code = cause.Missing
-cause_of kind.PermissionDenied code = cause.Denied
-cause_of kind.IsADirectory code = cause.Folder
-cause_of kind.NotADirectory code = cause.NoFolder
-cause_of kind.FilesystemLoop code = cause.Loop
-cause_of kind.InvalidFilename code = cause.LongName
-cause_of kind.InvalidInput code = cause.BadName
-cause_of kind.ReadOnlyFilesystem code = cause.ReadOnly
-cause_of kind.StorageFull code = cause.Full
-cause_of kind.QuotaExceeded code = cause.Quota
-cause_of kind.FileTooLarge code = cause.TooLarge
-cause_of kind.BrokenPipe code = cause.Ended
-cause_of kind.AddrInUse code = cause.Taken
-cause_of kind.AddrNotAvailable code = cause.NoAddress
-cause_of kind.AlreadyExists code = cause.Exists
-cause_of kind.DirectoryNotEmpty code = cause.Exists
-cause_of kind.ResourceBusy code = cause.InUse
-cause_of kind.ExecutableFileBusy code = cause.InUse
-cause_of kind.Deadlock code = cause.InUse
-cause_of kind.Unsupported code = cause.Unfit
-cause_of kind.NotSeekable code = cause.Unfit
-cause_of kind.CrossesDevices code = cause.Unfit
-cause_of kind.TooManyLinks code = cause.Unfit
-cause_of kind.ArgumentListTooLong code = cause.Unfit
-cause_of kind.StaleNetworkFileHandle code = cause.Lost
-cause_of kind.InvalidData code = cause.Spoilt
-cause_of kind.UnexpectedEof code = cause.Spoilt
-cause_of kind.WriteZero code = cause.Spoilt
-cause_of kind.Interrupted code = cause.Interrupted
-cause_of kind.WouldBlock code = cause.Late
-cause_of kind.TimedOut code = cause.Late
-cause_of kind.ConnectionRefused code = cause.Broken
-cause_of kind.ConnectionReset code = cause.Broken
-cause_of kind.ConnectionAborted code = cause.Broken
-cause_of kind.NotConnected code = cause.Broken
-cause_of kind.InProgress code = cause.Broken
-cause_of kind.NetworkDown code = cause.NoNetwork
-cause_of kind.NetworkUnreachable code = cause.NoNetwork
-cause_of kind.HostUnreachable code = cause.NoNetwork
-cause_of kind.OutOfMemory code = cause.Memory
-cause_of _ code = numbered code
+abbrev pub system_cause : ErrorKind → Option ℤ → Cause
+system_cause kind.NotFound code = cause.Missing
+system_cause kind.PermissionDenied code = cause.Denied
+system_cause kind.IsADirectory code = cause.Folder
+system_cause kind.NotADirectory code = cause.NoFolder
+system_cause kind.FilesystemLoop code = cause.Loop
+system_cause kind.InvalidFilename code = cause.LongName
+system_cause kind.InvalidInput code = cause.BadName
+system_cause kind.ReadOnlyFilesystem code = cause.ReadOnly
+system_cause kind.StorageFull code = cause.Full
+system_cause kind.QuotaExceeded code = cause.Quota
+system_cause kind.FileTooLarge code = cause.TooLarge
+system_cause kind.BrokenPipe code = cause.Ended
+system_cause kind.AddrInUse code = cause.Taken
+system_cause kind.AddrNotAvailable code = cause.NoAddress
+system_cause kind.AlreadyExists code = cause.Exists
+system_cause kind.DirectoryNotEmpty code = cause.Exists
+system_cause kind.ResourceBusy code = cause.InUse
+system_cause kind.ExecutableFileBusy code = cause.InUse
+system_cause kind.Deadlock code = cause.InUse
+system_cause kind.Unsupported code = cause.Unfit
+system_cause kind.NotSeekable code = cause.Unfit
+system_cause kind.CrossesDevices code = cause.Unfit
+system_cause kind.TooManyLinks code = cause.Unfit
+system_cause kind.ArgumentListTooLong code = cause.Unfit
+system_cause kind.StaleNetworkFileHandle code = cause.Lost
+system_cause kind.InvalidData code = cause.Spoilt
+system_cause kind.UnexpectedEof code = cause.Spoilt
+system_cause kind.WriteZero code = cause.Spoilt
+system_cause kind.Interrupted code = cause.Interrupted
+system_cause kind.WouldBlock code = cause.Late
+system_cause kind.TimedOut code = cause.Late
+system_cause kind.ConnectionRefused code = cause.Broken
+system_cause kind.ConnectionReset code = cause.Broken
+system_cause kind.ConnectionAborted code = cause.Broken
+system_cause kind.NotConnected code = cause.Broken
+system_cause kind.InProgress code = cause.Broken
+system_cause kind.NetworkDown code = cause.NoNetwork
+system_cause kind.NetworkUnreachable code = cause.NoNetwork
+system_cause kind.HostUnreachable code = cause.NoNetwork
+system_cause kind.OutOfMemory code = cause.Memory
+system_cause _ code = numbered code
 
 -- a cause in words, before its number if it has one (profile)
 abbrev pub cause_text : Cause → List ℕ
@@ -82,6 +82,7 @@ cause_text cause.Exists = codes "something of that name is there: take another p
 cause_text cause.InUse = codes "another program uses it: end that, or try again later"
 cause_text cause.Unfit = codes "the system does not do that with such a file: take another"
 cause_text cause.Lost = codes "its file server has it no longer: mount that again"
+cause_text cause.Endless = codes "it has no end within 16777216 reads: name a whole file"
 cause_text cause.Spoilt = codes "it ends too early or is spoilt: try again, or take another file"
 cause_text cause.Interrupted = codes "a signal interrupted it: try again"
 cause_text cause.Late = codes "nothing came in time: try again"
@@ -134,6 +135,8 @@ database_text database.Busy =
 database_text database.Other =
     codes "it is not the database of a registry, or it is damaged: name another file, or restore "
     ++ codes "a backup"
+database_text database.Encoded =
+    codes "its text is UTF-16: `umask 077; sqlite3 OLD .dump | sqlite3 NEW` makes it UTF-8"
 database_text database.Damaged = codes "the database is damaged: restore a backup"
 database_text database.Full = codes "the disk is full: make room"
 database_text database.Failed =

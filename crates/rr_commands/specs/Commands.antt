@@ -63,6 +63,7 @@ is_of_database trouble.BadObject = true
 is_of_database trouble.Unsound = true
 is_of_database trouble.OtherRows = true
 is_of_database trouble.OtherOrder = true
+is_of_database trouble.Obstacle = true
 is_of_database _ = false
 
 -- the file that is read cannot be opened, or memory ran out (profile)

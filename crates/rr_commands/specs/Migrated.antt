@@ -7,6 +7,7 @@ use Rattle.rr_io.specs.Told.{Told}
 use Rattle.rr_store.specs.Calls.{OnCleanDisk, database}
 use Rattle.rr_store.specs.declared.fault.MigrateFault.{MigrateFault}
 use Rattle.rr_store.specs.declared.fault.MigrateFault.TheVariants as migrating
+use Rattle.rr_store.specs.declared.version.TheConstants.{VERSION}
 use Rattle.rr_desk.specs.Migrating.{IsMigratedBy, MigratesTables, RefusesOldRegistry}
 use Rattle.rr_desk.specs.Opened.{MakesNone, Runs}
 use Rattle.rr_desk.specs.Settings.{SettingsParts}
@@ -47,10 +48,11 @@ MigratesIn g settings old new before after answer =
     IsUnmigrated g settings old new before after answer
     ⊎ IsMigrated g settings old new before after answer
 
--- what a look at the tables may find: another order, or a version later than 2 (profile)
+-- what a look at the tables may find: another order, what was added, or a later version (profile)
 abbrev pub is_of_tables : Trouble → Bool
 is_of_tables trouble.OtherOrder = true
-is_of_tables (trouble.Migrating (migrating.WrongVersion version)) = nat_lt 2 version
+is_of_tables trouble.Obstacle = true
+is_of_tables (trouble.Migrating (migrating.WrongVersion version)) = nat_lt VERSION version
 is_of_tables _ = false
 
 -- what a look at their rows may find: another source, a row, or what rows say together (profile)

@@ -9,6 +9,7 @@ use Rattle.rr_store.specs.declared.fault.MigrateFault.{MigrateFault}
 use Rattle.rr_store.specs.declared.fault.MigrateFault.TheVariants as migrating
 use Rattle.rr_store.specs.declared.fault.OpenFault.{OpenFault}
 use Rattle.rr_store.specs.declared.fault.OpenFault.TheVariants as opening
+use Rattle.rr_store.specs.declared.version.TheConstants.{OLD_VERSION, VERSION}
 use Rattle.rr_submission.specs.declared.submission.DeskFault.{DeskFault}
 use Rattle.rr_submission.specs.declared.submission.DeskFault.TheVariants as desk
 use Rattle.rr_desk.specs.declared.dumping.DeskDumpFault.{DeskDumpFault}
@@ -141,17 +142,19 @@ before trouble.Unsound =
     codes "the object of the row names a maintainer who is not there, or its range overlaps one "
     ++ codes "before it: restore a backup, or mend the rows"
 before trouble.OtherRows =
-    codes "its rows are not those that the objects need, which are good: restore a backup, or "
-    ++ codes "mend the table"
+    codes "its rows are not those of a registry: restore a backup, or mend the table"
 before trouble.OtherOrder =
     codes "the tables of the registry are not first and in order: `umask 077; sqlite3 OLD '.dump "
-    ++ codes "meta' '.dump object' '.dump named' | sqlite3 NEW` makes a database that is read"
+    ++ codes "meta' '.dump object' '.dump named' | sqlite3 NEW` lays them so in a new file"
+before trouble.Obstacle =
+    codes "it keeps the tables of the registry from being read: take it out"
 before (trouble.FileUnopened cause) = codes "the file cannot be opened: "
 before (trouble.Submission fault cause) = submission_words fault
 before (trouble.Dumping fault) = dumping_words fault
 before (trouble.Loading fault) = loading_words fault
 before (trouble.Migrating fault) = migrating_words fault
 before (trouble.ListenerUnopened cause) = codes "it cannot listen: "
+before (trouble.Unaccepted cause) = codes "no connection could be accepted: "
 before (trouble.ProbeFailed cause) = codes "the program's own listener cannot be asked: "
 before (trouble.ServedInVain cause) =
     codes "the database failed, and each request is refused until the server is started again: "
@@ -172,9 +175,9 @@ before_number _ = []
 -- irrdesk reads those of a later one (profile)
 abbrev pub after_opened : ℕ → List ℕ
 after_opened version =
-    if version == 1
+    if version == OLD_VERSION
     then codes ", and this program reads version 2: `irrdesk migrate SETTINGS` turns them into that"
-    else if nat_lt 2 version
+    else if nat_lt VERSION version
     then codes ", and this program reads version 2: take a newer irrdesk, which wrote them"
     else codes ", and this program reads version 2: no irrdesk wrote them, so correct `store`"
 
@@ -182,9 +185,9 @@ after_opened version =
 -- version 2 (profile)
 abbrev pub after_migrated : ℕ → List ℕ
 after_migrated version =
-    if version == 2
+    if version == VERSION
     then codes ", as this program reads them: there is nothing to migrate"
-    else if nat_lt 2 version
+    else if nat_lt VERSION version
     then codes ", and what is migrated is version 1: take a newer irrdesk, which wrote them"
     else codes ", and what is migrated is version 1: no irrdesk wrote them, so correct `store`"
 

@@ -2,9 +2,8 @@
 
 ghost use Rattle.std.specs.Prelude.{◌≡◌, Option};
 ghost use Rattle.std.specs.IoError.{error_kind, raw_os_error};
-ghost use Rattle.rr_commands.specs.Causes.{cause_of, cause_text, code_cause, database_cause};
-ghost use Rattle.rr_commands.specs.Causes.{database_text, number_of, numbered, stop_cause};
-ghost use Rattle.rr_commands.specs.Causes.{text_or};
+ghost use Rattle.rr_commands.specs.Causes.{cause_text, code_cause, database_cause, database_text};
+ghost use Rattle.rr_commands.specs.Causes.{number_of, numbered, stop_cause, system_cause, text_or};
 
 use sqlite::ErrorCode;
 use std::io;
@@ -50,6 +49,8 @@ pub enum Cause {
     Unfit,
     /// The server of a file has it no longer.
     Lost,
+    /// No read of it failed, and it does not end.
+    Endless,
     /// It ends too early, or is spoilt.
     Spoilt,
     /// A signal came first.
@@ -71,7 +72,7 @@ pub enum Cause {
 impl Cause {
     /// The cause of an error of the system.
     pub fn of(error: &io::Error) -> Cause
-        ensures { result ≡ cause_of (error_kind error.now) (raw_os_error error.now) }
+        ensures { result ≡ system_cause (error_kind error.now) (raw_os_error error.now) }
     {
         match error.kind() {
             ErrorKind::NotFound => Cause::Missing,
@@ -150,6 +151,7 @@ impl Cause {
             Cause::InUse => "another program uses it: end that, or try again later",
             Cause::Unfit => "the system does not do that with such a file: take another",
             Cause::Lost => "its file server has it no longer: mount that again",
+            Cause::Endless => "it has no end within 16777216 reads: name a whole file",
             Cause::Spoilt => "it ends too early or is spoilt: try again, or take another file",
             Cause::Interrupted => "a signal interrupted it: try again",
             Cause::Late => "nothing came in time: try again",
@@ -187,6 +189,8 @@ pub enum DatabaseCause {
     Busy,
     /// The file is not a database, or has other tables than a registry.
     Other,
+    /// The file is a database whose text is UTF-16.
+    Encoded,
     /// The file is damaged.
     Damaged,
     /// The disk is full.
@@ -256,6 +260,9 @@ impl DatabaseCause {
             DatabaseCause::Other =>
                 "it is not the database of a registry, or it is damaged: name another file, or \
                 restore a backup",
+            DatabaseCause::Encoded => {
+                "its text is UTF-16: `umask 077; sqlite3 OLD .dump | sqlite3 NEW` makes it UTF-8"
+            }
             DatabaseCause::Damaged => "the database is damaged: restore a backup",
             DatabaseCause::Full => "the disk is full: make room",
             DatabaseCause::Failed =>

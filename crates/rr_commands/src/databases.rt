@@ -13,10 +13,13 @@ use sqlite::{Alter, Connection};
 use sqlite_std_file::File;
 use sqlite_store::FileStore;
 use std::alloc::Global;
-use std::fs;
 use std::fs::OpenOptions;
-use std::io::ErrorKind;
+use std::io::{ErrorKind, Read};
 use std::os::unix::fs::OpenOptionsExt;
+use std::{fs, io};
+
+/// Where the header of a database says how its texts are encoded, in four bytes.
+const ENCODING: usize = 56;
 
 /// What is done if a path leads to no database.
 #[derive(Clone, Copy)]
@@ -77,7 +80,7 @@ impl Databases for DatabaseFiles<'_> {
         match make_ready(self.rt, path, absent) {
             Ok(()) => match Connection::open(self.rt, path) {
                 Ok(conn) => Ok(conn),
-                Err(error) => Err(DatabaseCause::of(error)),
+                Err(error) => Err(cause_at(self.rt, path, error)),
             },
             Err(cause) => Err(cause),
         }
@@ -102,6 +105,32 @@ impl Databases for DatabaseFiles<'_> {
 /// in the log, from which the next opening takes it.
 pub fn close<D: Databases>(databases: &D, conn: Connection<D::Disk>) {
     databases.close(&mut Some(conn));
+}
+
+/// Why the database at a path cannot be opened, by the library's error, which is the same for one
+/// that is damaged and for one in UTF-16.
+fn cause_at(rt: &HostRuntime, path: &str, error: sqlite::Error) -> DatabaseCause {
+    match DatabaseCause::of(error) {
+        DatabaseCause::Damaged if is_utf16(rt, path) => DatabaseCause::Encoded,
+        cause => cause,
+    }
+}
+
+/// Whether the header of the database at a path says that its texts are UTF-16.
+fn is_utf16(rt: &HostRuntime, path: &str) -> bool {
+    match read_header(rt, path) {
+        Ok(header) => matches!(header.as_slice().get(ENCODING..), Some([0, 0, 0, 2 | 3])),
+        Err(_) => false,
+    }
+}
+
+/// The header of the database at a path, to its encoding.
+fn read_header(rt: &HostRuntime, path: &str) -> io::Result<Vec<u8>> {
+    let mut header = Vec::new(rt.alloc());
+    fs::File::open(rt, path)?
+        .take(ENCODING as u64 + 4)
+        .read_to_end(&mut header)?;
+    Ok(header)
 }
 
 /// Sees that a file may be read and written, and makes it if it is missing and that is asked for:

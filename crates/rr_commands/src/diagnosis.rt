@@ -7,20 +7,24 @@ ghost use Rattle.std.specs.Prelude.{IfSome, IsTrue, nat_lt};
 ghost use Rattle.rr_commands.specs.Commands.{is_of_database};
 ghost use Rattle.rr_commands.specs.Migrated.{IsDiagnosis, is_of_rows, is_of_tables};
 
+use crate::obstacle::push_obstacle;
+use crate::shown::push_shown;
 use crate::trouble::Trouble;
-use crate::words::{OLD_VERSION, VERSION};
 use itoa::Buffer;
 use rr_desk::{MigrateFault, OpenFault};
 use rr_index::IndexedBook;
 use rr_number::Name;
 use rr_object::{Key, Object, ObjectFault};
 use rr_registry::{LoadFault, Registry};
+use rr_store::{OLD_VERSION, VERSION};
 use rr_text::read_canonical;
 use sqlite::{Alter, Connection, Row};
+use sqlite_schema::schema::Schema;
+use sqlite_value::value::ValueRef;
 use std::alloc::{AllocError, Global};
 
 /// What a file has, in its order: each of the three tables is followed by the index of its key.
-const LISTED: &str = "SELECT name FROM sqlite_schema ORDER BY rowid";
+const LISTED: &str = "SELECT name, type, tbl_name, sql FROM sqlite_schema ORDER BY rowid";
 
 /// The rows of settings.
 const SETTINGS: &str = "SELECT name, value FROM meta";
@@ -67,8 +71,8 @@ enum RowFault {
 }
 
 /// What is the matter with a database whose registry was not opened for this reason. If a row of an
-/// object is, its class and key are added to the name of the database, and if another row is, its
-/// table.
+/// object is, its class and key are added to the name of the database, if another row is, its
+/// table, and if it is what was added to a table, that.
 pub fn trouble_with<S: Alter>(
     alloc: Global,
     conn: &mut Connection<S>,
@@ -82,10 +86,11 @@ pub fn trouble_with<S: Alter>(
         OpenFault::Store(_) => {
             if let Some(version) = later_version(conn) {
                 Trouble::Opening(OpenFault::WrongVersion(version))
-            } else if has_other_order(conn) {
-                Trouble::OtherOrder
             } else {
-                Trouble::Opening(fault)
+                match found_in_schema(conn, name) {
+                    Some(trouble) => trouble,
+                    None => Trouble::Opening(fault),
+                }
             }
         }
         OpenFault::BadRow => match found_in_rows(alloc, conn, source, Version::This, name) {
@@ -108,7 +113,7 @@ pub fn told_of<S: Alter>(
     ensures { IsDiagnosis answer result }
 {
     match (answer, source) {
-        (Err(Trouble::Migrating(MigrateFault::Store(_))), _) => match found_in_tables(conn) {
+        (Err(Trouble::Migrating(MigrateFault::Store(_))), _) => match found_in_tables(conn, name) {
             Some(trouble) => Err(trouble),
             None => answer,
         },
@@ -123,13 +128,36 @@ pub fn told_of<S: Alter>(
 }
 
 /// What is the matter with tables that are not migrated, if it is found.
-fn found_in_tables<S: Alter>(conn: &mut Connection<S>) -> Option<Trouble>
+fn found_in_tables<S: Alter>(conn: &mut Connection<S>, name: &mut String) -> Option<Trouble>
     ensures { IfSome result (λ trouble. IsTrue (is_of_tables trouble)) }
 {
     if let Some(version) = later_version(conn) {
         Some(Trouble::Migrating(MigrateFault::WrongVersion(version)))
-    } else if has_other_order(conn) {
+    } else {
+        found_in_schema(conn, name)
+    }
+}
+
+/// What is the matter with how tables were made, if it is found.
+fn found_in_schema<S: Alter>(conn: &mut Connection<S>, name: &mut String) -> Option<Trouble>
+    ensures found { IfSome result (λ trouble. IsTrue (is_of_tables trouble)) }
+    ensures database { IfSome result (λ trouble. IsTrue (is_of_database trouble)) }
+{
+    match conn.query_all(LISTED, &[]) {
+        Ok(rows) => judge_schema(conn.schema(), rows.as_slice(), name),
+        Err(_) => None,
+    }
+}
+
+/// What is the matter with tables that are listed so: their order, or what was added to them.
+fn judge_schema(schema: &Schema, rows: &[Row], name: &mut String) -> Option<Trouble>
+    ensures found { IfSome result (λ trouble. IsTrue (is_of_tables trouble)) }
+    ensures database { IfSome result (λ trouble. IsTrue (is_of_database trouble)) }
+{
+    if has_other_order(rows) {
         Some(Trouble::OtherOrder)
+    } else if push_obstacle(schema, rows, name) {
+        Some(Trouble::Obstacle)
     } else {
         None
     }
@@ -175,18 +203,13 @@ fn number_of(text: &str) -> Option<u32> {
 }
 
 /// Whether the three tables are there, but do not stand first, or not in their order.
-fn has_other_order<S: Alter>(conn: &mut Connection<S>) -> bool {
-    match conn.query_all(LISTED, &[]) {
-        Ok(rows) => {
-            let places = [
-                place_of("meta", rows.as_slice()),
-                place_of("object", rows.as_slice()),
-                place_of("named", rows.as_slice()),
-            ];
-            places != [Some(0), Some(2), Some(4)] && places.iter().all(Option::is_some)
-        }
-        Err(_) => false,
-    }
+fn has_other_order(rows: &[Row]) -> bool {
+    let places = [
+        place_of("meta", rows),
+        place_of("object", rows),
+        place_of("named", rows),
+    ];
+    places != [Some(0), Some(2), Some(4)] && places.iter().all(Option::is_some)
 }
 
 /// Where a name stands among rows of names.
@@ -203,7 +226,8 @@ fn is_named(row: &Row, name: &str) -> bool {
     }
 }
 
-/// What is the matter with rows that are those of no registry of the source, if it is found.
+/// What is the matter with rows that are those of no registry of the source, if it is found: first
+/// those of `meta`, because keys are written as its version has them.
 fn found_in_rows<S: Alter>(
     alloc: Global,
     conn: &mut Connection<S>,
@@ -214,17 +238,29 @@ fn found_in_rows<S: Alter>(
     ensures found { IfSome result (λ trouble. IsTrue (is_of_rows trouble)) }
     ensures database { IfSome result (λ trouble. IsTrue (is_of_database trouble)) }
 {
+    if has_other_settings(conn, version) {
+        // Here and below: without memory for the row, the message names the database alone.
+        let _ = name.push_str(", table meta");
+        return Some(Trouble::OtherRows);
+    }
     match conn.query_all(OBJECTS, &[]) {
-        Ok(rows) => judge_rows(alloc, conn, rows.as_slice(), source, version, name),
+        Ok(rows) => judge_rows(alloc, rows.as_slice(), source, version, name),
         Err(_) => None,
+    }
+}
+
+/// Whether `meta` has other rows than that of this version.
+fn has_other_settings<S: Alter>(conn: &mut Connection<S>, version: Version) -> bool {
+    match conn.query_all(SETTINGS, &[]) {
+        Ok(rows) => !is_version_alone(rows.as_slice(), version),
+        Err(_) => false,
     }
 }
 
 /// What is the matter with these rows of objects: if all are of another source, that; otherwise the
 /// first that is bad by itself, and else what is bad of all together.
-fn judge_rows<S: Alter>(
+fn judge_rows(
     alloc: Global,
-    conn: &mut Connection<S>,
     rows: &[Row],
     source: &Name,
     version: Version,
@@ -238,19 +274,17 @@ fn judge_rows<S: Alter>(
     match first_bad(alloc, rows, source, version) {
         Some(_) if are_others => Some(Trouble::OtherSource),
         Some(row) => {
-            // Here and below: without memory for the row, the message names the database alone.
             let _ = push_row(name, row);
             Some(Trouble::BadObject)
         }
-        None => judge_together(alloc, conn, rows, source, version, name),
+        None => judge_together(alloc, rows, source, version, name),
     }
 }
 
 /// What is the matter with rows of objects that are good one by one: the first whose object names a
-/// maintainer who is not there, or has a span that crosses one before it, and else another table.
-fn judge_together<S: Alter>(
+/// maintainer who is not there, or has a span that crosses one before it, and else `named`.
+fn judge_together(
     alloc: Global,
-    conn: &mut Connection<S>,
     rows: &[Row],
     source: &Name,
     version: Version,
@@ -265,7 +299,7 @@ fn judge_together<S: Alter>(
     let loaded: Result<Registry<IndexedBook>, LoadFault> = Registry::from_objects(alloc, objects);
     match loaded {
         Ok(_) => {
-            let _ = push_table(conn, version, name);
+            let _ = name.push_str(", table named");
             Some(Trouble::OtherRows)
         }
         Err(LoadFault::Overlap(number) | LoadFault::Unnamed(number)) => {
@@ -375,31 +409,12 @@ fn has_key(alloc: Global, row: &Row, key: &Key, version: Version) -> bool {
 
 /// Adds the class and the key of a row, as the tables have them.
 fn push_row(name: &mut String, row: &Row) -> Result<(), AllocError> {
-    let class: Result<i64, sqlite::Error> = row.get(0);
-    let key: Result<String, sqlite::Error> = row.get(1);
-    match (class, key) {
-        (Ok(class), Ok(key)) => write!(name, ", class {class}, okey {key}"),
-        _ => Ok(()),
-    }
-}
-
-/// Adds the table whose rows are not those that the objects need: `meta`, unless that has the
-/// version and nothing else.
-fn push_table<S: Alter>(
-    conn: &mut Connection<S>,
-    version: Version,
-    name: &mut String,
-) -> Result<(), AllocError> {
-    match conn.query_all(SETTINGS, &[]) {
-        Ok(rows) => {
-            let table = if is_version_alone(rows.as_slice(), version) {
-                "named"
-            } else {
-                "meta"
-            };
-            write!(name, ", table {table}")
+    match (row.get_ref(0), row.get_ref(1)) {
+        (Ok(ValueRef::Int(class)), Ok(ValueRef::Text(key))) => {
+            write!(name, ", class {class}, okey ")?;
+            push_shown(name, key)
         }
-        Err(_) => Ok(()),
+        _ => Ok(()),
     }
 }
 

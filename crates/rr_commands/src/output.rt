@@ -29,7 +29,7 @@ pub trait Output: Sink {
 
 /// What commands read.
 pub trait Input: Source {
-    /// Why the last read that failed did so.
+    /// Why the last read that failed did so, or that it has no end if none did.
     fn cause(&self) -> Cause;
 }
 

@@ -4,6 +4,7 @@ ghost use Rattle.std.specs.Prelude.{◌≡◌, ◌≤◌, length};
 
 use crate::fault::ProgramFault;
 use crate::files::open_file;
+use crate::shown::push_shown;
 use crate::trouble::Trouble;
 use rr_io::{Counted, Source};
 use rr_object::{Key, key_of};
@@ -49,11 +50,13 @@ fn place(rt: &HostRuntime, file: &str, number: u64) -> Option<String> {
     }
 }
 
-/// The key as reports print it.
+/// The key as reports print it, cut if it is long.
 fn key_text(alloc: Global, key: &Key) -> Option<String> {
     let mut text = Counted::new(Vec::new(alloc));
     key.print_to(&mut text).ok()?;
-    String::from_utf8(text.into_inner()).ok()
+    let mut shown = String::new(alloc);
+    push_shown(&mut shown, text.into_inner().as_slice()).ok()?;
+    Some(shown)
 }
 
 /// Reads up to the paragraph of this number, and gives its key, if it has one.

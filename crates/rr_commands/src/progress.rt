@@ -285,6 +285,7 @@ impl<W: Sink> Output for Progress<'_, W> {
 pub struct Reading<'a, R> {
     reader: R,
     meter: Meter<'a>,
+    /// Until a read fails, what is the matter if reading ends with a fault all the same.
     cause: Cause,
 }
 
@@ -294,7 +295,7 @@ impl<'a, R: Source> Reading<'a, R> {
         Reading {
             reader,
             meter: Meter::new(rt, Things::Bytes, false),
-            cause: Cause::Unnumbered,
+            cause: Cause::Endless,
         }
     }
 
@@ -303,7 +304,7 @@ impl<'a, R: Source> Reading<'a, R> {
         Reading {
             reader,
             meter: Meter::silent(rt),
-            cause: Cause::Unnumbered,
+            cause: Cause::Endless,
         }
     }
 

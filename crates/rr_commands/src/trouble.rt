@@ -59,6 +59,8 @@ pub enum Trouble {
     OtherRows,
     /// The three tables of the database do not stand first and in order.
     OtherOrder,
+    /// What was added to a table keeps the tables from being read.
+    Obstacle,
     /// A file cannot be opened.
     FileUnopened(Cause),
     /// A submission was cut short: how, and why the database failed if it did.
@@ -71,6 +73,8 @@ pub enum Trouble {
     Migrating(MigrateFault),
     /// No listener was opened.
     ListenerUnopened(Cause),
+    /// No connection could be accepted.
+    Unaccepted(Cause),
     /// The program's own listener could not be asked.
     ProbeFailed(Cause),
     /// The database failed while the registry was served.
@@ -117,6 +121,7 @@ impl Trouble {
             | Trouble::Unsound
             | Trouble::OtherRows
             | Trouble::OtherOrder
+            | Trouble::Obstacle
             | Trouble::ServedInVain(_) => STORE_FAILED,
             Trouble::Submission(fault, _) => submission_status(fault),
             Trouble::Dumping(fault) => dumping_status(fault),
@@ -124,6 +129,7 @@ impl Trouble {
             Trouble::Migrating(fault) => migrating_status(fault),
             Trouble::FileUnopened(_)
             | Trouble::ListenerUnopened(_)
+            | Trouble::Unaccepted(_)
             | Trouble::ProbeFailed(_)
             | Trouble::Unwritten
             | Trouble::Memory => FAILED,
@@ -142,6 +148,7 @@ impl Trouble {
             | Trouble::Unsound
             | Trouble::OtherRows
             | Trouble::OtherOrder
+            | Trouble::Obstacle
             | Trouble::ServedInVain(_)
             | Trouble::Creating(CreateFault::NotEmpty | CreateFault::Store(_))
             | Trouble::Loading(DeskLoadFault::NotEmpty | DeskLoadFault::Store(_))
@@ -182,6 +189,7 @@ impl Trouble {
             | Trouble::Loading(DeskLoadFault::Memory)
             | Trouble::Migrating(MigrateFault::Memory)
             | Trouble::ListenerUnopened(_)
+            | Trouble::Unaccepted(_)
             | Trouble::ProbeFailed(_)
             | Trouble::Memory => Place::Nothing,
         }
@@ -195,6 +203,7 @@ impl Trouble {
             Trouble::SettingsUnread(cause)
             | Trouble::FileUnopened(cause)
             | Trouble::ListenerUnopened(cause)
+            | Trouble::Unaccepted(cause)
             | Trouble::ProbeFailed(cause)
             | Trouble::Database(DatabaseCause::Refused(cause)) => Some(cause),
             Trouble::Submission(DeskFault::ReadFault { .. } | DeskFault::WriteFault { .. }, _) => {

@@ -12,13 +12,8 @@ use crate::settings_file::SettingKey;
 use crate::trouble::Trouble;
 use rr_desk::{CreateFault, DeskDumpFault, DeskFault, DeskLoadFault, MigrateFault, OpenFault};
 use rr_object::Code;
+use rr_store::{OLD_VERSION, VERSION};
 use sqlite::Error;
-
-/// The version of the tables that is read.
-pub const VERSION: u32 = 2;
-
-/// The version of the tables that is migrated.
-pub const OLD_VERSION: u32 = 1;
 
 const OUT_OF_MEMORY: &str = "out of memory: give the program more";
 
@@ -57,17 +52,18 @@ pub fn before(trouble: Trouble) -> &'static str
             "the object of the row names a maintainer who is not there, or its range overlaps one \
             before it: restore a backup, or mend the rows",
         Trouble::OtherRows =>
-            "its rows are not those that the objects need, which are good: restore a backup, or \
-            mend the table",
+            "its rows are not those of a registry: restore a backup, or mend the table",
         Trouble::OtherOrder =>
             "the tables of the registry are not first and in order: `umask 077; sqlite3 OLD '.dump \
-            meta' '.dump object' '.dump named' | sqlite3 NEW` makes a database that is read",
+            meta' '.dump object' '.dump named' | sqlite3 NEW` lays them so in a new file",
+        Trouble::Obstacle => "it keeps the tables of the registry from being read: take it out",
         Trouble::FileUnopened(_) => "the file cannot be opened: ",
         Trouble::Submission(fault, _) => submission_words(fault),
         Trouble::Dumping(fault) => dumping_words(fault),
         Trouble::Loading(fault) => loading_words(fault),
         Trouble::Migrating(fault) => migrating_words(fault),
         Trouble::ListenerUnopened(_) => "it cannot listen: ",
+        Trouble::Unaccepted(_) => "no connection could be accepted: ",
         Trouble::ProbeFailed(_) => "the program's own listener cannot be asked: ",
         Trouble::ServedInVain(_) =>
             "the database failed, and each request is refused until the server is started again: ",

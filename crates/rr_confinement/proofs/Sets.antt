@@ -98,9 +98,9 @@ parent_no_mntner kind (Number n) k of_sets e = ap is_mntner (some_same (sym e))
 parent_no_mntner kind (Set name) k of_sets e = ap is_mntner (some_same (sym e)) ∙ of_sets name
 parent_no_mntner kind Bare k of_sets e = cc
 
-front_there : (name c d : List ℕ) (ds : List (List ℕ)) → components name ≡ c ∷ (d ∷ ds) → (prefix : List ℕ) × (parent_text name ≡ Some prefix)
+head_there : (name c d : List ℕ) (ds : List (List ℕ)) → components name ≡ c ∷ (d ∷ ds) → (prefix : List ℕ) × (parent_text name ≡ Some prefix)
 unfolding parent_text
-front_there name c d ds parts = (join_with_byte 58 (c ∷ but_last (d ∷ ds)), ap (λ cs. parent_text_by (but_last cs)) parts)
+head_there name c d ds parts = (join_with_byte 58 (c ∷ but_last (d ∷ ds)), ap (λ cs. parent_text_by (but_last cs)) parts)
 
 several : (h : Holding) (cs : List (List ℕ)) → begins_with_number h cs ≡ true → (c : List ℕ) × ((d : List ℕ) × ((ds : List (List ℕ)) × (cs ≡ c ∷ (d ∷ ds))))
 several h [] e = cc
@@ -111,5 +111,5 @@ several h (c ∷ d ∷ ds) e = (c, (d, (ds, refl)))
 pub has_parent : (h : Holding) (name : List ℕ) → is_under h name ≡ true → (parent : Parent) × (parent_of name ≡ Some parent)
 has_parent h name under =
     let parts = several h (components name) under in
-    let prefix = front_there name parts.0 parts.1.0 parts.1.1.0 parts.1.1.1 in
+    let prefix = head_there name parts.0 parts.1.0 parts.1.1.0 parts.1.1.1 in
     (named_by prefix.0, ap (option_map named_by) prefix.1)

@@ -55,7 +55,7 @@ module _ {T : Type 0} where
       stands_low s v is = made.all s ∙ ap (λ o. option_or o (option_or (at_span span value s) (standing after s))) is
 
       pub none_low : (s : Ends) → is_ahead s span ≡ false → standing before s ≡ None
-      none_low s behind = kept_out (λ t. is_ahead t span) before s fits.ahead behind
+      none_low s later = kept_out (λ t. is_ahead t span) before s fits.ahead later
 
       pub none_high : (s : Ends) → is_ahead span s ≡ false → standing after s ≡ None
       none_high s ahead = kept_out (λ t. is_ahead span t) after s fits.after ahead
@@ -68,24 +68,24 @@ module _ {T : Type 0} where
 
       pub stands_high : (s : Ends) (v : T) → standing after s ≡ Some v → standing nest s ≡ Some v
       stands_high s v is =
-          let behind : is_ahead span s ≡ true = fits.after.each s (ap is_some is) in
+          let later : is_ahead span s ≡ true = fits.after.each s (ap is_some is) in
           made.all s
-          ∙ ap (λ o. option_or o (option_or (at_span span value s) (standing after s))) (none_low s (ahead_back span s behind))
-          ∙ ap (λ o. option_or o (standing after s)) (at_other span value s (eq_by_cmp span_cmp s span) refl (λ same. contradicted _ (ap (λ t. is_ahead span t) same ∙ ahead_itself span) behind))
+          ∙ ap (λ o. option_or o (option_or (at_span span value s) (standing after s))) (none_low s (ahead_back span s later))
+          ∙ ap (λ o. option_or o (standing after s)) (at_other span value s (eq_by_cmp span_cmp s span) refl (λ same. contradicted _ (ap (λ t. is_ahead span t) same ∙ ahead_itself span) later))
           ∙ is
 
       -- the last of the side after is the last of all
       pub reaching_high : (below to : _) (t : Ends) (v : T) → IsLastReaching after below to t v → IsLastReaching nest below to t v
       reaching_high below to t v last =
-          let behind : is_ahead span t ≡ true = fits.after.each t (ap is_some last.held) in
+          let later : is_ahead span t ≡ true = fits.after.each t (ap is_some last.held) in
           record {
             held = stands_high t v last.held;
             begins = last.begins;
             reaches = last.reaches;
             last = λ u held begins reaches.
                 elim (held_where u held) [
-                  | inl low ↦ ahead_back u t (ahead_chain u span t (fits.ahead.each u low) behind)
-                  | inr (inl own) ↦ subst (λ w. is_ahead t w ≡ false) (sym own) (ahead_back span t behind)
+                  | inl low ↦ ahead_back u t (ahead_chain u span t (fits.ahead.each u low) later)
+                  | inr (inl own) ↦ subst (λ w. is_ahead t w ≡ false) (sym own) (ahead_back span t later)
                   | inr (inr high) ↦ last.last u high begins reaches
                 ];
           }

@@ -56,6 +56,6 @@ module _ {T : Type 0} where
             | inl in_low ↦ in_low
             | inr (inl same) ↦ absurd (contradicted _ (ap (covers s) same ∙ beyond s span far fits.ordered.ordered) over)
             | inr (inr in_high) ↦
-                let behind = first_ahead span u (fits.after.each u in_high) in
-                absurd (contradicted _ (beyond s u (omega (arith, behind, far)) (held_ordered after order u in_high)) over)
+                let later = first_ahead span u (fits.after.each u in_high) in
+                absurd (contradicted _ (beyond s u (omega (arith, later, far)) (held_ordered after order u in_high)) over)
           ]

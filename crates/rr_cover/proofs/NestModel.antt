@@ -17,7 +17,7 @@ use Rattle.rr_cover.proofs.Nearest.{contradicted}
 use Rattle.rr_cover.proofs.Ordered.{Answers, map_inserted, map_removed, crosses_found, crosses_missed}
 
 smaller : (s t u : Ends) → IsSpan s → t.first < s.first + 1 → s.last ≤ t.last → covers u s ≡ true → crosses t u ≡ false → is_ahead t u ≡ false → size t ≤ size u
-smaller s t u is begins reaches over apart behind =
+smaller s t u is begins reaches over apart later =
     let some : s.first ≤ s.last = is.ordered in
     grind (arith, nat_tests)
 

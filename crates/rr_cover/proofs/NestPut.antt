@@ -51,10 +51,10 @@ module _ {T : Type 0} where
       )
 
   pub node_high : (span : Ends) (bounds : Bounds) (before after new : Nest T) (k : Ends) (v : T) → IsNode span bounds before after → is_ahead span k ≡ true → Changed after new k (Some v) → IsNest new → IsNode span (with_after bounds k.last) before new
-  node_high span bounds before after new k v is behind changed order =
+  node_high span bounds before after new k v is later changed order =
       let least_own = is.0.1.least_own in (
         (
-          record { ordered = is.0.0.ordered; ahead = is.0.0.ahead; after = only_changed (λ s. is_ahead span s) after new k (Some v) changed behind is.0.0.after },
+          record { ordered = is.0.0.ordered; ahead = is.0.0.ahead; after = only_changed (λ s. is_ahead span s) after new k (Some v) changed later is.0.0.after },
           record {
             least_own = omega arith;
             least_low = least_of before bounds.least k.last is.0.1.least_low;
@@ -84,5 +84,5 @@ module _ {T : Type 0} where
       low_case nest span value before after opened k (Some v) new s (eq_by_cmp span_cmp s k) refl ahead (changed.all s)
 
   pub all_high : (nest : Nest T) (span : Ends) (value : T) (before after : Nest T) → IsTakenApart nest span value before after → (k : Ends) (v : T) (new : Nest T) → is_ahead span k ≡ true → Changed after new k (Some v) → (s : Ends) → option_or (standing before s) (option_or (at_span span value s) (standing new s)) ≡ cond (eq_by_cmp span_cmp s k) (Some v) (standing nest s)
-  all_high nest span value before after opened k v new behind changed s =
-      high_case nest span value before after opened k (Some v) new s (eq_by_cmp span_cmp s k) refl behind (changed.all s)
+  all_high nest span value before after opened k v new later changed s =
+      high_case nest span value before after opened k (Some v) new s (eq_by_cmp span_cmp s k) refl later (changed.all s)

@@ -18,28 +18,28 @@ module _ {T : Type 0} where
   regroup (Some x) b c = refl
 
   -- what a side holds, put in for it
-  pub turned_once : (outer front inner own after : Option T) (whole : Option T) → whole ≡ option_or outer (option_or front inner) → option_or outer (option_or front (option_or inner (option_or own after))) ≡ option_or whole (option_or own after)
-  turned_once outer front inner own after whole is =
-      sym (ap (λ x. option_or x (option_or own after)) is ∙ regroup outer (option_or front inner) (option_or own after) ∙ ap (option_or outer) (regroup front inner (option_or own after)))
+  pub turned_once : (outer prefix inner own after : Option T) (whole : Option T) → whole ≡ option_or outer (option_or prefix inner) → option_or outer (option_or prefix (option_or inner (option_or own after))) ≡ option_or whole (option_or own after)
+  turned_once outer prefix inner own after whole is =
+      sym (ap (λ x. option_or x (option_or own after)) is ∙ regroup outer (option_or prefix inner) (option_or own after) ∙ ap (option_or outer) (regroup prefix inner (option_or own after)))
 
-  pub turned_first : (outer front inner own after whole back result : Option T) → whole ≡ option_or outer (option_or front inner) → back ≡ option_or inner (option_or own after) → result ≡ option_or outer (option_or front back) → result ≡ option_or whole (option_or own after)
-  turned_first outer front inner own after whole back result is_whole is_back is_result =
-      is_result ∙ ap (λ x. option_or outer (option_or front x)) is_back ∙ turned_once outer front inner own after whole is_whole
+  pub turned_first : (outer prefix inner own after whole back result : Option T) → whole ≡ option_or outer (option_or prefix inner) → back ≡ option_or inner (option_or own after) → result ≡ option_or outer (option_or prefix back) → result ≡ option_or whole (option_or own after)
+  turned_first outer prefix inner own after whole back result is_whole is_back is_result =
+      is_result ∙ ap (λ x. option_or outer (option_or prefix x)) is_back ∙ turned_once outer prefix inner own after whole is_whole
 
-  pub turned_first_twice : (outer front low top high own after inner whole left right result : Option T) → whole ≡ option_or outer (option_or front inner) → inner ≡ option_or low (option_or top high) → left ≡ option_or outer (option_or front low) → right ≡ option_or high (option_or own after) → result ≡ option_or left (option_or top right) → result ≡ option_or whole (option_or own after)
-  turned_first_twice outer front low top high own after inner whole left right result is_whole is_inner is_left is_right is_result =
+  pub turned_first_twice : (outer prefix low top high own after inner whole left right result : Option T) → whole ≡ option_or outer (option_or prefix inner) → inner ≡ option_or low (option_or top high) → left ≡ option_or outer (option_or prefix low) → right ≡ option_or high (option_or own after) → result ≡ option_or left (option_or top right) → result ≡ option_or whole (option_or own after)
+  turned_first_twice outer prefix low top high own after inner whole left right result is_whole is_inner is_left is_right is_result =
       is_result
       ∙ ap (λ x. option_or x (option_or top right)) is_left
-      ∙ regroup outer (option_or front low) (option_or top right)
-      ∙ ap (option_or outer) (regroup front low (option_or top right))
-      ∙ ap (λ x. option_or outer (option_or front (option_or low (option_or top x)))) is_right
-      ∙ ap (λ x. option_or outer (option_or front x)) (turned_once low top high own after inner is_inner)
-      ∙ turned_once outer front inner own after whole is_whole
+      ∙ regroup outer (option_or prefix low) (option_or top right)
+      ∙ ap (option_or outer) (regroup prefix low (option_or top right))
+      ∙ ap (λ x. option_or outer (option_or prefix (option_or low (option_or top x)))) is_right
+      ∙ ap (λ x. option_or outer (option_or prefix x)) (turned_once low top high own after inner is_inner)
+      ∙ turned_once outer prefix inner own after whole is_whole
 
-  pub turned_last : (before own inner back outer whole front result : Option T) → whole ≡ option_or inner (option_or back outer) → front ≡ option_or before (option_or own inner) → result ≡ option_or front (option_or back outer) → result ≡ option_or before (option_or own whole)
-  turned_last before own inner back outer whole front result is_whole is_front is_result =
+  pub turned_last : (before own inner back outer whole prefix result : Option T) → whole ≡ option_or inner (option_or back outer) → prefix ≡ option_or before (option_or own inner) → result ≡ option_or prefix (option_or back outer) → result ≡ option_or before (option_or own whole)
+  turned_last before own inner back outer whole prefix result is_whole is_head is_result =
       is_result
-      ∙ sym (turned_once before own inner back outer front is_front)
+      ∙ sym (turned_once before own inner back outer prefix is_head)
       ∙ ap (λ x. option_or before (option_or own x)) (sym is_whole)
 
   pub turned_last_twice : (before own low top high back outer inner whole left right result : Option T) → whole ≡ option_or inner (option_or back outer) → inner ≡ option_or low (option_or top high) → left ≡ option_or before (option_or own low) → right ≡ option_or high (option_or back outer) → result ≡ option_or left (option_or top right) → result ≡ option_or before (option_or own whole)
@@ -184,34 +184,34 @@ module _ {T : Type 0} where
       ap (option_or (at_span span value s)) is_result ∙ sym (regroup (at_span span value s) rest (option_or own high)) ∙ ap (λ x. option_or x (option_or own high)) is_low
 
   -- the root of the side before, over what it had before it and the old root after it
-  pub fits_first : (span : Ends) (value : T) (before after : Nest T) (front : Ends) (front_value : T) (outer inner rest back : Nest T) → Fits span before after → IsTakenApart before front front_value outer inner → Made back span value rest after → Only (λ u. is_ahead front u) rest → Fits front outer back
-  fits_first span value before after front front_value outer inner rest back fits opened made only =
-      let first = own_of before front front_value outer inner opened (λ u. is_ahead u span) fits.ahead in
+  pub fits_first : (span : Ends) (value : T) (before after : Nest T) (prefix : Ends) (prefix_value : T) (outer inner rest back : Nest T) → Fits span before after → IsTakenApart before prefix prefix_value outer inner → Made back span value rest after → Only (λ u. is_ahead prefix u) rest → Fits prefix outer back
+  fits_first span value before after prefix prefix_value outer inner rest back fits opened made only =
+      let first = own_of before prefix prefix_value outer inner opened (λ u. is_ahead u span) fits.ahead in
       record {
         ordered = opened.fits.ordered;
         ahead = opened.fits.ahead;
-        after = only_made (λ u. is_ahead front u) back span value rest after made only first (after_chain front span after first fits.after);
+        after = only_made (λ u. is_ahead prefix u) back span value rest after made only first (after_chain prefix span after first fits.after);
       }
 
   -- the root of the side after, over the old root before it and what it had after it
-  pub fits_last : (span : Ends) (value : T) (before after : Nest T) (last : Ends) (last_value : T) (inner outer rest front : Nest T) → Fits span before after → IsTakenApart after last last_value inner outer → Made front span value before rest → Only (λ u. is_ahead u last) rest → Fits last front outer
-  fits_last span value before after last last_value inner outer rest front fits opened made only =
+  pub fits_last : (span : Ends) (value : T) (before after : Nest T) (last : Ends) (last_value : T) (inner outer rest prefix : Nest T) → Fits span before after → IsTakenApart after last last_value inner outer → Made prefix span value before rest → Only (λ u. is_ahead u last) rest → Fits last prefix outer
+  fits_last span value before after last last_value inner outer rest prefix fits opened made only =
       let second = own_of after last last_value inner outer opened (λ u. is_ahead span u) fits.after in
       record {
         ordered = opened.fits.ordered;
-        ahead = only_made (λ u. is_ahead u last) front span value before rest made (ahead_chained span last before fits.ahead second) second only;
+        ahead = only_made (λ u. is_ahead u last) prefix span value before rest made (ahead_chained span last before fits.ahead second) second only;
         after = opened.fits.after;
       }
 
   -- a root between two nodes, each over one of its sides
-  pub fits_between : (left : Ends) (left_value : T) (right : Ends) (right_value : T) (outer low high last front back middle : Nest T) (top : Ends) (top_value : T) → IsTakenApart middle top top_value low high → Made front left left_value outer low → Made back right right_value high last → Only (λ u. is_ahead u left) outer → Only (λ u. is_ahead left u) middle → Only (λ u. is_ahead u right) middle → Only (λ u. is_ahead right u) last → Fits top front back
-  fits_between left left_value right right_value outer low high last front back middle top top_value opened made_front made_back ahead first second behind =
+  pub fits_between : (left : Ends) (left_value : T) (right : Ends) (right_value : T) (outer low high last prefix back middle : Nest T) (top : Ends) (top_value : T) → IsTakenApart middle top top_value low high → Made prefix left left_value outer low → Made back right right_value high last → Only (λ u. is_ahead u left) outer → Only (λ u. is_ahead left u) middle → Only (λ u. is_ahead u right) middle → Only (λ u. is_ahead right u) last → Fits top prefix back
+  fits_between left left_value right right_value outer low high last prefix back middle top top_value opened made_prefix made_back ahead first second later =
       let from = own_of middle top top_value low high opened (λ u. is_ahead left u) first in
       let to = own_of middle top top_value low high opened (λ u. is_ahead u right) second in
       record {
         ordered = opened.fits.ordered;
-        ahead = only_made (λ u. is_ahead u top) front left left_value outer low made_front (ahead_chained left top outer ahead from) from opened.fits.ahead;
-        after = only_made (λ u. is_ahead top u) back right right_value high last made_back opened.fits.after to (after_chain top right last to behind);
+        ahead = only_made (λ u. is_ahead u top) prefix left left_value outer low made_prefix (ahead_chained left top outer ahead from) from opened.fits.ahead;
+        after = only_made (λ u. is_ahead top u) back right right_value high last made_back opened.fits.after to (after_chain top right last to later);
       }
 
   -- a span that a tree does not hold is not its root's

@@ -26,11 +26,11 @@ any_none : (p : Ends → Bool) (ks : List Ends) → ((t : Ends) → list_any (eq
 any_none p [] none = refl
 any_none p (k ∷ ks) none =
     ap (λ b. b || list_any p ks) (none k (ap (λ b. b || list_any (eq_by_cmp span_cmp k) ks) (same_tied k k refl)))
-    ∙ any_none p ks (λ t any. none t (behind (eq_by_cmp span_cmp t k) (list_any (eq_by_cmp span_cmp t) ks) any))
+    ∙ any_none p ks (λ t any. none t (after (eq_by_cmp span_cmp t k) (list_any (eq_by_cmp span_cmp t) ks) any))
   where
-    behind : (a b : Bool) → b ≡ true → (a || b) ≡ true
-    behind true b e = refl
-    behind false b e = e
+    after : (a b : Bool) → b ≡ true → (a || b) ≡ true
+    after true b e = refl
+    after false b e = e
 
 module _ {T : Type 0} where
   -- what stands at each span of a map

@@ -38,9 +38,9 @@ use Rattle.rr_desk.specs.Rows.{Holds}
 use Rattle.rr_desk.specs.Private.{Follows, FollowsGain, FollowsIn, FollowsNew, Gains, LeadsTo, puts_one}
 
 -- a change is never an addition
-behind : (b : Bool) (c : Code) (v : Verdict) → (if b then Refuse c else v) ≡ Add → v ≡ Add
-behind true c v e = absurd (cc)
-behind false c v e = e
+beyond : (b : Bool) (c : Code) (v : Verdict) → (if b then Refuse c else v) ≡ Add → v ≡ Add
+beyond true c v e = absurd (cc)
+beyond false c v e = e
 
 kept_or_changed : (b : Bool) → (if b then verdicts.Unchanged else Change) ≡ Add → ⊥
 kept_or_changed true e = cc
@@ -48,8 +48,8 @@ kept_or_changed false e = cc
 
 change_is_no_add : (r : Reg) (secrets : List (List ℕ)) (stored o : Obj) → change r secrets stored o ≡ Add → ⊥
 change_is_no_add r secrets stored o e =
-    let eleven = behind (names_unknown r o) E10 _ e in
-    kept_or_changed (fields_eq stored.paragraph o.paragraph) (behind (unauthorised r secrets stored) E11 _ eleven)
+    let eleven = beyond (names_unknown r o) E10 _ e in
+    kept_or_changed (fields_eq stored.paragraph o.paragraph) (beyond (unauthorised r secrets stored) E11 _ eleven)
 
 -- so an object is added where none stands under its key
 absent_if_added : (r : Reg) (secrets : List (List ℕ)) (o : Obj) → verdict r secrets (Submit o) ≡ Add → get r o.key ≡ None

@@ -3,6 +3,7 @@ use Rattle.std.proofs.Common.{◌≡◌, inl, inr, ℕ, List, refl, subst, ◌�
 use Rattle.std.specs.FinMap.{empty, values}
 use Rattle.sqlite_trees.proofs.ListLemmas.{all_of}
 use Rattle.sqlite.specs.Effect.{Database}
+use Rattle.sqlite.specs.declared.error.Error.{Error}
 use Rattle.rr_object.specs.Objects.{Obj}
 use Rattle.rr_auth.specs.Registries.{Reg}
 use Rattle.rr_auth.specs.Sources.{IsRegistryOf}
@@ -47,6 +48,13 @@ no_version (Duplicate n) number is = absurd (cc)
 no_version (Overlap n) number is = absurd (cc)
 no_version (Unnamed n) number is = absurd (cc)
 no_version Memory number is = absurd (cc)
+
+-- nor as an error of the database
+pub no_error : (fault : LoadFault) (error : Error) → opening_fault fault ≡ opened.Store error → ⊥
+no_error (Duplicate n) error is = absurd (cc)
+no_error (Overlap n) error is = absurd (cc)
+no_error (Unnamed n) error is = absurd (cc)
+no_error Memory error is = absurd (cc)
 
 -- and as bad rows only where they are those of no registry
 pub bad_objects : (source : List ℕ) (os : List Obj) (fault : LoadFault) (db : Database) → IsFaultOf os fault → opening_fault fault ≡ opened.BadRow → AreStored source os db → HasNoRegistry source db

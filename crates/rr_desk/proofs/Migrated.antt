@@ -6,6 +6,7 @@ use Rattle.std.specs.List.{AllByRecursion, list_any}
 use Rattle.std.specs.FinMap.{empty, values}
 use Rattle.sqlite_trees.proofs.ListLemmas.{all-append, all-permutation, all_weaker}
 use Rattle.sqlite.specs.Effect.{Database}
+use Rattle.sqlite.specs.declared.error.Error.{Error}
 use Rattle.sqlite.specs.State.{HasCleanDisk, IsUnchanged, Survives}
 use Rattle.sqlite.proofs.StateLemmas.{survives_then}
 use Rattle.rr_text.specs.Fields.{Field}
@@ -19,6 +20,7 @@ use Rattle.rr_auth.proofs.Members.{IsIn, found_in}
 use Rattle.rr_registry.specs.declared.load.LoadFault.{LoadFault}
 use Rattle.rr_registry.specs.declared.load.LoadFault.TheVariants.{Duplicate, Overlap, Unnamed, Memory}
 use Rattle.rr_registry.specs.Loading.{IsFaultOf}
+use Rattle.rr_rows.specs.Contents.{IsTidy}
 use Rattle.rr_rows.specs.Entries.{TreesOf, entry_of}
 use Rattle.rr_rows.specs.Maps.{AreOldStored, HasRows, IsKeyed, IsObject, IsObjectOf, old_version}
 use Rattle.rr_rows.proofs.ListForms.{stored_alike}
@@ -37,8 +39,9 @@ use Rattle.rr_store.specs.declared.fault.OpenFault.TheVariants as opened
 use Rattle.rr_desk.specs.Opened.{MakesNone}
 use Rattle.rr_desk.specs.Rows.{OnlyLooks}
 use Rattle.rr_desk.specs.Stocks.{Stock}
-use Rattle.rr_store.specs.Migrating.{HasNoRoot, IsMigrated, has_mntner, is_mntner_of}
-use Rattle.rr_desk.specs.Migrating.{AreRegistry, HasBlock, HasNoOldRegistry, IsGrown, IsMigratedBy, IsRootless, MigratesTables, RefusesOldRegistry}
+use Rattle.rr_store.specs.Migrating.{HasNoRoot, HasRoot, IsMigrated, has_mntner, is_mntner_of}
+use Rattle.rr_store.proofs.CauseLemmas.{caused_then}
+use Rattle.rr_desk.specs.Migrating.{AreRegistry, FailsMigrating, HasBlock, HasNoOldRegistry, IsGrown, IsMigratedBy, IsRootless, MigratesTables, RefusesOldRegistry}
 use Rattle.rr_desk.specs.MigratingParts.{HasBlockFault, HasLoadFault, IsGrowthFault, told_as}
 use Rattle.rr_desk.specs.Opening.{four_octets_fields}
 use Rattle.rr_desk.specs.Settings.{IsSettings, SettingsParts}
@@ -195,6 +198,13 @@ module _ (s : SettingsParts) (db : Database) where
     no_root = λ is. absurd (cc);
   }
 
+-- an error of the database is told as that alone
+pub unread_of_store : (fault : OpenFault) (error : Error) → unread_fault fault ≡ migrate.Store error → fault ≡ opened.Store error
+unread_of_store (opened.WrongVersion number) error is = absurd (cc)
+unread_of_store opened.BadRow error is = absurd (cc)
+unread_of_store (opened.Store other) error is = cc
+unread_of_store opened.Memory error is = absurd (cc)
+
 -- a look at the tables before they are migrated changes nothing of what a stop leaves
 module _ {S : Type 0} (g : Ghosts S) (s : SettingsParts) (first between : Held S) (same : HasCleanDisk (state g between) → IsUnchanged (state g first) (state g between)) (one : OnlyLooks (state g first) (state g between)) where
   as_was : HasCleanDisk (state g between) → database g between ≡ database g first
@@ -221,3 +231,11 @@ module _ {S : Type 0} (g : Ghosts S) (s : SettingsParts) (first between : Held S
 
   pub why_then : (left : Held S) (fault : MigrateFault) → MakesNone g (IsMigratedBy s (database g between)) between left → OnCleanDisk g left (RefusesOldRegistry s (database g between) fault) → OnCleanDisk g left (RefusesOldRegistry s (database g first) fault)
   why_then left fault none why clean = subst (λ db. RefusesOldRegistry s db fault) (as_was (let kept = none.crash.clean in omega (arith, kept))) (why clean)
+
+  pub store_then : (left : Held S) (fault : MigrateFault) → MakesNone g (IsMigratedBy s (database g between)) between left → FailsMigrating g s between left fault → FailsMigrating g s first left fault
+  store_then left fault none store error is tidy clean =
+      let was = same (let kept = none.crash.clean in omega (arith, kept)) in
+      elim (store error is (subst IsTidy (sym was.0.now_is) tidy) clean) [
+        | inl caused ↦ inl (caused_then (state g first) (state g between) (state g left) was one error caused)
+        | inr root ↦ inr (subst (HasRoot s.root s.source) was.0.now_is root)
+      ]

@@ -294,8 +294,8 @@ pub named_line : (name line : List ℕ) → is_attribute_name name ≡ true → 
 named_line name line named lower shown = good_line name line named lower (shown_line line shown)
 
 after_fields : (prefix back : List Field) → AreFields prefix → AreFields back → AreFields (prefix ++ back)
-after_fields [] back front_good back_good = back_good
-after_fields (f ∷ prefix) back front_good back_good = (front_good.0, after_fields prefix back front_good.1 back_good)
+after_fields [] back prefix_good back_good = back_good
+after_fields (f ∷ prefix) back prefix_good back_good = (prefix_good.0, after_fields prefix back prefix_good.1 back_good)
 
 pub owned_good : (prefix : List Field) (s : SettingsParts) → AreFields prefix → IsSettings s → AreFields (prefix ++ owned s)
 owned_good prefix s good is =

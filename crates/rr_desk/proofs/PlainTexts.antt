@@ -139,13 +139,13 @@ shown_meaning line is =
 -- a text that begins and ends in plain bytes, with printed ones between them
 pub shown_between : (prefix middle back : List ℕ) → list_all is_plain prefix ≡ true → 0 < length prefix → list_all is_shown middle ≡ true
     → list_all is_plain back ≡ true → 0 < length back → IsShown (prefix ++ (middle ++ back))
-shown_between prefix middle back front_plain front_some middle_shown back_plain back_some =
-    let front_shown = all_follow is_plain is_shown plain_shown prefix front_plain in
+shown_between prefix middle back head_plain prefix_some middle_shown back_plain back_some =
+    let prefix_shown = all_follow is_plain is_shown plain_shown prefix head_plain in
     let back_shown = all_follow is_plain is_shown plain_shown back back_plain in
-    let started = start_kept is_plain is_blank_or_line_feed plain_unblank prefix (middle ++ back) front_plain front_some in
+    let started = start_kept is_plain is_blank_or_line_feed plain_unblank prefix (middle ++ back) head_plain prefix_some in
     let ended = after_kept is_plain is_blank_or_line_feed plain_unblank (prefix ++ middle) back back_plain back_some in
     record {
-      all = rw (list_all-append is_shown prefix (middle ++ back), front_shown, list_all-append is_shown middle back, middle_shown, back_shown) refl;
+      all = rw (list_all-append is_shown prefix (middle ++ back), prefix_shown, list_all-append is_shown middle back, middle_shown, back_shown) refl;
       trimmed = ap (trim_end is_blank_or_line_feed) started ∙ (rw (← append_assoc prefix middle back) ended);
     }
 

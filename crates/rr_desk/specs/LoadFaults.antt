@@ -10,6 +10,12 @@ use Rattle.rr_desk.specs.declared.loading.DeskLoadFault.TheVariants.{NotEmpty, R
 use Rattle.rr_desk.specs.declared.loading.DeskLoadFault.TheVariants.{Object, Duplicate, Overlap}
 use Rattle.rr_desk.specs.declared.loading.DeskLoadFault.TheVariants.{Unnamed, Store, Memory}
 
+-- the fault is of the dump, and not of the store
+abbrev pub IsOfDump : DeskLoadFault → Type 0
+IsOfDump NotEmpty = ⊥
+IsOfDump (Store error) = ⊥
+IsOfDump _ = Unit {0}
+
 -- a dump that is not read (profile)
 abbrev pub unread : DumpReadFault → DeskLoadFault
 unread dump.Read = Read

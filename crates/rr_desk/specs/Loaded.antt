@@ -1,6 +1,9 @@
 -- Dumps that a desk loads (profile).
 use Rattle.std.specs.Prelude.{◌≡◌, ℕ, List, Ok, Some}
+use Rattle.sqlite_trees.specs.declared.store.Store.{Ghosts}
 use Rattle.sqlite.specs.Effect.{Database}
+use Rattle.sqlite.specs.Held.{Held}
+use Rattle.sqlite.specs.declared.error.Error.{Error}
 use Rattle.rr_io.specs.Told.{Told}
 use Rattle.rr_io.specs.Receiving.{Reads}
 use Rattle.rr_io.specs.declared.receiving.ReadEnd.TheVariants.{Whole}
@@ -10,6 +13,7 @@ use Rattle.rr_registry.specs.declared.load.LoadFault.{LoadFault}
 use Rattle.rr_registry.specs.declared.load.LoadFault.TheVariants as list
 use Rattle.rr_registry.specs.Loading.{load_fault}
 use Rattle.rr_rows.specs.Maps.{HasRows}
+use Rattle.rr_store.specs.Creating.{FailsOverRow}
 use Rattle.rr_load.specs.Dumps.{IsDumpOf, dump_objects}
 use Rattle.rr_load.specs.Readings.{FailsToRead}
 use Rattle.rr_load.specs.declared.fault.DumpReadFault.TheVariants as dump
@@ -58,3 +62,9 @@ FailsToLoad source start now (Overlap n) = IsUntaken source start now (list.Over
 FailsToLoad source start now (Unnamed n) = IsUntaken source start now (list.Unnamed n)
 FailsToLoad source start now (Store error) = HasReadDump source start now
 FailsToLoad source start now Memory = FailsToRead source start now dump.Memory
+
+-- where a dump was not loaded for an error of the database, and a table has a row, it has a cause
+-- outside the rows (profile)
+abbrev pub FailsLoading : {S : Type 0} → Ghosts S → Held S → Held S → DeskLoadFault → Type 0
+FailsLoading g conn left fault =
+    (error : Error) → fault ≡ Store error → FailsOverRow g conn left error

@@ -20,9 +20,9 @@ refusal (Err (unread.Store error)) = Some error
 refusal (Err unread.Memory) = None
 
 -- the error of the database that a fault of its store is; out of memory is one of its own
-abbrev pub cause_of : StoreFault → Error
-cause_of (unread.Store error) = error
-cause_of unread.Memory = SqliteFailure code.OutOfMemory
+abbrev pub error_of : StoreFault → Error
+error_of (unread.Store error) = error
+error_of unread.Memory = SqliteFailure code.OutOfMemory
 
 -- nothing was found, which stops the desk where the store failed
 abbrev pub IsUnfound : QueryFault → Bool → Type 0

@@ -38,7 +38,7 @@ pub record AcceptsNext (before after : List MemoryInput) {R W : Type 0}
   pub is_next : before ≡ input ∷ after
   pub is_of_it : IsOfInput input conn reader
 
--- those that are closed
+-- the connections that are closed, in order
 abbrev pub turns_closed : MemoryPeers → List MemoryTurn
 turns_closed peers = peers.turns.items
 

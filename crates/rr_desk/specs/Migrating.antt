@@ -3,6 +3,7 @@ use Rattle.std.specs.Prelude.{◌≡◌, ℕ, false, List, [], ◌∷◌, ◌++�
 use Rattle.std.specs.FinMap.{values}
 use Rattle.sqlite_trees.specs.declared.store.Store.{Ghosts}
 use Rattle.sqlite.specs.Effect.{Database}
+use Rattle.sqlite.specs.declared.error.Error.{Error}
 use Rattle.sqlite.specs.Held.{Held, state}
 use Rattle.sqlite.specs.State.{Survives}
 use Rattle.rr_object.specs.Objects.{Obj}
@@ -14,10 +15,11 @@ use Rattle.rr_rows.specs.Entries.{TreesOf}
 use Rattle.rr_rows.specs.Maps.{AreOldStored}
 use Rattle.rr_rows.specs.Tables.{HasTables}
 use Rattle.rr_store.specs.Calls.{OnCleanDisk, database}
-use Rattle.rr_store.specs.Migrating.{IsMigrated, IsOfOldRows, has_mntner}
+use Rattle.rr_store.specs.Migrating.{FailsToRead, IsMigrated, IsOfOldRows, has_mntner}
 use Rattle.rr_store.specs.Opening.{IsNotOld, IsOfNoneButOld}
 use Rattle.rr_store.specs.declared.fault.MigrateFault.{MigrateFault}
-use Rattle.rr_store.specs.declared.fault.MigrateFault.TheVariants.{BadRow, NoRoot, WrongVersion}
+use Rattle.rr_store.specs.declared.fault.MigrateFault.TheVariants.{BadRow, NoRoot, Store}
+use Rattle.rr_store.specs.declared.fault.MigrateFault.TheVariants.{WrongVersion}
 use Rattle.rr_desk.specs.Opening.{four_octets_fields}
 use Rattle.rr_desk.specs.Settings.{SettingsParts}
 use Rattle.rr_desk.specs.Stocks.{Stock}
@@ -82,3 +84,10 @@ pub record MigratesTables {S : Type 0} (g : Ghosts S) (settings : SettingsParts)
       (IsMigratedBy settings (database g conn) (database g stored.store))
   pub crash : Survives (state g conn) (state g stored.store)
       (TreesOf (IsMigratedBy settings (database g conn)))
+
+-- where tables were not migrated for an error of the database, and their rows have numbers of their
+-- own, it has a cause outside the rows, or these are such as are written anew (profile)
+abbrev pub FailsMigrating : {S : Type 0} → Ghosts S → SettingsParts → Held S → Held S
+    → MigrateFault → Type 0
+FailsMigrating g settings conn left fault = (error : Error) → fault ≡ Store error
+    → FailsToRead g settings.root settings.source conn left error

@@ -3,6 +3,7 @@ use Rattle.std.specs.Prelude.{◌≡◌, ℕ, false, List}
 use Rattle.sqlite_trees.specs.declared.store.Store.{Ghosts}
 use Rattle.sqlite_trees.specs.Tree.{Trees}
 use Rattle.sqlite.specs.Effect.{Database}
+use Rattle.sqlite.specs.declared.error.Error.{Error}
 use Rattle.sqlite.specs.Held.{Held, state}
 use Rattle.sqlite.specs.State.{Survives}
 use Rattle.rr_auth.specs.Registries.{Reg}
@@ -11,8 +12,11 @@ use Rattle.rr_rows.specs.Entries.{TreesOf}
 use Rattle.rr_rows.specs.Made.{HasItsTables, HasRow, IsVacant}
 use Rattle.rr_rows.specs.Maps.{HasRows}
 use Rattle.rr_rows.specs.Tables.{HasTables}
-use Rattle.rr_store.specs.Calls.{OnCleanDisk, WhileOpen, database}
-use Rattle.rr_store.specs.Opening.{IsOfNoOther, IsOfRows, IsOtherVersion}
+use Rattle.rr_store.specs.Calls.{FailsOverTidy, OnCleanDisk, WhileOpen, database}
+use Rattle.rr_store.specs.Creating.{FailsOverRow}
+use Rattle.rr_store.specs.Opening.{IfStore, IsOfNoOther, IsOfRows, IsOtherVersion}
+use Rattle.rr_store.specs.declared.fault.CreateFault.{CreateFault}
+use Rattle.rr_store.specs.declared.fault.CreateFault.TheVariants.{Store}
 use Rattle.rr_store.specs.declared.fault.OpenFault.{OpenFault}
 use Rattle.rr_store.specs.declared.fault.OpenFault.TheVariants.{BadRow, WrongVersion}
 use Rattle.rr_desk.specs.declared.desk.Desk.{Desk}
@@ -72,6 +76,17 @@ module _ {S : Type 0} (g : Ghosts S) where
     pub autocommit : left.in_transaction ≡ false
     pub kept : WhileOpen g left (database g left ≡ database g conn)
     pub crash : Survives (state g conn) (state g left) commits
+
+  -- where no tables were opened for an error of the database, and their rows have numbers of their
+  -- own, it has a cause outside the rows (profile)
+  abbrev pub FailsOpening : Held S → Held S → OpenFault → Type 0
+  FailsOpening conn left = IfStore (FailsOverTidy g conn left)
+
+  -- where no tables were made for an error of the database, and a table has a row, it has such a
+  -- cause (profile)
+  abbrev pub FailsMaking : Held S → Held S → CreateFault → Type 0
+  FailsMaking conn left fault =
+      (error : Error) → fault ≡ Store error → FailsOverRow g conn left error
 
   -- no tables were opened, and nothing was committed
   abbrev pub OpensNone : Held S → Held S → Type 0

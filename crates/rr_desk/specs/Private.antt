@@ -31,7 +31,7 @@ pub record Gains (before : Reg) (key : Key) (after : Reg) : Type 0 where
   pub of_key : object.key ≡ key
   pub is : after ≡ insert before key object
 
--- and none stood under it before
+-- one registry is another with an object under this key, where none stood
 pub record GainsNew (before : Reg) (key : Key) (after : Reg) : Type 0 where
   pub gain : Gains before key after
   pub absent : get before key ≡ None
@@ -58,7 +58,8 @@ abbrev pub FollowsGain : Key → Reg → Database → Database → Type 0
 FollowsGain key after old new =
     (before : Reg) → Gains before key after → HasRows before old → HasRows after new
 
--- and here where it had none there
+-- where the rows were those of a registry without an object under this key, they are those of the
+-- one that it is with one there
 abbrev pub FollowsNew : Key → Reg → Database → Database → Type 0
 FollowsNew key after old new =
     (before : Reg) → GainsNew before key after → HasRows before old → HasRows after new

@@ -1,5 +1,4 @@
--- What the store of a desk keeps of its registry, and what a change of the registry asks of the
--- store (profile).
+-- What the store of a desk keeps of its registry, and that a call commits nothing (profile).
 use Rattle.std.specs.Prelude.{◌≡◌, IsTrue}
 use Rattle.sqlite_trees.specs.Tree.{Trees}
 use Rattle.sqlite.specs.State.{State, HasCleanDisk, Survives}

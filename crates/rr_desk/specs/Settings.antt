@@ -23,6 +23,7 @@ pub record SettingsParts : Type 0 where
   pub auth : AuthParts
   pub limit : ℕ
 
+-- the settings that have these values (profile)
 abbrev pub parts : List ℕ → List ℕ → AuthParts → ℕ → SettingsParts
 parts source root auth limit =
     record { source = source; root = root; auth = auth; limit = limit }

@@ -22,6 +22,7 @@ pub record Stock (S : Type 0) : Type 0 where
   pub stopped : Bool
   pub cause : Option Error
 
+-- a stock is told apart by its registry, its store, whether it is stopped, and its cause
 abbrev pub stock_code : {S : Type 0} → Coded S → Coded (Stock S)
 stock_code {S} held =
     code_by (Reg × (Held S × (Bool × Option Error)))
@@ -31,7 +32,7 @@ stock_code {S} held =
     (λ p. record { registry = p.0; store = p.1.0; stopped = p.1.1.0; cause = p.1.1.1 })
     (λ _. refl)
 
--- it is stopped where there is a cause
+-- a stock is stopped where it has a cause
 abbrev pub stock_of : {S : Type 0} → Reg → Held S → Option Error → Stock S
 stock_of registry store cause =
     record { registry = registry; store = store; stopped = is_some cause; cause = cause }
@@ -40,7 +41,8 @@ stock_of registry store cause =
 abbrev pub StoresRows : {S : Type 0} → store.Ghosts S → Stock S → Type 0
 StoresRows g s = OnCleanDisk g s.store (Holds s.registry (state g s.store))
 
--- until it is stopped its store holds them
+-- until a stock is stopped its store holds the rows of its registry, where the disk gives back what
+-- was written
 abbrev pub IsStocked : {S : Type 0} → store.Ghosts S → Stock S → Type 0
 IsStocked g s = s.stopped ≡ false → StoresRows g s
 

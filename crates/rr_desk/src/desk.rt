@@ -6,8 +6,9 @@ ghost use Rattle.rr_submission.specs.declared.submission.DeskFault.TheVariants.{
 ghost use Rattle.rr_store.specs.declared.fault.CreateFault.TheVariants.{NotEmpty};
 ghost use Rattle.rr_store.specs.Calls.{OnCleanDisk, database};
 ghost use Rattle.rr_desk.specs.Desks.{IsOfItsSource, SubmitsTo};
-ghost use Rattle.rr_desk.specs.Opened.{HasOpeningRows, IsOccupied, MakesNone, MakesTables};
-ghost use Rattle.rr_desk.specs.Opened.{OpensNone, OpensTables, RefusesRegistry, Runs};
+ghost use Rattle.rr_desk.specs.Opened.{FailsMaking, FailsOpening, HasOpeningRows, IsOccupied};
+ghost use Rattle.rr_desk.specs.Opened.{MakesNone, MakesTables, OpensNone, OpensTables};
+ghost use Rattle.rr_desk.specs.Opened.{RefusesRegistry, Runs};
 ghost use Rattle.rr_desk.specs.Opening.{IsOpened};
 ghost use Rattle.rr_desk.specs.Stocks.{IsStocked};
 
@@ -34,7 +35,8 @@ pub struct Desk<S: Alter> {
 impl<S: Alter> Desk<S> {
     /// The desk of the registry that opens with these settings, in a database with nothing in it or
     /// with the three tables and no row: all of the rows are written in one transaction. The
-    /// connection is in no transaction. After a fault it is given back, with the rows as they were.
+    /// connection is in no transaction. After a fault it is given back, with the rows as they were;
+    /// `NotEmpty` says that one of the tables has a row.
     pub fn create(
         alloc: Global,
         conn: Connection<S>,
@@ -48,6 +50,7 @@ impl<S: Alter> Desk<S> {
         ensures fails { IfErr result (λ e. MakesNone S.Store (HasOpeningRows settings) conn e.1) }
         ensures not_empty { IfErr result (λ e. e.0 ≡ NotEmpty
             → OnCleanDisk S.Store e.1 (IsOccupied (database S.Store conn))) }
+        ensures store { IfErr result (λ e. FailsMaking S.Store conn e.1 e.0) }
     {
         let Ok(registry) = opening_registry(alloc, &settings) else {
             return Err((CreateFault::Memory, conn));
@@ -59,7 +62,9 @@ impl<S: Alter> Desk<S> {
     }
 
     /// The desk of the registry whose rows the tables hold, of which the settings say the source.
-    /// The connection is in no transaction. After a fault it is given back, and no row is changed.
+    /// The connection is in no transaction. After a fault it is given back, and no row is changed:
+    /// the tables are of another version, which comes first, or their rows are those of no registry
+    /// of the source, or the database refused, or memory ran out.
     pub fn open(
         alloc: Global,
         conn: Connection<S>,
@@ -71,6 +76,7 @@ impl<S: Alter> Desk<S> {
         ensures fails { IfErr result (λ e. OpensNone S.Store conn e.1) }
         ensures why { IfErr result (λ e. OnCleanDisk S.Store e.1
             (RefusesRegistry settings.source (database S.Store conn) e.0)) }
+        ensures store { IfErr result (λ e. FailsOpening S.Store conn e.1 e.0) }
     {
         match open_stored(alloc, conn, settings.source()) {
             Ok(stored) => Ok(Desk { settings, stored }),
@@ -78,13 +84,15 @@ impl<S: Alter> Desk<S> {
         }
     }
 
-    /// Opens the tables again, also after a fault of the store.
+    /// Opens the tables again, also after a fault of the store, as [`Desk::open`] does: after a
+    /// fault the connection is given back, and no row is changed.
     pub fn reopen(self, alloc: Global) -> Result<Desk<S>, (OpenFault, Connection<S>)>
         ensures runs { IfOk result (Runs S.Store self.settings) }
         ensures opens { IfOk result (λ desk. OpensTables S.Store self.stored.store desk.stored) }
         ensures fails { IfErr result (λ e. OpensNone S.Store self.stored.store e.1) }
         ensures why { IfErr result (λ e. OnCleanDisk S.Store e.1
             (RefusesRegistry self.settings.source (database S.Store self.stored.store) e.0)) }
+        ensures store { IfErr result (λ e. FailsOpening S.Store self.stored.store e.1 e.0) }
     {
         let Desk { settings, stored } = self;
         Desk::open(alloc, stored.close(), settings)
@@ -147,7 +155,7 @@ impl<S: Alter> Desk<S> {
         self.stored.is_stopped()
     }
 
-    /// The error of the database that stopped the desk.
+    /// The error of the database that stopped the desk; none until it is stopped.
     pub fn cause(&self) -> Option<Error>
         ensures cause { result ≡ self.now.stored.cause }
         ensures stopped { self.now.stored.stopped ≡ is_some result }
@@ -162,7 +170,7 @@ impl<S: Alter> Desk<S> {
         self.stored.registry()
     }
 
-    /// The connection, whose rows stay.
+    /// The connection, whose rows stay, in no transaction.
     pub fn close(self) -> Connection<S>
         ensures same { result ≡ self.stored.store }
         ensures autocommit { result.in_transaction ≡ false }

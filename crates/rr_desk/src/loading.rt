@@ -1,9 +1,10 @@
 //! Desks made from dumps.
 
-ghost use Rattle.std.specs.Prelude.{◌≡◌, ◌≢◌, false, IfErr, IfOk};
+ghost use Rattle.std.specs.Prelude.{◌≡◌, false, IfErr, IfOk};
 ghost use Rattle.rr_auth.specs.Sources.{IsRegistryOf};
 ghost use Rattle.rr_store.specs.Calls.{OnCleanDisk, database};
-ghost use Rattle.rr_desk.specs.Loaded.{FailsToLoad, HasLoadedRows, IsLoaded};
+ghost use Rattle.rr_desk.specs.Loaded.{FailsLoading, FailsToLoad, HasLoadedRows, IsLoaded};
+ghost use Rattle.rr_desk.specs.LoadFaults.{IsOfDump};
 ghost use Rattle.rr_desk.specs.Opened.{IsOccupied, MakesNone, MakesTables, Runs};
 ghost use Rattle.rr_desk.specs.declared.loading.DeskLoadFault.TheVariants.{NotEmpty};
 
@@ -132,6 +133,7 @@ impl<S: Alter> Desk<S> {
             (R.told reader.old) (R.told reader.new)) conn e.1) }
         ensures not_empty { IfErr result (λ e. e.0 ≡ NotEmpty
             → OnCleanDisk S.Store e.1 (IsOccupied (database S.Store conn))) }
+        ensures store { IfErr result (λ e. FailsLoading S.Store conn e.1 e.0) }
         ensures aside { R.aside reader.new ≡ R.aside reader.old }
     {
         match read_registry(alloc, settings.source(), reader) {
@@ -153,7 +155,7 @@ fn read_registry<R: Source>(
     ensures loaded { IfOk result (IsLoaded source.now (R.told reader.old) (R.told reader.new)) }
     ensures of_source { IfOk result (IsRegistryOf source.now) }
     ensures why { IfErr result (FailsToLoad source.now (R.told reader.old) (R.told reader.new)) }
-    ensures unasked { IfErr result (λ fault. fault ≢ NotEmpty) }
+    ensures of_dump { IfErr result IsOfDump }
     ensures aside { R.aside reader.new ≡ R.aside reader.old }
 {
     let objects = read_dump(alloc, reader, source)?;

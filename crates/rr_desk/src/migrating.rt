@@ -5,8 +5,8 @@ ghost use Rattle.rr_auth.specs.Registries.{Sound};
 ghost use Rattle.rr_auth.specs.Sources.{IsRegistryOf};
 ghost use Rattle.rr_store.specs.Calls.{Looks, OnCleanDisk, database};
 ghost use Rattle.rr_store.specs.declared.fault.MigrateFault.TheVariants.{BadRow, Memory, NoRoot};
-ghost use Rattle.rr_desk.specs.Migrating.{AreRegistry, HasBlock, IsGrown, IsMigratedBy};
-ghost use Rattle.rr_desk.specs.Migrating.{MigratesTables, RefusesOldRegistry};
+ghost use Rattle.rr_desk.specs.Migrating.{AreRegistry, FailsMigrating, HasBlock, IsGrown};
+ghost use Rattle.rr_desk.specs.Migrating.{IsMigratedBy, MigratesTables, RefusesOldRegistry};
 ghost use Rattle.rr_desk.specs.MigratingParts.{HasBlockFault, HasLoadFault, IsGrowthFault, told_as};
 ghost use Rattle.rr_desk.specs.Opened.{MakesNone, Runs};
 ghost use Rattle.rr_desk.specs.Stocks.{StoresRows};
@@ -41,6 +41,7 @@ impl<S: Alter> Desk<S> {
             MakesNone S.Store (IsMigratedBy settings (database S.Store conn)) conn e.1) }
         ensures why { IfErr result (λ e. OnCleanDisk S.Store e.1
             (RefusesOldRegistry settings (database S.Store conn) e.0)) }
+        ensures store { IfErr result (λ e. FailsMigrating S.Store settings conn e.1 e.0) }
     {
         match migrate_stored(alloc, conn, &settings) {
             Ok(stored) => Ok(Desk { settings, stored }),
@@ -64,6 +65,7 @@ fn migrate_stored<S: Alter>(
         MakesNone S.Store (IsMigratedBy settings.now (database S.Store conn)) conn e.1) }
     ensures why { IfErr result (λ e. OnCleanDisk S.Store e.1
         (RefusesOldRegistry settings.now (database S.Store conn) e.0)) }
+    ensures store { IfErr result (λ e. FailsMigrating S.Store settings.now conn e.1 e.0) }
 {
     match migrated_registry(alloc, &mut conn, settings) {
         Ok(registry) => migrate_tables(alloc, conn, settings, registry),
@@ -90,6 +92,7 @@ fn migrate_tables<S: Alter>(
         MakesNone S.Store (IsMigratedBy settings.now (database S.Store conn)) conn e.1) }
     ensures why { IfErr result (λ e. OnCleanDisk S.Store e.1
         (RefusesOldRegistry settings.now (database S.Store conn) e.0)) }
+    ensures store { IfErr result (λ e. FailsMigrating S.Store settings.now conn e.1 e.0) }
 {
     match Store::migrate(alloc, conn, settings.root(), settings.source()) {
         Ok(store) => Ok(Stored::of(registry, store)),
@@ -110,6 +113,7 @@ fn migrated_registry<S: Alter>(
     ensures of_source { IfOk result (IsRegistryOf settings.now.source) }
     ensures why { OnCleanDisk S.Store conn.new
         (IfErr result (RefusesOldRegistry settings.now (database S.Store conn.old))) }
+    ensures store { IfErr result (FailsMigrating S.Store settings.now conn.old conn.new) }
 {
     let objects = Store::old_objects(alloc, conn, settings.source())?;
     grow(alloc, objects, settings)

@@ -7,8 +7,8 @@ ghost use Rattle.rr_auth.specs.Sources.{IsRegistryOf};
 ghost use Rattle.rr_rows.specs.Maps.{HasRows};
 ghost use Rattle.rr_store.specs.Calls.{IsSettled, OnCleanDisk, database};
 ghost use Rattle.rr_store.specs.declared.fault.CreateFault.TheVariants.{NotEmpty};
-ghost use Rattle.rr_desk.specs.Opened.{IsOccupied, MakesNone, MakesTables, OpensTables};
-ghost use Rattle.rr_desk.specs.Opened.{OpensNone, RefusesRegistry};
+ghost use Rattle.rr_desk.specs.Opened.{FailsMaking, FailsOpening, IsOccupied, MakesNone};
+ghost use Rattle.rr_desk.specs.Opened.{MakesTables, OpensNone, OpensTables, RefusesRegistry};
 ghost use Rattle.rr_desk.specs.Private.{opening_fault};
 ghost use Rattle.rr_desk.specs.Stocks.{StoresRows};
 
@@ -34,6 +34,7 @@ pub(crate) fn open_stored<S: Alter>(
     ensures fails { IfErr result (λ e. OpensNone S.Store conn e.1) }
     ensures why { IfErr result (λ e. OnCleanDisk S.Store e.1
         (RefusesRegistry source.now (database S.Store conn) e.0)) }
+    ensures store { IfErr result (λ e. FailsOpening S.Store conn e.1 e.0) }
 {
     match Store::open_all(alloc, conn, source) {
         Ok((store, objects)) => match Registry::from_objects(alloc, objects) {
@@ -71,6 +72,7 @@ pub(crate) fn create_stored<S: Alter>(
     ensures fails { IfErr result (λ e. MakesNone S.Store (HasRows registry) conn e.1) }
     ensures not_empty { IfErr result (λ e. e.0 ≡ NotEmpty
         → OnCleanDisk S.Store e.1 (IsOccupied (database S.Store conn))) }
+    ensures store { IfErr result (λ e. FailsMaking S.Store conn e.1 e.0) }
 {
     match create_store(alloc, conn, &registry) {
         Ok(store) => Ok(Stored::of(registry, store)),
@@ -94,6 +96,7 @@ fn create_store<S: Alter>(
     ensures fails { IfErr result (λ e. MakesNone S.Store (HasRows registry.now) conn e.1) }
     ensures not_empty { IfErr result (λ e. e.0 ≡ NotEmpty
         → OnCleanDisk S.Store e.1 (IsOccupied (database S.Store conn))) }
+    ensures store { IfErr result (λ e. FailsMaking S.Store conn e.1 e.0) }
 {
     match registry.objects(alloc) {
         Ok(objects) => Store::create(alloc, conn, &objects),

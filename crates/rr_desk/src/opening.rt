@@ -103,6 +103,7 @@ fn addresses_object(alloc: Global, settings: &Settings) -> Result<Object, AllocE
     read_object(alloc, paragraph, settings.source())
 }
 
+/// The paragraph of the root maintainer.
 fn root_paragraph(alloc: Global, settings: &Settings) -> Result<Paragraph, AllocError>
     ensures { IfOk result (λ paragraph. paragraph ≡ root_fields settings.now) }
 {
@@ -113,12 +114,14 @@ fn root_paragraph(alloc: Global, settings: &Settings) -> Result<Paragraph, Alloc
     owned(alloc, attributes, settings)
 }
 
+/// The paragraph of the block of all 16-bit AS numbers.
 fn numbers_paragraph(alloc: Global, settings: &Settings) -> Result<Paragraph, AllocError>
     ensures { IfOk result (λ paragraph. paragraph ≡ numbers_fields settings.now) }
 {
     span_paragraph(alloc, settings, b"as-block", b"AS0 - AS65535")
 }
 
+/// The paragraph of the span of all addresses.
 fn addresses_paragraph(alloc: Global, settings: &Settings) -> Result<Paragraph, AllocError>
     ensures { IfOk result (λ paragraph. paragraph ≡ addresses_fields settings.now) }
 {

@@ -11,7 +11,7 @@ ghost use Rattle.rr_registry.specs.Runs.{IsStep};
 ghost use Rattle.rr_rows.specs.Maps.{HasRows, IsObjectOf};
 ghost use Rattle.rr_store.specs.Calls.{IsSettled, OnCleanDisk, Writes, database};
 ghost use Rattle.rr_desk.specs.Stops.{IsStopped, changes};
-ghost use Rattle.rr_desk.specs.LookupParts.{cause_of, refusal};
+ghost use Rattle.rr_desk.specs.LookupParts.{error_of, refusal};
 ghost use Rattle.rr_desk.specs.Private.{Follows, FollowsGain, FollowsIn, FollowsNew, puts_one};
 ghost use Rattle.rr_desk.specs.Rows.{KeepsRows, OnlyLooks};
 ghost use Rattle.rr_desk.specs.Stocks.{IsStocked, StoresRows};
@@ -77,7 +77,7 @@ impl<S: Alter> Stored<S> {
         self.cause.is_some()
     }
 
-    /// The error of the database that stopped it.
+    /// The error of the database that stopped it; none until it is stopped.
     pub fn cause(&self) -> Option<Error>
         ensures cause { result ≡ self.now.cause }
         ensures stopped { self.now.stopped ≡ is_some result }
@@ -138,13 +138,13 @@ impl<S: Alter> Stored<S> {
         match follow(alloc, &self.registry, &mut self.store, key, outcome) {
             Ok(()) => Ok(outcome),
             Err(fault) => {
-                self.cause = Some(cause_of(fault));
+                self.cause = Some(error_of(fault));
                 Err(Stopped)
             }
         }
     }
 
-    /// The connection, whose rows stay.
+    /// The connection, whose rows stay, in no transaction.
     pub fn close(self) -> Connection<S>
         ensures same { result ≡ self.store }
         ensures autocommit { result.in_transaction ≡ false }
@@ -194,8 +194,8 @@ fn refusal(found: &Result<Vec<Object>, StoreFault>) -> Option<Error>
 
 /// The error of the database that a fault of its store is: of memory it is the one that SQLite has
 /// for it.
-fn cause_of(fault: StoreFault) -> Error
-    ensures { result ≡ cause_of fault }
+fn error_of(fault: StoreFault) -> Error
+    ensures { result ≡ error_of fault }
 {
     match fault {
         StoreFault::Store(error) => error,

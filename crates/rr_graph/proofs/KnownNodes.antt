@@ -16,7 +16,7 @@ use Rattle.std.proofs.lemmas.Map.Lookups.{CmpEqualImpliesEq, exact_pairs}
 use Rattle.std.proofs.lemmas.Map.Views.{tells_apart}
 use Rattle.rr_graph.specs.Carried.{IsFound, IsFoundPair, IsLabelledChain, IsNamed, put_through}
 use Rattle.rr_graph.specs.Chain.{HasNoRepeats, MoreThan}
-use Rattle.rr_graph.specs.SettledParts.{HasEdges, IsAmong, IsFoundAmong, IsHeld, IsHeldOr, IsPassed, IsSettled, IsTallied}
+use Rattle.rr_graph.specs.SettledParts.{HasEdges, IsAmong, IsFoundAmong, IsHeld, IsHeldOr, IsPassed, HoldsAllValues, IsTallied}
 use Rattle.rr_graph.specs.declared.labels.Edge.{Edge}
 use Rattle.rr_graph.proofs.Backwards.{Contains-take, Contains-take_cases}
 use Rattle.rr_graph.proofs.Listings.{HasNoRepeats-push, MoreThan-listed}
@@ -186,7 +186,7 @@ module _ {N L V : Type 0} (passed : L → V → Option V) (at : N → Option (Li
   pub IsPassed-unknown : (old : List V) (e : Edge N L) → at e.to ≡ None → (v : V) → Contains old v ↔ (Contains old v ⊎ ((w : V) × IsHeld at (e.to, w) × (passed e.label w ≡ Some v)))
   IsPassed-unknown old e unknown v = (λ has. inl has, λ both. elim both [ inl there ↦ there | inr r ↦ let wrong : None ≡ Some r.1.0 = sym unknown ∙ r.1.1 in cc ])
 
-module _ {N L V : Type 0} (edge : N → N → L → Type 0) (own : N → V → Type 0) (passed : L → V → Option V) (cmp : V → V → Ordering) (at : N → Option (List V)) (settled : IsSettled edge own passed cmp at) where
+module _ {N L V : Type 0} (edge : N → N → L → Type 0) (own : N → V → Type 0) (passed : L → V → Option V) (cmp : V → V → Ordering) (at : N → Option (List V)) (settled : HoldsAllValues edge own passed cmp at) where
   -- what is found at a node whose edges all lead to known ones
   pub IsFound-settled : (node : N) (edges : List (Edge N L)) → HasEdges edge node edges → ((e : Edge N L) → Contains edges e → is_some (at e.to) ≡ true) → (v : V) → (own node v ⊎ IsPassed passed at edges v) ↔ IsFound edge own passed node v
   IsFound-settled node edges leave known v = (on, λ (chain, b, begun, leads, owned, through). from chain b begun leads owned through) where
@@ -234,8 +234,8 @@ module _ {N L V : Type 0} (edge : N → N → L → Type 0) (own : N → V → T
     ]
 
     -- the new node is settled too
-    pub IsSettled-entered : IsSettled edge own passed value_cmp at → ((v : V) → Contains values v ↔ IsFound edge own passed tail v) → IsStrictlySortedBy value_cmp values → IsSettled edge own passed value_cmp new
-    IsSettled-entered settled found sorted = entered (λ n held. ((v : V) → Contains held v ↔ IsFound edge own passed n v) × IsStrictlySortedBy value_cmp held) (found, sorted) settled
+    pub HoldsAllValues-entered : HoldsAllValues edge own passed value_cmp at → ((v : V) → Contains values v ↔ IsFound edge own passed tail v) → IsStrictlySortedBy value_cmp values → HoldsAllValues edge own passed value_cmp new
+    HoldsAllValues-entered settled found sorted = entered (λ n held. ((v : V) → Contains held v ↔ IsFound edge own passed n v) × IsStrictlySortedBy value_cmp held) (found, sorted) settled
 
     -- no other node is
     pub only_entered : (other : N) → is_some (new other) ≡ true → (is_some (at other) ≡ true) ⊎ (tail ≡ other)
@@ -244,7 +244,7 @@ module _ {N L V : Type 0} (edge : N → N → L → Type 0) (own : N → V → T
         entered (λ n _. (is_some (at n) ≡ true) ⊎ (tail ≡ n)) (inr refl) (λ n old has. inl (ap is_some has)) other held.0 held.1
 
   -- what is held and what is found at a node is found at the nodes
-  pub IsFoundAmong-held : (nodes : List N) (node : N) → IsSettled edge own passed value_cmp at → IsAmong nodes at → Contains nodes node → (p : N × V) → IsHeldOr at node (IsFound edge own passed node) p → IsFoundAmong edge own passed nodes p
+  pub IsFoundAmong-held : (nodes : List N) (node : N) → HoldsAllValues edge own passed value_cmp at → IsAmong nodes at → Contains nodes node → (p : N × V) → IsHeldOr at node (IsFound edge own passed node) p → IsFoundAmong edge own passed nodes p
   IsFoundAmong-held nodes node settled among there p (inl (held, is, has)) = (among p.0 held is, ((settled p.0 held is).0 p.1).0 has)
   IsFoundAmong-held nodes node settled among there p (inr (same, found)) = (subst (Contains nodes) (sym same) there, subst (λ (n : N). IsFound edge own passed n p.1) (sym same) found)
 
@@ -256,7 +256,7 @@ among_only nodes node at new there among only other held is = elim (only other (
 ]
 
 -- where all nodes that are reached are known, the pairs held are all that are found
-pub few_settled : {N L V : Type 0} {cmp : N → N → Ordering} (order : IsTotalOrder cmp) (exact : CmpEqualImpliesEq cmp) {value_cmp : V → V → Ordering} (value_order : IsTotalOrder value_cmp) (value_exact : CmpEqualImpliesEq value_cmp) (edge : N → N → L → Type 0) (own : N → V → Type 0) (passed : L → V → Option V) (at : N → Option (List V)) (start : N) (limit count : ℕ) → IsSettled edge own passed value_cmp at → IsTallied at limit count → ((node : N) → IsNamed edge start node → is_some (at node) ≡ true) → MoreThan limit (IsFoundPair edge own passed start) → ⊥
+pub few_settled : {N L V : Type 0} {cmp : N → N → Ordering} (order : IsTotalOrder cmp) (exact : CmpEqualImpliesEq cmp) {value_cmp : V → V → Ordering} (value_order : IsTotalOrder value_cmp) (value_exact : CmpEqualImpliesEq value_cmp) (edge : N → N → L → Type 0) (own : N → V → Type 0) (passed : L → V → Option V) (at : N → Option (List V)) (start : N) (limit count : ℕ) → HoldsAllValues edge own passed value_cmp at → IsTallied at limit count → ((node : N) → IsNamed edge start node → is_some (at node) ≡ true) → MoreThan limit (IsFoundPair edge own passed start) → ⊥
 few_settled {N} {L} {V} {cmp} order exact {value_cmp} value_order value_exact edge own passed at start limit count settled tallied known =
     MoreThan-listed (then_total (on_total (λ (p : N × V). p.0) order) (on_total (λ (p : N × V). p.1) value_order)) (exact_pairs cmp value_cmp exact value_exact) limit tallied.pairs (IsFoundPair edge own passed start) (rw tallied.long tallied.few)
     (λ p (name, found).

@@ -48,8 +48,8 @@ IsPassed {N} {L} {V} passed at edges v = (e : Edge N L) × Contains edges e
 module _ {N L V : Type 0} (edge : N → N → L → Type 0) (own : N → V → Type 0)
     (passed : L → V → Option V) where
   -- A known node has exactly the values that are found at it, in order.
-  abbrev pub IsSettled : (V → V → Ordering) → (N → Option (List V)) → Type 0
-  IsSettled cmp at = (node : N) (values : List V) → at node ≡ Some values
+  abbrev pub HoldsAllValues : (V → V → Ordering) → (N → Option (List V)) → Type 0
+  HoldsAllValues cmp at = (node : N) (values : List V) → at node ≡ Some values
       → ((v : V) → Contains values v ↔ IsFound edge own passed node v)
       × IsStrictlySortedBy cmp values
 

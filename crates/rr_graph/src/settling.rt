@@ -9,7 +9,8 @@ ghost use Rattle.std.proofs.lemmas.Map.Lookups.{CmpEqualImpliesEq};
 ghost use Rattle.rr_graph.specs.Carried.{IsFound};
 ghost use Rattle.rr_graph.specs.Chain.{MoreThan};
 ghost use Rattle.rr_graph.specs.SettledParts.{HasEdges, IsAmong, IsFoundAmong, IsHeldOr, IsMade};
-ghost use Rattle.rr_graph.specs.SettledParts.{IsPassed, IsRun, IsSettled, IsTallied, values_at};
+ghost use Rattle.rr_graph.specs.SettledParts.{HoldsAllValues, IsPassed, IsRun};
+ghost use Rattle.rr_graph.specs.SettledParts.{IsTallied, values_at};
 
 use crate::ReachFault;
 use crate::effects::Effects;
@@ -28,7 +29,7 @@ pub fn settled<G: Labelled>(
     nodes: &[G::Node],
     limit: usize,
 ) -> Result<Settled<G>, ReachFault>
-    ensures settled { IfOk result (λ settled. IsSettled (G.edge graph.now)
+    ensures settled { IfOk result (λ settled. HoldsAllValues (G.edge graph.now)
         (G.own graph.now) G.passed G.Value.cmp (values_at G.Node.cmp settled.values)) }
     ensures among { IfOk result
         (λ settled. IsAmong nodes.now (values_at G.Node.cmp settled.values)) }
@@ -59,10 +60,10 @@ fn settle<G: Labelled>(
     limit: usize,
 ) -> Result<(), ReachFault>
     requires edges { HasEdges (G.edge graph.now) tail.now.node.now tail.now.edges.items }
-    requires settled { IsSettled (G.edge graph.now) (G.own graph.now) G.passed G.Value.cmp
+    requires settled { HoldsAllValues (G.edge graph.now) (G.own graph.now) G.passed G.Value.cmp
         (values_at G.Node.cmp settled.old.values) }
     requires tallied { IsTallied (values_at G.Node.cmp settled.old.values) limit settled.old.pairs }
-    ensures settled { OnOk result (IsSettled (G.edge graph.now)
+    ensures settled { OnOk result (HoldsAllValues (G.edge graph.now)
         (G.own graph.now) G.passed G.Value.cmp (values_at G.Node.cmp settled.new.values)) }
     ensures tallied { OnOk result
         (IsTallied (values_at G.Node.cmp settled.new.values) limit settled.new.pairs) }
@@ -91,7 +92,7 @@ fn found_at<G: Labelled>(
     tail: &Tail<'_, G::Node, G::Label>,
 ) -> Result<Option<Vec<G::Value>>, AllocError>
     requires edges { HasEdges (G.edge graph.now) tail.now.node.now tail.now.edges.items }
-    requires settled { IsSettled (G.edge graph.now) (G.own graph.now) G.passed G.Value.cmp
+    requires settled { HoldsAllValues (G.edge graph.now) (G.own graph.now) G.passed G.Value.cmp
         (values_at G.Node.cmp settled.now.values) }
     ensures found { IfOk result
         (λ found. IfSome found (λ values. (v : G.Value) → Contains values.items v

@@ -109,9 +109,9 @@ told_asks desk buffered (submission size) before after from_old from_new old new
     told_submission desk taken.body size taken.end before after from_old from_new old new result
     (body_reading taken.end from_old from_new buffered size taken.body from_room taken.reads) room taken.submits
 told_asks desk buffered (query escaped) before after from_old from_new old new result from_room room serves =
-    told_query desk.Answers (desk.stops before) _ before after from_old from_new old new result (ap (λ (told : Told). told.faults) serves.0) room serves.1
+    told_query desk.Answers (desk.is_stopped before) _ before after from_old from_new old new result (ap (λ (told : Told). told.faults) serves.0) room serves.1
 told_asks desk buffered dump before after from_old from_new old new result from_room room serves =
-    told_dump _ (desk.stops before) from_old from_new old new result (ap (λ (told : Told). told.faults) serves.0.unread) room serves.1
+    told_dump _ (desk.is_stopped before) from_old from_new old new result (ap (λ (told : Told). told.faults) serves.0.unread) room serves.1
 
 told_wants : {D : Type 0} (desk : Ghosts D) (head : List ℕ) (wants : Wants) (before after : D) (from_old from_new old new : Told) (result : Answer) →
     CanCount from_old → CanCount old → ServesWants desk head wants before after (visit_of from_old from_new old new result) → TellsCalls from_old from_new old new result

@@ -9,9 +9,9 @@ use Rattle.std.specs.Option.{option_map}
 use Rattle.rr_bytes.specs.Blanks.{is_line_feed}
 use Rattle.rr_http.specs.Heads.{head_length, line_end}
 
-behind : (place : ℕ) (found : Option ℕ) → option_map (λ n. place + n) (option_map (λ n. 1 + n) found) ≡ option_map (λ n. (place + 1) + n) found
-behind place None = refl
-behind place (Some n) = ap Some (let e : place + (1 + n) ≡ (place + 1) + n = omega arith in e)
+after : (place : ℕ) (found : Option ℕ) → option_map (λ n. place + n) (option_map (λ n. 1 + n) found) ≡ option_map (λ n. (place + 1) + n) found
+after place None = refl
+after place (Some n) = ap Some (let e : place + (1 + n) ≡ (place + 1) + n = omega arith in e)
 
 head_here : (place b : ℕ) (bs : List ℕ) → (is_line_feed b && nat_lt 0 (line_end bs)) ≡ true →
     option_map (λ n. place + n) (head_length (b ∷ bs)) ≡ Some ((place + 1) + line_end bs)
@@ -21,7 +21,7 @@ head_here place b bs h = rw h (ap Some (let e : place + (1 + line_end bs) ≡ (p
 head_on : (place b : ℕ) (bs : List ℕ) → (is_line_feed b && nat_lt 0 (line_end bs)) ≡ false →
     option_map (λ n. place + n) (head_length (b ∷ bs)) ≡ option_map (λ n. (place + 1) + n) (head_length bs)
 unfolding head_length
-head_on place b bs h = rw h (behind place (head_length bs))
+head_on place b bs h = rw h (after place (head_length bs))
 
 -- the head of a text ends with the line end after an LF
 pub head_found : (text rest bs : List ℕ) (place b end : ℕ) → head_length text ≡ option_map (λ n. place + n) (head_length rest) → rest ≡ b ∷ bs →

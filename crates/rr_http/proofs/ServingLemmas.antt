@@ -9,7 +9,7 @@ use Rattle.rr_http.specs.declared.heads.Head.TheVariants.{Whois, Http, Refused}
 use Rattle.rr_http.specs.Answering.{TellsAnswer}
 use Rattle.rr_http.specs.Replies.{refusal_reply}
 use Rattle.rr_http.specs.Requests.{Asks, refused}
-use Rattle.rr_http.specs.Serving.{LeavesAll, Replies, Serves, ServesAsks, ServesHead, ServesWants, visit_of}
+use Rattle.rr_http.specs.Serving.{IsUntouched, Replies, Serves, ServesAsks, ServesHead, ServesWants, visit_of}
 use Rattle.rr_http.specs.Wants.{HeadWants, IsHead, ReadsHead, RequestAsks, RequestWants, is_full, whois, http}
 use Rattle.rr_http.proofs.WantLemmas.{wants_kept}
 
@@ -48,7 +48,7 @@ module _ {D : Type 0} (desk : Ghosts D) (read : List ℕ) (before after : D) (vi
   }
 
   -- a head that is not whole was refused
-  pub refusal_served : (refusal : Refusal) → IsHead read (Refused refusal) → LeavesAll before after visit → Replies (refusal_reply refusal) visit →
+  pub refusal_served : (refusal : Refusal) → IsHead read (Refused refusal) → IsUntouched before after visit → Replies (refusal_reply refusal) visit →
       ServesHead desk read before after visit
   refusal_served refusal head left replies = record {
     wants = http 0 (refused refusal);

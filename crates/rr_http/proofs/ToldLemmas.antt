@@ -17,8 +17,8 @@ after_head bytes prefix more left rest place within all given =
     ap (drop place) all ∙ (drop-append-le place prefix left within
     ∙ (ap (λ xs. drop place prefix ++ xs) given ∙ sym (append_assoc (drop place prefix) more rest)))
 
-front_of : (xs rest : List ℕ) (size : ℕ) → size ≤ length xs → take size xs ≡ take size (xs ++ rest)
-front_of xs rest size within = sym (take-append-le size xs rest within)
+head_of : (xs rest : List ℕ) (size : ℕ) → size ≤ length xs → take size xs ≡ take size (xs ++ rest)
+head_of xs rest size within = sym (take-append-le size xs rest within)
 
 long_enough : (xs : List ℕ) (size : ℕ) → length (take size xs) ≡ size → size ≤ length xs
 long_enough xs size is = omega (arith, length-take size xs)
@@ -29,7 +29,7 @@ body_after old between new bytes prefix body place size Whole told gives within 
     let read = reads.1.consumed given.0 given.1 in
     let follows = after_head bytes prefix reads.0 given.0 read.0 place within given.2 read.2 in
     let whole : length (take size (drop place prefix ++ reads.0)) ≡ size = ap (λ (xs : List ℕ). length xs) (sym reads.2) ∙ reads.3 in
-    (reads.2 ∙ (front_of _ read.0 size (long_enough _ size whole) ∙ ap (take size) (sym follows)), reads.3)
+    (reads.2 ∙ (head_of _ read.0 size (long_enough _ size whole) ∙ ap (take size) (sym follows)), reads.3)
 body_after old between new bytes prefix body place size Short told gives within reads =
     let given = gives.consumed bytes told in
     let read = reads.1.consumed given.0 given.1 in

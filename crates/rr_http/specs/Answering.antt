@@ -134,7 +134,7 @@ pub record SubmitsBody {D : Type 0} (g : ledger.Ghosts D) (source body : List �
 -- the rows are those of its registry; a registry of its source stays one
 pub record KeepsDesk {D : Type 0} (desk : Ghosts D) (before after : D)
     (result : Result Done DeskFault) : Type 0 where
-  pub runs : UnlessStoreFault result (desk.stops after ≡ false)
+  pub runs : UnlessStoreFault result (desk.is_stopped after ≡ false)
   pub kept : UnlessStoreFault result (desk.Kept after)
   pub of_source : IsRegistryOf (desk.settings before).source (desk.ledger.registry before)
       → IsRegistryOf (desk.settings after).source (desk.ledger.registry after)

@@ -44,7 +44,7 @@ abbrev pub desk_registrar : {S : Type 0} → store.Ghosts S → registrar.Ghosts
 desk_registrar g = record {
   ledger = desk_ledger g;
   settings = λ desk. desk.settings;
-  stops = λ desk. desk.stored.stopped;
+  is_stopped = λ desk. desk.stored.stopped;
   Answers = λ before query text after. IsDeskAnswer g before query text after;
   dumped = λ desk. dump false desk.stored.registry;
   Kept = λ desk. IsStocked g desk.stored;

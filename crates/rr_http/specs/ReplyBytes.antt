@@ -66,7 +66,7 @@ pub record IsAnswerSent {D : Type 0} (desk : Ghosts D) (head text : List ℕ) (b
 -- report is answered after the head of a reply, as far as it could be written
 pub record IsReportSent {D : Type 0} (desk : Ghosts D) (given : List ℕ) (size : ℕ)
     (before after : D) (result : Answer) (answered : List ℕ) : Type 0 where
-  pub running : desk.stops before ≡ false
+  pub running : desk.is_stopped before ≡ false
   pub body : List ℕ
   pub end : BodyEnd
   pub is_body : IsBodyOf end size given body
@@ -86,12 +86,12 @@ RepliesTo desk given (submission size) before after result answered =
     ⊎ IsReportSent desk given size before after result answered
 RepliesTo desk given (query escaped) before after result answered =
     IsRefusalSent before after result answered
-    ⊎ ((desk.stops before ≡ false)
+    ⊎ ((desk.is_stopped before ≡ false)
     × (IsHeadCutOff before after result answered
     ⊎ IsAnswerSent desk ok_head (percent_decode escaped) before after result answered))
 RepliesTo desk given dump before after result answered =
     IsRefusalSent before after result answered
-    ⊎ ((desk.stops before ≡ false) × IsDumpSent (desk.dumped before) result answered
+    ⊎ ((desk.is_stopped before ≡ false) × IsDumpSent (desk.dumped before) result answered
     × (after ≡ before))
 
 -- what a connection is answered that gives these bytes in all, by what it wants
@@ -103,7 +103,7 @@ RepliesToWants desk asked (whois text) before after result answered =
 RepliesToWants desk asked (http place asks) before after result answered =
     RepliesTo desk (drop place asked) asks before after result answered
 
--- what its bytes want is answered
+-- what a connection wants that gives these bytes in all is answered
 pub record IsReplied {D : Type 0} (desk : Ghosts D) (before : D) (asked : List ℕ)
     (result : Answer)
     (answered : List ℕ) (after : D) : Type 0 where
@@ -111,7 +111,7 @@ pub record IsReplied {D : Type 0} (desk : Ghosts D) (before : D) (asked : List �
   pub is_wanted : IsWanted asked wants
   pub replies : RepliesToWants desk asked wants before after result answered
 
--- or a read failed before it was known what it wants, and nothing is answered
+-- a read failed before it was known what the connection wants, and nothing is answered
 pub record IsUnanswered {D : Type 0} (before : D) (asked : List ℕ) (result : Answer)
     (answered : List ℕ) (after : D) : Type 0 where
   pub given : List ℕ

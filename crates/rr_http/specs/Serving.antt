@@ -45,13 +45,14 @@ pub record IsSubmitted {D : Type 0} (desk : Ghosts D) (body : List ℕ) (size : 
   pub keeps : KeepsDesk desk before after done
   pub answer : result ≡ answer_by end (nat_lt old.faults new.faults)
 
--- or not even the head could be written, and nothing is submitted
+-- the head of the reply could not be written, and nothing is submitted
 pub record IsUnsubmitted {D : Type 0} (end : BodyEnd) (before after : D) (old new : Told)
     (result : Answer) : Type 0 where
   pub cut : TakesPrefix old new ok_head
   pub failed : result ≡ answer_by end true
   pub same : after ≡ before
 
+-- a body that was read is submitted, unless the head of the reply could not be written
 abbrev pub SubmitsRead : {D : Type 0} → Ghosts D → List ℕ → ℕ → BodyEnd → D → D
     → Told → Told
     → Answer → Type 0
@@ -69,13 +70,14 @@ visit_of from_old from_new old new answer = record {
   answer = answer;
 }
 
+-- a connection while it was served, by what it told as a reader and as a writer, before and after
 abbrev pub visit : {C : Type 0} → source.Ghosts C → sink.Ghosts C → C → C → Answer
     → Visit
 visit reader writer old new answer =
     visit_of (reader.told old) (reader.told new) (writer.told old) (writer.told new) answer
 
 -- nothing was read of a connection, and the desk is as it was
-pub record LeavesAll {D : Type 0} (before after : D) (visit : Visit) : Type 0 where
+pub record IsUntouched {D : Type 0} (before after : D) (visit : Visit) : Type 0 where
   pub unread : visit.reader_after ≡ visit.reader_before
   pub same : after ≡ before
 
@@ -91,25 +93,25 @@ IsRefusedNow before after visit =
 -- the body was read and submitted
 pub record IsTakenIn {D : Type 0} (desk : Ghosts D) (buffered : List ℕ) (size : ℕ)
     (before after : D) (visit : Visit) : Type 0 where
-  pub running : desk.stops before ≡ false
+  pub running : desk.is_stopped before ≡ false
   pub body : List ℕ
   pub end : BodyEnd
   pub reads : ReadsBody visit.reader_before visit.reader_after buffered size body end
   pub submits : SubmitsRead desk body size end before after visit.writer_before visit.writer_after
       visit.answer
 
--- or the desk is stopped: it takes no submission, and none of the body is read
+-- the desk is stopped: it takes no submission, and none of the body is read
 pub record MeetsStoppedDesk {D : Type 0} (desk : Ghosts D) (before after : D) (visit : Visit)
     : Type 0 where
-  pub stopped : desk.stops before ≡ true
+  pub stopped : desk.is_stopped before ≡ true
   pub unread : visit.reader_after ≡ visit.reader_before
   pub unavailable : IsRefusedNow before after visit
 
--- or memory ran out for the body, which is read no further than its size; these of its bytes came
+-- memory ran out for the body, which is read no further than its size; these of its bytes came
 -- with the head
 pub record MeetsNoMemory {D : Type 0} (desk : Ghosts D) (buffered : List ℕ) (size : ℕ)
     (before after : D) (visit : Visit) : Type 0 where
-  pub running : desk.stops before ≡ false
+  pub running : desk.is_stopped before ≡ false
   pub reads : GivesWithin visit.reader_before visit.reader_after (size - length buffered)
   pub unavailable : IsRefusedNow before after visit
 
@@ -131,16 +133,16 @@ ServesBody desk buffered size before after visit =
 abbrev pub ServesAsks : {D : Type 0} → Ghosts D → List ℕ → Asks → D → D → Visit
     → Type 0
 ServesAsks desk buffered (refused refusal) before after visit =
-    LeavesAll before after visit × Replies (refusal_reply refusal) visit
+    IsUntouched before after visit × Replies (refusal_reply refusal) visit
 ServesAsks desk buffered (submission size) before after visit =
     ServesBody desk buffered size before after visit
 ServesAsks desk buffered (query escaped) before after visit =
     (visit.reader_after ≡ visit.reader_before)
-    × AnswersQuery desk.Answers (desk.stops before) (percent_decode escaped) before after
+    × AnswersQuery desk.Answers (desk.is_stopped before) (percent_decode escaped) before after
     visit.writer_before visit.writer_after visit.answer
 ServesAsks desk buffered dump before after visit =
-    LeavesAll before after visit
-    × AnswersDump (desk.dumped before) (desk.stops before)
+    IsUntouched before after visit
+    × AnswersDump (desk.dumped before) (desk.is_stopped before)
     visit.writer_before visit.writer_after visit.answer
 
 -- what is done of what a connection wants at whose head these bytes were read
@@ -160,7 +162,7 @@ pub record ServesHead {D : Type 0} (desk : Ghosts D) (read : List ℕ) (before a
   pub are_wanted : HeadWants (speaks_http read) read (is_full read) wants
   pub serves : ServesWants desk read wants before after visit
 
--- the same connection, from when its reader told this
+-- a connection while it was served, from when its reader told this
 abbrev pub visit_from : Told → Visit → Visit
 visit_from between visit =
     visit_of between visit.reader_after visit.writer_before visit.writer_after visit.answer

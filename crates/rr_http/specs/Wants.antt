@@ -68,18 +68,20 @@ abbrev pub IsWanted : List ℕ → Wants → Type 0
 IsWanted bytes wants =
     HeadWants (speaks_http (take HEAD_SIZE bytes)) (take HEAD_SIZE bytes) (is_full bytes) wants
 
--- bytes say what the connection wants: they have its first line, and by HTTP the head of a request
+-- bytes say what the connection wants: by HTTP they have the head of a request, otherwise a first
+-- line (profile)
 abbrev pub says_by : Bool → List ℕ → Bool
 says_by true bytes = is_some (head_length bytes)
 says_by false bytes = has_line_feed bytes
 
+-- bytes say what the connection wants that gives them (profile)
 abbrev pub says_wants : List ℕ → Bool
 says_wants bytes = says_by (speaks_http bytes) bytes
 
 -- enough of a connection was read to know what it wants: what says it, or all that is read, or all
 -- that the connection has
-abbrev pub IsSettled : List ℕ → Bool → Type 0
-IsSettled bytes ended =
+abbrev pub IsDecided : List ℕ → Bool → Type 0
+IsDecided bytes ended =
     IsTrue (says_wants bytes) ⊎ ((length bytes ≡ HEAD_SIZE) ⊎ IsTrue ended)
 
 -- the head of a connection was read, so far that it is known what it wants; the input may have
@@ -87,7 +89,7 @@ IsSettled bytes ended =
 pub record ReadsHead (old new : Told) (head : List ℕ) (ended : Bool) : Type 0 where
   pub gives : Gives old new head
   pub short : length head ≤ HEAD_SIZE
-  pub settled : IsSettled head ended
+  pub settled : IsDecided head ended
   pub spent : IsTrue ended → IsSpent new
 
 -- bytes do not say yet what the connection wants
@@ -118,5 +120,5 @@ FindsHead old new bytes head = (ended : Bool) × ReadsHead old new bytes ended �
 abbrev pub WantsByItsHead : Type 0
 WantsByItsHead =
     (head more : List ℕ) (ended : Bool) (wants : Wants) → length head ≤ HEAD_SIZE
-    → IsSettled head ended → (IsTrue ended → more ≡ [])
+    → IsDecided head ended → (IsTrue ended → more ≡ [])
     → HeadWants (speaks_http head) head (is_full head) wants → IsWanted (head ++ more) wants

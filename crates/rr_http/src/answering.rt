@@ -15,8 +15,8 @@ use rr_desk::{ConnFault, DeskDumpFault, DeskFault, Done};
 use rr_io::Sink;
 use std::alloc::{AllocError, Global};
 
-/// Refuses a request.
-pub fn refuse<W: Sink>(writer: &mut W, refusal: Refusal) -> Result<(), ConnFault>
+/// Refuses a request. The error is that a write failed: the writer has taken a part of the reply.
+pub(crate) fn refuse<W: Sink>(writer: &mut W, refusal: Refusal) -> Result<(), ConnFault>
     ensures tells { Tells (refusal_reply refusal) (W.told writer.old) (W.told writer.new) result }
     ensures aside { W.aside writer.new ≡ W.aside writer.old }
 {
@@ -26,8 +26,9 @@ pub fn refuse<W: Sink>(writer: &mut W, refusal: Refusal) -> Result<(), ConnFault
     }
 }
 
-/// Answers a query by whois (RFC 3912, 2).
-pub fn answer_whois<D: Registrar, W: Sink>(
+/// Answers a query by whois (RFC 3912, 2). The error is that a write failed: the writer has taken a
+/// part of the answer.
+pub(crate) fn answer_whois<D: Registrar, W: Sink>(
     alloc: Global,
     desk: &mut D,
     query: &[u8],
@@ -44,14 +45,16 @@ pub fn answer_whois<D: Registrar, W: Sink>(
     }
 }
 
-/// Answers a query by HTTP, whose percent escapes are read first (RFC 3986, 2.1).
-pub fn answer_query<D: Registrar, W: Sink>(
+/// Answers a query by HTTP, whose percent escapes are read first (RFC 3986, 2.1). If the desk is
+/// stopped, or memory runs out for that, it is not asked, and the reply is 503. The error is that a
+/// write failed: the writer has taken a part of the reply.
+pub(crate) fn answer_query<D: Registrar, W: Sink>(
     alloc: Global,
     desk: &mut D,
     escaped: &[u8],
     writer: &mut W,
 ) -> Result<(), ConnFault>
-    ensures answers { AnswersQuery D.Answers (D.stops desk.old) (percent_decode escaped.now)
+    ensures answers { AnswersQuery D.Answers (D.is_stopped desk.old) (percent_decode escaped.now)
         desk.old desk.new (W.told writer.old) (W.told writer.new) result }
     ensures settings { D.settings desk.new ≡ D.settings desk.old }
     ensures aside { W.aside writer.new ≡ W.aside writer.old }
@@ -65,7 +68,7 @@ pub fn answer_query<D: Registrar, W: Sink>(
     }
 }
 
-/// The bytes with their percent escapes read (RFC 3986, 2.1).
+/// The bytes with their percent escapes read (RFC 3986, 2.1). The error is that memory ran out.
 fn decoded(alloc: Global, escaped: &[u8]) -> Result<Vec<u8>, AllocError>
     ensures { IfOk result (λ query. query.items ≡ percent_decode escaped.now) }
 {
@@ -74,7 +77,8 @@ fn decoded(alloc: Global, escaped: &[u8]) -> Result<Vec<u8>, AllocError>
     Ok(query)
 }
 
-/// Writes the head of a reply, and after it the answer to a query.
+/// Writes the head of a reply, and after it the answer to a query; the desk is asked once the head
+/// is written. The error is that a write failed: the writer has taken a part of the reply.
 fn give_answer<D: Registrar, W: Sink>(
     alloc: Global,
     desk: &mut D,
@@ -92,13 +96,15 @@ fn give_answer<D: Registrar, W: Sink>(
     }
 }
 
-/// Gives the public dump by HTTP.
-pub fn give_dump<D: Registrar, W: Sink>(
+/// Gives the public dump by HTTP, or 503 if the desk is stopped. Where memory runs out the dump
+/// ends early, which is not an error. The error is that a write failed: the writer has taken a part
+/// of the reply.
+pub(crate) fn give_dump<D: Registrar, W: Sink>(
     alloc: Global,
     desk: &D,
     writer: &mut W,
 ) -> Result<(), ConnFault>
-    ensures dumps { AnswersDump (D.dumped desk.now) (D.stops desk.now)
+    ensures dumps { AnswersDump (D.dumped desk.now) (D.is_stopped desk.now)
         (W.told writer.old) (W.told writer.new) result }
     ensures aside { W.aside writer.new ≡ W.aside writer.old }
 {
@@ -124,8 +130,12 @@ fn dump_answer(fault: DeskDumpFault) -> Result<(), ConnFault>
     }
 }
 
-/// Submits a body of which these bytes came, and `missing` more did not.
-pub fn submit_body<D: Registrar, W: Sink>(
+/// Submits a body of which these bytes came, and `missing` more did not, and writes the report: no
+/// item is decided that misses bytes. A read fault says that bytes are missing: the items that came
+/// whole are decided. After a write fault those up to the one whose line could not be written are,
+/// or all of them; after a fault of the store, which alone stops the desk, those before it; and if
+/// memory ran out before the first item, none. The fault is never that the desk had stopped.
+pub(crate) fn submit_body<D: Registrar, W: Sink>(
     alloc: Global,
     desk: &mut D,
     bytes: &[u8],
@@ -133,7 +143,7 @@ pub fn submit_body<D: Registrar, W: Sink>(
     writer: &mut W,
 ) -> Result<Done, DeskFault>
     requires small { length bytes.now ≤ BODY_SIZE }
-    requires running { D.stops desk.old ≡ false }
+    requires running { D.is_stopped desk.old ≡ false }
     ensures submits { SubmitsBody D.ledger (D.settings desk.old).source bytes.now missing
         desk.old desk.new (W.told writer.old) (W.told writer.new) result }
     ensures keeps { KeepsDesk D.Registrar desk.old desk.new result }

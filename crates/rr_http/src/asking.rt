@@ -72,6 +72,7 @@ fn is_query_path(path: &[u8]) -> bool
     path.starts_with(QUERY) && is_segment(&path[QUERY.len()..])
 }
 
+/// Whether the text is a segment of a path that has bytes (RFC 3986, 3.3).
 fn is_segment(text: &[u8]) -> bool
     ensures { result ≡ is_segment text.now }
 {
@@ -237,6 +238,7 @@ fn size_of(text: &[u8]) -> Result<usize, Refusal>
     }
 }
 
+/// Whether the text is a length, in decimal digits alone (RFC 9110, 8.6).
 fn is_length(text: &[u8]) -> bool
     ensures { result ≡ is_length text.now }
 {

@@ -10,7 +10,7 @@ use std::io::ErrorKind;
 /// fails after them, each time that it is read. It tells the bytes that never came as left to read,
 /// so that no reading of a short body ends but by a failed read.
 #[derive(Drop)]
-pub struct Body<'a> {
+pub(crate) struct Body<'a> {
     rest: &'a [u8],
     missing: usize,
     failed: u64,
@@ -23,7 +23,7 @@ impl<'a> Body<'a> {
     ghost use Rattle.rr_http.specs.BodyReaders.{body_failed, body_missing, body_reads, body_rest};
 
     /// The body of which these bytes came, and `missing` more did not.
-    pub fn new(bytes: &'a [u8], missing: usize) -> Body<'a>
+    pub(crate) fn new(bytes: &'a [u8], missing: usize) -> Body<'a>
         ensures rest { body_rest result ≡ bytes.now }
         ensures missing { body_missing result ≡ missing }
         ensures failed { body_failed result ≡ 0 }

@@ -16,7 +16,7 @@ impl<S: Alter> Registrar for Desk<S> {
 
     ghost settings = { λ desk. desk.settings };
 
-    ghost stops = { λ desk. desk.stored.stopped };
+    ghost is_stopped = { λ desk. desk.stored.stopped };
 
     ghost Answers = { λ before query text after. IsDeskAnswer S.Store before query text after };
 

@@ -96,7 +96,7 @@ fn query_length(line: &[u8]) -> usize
 
 /// What the head of a connection is read for.
 #[derive(Clone, Copy, Debug, PartialEq, Eq)]
-pub enum Goal {
+pub(crate) enum Goal {
     /// Its first line, up to the LF.
     Line,
     /// The head of a request, up to and with its empty line (RFC 9112, 2.1).

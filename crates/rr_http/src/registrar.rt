@@ -21,7 +21,7 @@ pub trait Registrar {
     ghost settings: { Self → SettingsParts };
 
     // It is stopped: it takes no submission and gives no dump.
-    ghost stops: { Self → Bool };
+    ghost is_stopped: { Self → Bool };
 
     // What it answers to a query, and what that leaves.
     ghost Answers: { Self → List ℕ → List ℕ → Self → Type 0 };
@@ -34,7 +34,7 @@ pub trait Registrar {
 
     /// Whether it is stopped.
     fn stopped(&self) -> bool
-        ensures { result ≡ stops self.now };
+        ensures { result ≡ is_stopped self.now };
 
     /// Answers a query. After a failed write the writer has taken a part of the answer.
     fn answer<W: Sink>(
@@ -50,7 +50,7 @@ pub trait Registrar {
 
     /// Writes the public dump.
     fn dump<W: Sink>(&self, alloc: Global, writer: &mut W) -> Result<usize, DeskDumpFault>
-        ensures dumps { stops self.now ≡ false
+        ensures dumps { is_stopped self.now ≡ false
             → Dumps (dumped self.now) (W.told writer.old) (W.told writer.new) result }
         ensures aside { W.aside writer.new ≡ W.aside writer.old };
 
@@ -63,13 +63,14 @@ pub trait Registrar {
         reader: &mut R,
         writer: &mut W,
     ) -> Result<Done, DeskFault>
-        ensures submits { stops self.old ≡ false → Submits ledger (settings self.old).source
+        ensures submits { is_stopped self.old ≡ false
+            → Submits ledger (settings self.old).source
             (sides (R.told reader.old) (R.told reader.new) (W.told writer.old)
             (W.told writer.new) (ledger.registry self.old) (ledger.registry self.new))
             self.old self.new result }
-        ensures runs { stops self.old ≡ false
-            → UnlessStoreFault result (stops self.new ≡ false) }
-        ensures kept { stops self.old ≡ false → UnlessStoreFault result (Kept self.new) }
+        ensures runs { is_stopped self.old ≡ false
+            → UnlessStoreFault result (is_stopped self.new ≡ false) }
+        ensures kept { is_stopped self.old ≡ false → UnlessStoreFault result (Kept self.new) }
         ensures of_source { IsRegistryOf (settings self.old).source (ledger.registry self.old)
             → IsRegistryOf (settings self.new).source (ledger.registry self.new) }
         ensures settings { settings self.new ≡ settings self.old }

@@ -23,7 +23,7 @@ pub fn write_refusal<W: Sink>(writer: &mut W, refusal: Refusal) -> io::Result<()
 /// Writes the head of a reply whose body is what was asked, whole in the first call of the writer.
 /// After a fault the writer has taken a part of it.
 #[tactic(auto, unfolding(crate::specs::Replies::ok_head))]
-pub fn write_ok_head<W: Sink>(writer: &mut W) -> io::Result<()>
+pub(crate) fn write_ok_head<W: Sink>(writer: &mut W) -> io::Result<()>
     ensures writes { Writes (W.told writer.old) (W.told writer.new) ok_head result }
     ensures aside { W.aside writer.new ≡ W.aside writer.old }
 {
@@ -73,6 +73,7 @@ fn push_words(reply: &mut ShortText, refusal: Refusal)
     reply.push(reason(refusal).as_bytes());
 }
 
+/// The status code of a refusal (RFC 9110, 15; RFC 6585, 5).
 fn status(refusal: Refusal) -> StatusCode
     ensures { result ≡ status_of refusal }
 {

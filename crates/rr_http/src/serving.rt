@@ -122,7 +122,7 @@ fn submit_read<D: Registrar, W: Sink>(
 ) -> Result<(), ConnFault>
     requires within { length body.now ≤ size }
     requires small { size ≤ BODY_SIZE }
-    requires running { D.stops desk.old ≡ false }
+    requires running { D.is_stopped desk.old ≡ false }
     ensures submits { SubmitsRead D.Registrar body.now size end desk.old desk.new
         (W.told writer.old) (W.told writer.new) result }
     ensures settings { D.settings desk.new ≡ D.settings desk.old }

@@ -28,8 +28,8 @@ below_less k l (e ∷ es) is h =
     (subst (λ r. T (is_lt r)) (sym (keys_total.trans k l e.0 is (less _ (first_of (is_lt (key_cmp l e.0)) (below_all key_cmp l es) h)))) tt)
     (below_less k l es is (second_of (is_lt (key_cmp l e.0)) (below_all key_cmp l es) h))
 
-in_front : (new old w o : ℕ) → new ≡ o + old → w ≡ 0 → new + w ≡ old + o
-in_front new old w o a b = omega arith
+in_head : (new old w o : ℕ) → new ≡ o + old → w ≡ 0 → new + w ≡ old + o
+in_head new old w o a b = omega arith
 
 in_place : (new old s o x : ℕ) → new ≡ o + s → old ≡ x + s → new + x ≡ old + o
 in_place new old s o x a b = omega arith
@@ -41,12 +41,12 @@ module _ (f : Obj → ℕ) where
   -- an entry that is put in adds its own, and takes away that of the entry in whose place it comes
   put_total : (k : Key) (o : Obj) (es : List (Key × Obj)) → T (is_sorted key_cmp es)
       → sum_by f (values_of (put key_cmp k o es)) + option_map_or f (find_entry key_cmp k es) 0 ≡ sum_by f (values_of es) + f o
-  put_total k o [] sorted = in_front (sum_by f (o ∷ [])) 0 0 (f o) (sum_cons f o []) refl
+  put_total k o [] sorted = in_head (sum_by f (o ∷ [])) 0 0 (f o) (sum_cons f o []) refl
   put_total k o (e ∷ es) sorted =
       elim (key_cmp k e.0) as (λ r. key_cmp k e.0 ≡ r → sum_by f (values_of (by_order r ((k, o) ∷ (e ∷ es)) ((e.0, o) ∷ es) (e ∷ put key_cmp k o es)))
       + option_map_or f (cond (is_eq r) (Some e.1) (find_entry key_cmp k es)) 0 ≡ sum_by f (e.1 ∷ values_of es) + f o) [
         | Less ↦ λ is.
-            in_front _ _ _ (f o) (sum_cons f o (e.1 ∷ values_of es))
+            in_head _ _ _ (f o) (sum_cons f o (e.1 ∷ values_of es))
             (ap (λ v. option_map_or f v 0) (missed k es (below_less k e.0 es is (first_of (below_all key_cmp e.0 es) (is_sorted key_cmp es) sorted))))
         | Equal ↦ λ is. in_place _ _ (sum_by f (values_of es)) (f o) (f e.1) (sum_cons f o (values_of es)) (sum_cons f e.1 (values_of es))
         | Greater ↦ λ is.

@@ -38,13 +38,13 @@ below_there : (k : Key) (ys : List Obj) (o : Obj) (rest : List Obj) → T (below
 below_there k [] o rest h = less _ (first_of _ _ h)
 below_there k (y ∷ ys) o rest h = below_there k ys o rest (second_of (is_lt (key_cmp k y.key)) _ h)
 
-below_front : (k : Key) (ys rest : List Obj) → T (below_all key_cmp k (map entry (ys ++ rest))) → T (below_all key_cmp k (map entry ys))
-below_front k [] rest h = tt
-below_front k (y ∷ ys) rest h = both _ _ (first_of _ _ h) (below_front k ys rest (second_of (is_lt (key_cmp k y.key)) _ h))
+below_head : (k : Key) (ys rest : List Obj) → T (below_all key_cmp k (map entry (ys ++ rest))) → T (below_all key_cmp k (map entry ys))
+below_head k [] rest h = tt
+below_head k (y ∷ ys) rest h = both _ _ (first_of _ _ h) (below_head k ys rest (second_of (is_lt (key_cmp k y.key)) _ h))
 
-front : (ys rest : List Obj) → T (is_sorted key_cmp (map entry (ys ++ rest))) → T (is_sorted key_cmp (map entry ys))
-front [] rest h = tt
-front (y ∷ ys) rest h = both _ _ (below_front y.key ys rest (first_of _ _ h)) (front ys rest (second_of (below_all key_cmp y.key (map entry (ys ++ rest))) _ h))
+prefix : (ys rest : List Obj) → T (is_sorted key_cmp (map entry (ys ++ rest))) → T (is_sorted key_cmp (map entry ys))
+prefix [] rest h = tt
+prefix (y ∷ ys) rest h = both _ _ (below_head y.key ys rest (first_of _ _ h)) (prefix ys rest (second_of (below_all key_cmp y.key (map entry (ys ++ rest))) _ h))
 
 free_after : (ys : List Obj) (o : Obj) (rest : List Obj) → T (is_sorted key_cmp (map entry (ys ++ o ∷ rest))) → find_entry key_cmp o.key (map entry ys) ≡ None
 free_after [] o rest h = refl
@@ -53,12 +53,12 @@ free_after (y ∷ ys) o rest h =
     ap (λ r. cond (is_eq r) (Some y) (find_entry key_cmp o.key (map entry ys))) (keys_total.antisymm o.key y.key ∙ ap ordering_reverse below)
     ∙ free_after ys o rest (second_of (below_all key_cmp y.key (map entry (ys ++ o ∷ rest))) _ h)
 
-found_front : (k : Key) (ys rest : List Obj) (x : Obj) → find_entry key_cmp k (map entry ys) ≡ Some x → find_entry key_cmp k (map entry (ys ++ rest)) ≡ Some x
-found_front k [] rest x e = cc
-found_front k (y ∷ ys) rest x e =
+found_prefix : (k : Key) (ys rest : List Obj) (x : Obj) → find_entry key_cmp k (map entry ys) ≡ Some x → find_entry key_cmp k (map entry (ys ++ rest)) ≡ Some x
+found_prefix k [] rest x e = cc
+found_prefix k (y ∷ ys) rest x e =
     elim (eq_by_cmp key_cmp k y.key) as (λ b. cond b (Some y) (find_entry key_cmp k (map entry ys)) ≡ Some x → cond b (Some y) (find_entry key_cmp k (map entry (ys ++ rest))) ≡ Some x) [
       | true ↦ λ f. f
-      | false ↦ λ f. found_front k ys rest x f
+      | false ↦ λ f. found_prefix k ys rest x f
     ] e
 
 found_after : (ys : List Obj) (o : Obj) (rest : List Obj) → find_entry key_cmp o.key (map entry ys) ≡ None → find_entry key_cmp o.key (map entry (ys ++ o ∷ rest)) ≡ Some o
@@ -79,7 +79,7 @@ module _ (all ys left rest : List Obj) (o : Obj) (order : is_in_order all ≡ tr
 
   -- the key of the next object is free
   pub next_free : get (book_of ys) o.key ≡ None
-  next_free = get-from_sorted key_cmp (map entry ys) o.key (front ys (o ∷ rest) sorted) ∙ free_after ys o rest sorted
+  next_free = get-from_sorted key_cmp (map entry ys) o.key (prefix ys (o ∷ rest) sorted) ∙ free_after ys o rest sorted
 
   -- what is to come, after one more
   next_whole : (ys ++ o ∷ []) ++ rest ≡ all
@@ -89,10 +89,10 @@ module _ (all ys left rest : List Obj) (o : Obj) (order : is_in_order all ≡ tr
   pub next_book : insert (book_of ys) o.key o ≡ book_of (ys ++ o ∷ [])
   next_book = same_map keys_total keys_exact _ _ (λ q.
       get-insert keys_total (book_of ys) o.key o q
-      ∙ ap (cond (eq_by_cmp key_cmp q o.key) (Some o)) (get-from_sorted key_cmp (map entry ys) q (front ys (o ∷ rest) sorted))
+      ∙ ap (cond (eq_by_cmp key_cmp q o.key) (Some o)) (get-from_sorted key_cmp (map entry ys) q (prefix ys (o ∷ rest) sorted))
       ∙ sym (find-append key_cmp keys_total (map entry ys) o.key o q (free_after ys o rest sorted))
       ∙ ap (find_entry key_cmp q) (sym (entries_end ys o))
-      ∙ sym (get-from_sorted key_cmp (map entry (ys ++ o ∷ [])) q (front (ys ++ o ∷ []) rest (subst (λ (xs : List Obj). T (is_sorted key_cmp (map entry xs))) (sym (next_whole ∙ sym whole ∙ ap (λ xs. ys ++ xs) step)) sorted))))
+      ∙ sym (get-from_sorted key_cmp (map entry (ys ++ o ∷ [])) q (prefix (ys ++ o ∷ []) rest (subst (λ (xs : List Obj). T (is_sorted key_cmp (map entry xs))) (sym (next_whole ∙ sym whole ∙ ap (λ xs. ys ++ xs) step)) sorted))))
 
   -- the next object crosses none of those before it
   pub next_apart : Sound (book_of all) → IsApart (book_of ys) o.key
@@ -102,6 +102,6 @@ module _ (all ys left rest : List Obj) (o : Obj) (order : is_in_order all ≡ tr
       record {
         apart = λ l x at. all_sound.apart l o.key x o
             (get-from_sorted key_cmp (map entry (ys ++ o ∷ rest)) l sorted
-            ∙ found_front l ys (o ∷ rest) x (sym (get-from_sorted key_cmp (map entry ys) l (front ys (o ∷ rest) sorted)) ∙ at))
+            ∙ found_prefix l ys (o ∷ rest) x (sym (get-from_sorted key_cmp (map entry ys) l (prefix ys (o ∷ rest) sorted)) ∙ at))
             (get-from_sorted key_cmp (map entry (ys ++ o ∷ rest)) o.key sorted ∙ found_after ys o rest (free_after ys o rest sorted));
       }

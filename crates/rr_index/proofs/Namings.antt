@@ -280,16 +280,16 @@ takes_all all rest key old now so none n =
     less_none (count_at now n) ∙ ap (λ a. count_at now n - a) (sym (ap (namings n key) none ∙ namings_nil n key)) ∙ so n
 
 -- the first of some names
-pub front_on : (left : ℕ) (name : List ℕ) (rest : List (List ℕ)) → (left ≡ 0 → ⊥) → take left (name ∷ rest) ≡ name ∷ take (left - 1) rest
-front_on zero name rest some = absurd (some refl)
-front_on (suc m) name rest some = let e : suc m - 1 ≡ m = omega arith in ap (λ k. name ∷ take k rest) (sym e)
+pub prefix_on : (left : ℕ) (name : List ℕ) (rest : List (List ℕ)) → (left ≡ 0 → ⊥) → take left (name ∷ rest) ≡ name ∷ take (left - 1) rest
+prefix_on zero name rest some = absurd (some refl)
+prefix_on (suc m) name rest some = let e : suc m - 1 ≡ m = omega arith in ap (λ k. name ∷ take k rest) (sym e)
 
-pub front_none : (left : ℕ) (rest : List (List ℕ)) → left ≡ 0 → take left rest ≡ []
-front_none left rest e = ap (λ k. take k rest) e
+pub prefix_none : (left : ℕ) (rest : List (List ℕ)) → left ≡ 0 → take left rest ≡ []
+prefix_none left rest e = ap (λ k. take k rest) e
 
-pub front_empty : (left : ℕ) (rest : List (List ℕ)) → rest ≡ [] → take left rest ≡ []
-front_empty zero rest e = refl
-front_empty (suc m) rest e = ap (take (suc m)) e
+pub prefix_empty : (left : ℕ) (rest : List (List ℕ)) → rest ≡ [] → take left rest ≡ []
+prefix_empty zero rest e = refl
+prefix_empty (suc m) rest e = ap (take (suc m)) e
 
 put_back_one : (new mid was m : ℕ) → new ≡ mid - m → mid ≡ was + m → new ≡ was
 put_back_one new mid was m a b = omega arith

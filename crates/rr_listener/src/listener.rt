@@ -9,12 +9,13 @@ use std::io;
 use std::net::{Ipv4Addr, TcpListener};
 
 /// What listens on a port of 127.0.0.1, over TCP. It counts its turns, and contracts see neither
-/// these nor their bytes.
+/// these nor their bytes. It keeps why the last accept failed, for people.
 #[derive(Drop)]
 pub struct Listener<'a> {
     rt: &'a HostRuntime,
     socket: TcpListener,
     turns: u64,
+    refusal: Option<io::Error>,
 }
 
 impl<'a> Listener<'a> {
@@ -27,12 +28,19 @@ impl<'a> Listener<'a> {
             rt,
             socket,
             turns: 0,
+            refusal: None,
         })
     }
 
     /// The port. The error is the system's.
     pub fn port(&self) -> io::Result<u16> {
         Ok(self.socket.local_addr()?.port())
+    }
+
+    /// Why no connection could be accepted in the last turn, if that is how it failed. The error is
+    /// the system's.
+    pub fn refusal(&self) -> Option<&io::Error> {
+        self.refusal.as_ref()
     }
 }
 
@@ -50,8 +58,12 @@ impl<'a> Peers for Listener<'a> {
 
     fn accept(&mut self, _alloc: Global) -> Result<Stream<'a>, AcceptFault> {
         match accept_stream(self.rt, &self.socket) {
-            Ok(stream) => Ok(stream),
-            Err(_) => {
+            Ok(stream) => {
+                self.refusal = None;
+                Ok(stream)
+            }
+            Err(error) => {
+                self.refusal = Some(error);
                 self.turns += 1;
                 Err(AcceptFault)
             }

@@ -8,7 +8,7 @@ use Rattle.rr_bytes.specs.LetterCase.{upper}
 use Rattle.rr_number.specs.Numerals.{number_of}
 use Rattle.rr_number.proofs.Decimals.{number_of-spelled, number_of-read, IsNumber-decimal}
 
--- what is read behind a test has passed it
+-- what is read after a test has passed it
 after_test : (t : Bool) (o : Option ℕ) (n : ℕ) → cond t o None ≡ Some n → (t ≡ true) × (o ≡ Some n)
 after_test true o n e = (refl, e)
 after_test false o n e = absurd (cc)

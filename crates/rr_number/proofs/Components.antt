@@ -16,9 +16,9 @@ unfolding cut_at
 components-cut text before after cut =
     let parts = cond_some (nat_lt (position_or_len (λ b. b == 58) text) (length text)) _ _ cut in
     let inside : position_or_len (λ b. b == 58) text < length text = grind (arith, nat_tests, parts.0) in
-    let front : before_first (λ b. b == 58) text ≡ before = ap (λ pair. pair.0) parts.1 in
+    let prefix : before_first (λ b. b == 58) text ≡ before = ap (λ pair. pair.0) parts.1 in
     let back : after_first (λ b. b == 58) text ≡ after = ap (λ pair. pair.1) parts.1 in
-    slice_split_first (λ b. b == 58) text 0 inside ∙ ap (λ t. t ∷ components (after_first (λ b. b == 58) text)) front ∙ ap (λ t. before ∷ components t) back
+    slice_split_first (λ b. b == 58) text 0 inside ∙ ap (λ t. t ∷ components (after_first (λ b. b == 58) text)) prefix ∙ ap (λ t. before ∷ components t) back
 
 -- a text in which nothing is found is one part
 split_past_first : (t u : Bool) (x : ℕ) (xs : List ℕ) (parts : List (List ℕ)) (k : ℕ) → u ≡ not t → suc (length xs) ≤ cond u (1 + k) 0 → (length xs ≤ k → parts ≡ xs ∷ []) → cond t ([] ∷ parts) (onto_first x parts) ≡ (x ∷ xs) ∷ []

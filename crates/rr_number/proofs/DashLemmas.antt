@@ -37,13 +37,13 @@ trim_end-other [] b is = ap (λ x. cond x [] (b ∷ [])) is
 trim_end-other (x ∷ []) b is = ap (before_trimmed is_blank x) (trim_end-other [] b is)
 trim_end-other (x ∷ y ∷ ys) b is = ap (before_trimmed is_blank x) (trim_end-other (y ∷ ys) b is)
 
--- blanks in front of what is left of a text
+-- blanks before what is left of a text
 pub record StandsAfter (kept text : List ℕ) : Type 0 where
   pub blanks : List ℕ
   pub blank : list_all is_blank blanks ≡ true
   pub spelled : text ≡ blanks ++ kept
 
--- blanks behind what is left of a text
+-- blanks after what is left of a text
 pub record StandsBefore (kept text : List ℕ) : Type 0 where
   pub blanks : List ℕ
   pub blank : list_all is_blank blanks ≡ true
@@ -82,7 +82,7 @@ trim_end-blanks (b ∷ bs) all =
     let parts = both_true (is_blank b) (list_all is_blank bs) all in
     ap (before_trimmed is_blank b) (trim_end-blanks bs parts.1) ∙ ap (λ x. cond x [] (b ∷ [])) parts.0
 
--- a text without blanks is what is left of it with blanks behind
+-- a text without blanks is what is left of it with blanks after
 pub trim_end-kept : (text blanks : List ℕ) → HasNoBlank text → list_all is_blank blanks ≡ true → trim_end is_blank (text ++ blanks) ≡ text
 unfolding trim_end
 trim_end-kept [] blanks none all = trim_end-blanks blanks all
@@ -91,7 +91,7 @@ trim_end-kept (b ∷ []) blanks none all =
 trim_end-kept (b ∷ c ∷ cs) blanks none all =
     ap (before_trimmed is_blank b) (trim_end-kept (c ∷ cs) blanks (both_true (not (is_blank b)) (list_all (λ x. not (is_blank x)) (c ∷ cs)) none).1 all)
 
--- and with blanks in front
+-- and with blanks before
 pub trim_start-kept : (blanks text : List ℕ) → HasNoBlank text → list_all is_blank blanks ≡ true → trim_start is_blank (blanks ++ text) ≡ text
 unfolding trim_start
 trim_start-kept [] [] none all = refl
@@ -117,16 +117,16 @@ dashed_of-spelled text ends read =
   where
     around : (text before after : List ℕ) → text ≡ before ++ (dash ∷ after) → IsDashed text (trim_end is_blank before) (trim_start is_blank after)
     around text before after spelled =
-        let front = trim_end-before before in
+        let prefix = trim_end-before before in
         let back = trim_start-after after in
         record {
-          before = front.blanks;
+          before = prefix.blanks;
           after = back.blanks;
-          before_blank = front.blank;
+          before_blank = prefix.blank;
           after_blank = back.blank;
-          spelled = spelled ∙ ap (λ xs. xs ++ (dash ∷ after)) front.spelled
-              ∙ append_assoc (trim_end is_blank before) front.blanks (dash ∷ after)
-              ∙ ap (λ xs. trim_end is_blank before ++ (front.blanks ++ (dash ∷ xs))) back.spelled;
+          spelled = spelled ∙ ap (λ xs. xs ++ (dash ∷ after)) prefix.spelled
+              ∙ append_assoc (trim_end is_blank before) prefix.blanks (dash ∷ after)
+              ∙ ap (λ xs. trim_end is_blank before ++ (prefix.blanks ++ (dash ∷ xs))) back.spelled;
         }
 
 -- two texts round a dash are cut there, if neither has a blank and the first no dash
@@ -137,6 +137,6 @@ dashed_of-read text first last dashed none_first none_last no_dash =
     dashed.spelled ∙ sym (append_assoc first dashed.before (dash ∷ (dashed.after ++ last))) in
     let cut : cut_at dash text ≡ Some (first ++ dashed.before, dashed.after ++ last) =
     ap (cut_at dash) joined ∙ cut_at-append dash (first ++ dashed.before) (dashed.after ++ last) (lacks-append dash first dashed.before no_dash (lacks-blanks dashed.before dashed.before_blank)) in
-    let front : trim_end is_blank (first ++ dashed.before) ≡ first = trim_end-kept first dashed.before none_first dashed.before_blank in
+    let prefix : trim_end is_blank (first ++ dashed.before) ≡ first = trim_end-kept first dashed.before none_first dashed.before_blank in
     let back : trim_start is_blank (dashed.after ++ last) ≡ last = trim_start-kept dashed.after last none_last dashed.after_blank in
-    rw (cut, front, back) refl
+    rw (cut, prefix, back) refl

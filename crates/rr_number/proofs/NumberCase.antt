@@ -33,10 +33,10 @@ number_of-upper : (most limit : ℕ) (ds : List ℕ) → number_of most limit (u
 unfolding number_of
 number_of-upper most limit ds = rw (digits-upper ds, value-upper 0 ds, length-map) refl
 
-front-upper : (text : List ℕ) → take 2 (upper text) ≡ upper (take 2 text)
-front-upper [] = refl
-front-upper (a ∷ []) = refl
-front-upper (a ∷ b ∷ bs) = refl
+prefix-upper : (text : List ℕ) → take 2 (upper text) ≡ upper (take 2 text)
+prefix-upper [] = refl
+prefix-upper (a ∷ []) = refl
+prefix-upper (a ∷ b ∷ bs) = refl
 
 back-upper : (text : List ℕ) → drop 2 (upper text) ≡ upper (drop 2 text)
 back-upper [] = refl
@@ -46,7 +46,7 @@ back-upper (a ∷ b ∷ bs) = refl
 pub as_number_of-upper : (text : List ℕ) → as_number_of (upper text) ≡ as_number_of text
 unfolding as_number_of
 as_number_of-upper text =
-    rw (front-upper text, upper-upper (take 2 text), back-upper text, number_of-upper 10 (greatest_as_number + 1) (drop 2 text)) refl
+    rw (prefix-upper text, upper-upper (take 2 text), back-upper text, number_of-upper 10 (greatest_as_number + 1) (drop 2 text)) refl
 
 own : IsNumeralModel (λ ds. all_ascii_digits ds ≡ true) (digits_value 10)
 own = numerals_by_value _ tells_all_ascii_digits

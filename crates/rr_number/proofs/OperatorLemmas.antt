@@ -73,7 +73,7 @@ no_sign c [] other digits = refl
 no_sign c (b ∷ bs) other digits = grind (arith, nat_tests)
 
 -- nor is a text that begins with a digit
-no_sign-begun : (c : ℕ) (front text : List ℕ) → is_ascii_digit c ≡ false → all_ascii_digits front ≡ true → 0 < length front → bytes_eq (front ++ text) (c ∷ []) ≡ false
+no_sign-begun : (c : ℕ) (prefix text : List ℕ) → is_ascii_digit c ≡ false → all_ascii_digits prefix ≡ true → 0 < length prefix → bytes_eq (prefix ++ text) (c ∷ []) ≡ false
 no_sign-begun c [] text other digits some = absurd (omega (arith, some))
 no_sign-begun c (b ∷ bs) text other digits some = grind (arith, nat_tests)
 

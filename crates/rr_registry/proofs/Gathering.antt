@@ -154,10 +154,10 @@ same_position : (p q : Obj → Bool) → ((o : Obj) → p o ≡ q o) → (os : L
 same_position p q h os = ap (λ f. position f os) (λ i o. h o i)
 
 -- an object that is put into a list that does not have its key is one more of them
-or_front : (a b c : Bool) → (a || (b || c)) ≡ (b || (a || c))
-or_front true true c = refl
-or_front true false c = refl
-or_front false b c = refl
+or_prefix : (a b c : Bool) → (a || (b || c)) ≡ (b || (a || c))
+or_prefix true true c = refl
+or_prefix true false c = refl
+or_prefix false b c = refl
 
 any_put : (p : Obj → Bool) (o : Obj) (os : List Obj) → is_key_of_some o.key os ≡ false → list_any p (put_in o os) ≡ (p o || list_any p os)
 any_put p o [] e = refl
@@ -166,7 +166,7 @@ any_put p o (x ∷ xs) e =
     → list_any p (by_order r (o ∷ x ∷ xs) (o ∷ xs) (x ∷ put_in o xs)) ≡ (p o || (p x || list_any p xs))) [
       | Less ↦ λ f. refl
       | Equal ↦ λ f. absurd (true≢false f)
-      | Greater ↦ λ f. ap (λ b. p x || b) (any_put p o xs f) ∙ or_front (p x) (p o) (list_any p xs)
+      | Greater ↦ λ f. ap (λ b. p x || b) (any_put p o xs f) ∙ or_prefix (p x) (p o) (list_any p xs)
     ] e
 
 -- of the objects before one it does not matter in which order they stand

@@ -24,10 +24,10 @@ none_kept gone first outer level begins no_outer no_level none = (
 )
 
 module _ {A : Type 0} where
-  in_front : (x : A) (xs ys : List A) → IsIn x xs → IsIn x (xs ++ ys)
-  in_front x [] ys i = absurd i
-  in_front x (y ∷ xs) ys (inl e) = inl e
-  in_front x (y ∷ xs) ys (inr i) = inr (in_front x xs ys i)
+  in_head : (x : A) (xs ys : List A) → IsIn x xs → IsIn x (xs ++ ys)
+  in_head x [] ys i = absurd i
+  in_head x (y ∷ xs) ys (inl e) = inl e
+  in_head x (y ∷ xs) ys (inr i) = inr (in_head x xs ys i)
 
   in_back : (x : A) (xs ys : List A) → IsIn x ys → IsIn x (xs ++ ys)
   in_back x [] ys i = i
@@ -45,7 +45,7 @@ module _ {A : Type 0} where
   in_reverse : (x : A) (xs : List A) → IsIn x xs → IsIn x (reverse xs)
   in_reverse x [] i = absurd i
   in_reverse x (y ∷ xs) (inl e) = subst (IsIn x) (sym (reverse-append (y ∷ []) xs)) (in_back x (reverse xs) (y ∷ []) (inl e))
-  in_reverse x (y ∷ xs) (inr i) = subst (IsIn x) (sym (reverse-append (y ∷ []) xs)) (in_front x (reverse xs) (y ∷ []) (in_reverse x xs i))
+  in_reverse x (y ∷ xs) (inr i) = subst (IsIn x) (sym (reverse-append (y ∷ []) xs)) (in_head x (reverse xs) (y ∷ []) (in_reverse x xs i))
 
   from_reverse : (x : A) (xs : List A) → IsIn x (reverse xs) → IsIn x xs
   from_reverse x [] i = absurd i
@@ -58,9 +58,9 @@ falling_more (x ∷ xs) y f least = (
   falling_more xs y f.1 (λ z i. least z (inr i)),
 )
 
-falling_front : (xs ys : List ℕ) → IsFalling (xs ++ ys) → IsFalling xs
-falling_front [] ys f = tt
-falling_front (x ∷ xs) ys f = ((λ y i. f.0 y (in_front y xs ys i)), falling_front xs ys f.1)
+falling_prefix : (xs ys : List ℕ) → IsFalling (xs ++ ys) → IsFalling xs
+falling_prefix [] ys f = tt
+falling_prefix (x ∷ xs) ys f = ((λ y i. f.0 y (in_head y xs ys i)), falling_prefix xs ys f.1)
 
 rising_more : (xs : List ℕ) (y : ℕ) → IsRising xs → ((x : ℕ) → IsIn x xs → x ≤ y) → IsRising (xs ++ y ∷ [])
 rising_more [] y f most = ((λ z i. absurd i), tt)
@@ -93,13 +93,13 @@ falling_last (y ∷ z ∷ zs) i d f e x at =
 -- spans that go on to a first number: the level's are put after the outer ones, and those that end below it are dropped
 pub moved_on : (gone : Ends → Bool) (old first : ℕ) (outer level left : List ℕ) → old ≤ first → IsKept gone old outer level → IsShortened first (outer ++ reverse level) left → IsKept gone first left []
 moved_on gone old first outer level left up held short = record {
-  falling = falling_front left short.gone (subst IsFalling short.cut (falling_on outer level held.falling held.rising held.within));
+  falling = falling_prefix left short.gone (subst IsFalling short.cut (falling_on outer level held.falling held.rising held.within));
   rising = tt;
   within = λ x y i j. absurd j;
   kept = λ t is. elim (held.kept t is) as (λ _. (t.last < first) ⊎ (((t.first ≡ first) × IsIn t.last []) ⊎ IsIn t.last left)) [
     | inl closed ↦ inl (omega (arith, up, closed))
     | inr (inl on) ↦ still t (in_back t.last outer (reverse level) (in_reverse t.last level on.1))
-    | inr (inr out) ↦ still t (in_front t.last outer (reverse level) out)
+    | inr (inr out) ↦ still t (in_head t.last outer (reverse level) out)
   ];
   own = λ y j. absurd j;
 }
@@ -139,7 +139,7 @@ passed gone more s first outer level here held rises joined reached = record {
       | inl own ↦ inr (inl (ap (λ (u : Ends). u.first) own ∙ here, in_back t.last level (s.last ∷ []) (inl (ap (λ (u : Ends). u.last) own))))
       | inr old ↦ elim (held.kept t old) [
         | inl closed ↦ inl closed
-        | inr (inl on) ↦ inr (inl (on.0, in_front t.last level (s.last ∷ []) on.1))
+        | inr (inl on) ↦ inr (inl (on.0, in_head t.last level (s.last ∷ []) on.1))
         | inr (inr out) ↦ inr (inr out)
       ]
     ];

@@ -252,10 +252,10 @@ pub next_reached : (os : List Obj) (n : ℕ) (o : Obj) (k : Key) (inetnums block
     → IsReachedAt os (n + 1) more_inetnums more_blocks
 next_reached os n o k inetnums blocks more_inetnums more_blocks inside is own rise formed held told =
     let left : drop n os ≡ o ∷ drop (n + 1) os = drop-cons os n o inside ∙ (λ i. sym is i ∷ drop (sym (add-one n) i) os) in
-    let front_rises = first_rise os n o inside is rise in
+    let prefix_rises = first_rise os n o inside is rise in
     subst (λ (xs : List Obj). IsReached os xs (drop (n + 1) os) (n + 1) more_inetnums more_blocks) (sym (take_more os n o inside ∙ ap (λ x. take n os ++ x ∷ []) (sym is)))
     (more_reached os (take n os) (drop (n + 1) os) n o inetnums blocks more_inetnums more_blocks
-    (subst (λ (xs : List Obj). IsReached os (take n os) xs n inetnums blocks) left held) front_rises formed (told (take n os) o own front_rises held.passed))
+    (subst (λ (xs : List Obj). IsReached os (take n os) xs n inetnums blocks) left held) prefix_rises formed (told (take n os) o own prefix_rises held.passed))
 
 -- all were gathered
 pub all_reached : (os : List Obj) (n : ℕ) (inetnums blocks : OpenSpans) → length os ≤ n → IsReachedAt os n inetnums blocks → IsGathered os os

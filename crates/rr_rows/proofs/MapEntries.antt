@@ -95,7 +95,7 @@ module _ {K X : Type 0} {R : K → K → Ordering} (order : IsTotalOrder R) wher
         ∙ sym (turned (eq_by_cmp R k q) _ _)
         ∙ sym (find-where_key R (λ x. not (eq_by_cmp R k x)) q (λ x t. ap (λ y. not (eq_by_cmp R k y)) (sym (exact q x t))) (entries m)))
 
-    -- a value that is put in stands in front of those of the other keys, but for the order
+    -- a value that is put in stands before those of the other keys, but for the order
     pub values_with : (m : FinMap R X) (k : K) (v : X) → IsPermutation (v ∷ values (remove m k)) (values (insert m k v))
     values_with m k v =
         subst (λ es. IsPermutation (v ∷ map (λ e. e.1) es) (values (insert m k v))) (sym (entries_without m k))
@@ -108,7 +108,7 @@ module _ {K X : Type 0} {R : K → K → Ordering} (order : IsTotalOrder R) wher
       elim (eq_by_cmp R k e.0) as (λ b. eq_by_cmp R k e.0 ≡ b → cond b (Some e.1) (find R k es) ≡ None → cond (not b) (e ∷ others k es) (others k es) ≡ e ∷ es)
       [ true ↦ λ t is. absurd (cc) | false ↦ λ t is. ap (λ l. e ∷ l) (none_without k es is) ] refl h
 
-  -- a value of a new key stands in front of the others, but for the order
+  -- a value of a new key stands before the others, but for the order
   pub values_with_new : IsAntisymmetric R → (m : FinMap R X) (k : K) (v : X) → get m k ≡ None → IsPermutation (v ∷ values m) (values (insert m k v))
   values_with_new exact m k v none =
       subst (λ es. IsPermutation (v ∷ map (λ e. e.1) es) (values (insert m k v)))

@@ -1,5 +1,5 @@
 -- Numbers that rise are apart.
-use Rattle.std.proofs.Common.{◌≡◌, ◌≢◌, ℕ, zero, suc, ◌+◌, ◌-◌, ◌<◌, ◌≤◌, ℤ, drop, get_or, length-drop, true, List, [], ◌∷◌, ◌++◌, map, take, length, Option, None, Some, refl, sym, ap, subst, ◌∙◌, arith, IsPermutation}
+use Rattle.std.proofs.Common.{◌≡◌, ◌≢◌, ◌-◌, ◌≤◌, ℤ, drop, get_or, length-drop, true, List, [], ◌∷◌, ◌++◌, map, take, length, Option, None, Some, sym, ap, subst, ◌∙◌, arith, IsPermutation}
 use Rattle.std.specs.Prelude.{◌<ℤ◌, ◌≤ℤ◌}
 use Rattle.std.specs.List.{AllByRecursion, list_all}
 use Rattle.std.proofs.Math.Seq.{take-length}
@@ -10,11 +10,11 @@ use Rattle.sqlite_value.specs.declared.value.Value.TheVariants.{Int}
 use Rattle.sqlite_value.specs.Order.{Row}
 use Rattle.sqlite_trees.specs.Tree.{rowid, IsAscending}
 use Rattle.sqlite_trees.specs.View.{is_int}
-use Rattle.sqlite_trees.proofs.ListLemmas.{along_permutation, all-permutation, all_from_map, ascending_from_map, ascending-append, ascending-get_or, all-append}
+use Rattle.sqlite_trees.proofs.ListLemmas.{along_permutation, all-permutation, all_from_map, ascending_from_map, ascending-append, all-append}
 use Rattle.sqlite_schema.specs.declared.schema.Schema.{Schema}
 use Rattle.sqlite_schema.specs.declared.schema.Table.{Table}
 use Rattle.rr_rows.specs.Tables.{HasTables, meta, object, named, rules_of, stands_apart}
-use Rattle.rr_rows.specs.Contents.{AreKeyed, AreRising, IsBelow, IsPast, number, numbered}
+use Rattle.rr_rows.specs.Contents.{AreKeyed, IsPast, number, numbered}
 
 abbrev Differ : Row → Row → Type 0
 Differ a b = rowid a ≢ rowid b
@@ -85,26 +85,6 @@ run_more (Some last) rows row n run is past =
 pub run_keyed : (last : Option ℤ) (rows : List Row) → IsRun last rows → AreKeyed rows
 run_keyed None rows none = subst AreKeyed (sym none) (record { apart = tt; numbered = tt })
 run_keyed (Some last) rows run = run.0
-
--- the default of a place within a list is not read
-any_default : {X : Type 0} (xs : List X) (at : ℕ) (d e : X) → at < length xs → get_or xs at d ≡ get_or xs at e
-any_default [] at d e low = absurd (omega arith)
-any_default (x ∷ xs) zero d e low = refl
-any_default (x ∷ xs) (suc at) d e low = any_default xs at d e (omega arith)
-
--- the last number is that of the row before this place
-abbrev pub WasLast : Option ℤ → ℕ → List Row → Type 0
-WasLast None at rows = Unit {0}
-WasLast (Some last) at rows = (k : ℕ) × (at ≡ k + 1) × ((d : Row) → rowid (get_or rows k d) ≡ Int last)
-
-pub now_last : (rows : List Row) (at : ℕ) (row : Row) (n : ℤ) → at < length rows → row ≡ get_or rows at row → rowid row ≡ Int n → WasLast (Some n) (at + 1) rows
-now_last rows at row n within is number = (at, refl, λ d. ap rowid (any_default rows at d row within ∙ sym is) ∙ number)
-
--- where numbers rise, each is past the last
-pub past_last : (last : Option ℤ) (rows : List Row) (at : ℕ) (row : Row) (n : ℤ) → WasLast last at rows → AreRising rows → at < length rows → row ≡ get_or rows at row → rowid row ≡ Int n → IsPast last n
-past_last None rows at row n was rising within is number = tt
-past_last (Some last) rows at row n was rising within is number =
-    ascending-get_or (λ a b. IsBelow (rowid a) (rowid b)) rows was.0 at row rising (omega (arith, was.1)) within last n (was.2 row) (ap rowid (sym is) ∙ number)
 
 -- the three tables come first
 pub has_them : (schema : Schema) (first second third : Table) (others : List Table) → schema.tables ≡ first ∷ second ∷ third ∷ others → first ≡ meta (rules_of first) → second ≡ object (rules_of second) → third ≡ named (rules_of third)

@@ -4,7 +4,6 @@ use Rattle.std.specs.Prelude.{true, not, Bool, List, [], ◌∷◌, ◌++◌, ma
 use Rattle.std.specs.Prelude.{IsPermutation, IsSorted, IsTrue}
 use Rattle.std.specs.declared.cmp.Ordering.{Ordering}
 use Rattle.std.specs.List.{AllByRecursion, list_all, list_any, flat_map}
-use Rattle.sqlite_value.specs.declared.value.Value.{Value}
 use Rattle.sqlite_value.specs.declared.value.Value.TheVariants.{Null, Int, Text, Blob}
 use Rattle.sqlite_value.specs.declared.keys.Collation.TheVariants.{Binary}
 use Rattle.sqlite_value.specs.Order.{Row, column}
@@ -150,14 +149,6 @@ number row = rowid row ∷ []
 -- the number of a row and its columns
 abbrev pub numbered : Row → Row
 numbered row = rowid row ∷ columns row
-
--- one number is below another
-abbrev pub IsBelow : Value → Value → Type 0
-IsBelow a b = (m n : ℤ) → a ≡ Int m → b ≡ Int n → m <ℤ n
-
--- the numbers of rows rise
-abbrev pub AreRising : List Row → Type 0
-AreRising = IsAscending (λ a b. IsBelow (rowid a) (rowid b))
 
 -- a number is above the last, if there is one
 abbrev pub IsPast : Option ℤ → ℤ → Type 0

@@ -2,8 +2,6 @@
 //! has in them, and what each statement on them does.
 #![tactic(auto)]
 
-mod numbers;
 mod schema;
 
-pub use numbers::are_numbered;
 pub use schema::has_tables;

@@ -57,6 +57,7 @@ IsMissing r start name = IsReachedSet r start name × (has_as_set r name ≡ fal
 abbrev pub AreNumbersIn : Reg → List ℕ → List ℕ → Type 0
 AreNumbersIn r start numbers = (n : ℕ) → Contains numbers n ↔ InAsSet r start n
 
--- The names are exactly those that chains of listed names lead to in vain.
+-- The names are exactly those that chains of listed names lead to, and that are no such set's
+-- (profile).
 abbrev pub AreMissing : Reg → List ℕ → List (List ℕ) → Type 0
 AreMissing r start names = (name : List ℕ) → Contains names name ↔ IsMissing r start name

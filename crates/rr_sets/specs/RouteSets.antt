@@ -113,7 +113,7 @@ IsMissingName r start name = IsReachedFrom r start (Set name) × (has_set r name
 abbrev pub AreRangesIn : Reg → List ℕ → List RangeParts → Type 0
 AreRangesIn r start ranges = (range : RangeParts) → Contains ranges range ↔ InRouteSet r start range
 
--- The names are exactly those that chains of references lead to in vain.
+-- The names are exactly those that chains of references lead to, and that are no set's (profile).
 abbrev pub AreMissingNames : Reg → List ℕ → List (List ℕ) → Type 0
 AreMissingNames r start names =
     (name : List ℕ) → Contains names name ↔ IsMissingName r start name

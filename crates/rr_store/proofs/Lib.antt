@@ -1,4 +1,5 @@
 pub mod CallLemmas
+pub mod CauseLemmas
 pub mod AddLemmas
 pub mod AddingLemmas
 pub mod FillLemmas
@@ -9,12 +10,14 @@ pub mod KeptLemmas
 pub mod LookLemmas
 pub mod ObjectLemmas
 pub mod NamingLemmas
+pub mod NextLemmas
 pub mod OnceLemmas
 pub mod OrderLemmas
 pub mod SortedLemmas
 pub mod SettledLemmas
 pub mod ShownLemmas
 pub mod StoredLemmas
+pub mod StopLemmas
 pub mod StreamLemmas
 pub mod TidyLemmas
 pub mod UpperLemmas

@@ -1,8 +1,9 @@
 -- What rows that are stored in tables of a version say of it, and which faults are of rows.
-use Rattle.std.proofs.Common.{◌≡◌, inl, inr, ℕ, ◌<◌, ◌^◌, List, [], ◌∷◌, codes, sym, subst, ◌∙◌, arith}
+use Rattle.std.proofs.Common.{◌≡◌, inl, inr, ℕ, ◌<◌, ◌^◌, List, [], ◌∷◌, codes, sym, ap, subst, ◌∙◌, arith}
 use Rattle.std.specs.Prelude.{decimal, Contains}
 use Rattle.std.proofs.lemmas.Fmt.{decimal_digit, decimal_injective}
 use Rattle.std.proofs.lemmas.List.Elements.{Contains-push_cases}
+use Rattle.sqlite.specs.declared.error.Error.{Error}
 use Rattle.sqlite.specs.Effect.{Database}
 use Rattle.rr_object.specs.Objects.{Obj}
 use Rattle.rr_rows.specs.Contents.{setting}
@@ -14,6 +15,7 @@ use Rattle.rr_store.specs.Opening.{IsOfRows, SaysNoOther}
 use Rattle.rr_store.specs.Versions.{form_of, version_number, version_text}
 use Rattle.rr_store.specs.declared.fault.OpenFault.{OpenFault}
 use Rattle.rr_store.specs.declared.fault.OpenFault.TheVariants as opened
+use Rattle.rr_store.specs.declared.fault.MigrateFault.TheVariants as migrated
 use Rattle.rr_store.specs.declared.fault.StoreFault.{StoreFault}
 use Rattle.rr_store.specs.declared.fault.StoreFault.TheVariants as store
 use Rattle.rr_store.specs.declared.version.Version.{Version}
@@ -59,3 +61,10 @@ unread_rows opened.Memory h = h
 pub database_fault : (fault : StoreFault) → IsOfOldRows (migrate_fault fault) → ⊥
 database_fault (store.Store error) h = h
 database_fault store.Memory h = h
+
+-- the database's error is reported as it is
+pub unread_store : (fault : OpenFault) (error : Error) → unread_fault fault ≡ migrated.Store error → fault ≡ opened.Store error
+unread_store (opened.WrongVersion n) error is = absurd (cc)
+unread_store opened.BadRow error is = absurd (cc)
+unread_store (opened.Store e) error is = let same : e ≡ error = cc in ap opened.Store same
+unread_store opened.Memory error is = absurd (cc)

@@ -71,10 +71,10 @@ version_refuses version source db fault has told = record {
   tables = λ rows. has;
 }
 
-number_text : (version : Version) → version_text version ≡ decimal (version_number version)
+version_decimal : (version : Version) → version_text version ≡ decimal (version_number version)
 unfolding digits
-number_text Old = refl
-number_text This = refl
+version_decimal Old = refl
+version_decimal This = refl
 
 number_low : (version : Version) → version_number version < 2 ^ 64
 number_low Old = omega arith
@@ -91,7 +91,7 @@ pub only_said : (version : Version) (db : Database) → HasVersion (version_text
 only_said version db is = record {
   only = λ number low says.
       let alone = said_alone (codes "version") (version_text version) (decimal number) (subst (SaysVersion number) is says) in
-      decimal_injective number (version_number version) (omega (arith, low)) (number_low version) (sym alone ∙ number_text version);
+      decimal_injective number (version_number version) (omega (arith, low)) (number_low version) (sym alone ∙ version_decimal version);
 }
 
 -- tables of this version whose rows are those of no objects are refused for that

@@ -1,19 +1,13 @@
 -- What the numbers of the rows say of the rows.
-use Rattle.std.proofs.Common.{◌≡◌, Bool, List, [], ◌∷◌, length, Ok, Err, Result, IfOk, IsTrue, map, refl, sym, ap, subst, ◌∙◌, arith, IsPermutation}
+use Rattle.std.proofs.Common.{◌≡◌, Bool, List, [], ◌∷◌, length, map, refl, sym, ap, subst, ◌∙◌, arith, IsPermutation}
 use Rattle.std.specs.Prelude.{◌==◌}
 use Rattle.std.proofs.lemmas.Bool.{both_ways, eqb-true}
 use Rattle.std.proofs.lemmas.List.{length-map}
 use Rattle.std.proofs.lemmas.List.Sorted.{IsPermutation-map, IsPermutation-sym, length_permutation}
 use Rattle.sqlite_value.specs.Order.{Row}
 use Rattle.sqlite_trees.proofs.ListLemmas.{map-map}
-use Rattle.rr_rows.specs.Contents.{AreKeyed, columns, contents, number, numbered}
-use Rattle.rr_rows.proofs.NumberLemmas.{keyed_by}
+use Rattle.rr_rows.specs.Contents.{columns, contents, number, numbered}
 use Rattle.rr_store.specs.VacancyParts.{SaysEmpty}
-
--- rows have numbers of their own where the answer that lists these has
-pub keyed_as : {E : Type 0} (r : Result Bool E) (rows answer : List Row) → IsPermutation (map number rows) answer → IfOk r (λ are. IsTrue are → AreKeyed answer) → IfOk r (λ are. IsTrue are → AreKeyed rows)
-keyed_as (Ok b) rows answer same h = λ is. keyed_by rows answer same (h is)
-keyed_as (Err e) rows answer same h = tt
 
 pub none_of_length : {X : Type 0} (xs : List X) → length xs ≡ 0 → xs ≡ []
 none_of_length [] h = refl

@@ -1,11 +1,23 @@
 -- What a call leaves of a connection.
-use Rattle.std.specs.Prelude.{◌≡◌, false, Result, IsTrue, OnErr, OnOk}
+use Rattle.std.specs.Prelude.{◌≡◌, ◌⊎◌, false, Result, IsSome, IsTrue, OnErr, OnOk}
+use Rattle.sqlite_trees.specs.declared.error.StoreError.{StoreError}
 use Rattle.sqlite_trees.specs.declared.store.Store.{Ghosts}
 use Rattle.sqlite_trees.specs.Tree.{Trees}
+use Rattle.sqlite.specs.declared.error.Error.{Error}
+use Rattle.sqlite.specs.declared.error.Error.TheVariants.{SqliteFailure}
+use Rattle.sqlite.specs.declared.error.ErrorCode.TheVariants.{OperationInterrupted}
 use Rattle.sqlite.specs.Effect.{Database}
 use Rattle.sqlite.specs.Held.{Held, state}
-use Rattle.sqlite.specs.State.{HasCleanDisk, IsUnchanged, Survives}
+use Rattle.sqlite.specs.State.{HasCause, HasCleanDisk, IsUnchanged, State, Survives, store_error}
+use Rattle.rr_rows.specs.Contents.{IsTidy}
 use Rattle.rr_rows.specs.Entries.{TreesOf}
+
+-- the database's error has a cause outside the rows, and names it: memory ran out, the disk failed
+-- or refused, which is counted, the connection was shut, or its limit of steps was reached
+abbrev pub IsCaused : State → State → Error → Type 0
+IsCaused old new error =
+    ((cause : StoreError) × (error ≡ store_error cause) × HasCause old new ⊥ cause)
+    ⊎ ((error ≡ SqliteFailure OperationInterrupted) × IsSome old.step_limit)
 
 module _ {S : Type 0} (g : Ghosts S) where
   -- the tables and their rows
@@ -19,6 +31,14 @@ module _ {S : Type 0} (g : Ghosts S) where
   -- and here while the connection is open, too
   abbrev pub WhileOpen : Held S → Type 0 → Type 0
   WhileOpen conn P = HasCleanDisk (state g conn) → IsTrue (state g conn).is_open → P
+
+  -- the database's error has such a cause
+  abbrev pub FailsFor : Held S → Held S → Error → Type 0
+  FailsFor old new error = OnCleanDisk new (IsCaused (state g old) (state g new) error)
+
+  -- and here where the three tables are there, with numbers of their own for their rows
+  abbrev pub FailsOverTidy : Held S → Held S → Error → Type 0
+  FailsOverTidy old new error = IsTidy (database old) → FailsFor old new error
 
   -- the connection is open
   abbrev pub IsOpen : Held S → Type 0

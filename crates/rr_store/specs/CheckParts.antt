@@ -38,7 +38,7 @@ abbrev pub AreNamingRows : Version → List Obj → List Row → Type 0
 AreNamingRows version objects rows =
     IsPermutation (flat_map named_rows (map (entry_in (form_of version)) objects)) rows
 
--- the tables name these, and no others
+-- the tables name the maintainers of the objects, and no others (profile)
 abbrev pub NamesAre : Version → List Obj → Database → Type 0
 NamesAre version objects db = AreNamingRows version objects (contents (db.trees 4))
 
@@ -49,7 +49,7 @@ pub record HoldsObjects (form : KeyForm) (source : List ℕ) (objects : List Obj
   pub same : IsPermutation held rows
   pub read : AreRead form source rows objects
 
--- and are those of none
+-- rows, in some order, are those of no objects of the source (profile)
 pub record HoldsNone (form : KeyForm) (source : List ℕ) (held : List Row) : Type 0 where
   pub rows : List Row
   pub same : IsPermutation held rows
@@ -60,7 +60,7 @@ abbrev pub TableHolds : Version → List ℕ → List Obj → Database → Type 
 TableHolds version source objects db =
     HoldsObjects (form_of version) source objects (contents (db.trees 2))
 
--- or of none
+-- `object` holds the rows of no objects of the source
 abbrev pub TableHoldsNone : Version → List ℕ → Database → Type 0
 TableHoldsNone version source db = HoldsNone (form_of version) source (contents (db.trees 2))
 

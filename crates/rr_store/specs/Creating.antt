@@ -2,6 +2,7 @@
 use Rattle.std.specs.Prelude.{◌≡◌, false, List, map}
 use Rattle.std.specs.List.{AllByRecursion}
 use Rattle.sqlite_trees.specs.declared.store.Store.{Ghosts}
+use Rattle.sqlite.specs.declared.error.Error.{Error}
 use Rattle.sqlite.specs.Effect.{Database}
 use Rattle.sqlite.specs.Held.{Held, state}
 use Rattle.sqlite.specs.State.{Survives}
@@ -10,15 +11,20 @@ use Rattle.rr_rows.specs.Entries.{TreesOf, entry_of}
 use Rattle.rr_rows.specs.Made.{HasItsTables, HasRow, IsVacant}
 use Rattle.rr_rows.specs.Maps.{IsFilled, IsObject}
 use Rattle.rr_rows.specs.Tables.{HasTables}
-use Rattle.rr_store.specs.Calls.{IsOpen, IsSettled, OnCleanDisk, WhileOpen, database}
+use Rattle.rr_store.specs.Calls.{FailsFor, IsOpen, IsSettled, OnCleanDisk, WhileOpen, database}
 use Rattle.rr_store.specs.declared.fault.CreateFault.{CreateFault}
-use Rattle.rr_store.specs.declared.fault.CreateFault.TheVariants.{NotEmpty}
+use Rattle.rr_store.specs.declared.fault.CreateFault.TheVariants.{NotEmpty, Store}
 
 -- the tables hold the rows of these objects, which are such as readers make, and no others, and are
 -- of version 2 (profile)
 pub record IsStoreOf (objects : List Obj) (db : Database) : Type 0 where
   pub read : AllByRecursion IsObject objects
   pub filled : IsFilled (map entry_of objects) db
+
+-- where one of the three tables has a row, the database's error has a cause outside the rows
+abbrev pub FailsOverRow : {S : Type 0} → Ghosts S → Held S → Held S → Error → Type 0
+FailsOverRow g old new error =
+    HasTables (database g old).schema → HasRow (database g old) → FailsFor g old new error
 
 module _ {S : Type 0} (g : Ghosts S) (objects : List Obj) (conn : Held S) where
   -- a database that had room for it is the store of the objects (profile)
@@ -32,13 +38,15 @@ module _ {S : Type 0} (g : Ghosts S) (objects : List Obj) (conn : Held S) where
     pub crash_tables : Survives (state g conn) (state g store)
         (TreesOf (HasItsTables (database g conn)))
 
-  -- the rows are as they were, and where one stood in the tables, that is the fault
+  -- the rows are as they were; where one stood in the tables, that is the fault, unless it has
+  -- another cause
   pub record FailsToMake (left : Held S) (fault : CreateFault) : Type 0 where
     pub autocommit : left.in_transaction ≡ false
     pub kept : WhileOpen g left (database g left ≡ database g conn)
     pub settled : IsSettled g left
     pub not_empty : fault ≡ NotEmpty
         → OnCleanDisk g left (HasTables (database g conn).schema × HasRow (database g conn))
+    pub store : (error : Error) → fault ≡ Store error → FailsOverRow g conn left error
     pub crash : Survives (state g conn) (state g left) (TreesOf (IsStoreOf objects))
     pub crash_tables : Survives (state g conn) (state g left)
         (TreesOf (HasItsTables (database g conn)))

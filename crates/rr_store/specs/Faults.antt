@@ -1,4 +1,5 @@
--- Faults of a call on a store, as those of a call that makes or opens one.
+-- Faults of a call on a store, as those of a call that makes or migrates one, and of one that reads
+-- tables.
 use Rattle.sqlite.specs.declared.error.Error.{Error}
 use Rattle.sqlite.specs.declared.error.Error.TheVariants.{SqliteFailure}
 use Rattle.sqlite.specs.declared.error.ErrorCode.TheVariants.{DatabaseCorrupt}
@@ -16,6 +17,11 @@ abbrev pub create_fault : StoreFault → CreateFault
 create_fault (Store error) = create.Store error
 create_fault Memory = create.Memory
 
+-- a fault of a call on a store, as one of a call that migrates tables
+abbrev pub migrate_fault : StoreFault → MigrateFault
+migrate_fault (Store error) = migrated.Store error
+migrate_fault Memory = migrated.Memory
+
 -- what is told of rows that no store has written
 abbrev pub bad_rows : Error
 bad_rows = SqliteFailure DatabaseCorrupt
@@ -26,11 +32,6 @@ store_fault (opened.WrongVersion number) = Store bad_rows
 store_fault opened.BadRow = Store bad_rows
 store_fault (opened.Store error) = Store error
 store_fault opened.Memory = Memory
-
--- and as one of a call that migrates tables
-abbrev pub migrate_fault : StoreFault → MigrateFault
-migrate_fault (Store error) = migrated.Store error
-migrate_fault Memory = migrated.Memory
 
 -- why tables of version 1 could not be opened, as a fault of the call that migrates them
 abbrev pub unread_fault : OpenFault → MigrateFault

@@ -11,7 +11,7 @@ abbrev pub AreAll : Database → List Obj → Type 0
 AreAll db listed =
     (objects : FinMap key_cmp Obj) → HasRows objects db → listed ≡ values objects
 
--- and these the ones of them that name the maintainer
+-- these are all objects of the tables that name the maintainer, in order of class and key
 abbrev pub AreNaming : List ℕ → Database → List Obj → Type 0
 AreNaming name db listed =
     (objects : FinMap key_cmp Obj) → HasRows objects db

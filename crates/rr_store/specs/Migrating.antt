@@ -1,8 +1,9 @@
 -- What migration makes of tables of version 1.
-use Rattle.std.specs.Prelude.{◌≡◌, ℕ, Bool, true, false, List, [], ◌∷◌, ◌++◌}
+use Rattle.std.specs.Prelude.{◌≡◌, ◌⊎◌, ℕ, Bool, true, false, List, [], ◌∷◌, ◌++◌}
 use Rattle.std.specs.Prelude.{codes}
 use Rattle.std.specs.List.{list_any}
 use Rattle.sqlite_trees.specs.declared.store.Store.{Ghosts}
+use Rattle.sqlite.specs.declared.error.Error.{Error}
 use Rattle.sqlite.specs.Effect.{Database}
 use Rattle.sqlite.specs.Held.{Held, state}
 use Rattle.sqlite.specs.State.{Survives}
@@ -10,11 +11,11 @@ use Rattle.rr_text.specs.Fields.{Field, one_line}
 pub use Rattle.rr_object.specs.Keys.{is_mntner_of}
 use Rattle.rr_object.specs.Objects.{Obj}
 use Rattle.rr_object.specs.Readings.{ReadsAs}
-use Rattle.rr_rows.specs.Contents.{KeepsOthers}
+use Rattle.rr_rows.specs.Contents.{IsTidy, KeepsOthers}
 use Rattle.rr_rows.specs.Entries.{TreesOf}
 use Rattle.rr_rows.specs.Maps.{AreOldStored, AreStored}
 use Rattle.rr_rows.specs.Tables.{HasTables}
-use Rattle.rr_store.specs.Calls.{IsOpen, IsSettled, OnCleanDisk, WhileOpen, database}
+use Rattle.rr_store.specs.Calls.{IsCaused, IsOpen, IsSettled, OnCleanDisk, WhileOpen, database}
 use Rattle.rr_store.specs.Opening.{HoldNone, IsNotOld, IsOfNoneButOld}
 use Rattle.rr_store.specs.declared.version.Version.TheVariants.{Old}
 use Rattle.rr_store.specs.declared.fault.MigrateFault.{MigrateFault}
@@ -49,6 +50,12 @@ pub record HasNoRoot (root source : List ℕ) (db : Database) : Type 0 where
   pub before : AreOldStored source objects db
   pub missing : has_mntner root objects ≡ false
 
+-- and here one is (profile)
+pub record HasRoot (root source : List ℕ) (db : Database) : Type 0 where
+  pub objects : List Obj
+  pub before : AreOldStored source objects db
+  pub registered : has_mntner root objects ≡ true
+
 -- the fault is of the rows, and not of the database or of memory (profile)
 abbrev pub IsOfOldRows : MigrateFault → Type 0
 IsOfOldRows (WrongVersion number) = Unit {0}
@@ -67,6 +74,12 @@ pub record RefusesOldTables (root source : List ℕ) (db : Database) (fault : Mi
   pub no_root : fault ≡ NoRoot → HasNoRoot root source db
 
 module _ {S : Type 0} (g : Ghosts S) (root source : List ℕ) (conn : Held S) where
+  -- over rows with numbers of their own, the database's error has a cause outside the rows, or
+  -- these are to be written anew
+  abbrev pub FailsToRead : Held S → Error → Type 0
+  FailsToRead left error = IsTidy (database g conn) → OnCleanDisk g left
+      (IsCaused (state g conn) (state g left) error ⊎ HasRoot root source (database g conn))
+
   -- the tables are migrated, and the store of their objects and the block is open
   pub record MigratesStore (store : Held S) : Type 0 where
     pub migrated : OnCleanDisk g store (IsMigrated root source (database g conn) (database g store))
@@ -81,5 +94,6 @@ module _ {S : Type 0} (g : Ghosts S) (root source : List ℕ) (conn : Held S) wh
     pub kept : WhileOpen g left (database g left ≡ database g conn)
     pub settled : IsSettled g left
     pub why : OnCleanDisk g left (RefusesOldTables root source (database g conn) fault)
+    pub store : (error : Error) → fault ≡ Store error → FailsToRead left error
     pub crash : Survives (state g conn) (state g left)
         (TreesOf (IsMigrated root source (database g conn)))

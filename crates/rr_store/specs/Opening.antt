@@ -2,6 +2,7 @@
 use Rattle.std.specs.Prelude.{◌≡◌, ◌≢◌, ℕ, ◌<◌, ◌^◌, List}
 use Rattle.std.specs.List.{AllByRecursion}
 use Rattle.sqlite_trees.specs.declared.store.Store.{Ghosts}
+use Rattle.sqlite.specs.declared.error.Error.{Error}
 use Rattle.sqlite.specs.Effect.{Database}
 use Rattle.sqlite.specs.Held.{Held, state}
 use Rattle.sqlite.specs.State.{Survives}
@@ -9,7 +10,7 @@ use Rattle.rr_object.specs.Objects.{Obj}
 use Rattle.rr_rows.specs.Contents.{settings}
 use Rattle.rr_rows.specs.Maps.{AreInOrder, AreStored, AreStoredIn, IsObjectOf}
 use Rattle.rr_rows.specs.Tables.{HasTables}
-use Rattle.rr_store.specs.Calls.{IsOpen, IsSettled, OnCleanDisk, Rests, database}
+use Rattle.rr_store.specs.Calls.{FailsOverTidy, IsOpen, IsSettled, OnCleanDisk, Rests, database}
 use Rattle.rr_store.specs.Versions.{SaysVersion, form_of, version_number, version_text}
 use Rattle.rr_store.specs.declared.fault.OpenFault.{OpenFault}
 use Rattle.rr_store.specs.declared.fault.OpenFault.TheVariants.{WrongVersion, BadRow, Store, Memory}
@@ -43,7 +44,7 @@ HoldNone version source db = (objects : List Obj) → AreStoredAs version source
 abbrev pub IsOtherVersion : ℕ → Database → Type 0
 IsOtherVersion = SaysOther This
 
--- or it is not 1
+-- a row of `meta` says that the tables are of this version, and it is not 1 (profile)
 abbrev pub IsNotOld : ℕ → Database → Type 0
 IsNotOld = SaysOther Old
 
@@ -51,7 +52,7 @@ IsNotOld = SaysOther Old
 abbrev pub IsOfNoOther : Database → Type 0
 IsOfNoOther = SaysNoOther This
 
--- or one that is not 1
+-- no row of `meta` says a version that is not 1 (profile)
 abbrev pub IsOfNoneButOld : Database → Type 0
 IsOfNoneButOld = SaysNoOther Old
 
@@ -59,17 +60,16 @@ IsOfNoneButOld = SaysNoOther Old
 abbrev pub IsUnreadable : List ℕ → Database → Type 0
 IsUnreadable = HoldNone This
 
--- and some list has
-pub record IsReadable (source : List ℕ) (db : Database) : Type 0 where
-  pub objects : List Obj
-  pub stored : AreStored source objects db
-
 -- the fault is of the rows, and not of the database or of memory
 abbrev pub IsOfRows : OpenFault → Type 0
 IsOfRows (WrongVersion number) = Unit {0}
 IsOfRows BadRow = Unit {0}
 IsOfRows (Store error) = ⊥
 IsOfRows Memory = ⊥
+
+-- where the fault is the database's error, this is true of it
+abbrev pub IfStore : (Error → Type 0) → OpenFault → Type 0
+IfStore P fault = (error : Error) → fault ≡ Store error → P error
 
 -- why tables are not read as those of this version: another is said, and that is told before bad
 -- rows (profile)
@@ -98,3 +98,4 @@ module _ {S : Type 0} (g : Ghosts S) (source : List ℕ) (conn : Held S) where
     pub rests : Rests g conn left
     pub settled : IsSettled g left
     pub why : OnCleanDisk g left (RefusesTables This source (database g conn) fault)
+    pub store : IfStore (FailsOverTidy g conn left) fault

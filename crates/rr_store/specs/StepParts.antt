@@ -16,7 +16,7 @@ module _ {S : Type 0} (g : Ghosts S) where
   Made Change old new result = OnCleanDisk g new
       (OnOk result (Change (database g old) (database g new)))
 
-  -- and here where the connection was open
+  -- the database was changed so where the connection was open
   abbrev pub MadeOpen : {X E : Type 0} → (Database → Database → Type 0) → Held S → Held S
       → Result X E
       → Type 0
@@ -27,7 +27,7 @@ module _ {S : Type 0} (g : Ghosts S) where
   abbrev pub GoesOn : {X E : Type 0} → Held S → Held S → Result X E → Type 0
   GoesOn old new result = OnCleanDisk g new (OnOk result (RunsOn (state g old) (state g new)))
 
-  -- and here where the connection was open
+  -- the transaction goes on where the connection was open
   abbrev pub GoesOnOpen : {X E : Type 0} → Held S → Held S → Result X E → Type 0
   GoesOnOpen old new result = OnCleanDisk g new
       (IsTrue (state g old).is_open → OnOk result (RunsOn (state g old) (state g new)))
@@ -36,6 +36,6 @@ module _ {S : Type 0} (g : Ghosts S) where
   abbrev pub CommitsNothing : Held S → Held S → Type 0
   CommitsNothing old new = OnCleanDisk g new (KeepsCommit (state g old) (state g new))
 
-  -- so a stop leaves what it left before
+  -- a stop leaves what it left before
   abbrev pub LeavesAll : Held S → Held S → Type 0
   LeavesAll old new = Survives (state g old) (state g new) (λ _. ⊥)

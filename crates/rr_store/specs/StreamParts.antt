@@ -1,12 +1,23 @@
 -- What private functions that read rows one at a time promise each other. No public clause cites
 -- these.
-use Rattle.std.specs.Prelude.{◌≡◌, ◌⊎◌, ℕ, false, List, ◌++◌, Result, OnOk}
+use Rattle.std.specs.Prelude.{◌≡◌, ◌⊎◌, ℕ, ℤ, false, IsSorted, List, ◌++◌, Option, Result, OnOk}
 use Rattle.sqlite_trees.specs.declared.store.Store.{Ghosts}
+use Rattle.sqlite_trees.specs.Tree.{rowid}
+use Rattle.sqlite_value.specs.declared.value.Value.TheVariants.{Int}
 use Rattle.sqlite_value.specs.Order.{Row}
+use Rattle.sqlite.specs.declared.error.Error.{Error}
+use Rattle.sqlite.specs.declared.error.Error.TheVariants.{SqliteFailure}
+use Rattle.sqlite.specs.declared.error.ErrorCode.TheVariants.{OutOfMemory}
 use Rattle.sqlite.specs.Given.{HasGiven}
 use Rattle.sqlite.specs.Held.{Held, state}
-use Rattle.sqlite.specs.State.{IsRolledBack, IsUnchanged, Shown, Survives}
+use Rattle.sqlite.specs.State.{FailsToQuery, IsRolledBack, IsUnchanged, Shown, Survives}
+use Rattle.rr_rows.specs.Contents.{AreKeyed, IsPast, by_one}
 use Rattle.rr_store.specs.Calls.{OnCleanDisk}
+
+-- memory ran out, or a row has no whole number that is above the last
+abbrev pub IsNotNext : Option ℤ → Row → Error → Type 0
+IsNotNext last row error = (error ≡ SqliteFailure OutOfMemory)
+    ⊎ ((number : ℤ) → rowid row ≡ Int number → IsPast last number → ⊥)
 
 module _ {S : Type 0} (g : Ghosts S) where
   -- after what a query gave before, it gave these rows
@@ -21,6 +32,26 @@ module _ {S : Type 0} (g : Ghosts S) where
       (sql : List ℕ) (params : Row) (given : List Row) → HasGiven g sql params old given
       → (mid : Held S) × IsUnchanged (state g old) (state g mid)
       × Shown sql params (state g mid) (state g new) (given ++ rest)
+
+  -- after rows that changed nothing, the query failed for this
+  abbrev pub StopsFor : Held S → Held S → Error → Type 0
+  StopsFor old new error =
+      (sql : List ℕ) (params : Row) (given : List Row) → HasGiven g sql params old given
+      → (mid : Held S) × IsUnchanged (state g old) (state g mid)
+      × Survives (state g old) (state g mid) (λ _. ⊥)
+      × FailsToQuery sql params (state g mid) (state g new) error
+
+  -- it gave rows that, whatever comes after them, have no numbers of their own in order
+  pub record StopsAt (old new : Held S) : Type 0 where
+    pub same : IsUnchanged (state g old) (state g new)
+    pub more : List Row
+    pub gives : GivesMore old new more
+    pub none : (rest : List Row) → AreKeyed (more ++ rest) → IsSorted by_one (more ++ rest) → ⊥
+
+  -- numbers are not counted: memory ran out, the query failed, or a row has none that is due
+  abbrev pub FailsToCount : Held S → Held S → Error → Type 0
+  FailsToCount old new error =
+      (error ≡ SqliteFailure OutOfMemory) ⊎ (StopsFor old new error ⊎ StopsAt old new)
 
   -- rows were read, and nothing changed but what a failure took back
   pub record Streams {X E : Type 0} (old new : Held S) (result : Result X E) : Type 0 where

@@ -1,5 +1,6 @@
 -- The versions of tables.
 use Rattle.std.specs.Prelude.{ℕ, List, Contains, codes, decimal}
+use Rattle.rr_store.specs.declared.version.TheConstants.{OLD_VERSION, VERSION}
 use Rattle.rr_store.specs.declared.version.Version.{Version}
 use Rattle.rr_store.specs.declared.version.Version.TheVariants.{Old, This}
 use Rattle.rr_object.specs.OldKeys.{old_key_bytes}
@@ -8,8 +9,8 @@ use Rattle.sqlite_value.specs.Order.{Row}
 use Rattle.rr_rows.specs.Contents.{setting}
 
 abbrev pub version_number : Version → ℕ
-version_number Old = 1
-version_number This = 2
+version_number Old = OLD_VERSION
+version_number This = VERSION
 
 -- the number as `meta` has it (profile)
 abbrev pub version_text : Version → List ℕ

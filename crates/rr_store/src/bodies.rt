@@ -35,6 +35,7 @@ fn add_names<S: Alter>(
     ensures survives { LeavesAll S.Store tx.old.conn.now tx.new.conn.now }
 {
     for name in names {
+        // the count is not asked for: the clause says which rows changed
         let _count = add_name(tx, name.as_bytes(), class, key)?;
     }
     Ok(())
@@ -54,6 +55,7 @@ pub(crate) fn add_rows<S: Alter>(
 {
     let class = entry.class();
     let key = entry.key();
+    // the count is not asked for: the clause says which rows changed
     let _object = add_object(tx, class, key, entry.body())?;
     add_names(tx, entry.names(), class, key)?;
     Ok(())
@@ -76,6 +78,7 @@ fn remove_names<S: Alter>(
     ensures survives { LeavesAll S.Store tx.old.conn.now tx.new.conn.now }
 {
     for name in names {
+        // the count is not asked for: the clause says which rows changed
         let _count = remove_name(tx, name.as_bytes(), class, key)?;
     }
     Ok(())
@@ -118,6 +121,7 @@ pub(crate) fn remove_rows<S: Alter>(
     ensures survives { LeavesAll S.Store tx.old.conn.now tx.new.conn.now }
 {
     forget_names(tx, alloc, class, key)?;
+    // the count is not asked for: the clause says which rows changed
     let _removed = remove_object(tx, class, key)?;
     Ok(())
 }

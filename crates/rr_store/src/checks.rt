@@ -8,10 +8,10 @@ ghost use Rattle.sqlite.specs.State.{IsUnchanged};
 ghost use Rattle.rr_rows.specs.Contents.{AreKeyed, by_three, contents, setting, settings};
 ghost use Rattle.rr_rows.specs.Maps.{AreInOrder, HasVersion, this_form};
 ghost use Rattle.rr_rows.specs.Tables.{HasTables};
-ghost use Rattle.rr_store.specs.Calls.{Looks, OnCleanDisk, database};
+ghost use Rattle.rr_store.specs.Calls.{FailsOverTidy, Looks, OnCleanDisk, database};
 ghost use Rattle.rr_store.specs.CheckParts.{AreNamingRows, HoldsObjects, IsVersionFault};
 ghost use Rattle.rr_store.specs.CheckParts.{NamedPointsTo, NamesAre, TableHolds, TableHoldsNone};
-ghost use Rattle.rr_store.specs.Opening.{AreObjectsOf};
+ghost use Rattle.rr_store.specs.Opening.{AreObjectsOf, IfStore};
 ghost use Rattle.rr_store.specs.ReadingParts.{TellsNoVersion};
 ghost use Rattle.rr_store.specs.Versions.{version_text};
 ghost use Rattle.rr_store.specs.declared.fault.OpenFault.TheVariants.{BadRow, Memory, WrongVersion};
@@ -36,6 +36,7 @@ fn judge_version(rows: &[Row], version: Version) -> Result<(), OpenFault>
     ensures ok { OnOk result
         (rows.now ≡ setting (codes "version") (version_text version) ∷ []) }
     ensures fault { IfErr result (IsVersionFault version rows.now) }
+    ensures no_store { IfErr result (IfStore (λ _. ⊥)) }
 {
     if let Some(number) = other_version(rows, version) {
         return Err(OpenFault::WrongVersion(number));
@@ -59,6 +60,7 @@ pub(crate) fn check_version<S: Alter>(
         (HasVersion (version_text version) (database S.Store conn.old))) }
     ensures fault { OnCleanDisk S.Store conn.new (IfErr result
         (IsVersionFault version (settings ((database S.Store conn.old).trees 0)))) }
+    ensures cause { IfErr result (IfStore (FailsOverTidy S.Store conn.old conn.new)) }
 {
     let rows = meta_rows(conn)?;
     judge_version(&rows, version)
@@ -82,6 +84,7 @@ pub(crate) fn check_objects<S: Alter>(
     ensures bad_row { OnCleanDisk S.Store conn.new (IfErr result (λ fault. fault ≡ BadRow →
         TableHoldsNone version source.now (database S.Store conn.old))) }
     ensures no_other { IfErr result TellsNoVersion }
+    ensures cause { IfErr result (IfStore (FailsOverTidy S.Store conn.old conn.new)) }
 {
     let count = count_object(conn)?;
     read_objects(conn, alloc, count, source, version)
@@ -120,6 +123,7 @@ fn judge_names(
     ensures bad_row { IsSorted by_three rows.now → IfErr result (λ fault. fault ≡ BadRow →
         AreNamingRows version objects.now rows.now → ⊥) }
     ensures no_other { IfErr result TellsNoVersion }
+    ensures no_store { IfErr result (IfStore (λ _. ⊥)) }
 {
     if are_named(alloc, rows, objects, version)? {
         Ok(())
@@ -143,6 +147,7 @@ fn check_sorted_names<S: Alter>(
     ensures bad_row { OnCleanDisk S.Store conn.new (IfErr result (λ fault. fault ≡ BadRow →
         NamesAre version objects.now (database S.Store conn.old) → ⊥)) }
     ensures no_other { IfErr result TellsNoVersion }
+    ensures cause { IfErr result (IfStore (FailsOverTidy S.Store conn.old conn.new)) }
 {
     let rows = sorted_named_rows(conn)?;
     judge_names(alloc, &rows, objects, version)
@@ -163,6 +168,7 @@ fn check_named<S: Alter>(
     ensures bad_row { OnCleanDisk S.Store conn.new (IfErr result (λ fault. fault ≡ BadRow →
         NamesAre version objects.now (database S.Store conn.old) → ⊥)) }
     ensures no_other { IfErr result TellsNoVersion }
+    ensures cause { IfErr result (IfStore (FailsOverTidy S.Store conn.old conn.new)) }
 {
     if names_in_turn(conn, alloc, objects, version)? {
         return Ok(());
@@ -189,7 +195,9 @@ pub(crate) fn check_names<S: Alter>(
     ensures bad_row { OnCleanDisk S.Store conn.new (IfErr result (λ fault. fault ≡ BadRow →
         NamesAre version objects.now (database S.Store conn.old) → ⊥)) }
     ensures no_other { IfErr result TellsNoVersion }
+    ensures cause { IfErr result (IfStore (FailsOverTidy S.Store conn.old conn.new)) }
 {
+    // for its clause: the rows have numbers of their own
     let _count = count_named(conn)?;
     check_named(conn, alloc, objects, version)
 }

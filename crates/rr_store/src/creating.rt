@@ -1,12 +1,13 @@
 //! A new store, made in one transaction.
 
 ghost use Rattle.std.specs.Prelude.{◌≡◌, false, IfErr, OnOk};
+ghost use Rattle.sqlite.specs.declared.error.Error.{Error};
 ghost use Rattle.rr_rows.specs.Made.{HasItsTables, HasRow, IsBare, IsVacant, no_schema};
 ghost use Rattle.rr_rows.specs.Tables.{HasTables};
 ghost use Rattle.rr_store.specs.Calls.{OnCleanDisk, WhileOpen, Writes, database};
-ghost use Rattle.rr_store.specs.Creating.{IsStoreOf};
+ghost use Rattle.rr_store.specs.Creating.{FailsOverRow, IsStoreOf};
 ghost use Rattle.rr_store.specs.Lent.{lent};
-ghost use Rattle.rr_store.specs.declared.fault.CreateFault.TheVariants.{NotEmpty};
+ghost use Rattle.rr_store.specs.declared.fault.CreateFault.TheVariants.{NotEmpty, Store};
 
 use crate::ending::end;
 use crate::fault::{CreateFault, NO_TABLES, StoreFault};
@@ -70,6 +71,8 @@ fn create_in_tables<S: Alter>(
         (IsBare (database S.Store conn.old))) }
     ensures filled { OnCleanDisk S.Store conn.new (IfErr result (λ fault. fault ≡ NotEmpty →
         HasRow (database S.Store conn.old))) }
+    ensures cause { IfErr result (λ fault. (error : Error) → fault ≡ Store error →
+        FailsOverRow S.Store conn.old conn.new error) }
 {
     match is_bare(conn) {
         Ok(true) => Ok(create_in_bare(conn, alloc, objects)?),
@@ -92,6 +95,8 @@ pub(crate) fn create_where_vacant<S: Alter>(
         (IsVacant (database S.Store conn.old))) }
     ensures filled { OnCleanDisk S.Store conn.new (IfErr result (λ fault. fault ≡ NotEmpty →
         HasTables conn.old.schema × HasRow (database S.Store conn.old))) }
+    ensures cause { IfErr result (λ fault. (error : Error) → fault ≡ Store error →
+        FailsOverRow S.Store conn.old conn.new error) }
 {
     let schema = conn.schema();
     if is_blank(schema) {

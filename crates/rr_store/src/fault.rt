@@ -101,7 +101,8 @@ impl From<Error> for OpenFault {
     }
 }
 
-/// A store has tables that can be read: others were not its own.
+/// A store's own tables can be read: what else is found there, another version or bad rows, is told
+/// as damage of the database.
 impl From<OpenFault> for StoreFault {
     ghost use Rattle.std.specs.Prelude.{◌≡◌};
     ghost use Rattle.rr_store.specs.Faults.{store_fault};

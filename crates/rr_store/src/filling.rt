@@ -59,6 +59,7 @@ pub(crate) fn fill<S: Alter>(
     ensures kept { CommitsNothing S.Store tx.old.conn.now tx.new.conn.now }
     ensures survives { LeavesAll S.Store tx.old.conn.now tx.new.conn.now }
 {
+    // the count is not asked for: the clause says which rows changed
     let _version = add_setting(tx, b"version", Version::This.text())?;
     add_objects(tx, alloc, objects)
 }

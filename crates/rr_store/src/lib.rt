@@ -1,5 +1,4 @@
-//! A registry kept in SQLite: its objects and who they name, in tables that always hold exactly its
-//! content.
+//! Objects kept in SQLite, and who they name, in tables that always hold exactly their rows.
 #![tactic(auto)]
 
 mod bodies;
@@ -32,3 +31,4 @@ pub use fault::{CreateFault, MigrateFault, OpenFault, StoreFault};
 pub use objects::lent;
 pub use store::Store;
 pub use upper::upper_object;
+pub use version::{OLD_VERSION, VERSION};

@@ -6,8 +6,9 @@ ghost use Rattle.rr_rows.specs.Entries.{entry_of};
 ghost use Rattle.rr_rows.specs.Made.{IsBare};
 ghost use Rattle.rr_store.specs.Calls.{OnCleanDisk, WhileOpen, Writes, database};
 ghost use Rattle.rr_store.specs.Lent.{lent};
-ghost use Rattle.rr_store.specs.Migrating.{IsMigrated, RefusesOldTables, has_mntner};
+ghost use Rattle.rr_store.specs.Migrating.{FailsToRead, IsMigrated, RefusesOldTables, has_mntner};
 ghost use Rattle.rr_store.specs.MigratingParts.{IsReplaced, IsRewritten};
+ghost use Rattle.rr_store.specs.declared.fault.MigrateFault.TheVariants.{Store};
 ghost use Rattle.rr_store.specs.StepParts.{CommitsNothing, GoesOn, LeavesAll, Made};
 
 use crate::ending::end;
@@ -33,6 +34,7 @@ fn clear_rows<S: Alter>(tx: &mut Transaction<'_, S>) -> Result<(), Error>
     ensures kept { CommitsNothing S.Store tx.old.conn.now tx.new.conn.now }
     ensures survives { LeavesAll S.Store tx.old.conn.now tx.new.conn.now }
 {
+    // the counts are not asked for: the clauses say which rows changed
     let _settings = clear_settings(tx)?;
     let _objects = clear_objects(tx)?;
     let _names = clear_names(tx)?;
@@ -123,6 +125,8 @@ pub(crate) fn migrate_rows<S: Alter>(
         conn.old conn.new result }
     ensures why { OnCleanDisk S.Store conn.new (IfErr result
         (RefusesOldTables root.now source.now (database S.Store conn.old))) }
+    ensures cause { IfErr result (λ fault. (error : _) → fault ≡ Store error →
+        FailsToRead S.Store root.now source.now conn.old conn.new error) }
 {
     let objects = stored_objects(conn, alloc, source, Version::Old)?;
     if has_mntner(&objects, root) {

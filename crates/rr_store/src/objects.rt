@@ -3,7 +3,6 @@
 ghost use Rattle.std.specs.Prelude.{◌≡◌, ◌++◌, [], ◌∷◌, IfErr, IfOk, IfSome};
 ghost use Rattle.std.specs.Prelude.{IsPermutation, IsSome};
 ghost use Rattle.std.specs.Prelude.{IsSorted, IsTrue, OnOk, Some};
-ghost use Rattle.sqlite.specs.declared.error.Error.{Error};
 ghost use Rattle.rr_text.specs.CanonicalText.{canonical};
 ghost use Rattle.rr_object.specs.Classes.{class_number};
 ghost use Rattle.rr_object.specs.Keys.{class_of};
@@ -12,9 +11,10 @@ ghost use Rattle.rr_object.specs.Readings.{ReadsAs};
 ghost use Rattle.rr_rows.specs.Contents.{columns, object_values};
 ghost use Rattle.rr_rows.specs.Maps.{AreApart, AreInOrder, IsObjectOf};
 ghost use Rattle.rr_store.specs.Lent.{lent};
+ghost use Rattle.rr_store.specs.Opening.{IfStore};
 ghost use Rattle.rr_store.specs.ReadingParts.{IsRowOf, TellsNoVersion, by_key, is_below};
 ghost use Rattle.rr_store.specs.Versions.{form_of};
-ghost use Rattle.rr_store.specs.declared.fault.OpenFault.TheVariants.{BadRow, Store};
+ghost use Rattle.rr_store.specs.declared.fault.OpenFault.TheVariants.{BadRow};
 
 use crate::columns::{bytes_at, is_object_row};
 use crate::fault::OpenFault;
@@ -119,7 +119,7 @@ pub(crate) fn take_object(
     ensures bad_row { IfErr result (λ fault. fault ≡ BadRow → (object : Obj) →
         IsObjectOf source.now object → IsRowOf (form_of version) object (columns row.now)
         → ⊥) }
-    ensures no_store { IfErr result (λ fault. (error : Error) → fault ≡ Store error → ⊥) }
+    ensures no_store { IfErr result (IfStore (λ _. ⊥)) }
     ensures no_other { IfErr result TellsNoVersion }
 {
     match read_object(alloc, row, source, version) {
@@ -132,7 +132,7 @@ pub(crate) fn take_object(
     }
 }
 
-/// The objects, lent.
+/// References to the objects, in their order. The error is that memory ran out.
 pub fn lent(alloc: Global, objects: &[Object]) -> Result<Vec<&Object>, AllocError>
     ensures { IfOk result (λ found. lent found.items ≡ objects.now) }
 {
@@ -186,6 +186,7 @@ pub(crate) fn in_order(objects: Vec<Object>) -> Result<Vec<Object>, OpenFault>
     ensures order { IfOk result (λ ordered. AreInOrder ordered.items) }
     ensures fault { IfErr result (λ fault. fault ≡ BadRow → AreApart objects.items → ⊥) }
     ensures no_other { IfErr result TellsNoVersion }
+    ensures no_store { IfErr result (IfStore (λ _. ⊥)) }
 {
     if are_in_order(&objects) {
         return Ok(objects);

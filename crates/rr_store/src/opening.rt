@@ -2,9 +2,10 @@
 
 ghost use Rattle.std.specs.Prelude.{◌≡◌, false, IfErr, IfOk};
 ghost use Rattle.rr_rows.specs.Maps.{AreInOrder, HasVersion};
-ghost use Rattle.rr_store.specs.Calls.{Looks, OnCleanDisk, database};
+ghost use Rattle.rr_store.specs.Calls.{FailsOverTidy, Looks, OnCleanDisk, database};
 ghost use Rattle.rr_store.specs.CheckParts.{HasSettings};
-ghost use Rattle.rr_store.specs.Opening.{AreObjectsOf, AreStoredAs, HoldNone, RefusesTables};
+ghost use Rattle.rr_store.specs.Opening.{AreObjectsOf, AreStoredAs, HoldNone, IfStore};
+ghost use Rattle.rr_store.specs.Opening.{RefusesTables};
 ghost use Rattle.rr_store.specs.ReadingParts.{TellsNoVersion};
 ghost use Rattle.rr_store.specs.Versions.{version_text};
 ghost use Rattle.rr_store.specs.declared.fault.OpenFault.TheVariants.{BadRow};
@@ -37,6 +38,7 @@ fn checked_objects<S: Alter>(
     ensures bad_row { OnCleanDisk S.Store conn.new (IfErr result (λ fault. fault ≡ BadRow →
         HoldNone version source.now (database S.Store conn.old))) }
     ensures no_other { IfErr result TellsNoVersion }
+    ensures cause { IfErr result (IfStore (FailsOverTidy S.Store conn.old conn.new)) }
 {
     let objects = check_objects(conn, alloc, source, version)?;
     check_names(conn, alloc, &objects, version)?;
@@ -59,6 +61,7 @@ fn read_tables<S: Alter>(
     ensures of_source { IfOk result (λ objects. AreObjectsOf source.now objects.items) }
     ensures why { OnCleanDisk S.Store conn.new (IfErr result
         (RefusesTables version source.now (database S.Store conn.old))) }
+    ensures cause { IfErr result (IfStore (FailsOverTidy S.Store conn.old conn.new)) }
 {
     check_version(conn, version)?;
     checked_objects(conn, alloc, source, version)
@@ -79,6 +82,7 @@ pub(crate) fn stored_objects<S: Alter>(
     ensures of_source { IfOk result (λ objects. AreObjectsOf source.now objects.items) }
     ensures why { OnCleanDisk S.Store conn.new (IfErr result
         (RefusesTables version source.now (database S.Store conn.old))) }
+    ensures cause { IfErr result (IfStore (FailsOverTidy S.Store conn.old conn.new)) }
 {
     check_settings(conn)?;
     read_tables(conn, alloc, source, version)

@@ -6,14 +6,14 @@ ghost use Rattle.std.specs.Prelude.{OnOk};
 ghost use Rattle.sqlite.specs.Given.{IsPlain};
 ghost use Rattle.sqlite.specs.Held.{state};
 ghost use Rattle.sqlite.specs.Listing.{understood};
-ghost use Rattle.sqlite.specs.State.{IsUnchanged, Shown};
+ghost use Rattle.sqlite.specs.State.{FailsToQuery, IsUnchanged, Shown};
 ghost use Rattle.sqlite.specs.Values.{bound};
 ghost use Rattle.rr_rows.specs.Contents.{AreKeyed, IsInRank, by_three, by_two, contents, number};
 ghost use Rattle.rr_rows.specs.Contents.{by_one, settings};
 ghost use Rattle.rr_rows.specs.Tables.{HasTables};
-ghost use Rattle.rr_store.specs.Calls.{Looks, OnCleanDisk, database};
+ghost use Rattle.rr_store.specs.Calls.{FailsFor, FailsOverTidy, Looks, OnCleanDisk, database};
 ghost use Rattle.rr_store.specs.CheckParts.{NamedPointsTo, NamesAre, TableHolds, TableHoldsNone};
-ghost use Rattle.rr_store.specs.Opening.{AreObjectsOf};
+ghost use Rattle.rr_store.specs.Opening.{AreObjectsOf, IfStore};
 ghost use Rattle.rr_store.specs.ReadingParts.{TellsNoVersion};
 ghost use Rattle.rr_store.specs.declared.fault.OpenFault.TheVariants.{BadRow, Memory};
 
@@ -37,6 +37,8 @@ fn look<S: Alter>(
     ensures looks { Looks S.Store conn.old conn.new result }
     ensures shown { OnCleanDisk S.Store conn.new (IfOk result (λ rows. Shown sql.now
         (bound params.now) (state S.Store conn.old) (state S.Store conn.new) rows.items)) }
+    ensures refused { OnCleanDisk S.Store conn.new (IfErr result (FailsToQuery sql.now
+        (bound params.now) (state S.Store conn.old) (state S.Store conn.new))) }
 {
     // outside a transaction the database is as it was last committed
     let _settled = conn.is_autocommit();
@@ -50,6 +52,7 @@ pub(crate) fn meta_rows<S: Alter>(conn: &mut Connection<S>) -> Result<Vec<Row>, 
     ensures looks { Looks S.Store conn.old conn.new result }
     ensures rows { OnCleanDisk S.Store conn.new (IfOk result (λ rows. IsInRank by_two
         (settings ((database S.Store conn.old).trees 0)) rows.items)) }
+    ensures cause { IfErr result (FailsFor S.Store conn.old conn.new) }
 {
     look(
         conn,
@@ -65,6 +68,7 @@ pub(crate) fn sorted_named_rows<S: Alter>(conn: &mut Connection<S>) -> Result<Ve
     ensures looks { Looks S.Store conn.old conn.new result }
     ensures rows { OnCleanDisk S.Store conn.new (IfOk result (λ rows. IsInRank by_three
         (contents ((database S.Store conn.old).trees 4)) rows.items)) }
+    ensures cause { IfErr result (FailsFor S.Store conn.old conn.new) }
 {
     look(
         conn,
@@ -80,6 +84,7 @@ pub(crate) fn meta_numbers<S: Alter>(conn: &mut Connection<S>) -> Result<Vec<Row
     ensures looks { Looks S.Store conn.old conn.new result }
     ensures rows { OnCleanDisk S.Store conn.new (IfOk result (λ rows. IsInRank by_one
         (map number ((database S.Store conn.old).trees 0)) rows.items)) }
+    ensures cause { IfErr result (FailsFor S.Store conn.old conn.new) }
 {
     look(conn, "SELECT rowid FROM meta ORDER BY rowid", &[])
 }
@@ -91,6 +96,7 @@ pub(crate) fn object_numbers<S: Alter>(conn: &mut Connection<S>) -> Result<Vec<R
     ensures looks { Looks S.Store conn.old conn.new result }
     ensures rows { OnCleanDisk S.Store conn.new (IfOk result (λ rows. IsInRank by_one
         (map number ((database S.Store conn.old).trees 2)) rows.items)) }
+    ensures cause { IfErr result (FailsFor S.Store conn.old conn.new) }
 {
     look(conn, "SELECT rowid FROM object ORDER BY rowid", &[])
 }
@@ -102,8 +108,24 @@ pub(crate) fn named_numbers<S: Alter>(conn: &mut Connection<S>) -> Result<Vec<Ro
     ensures looks { Looks S.Store conn.old conn.new result }
     ensures rows { OnCleanDisk S.Store conn.new (IfOk result (λ rows. IsInRank by_one
         (map number ((database S.Store conn.old).trees 4)) rows.items)) }
+    ensures cause { IfErr result (FailsFor S.Store conn.old conn.new) }
 {
     look(conn, "SELECT rowid FROM named ORDER BY rowid", &[])
+}
+
+/// Counts the rows of `meta`, which have to have numbers of their own.
+pub(crate) fn count_meta<S: Alter>(conn: &mut Connection<S>) -> Result<usize, Error>
+    requires autocommit { conn.old.in_transaction ≡ false }
+    requires tables { OnCleanDisk S.Store conn.old (HasTables conn.old.schema) }
+    ensures looks { Looks S.Store conn.old conn.new result }
+    ensures keyed { OnCleanDisk S.Store conn.new (OnOk result
+        (AreKeyed ((database S.Store conn.old).trees 0))) }
+    ensures cause { IfErr result (FailsOverTidy S.Store conn.old conn.new) }
+{
+    // outside a transaction the database is as it was last committed
+    let _settled = conn.is_autocommit();
+    let mut rows = conn.query("SELECT rowid FROM meta ORDER BY rowid", &[])?;
+    count_numbered(&mut rows)
 }
 
 /// Counts the rows of `object`, which have to have numbers of their own.
@@ -113,6 +135,7 @@ pub(crate) fn count_object<S: Alter>(conn: &mut Connection<S>) -> Result<usize, 
     ensures looks { Looks S.Store conn.old conn.new result }
     ensures keyed { OnCleanDisk S.Store conn.new (OnOk result
         (AreKeyed ((database S.Store conn.old).trees 2))) }
+    ensures cause { IfErr result (FailsOverTidy S.Store conn.old conn.new) }
 {
     // outside a transaction the database is as it was last committed
     let _settled = conn.is_autocommit();
@@ -127,6 +150,7 @@ pub(crate) fn count_named<S: Alter>(conn: &mut Connection<S>) -> Result<usize, E
     ensures looks { Looks S.Store conn.old conn.new result }
     ensures keyed { OnCleanDisk S.Store conn.new (OnOk result
         (AreKeyed ((database S.Store conn.old).trees 4))) }
+    ensures cause { IfErr result (FailsOverTidy S.Store conn.old conn.new) }
 {
     // outside a transaction the database is as it was last committed
     let _settled = conn.is_autocommit();
@@ -151,6 +175,7 @@ pub(crate) fn read_objects<S: Alter>(
     ensures bad_row { OnCleanDisk S.Store conn.new (IfErr result (λ fault. fault ≡ BadRow →
         TableHoldsNone version source.now (database S.Store conn.old))) }
     ensures no_other { IfErr result TellsNoVersion }
+    ensures cause { IfErr result (IfStore (FailsOverTidy S.Store conn.old conn.new)) }
 {
     // outside a transaction the database is as it was last committed
     let _settled = conn.is_autocommit();
@@ -175,6 +200,7 @@ pub(crate) fn names_in_turn<S: Alter>(
         NamesAre version objects.now (database S.Store conn.old))) }
     ensures no_bad_row { IfErr result (λ fault. fault ≡ BadRow → ⊥) }
     ensures no_other { IfErr result TellsNoVersion }
+    ensures cause { IfErr result (IfStore (FailsOverTidy S.Store conn.old conn.new)) }
 {
     // outside a transaction the database is as it was last committed
     let _settled = conn.is_autocommit();

@@ -9,12 +9,14 @@ ghost use Rattle.rr_rows.specs.Entries.{IsAdded, IsPut, entry_of};
 ghost use Rattle.rr_rows.specs.Maps.{AreInOrder, AreOldStored, IsObject};
 ghost use Rattle.rr_rows.specs.Maps.{Puts, TakesOut};
 ghost use Rattle.rr_store.specs.Adding.{AddsTo, TakesRows};
-ghost use Rattle.rr_store.specs.Calls.{IsSettled, Looks, OnCleanDisk, Writes, database};
+ghost use Rattle.rr_store.specs.Calls.{FailsOverTidy, IsSettled, Looks, OnCleanDisk, Writes};
+ghost use Rattle.rr_store.specs.Calls.{database};
 ghost use Rattle.rr_store.specs.Creating.{FailsToMake, MakesStore};
 ghost use Rattle.rr_store.specs.Lent.{lent};
 ghost use Rattle.rr_store.specs.Listing.{AreAll, AreNaming};
 ghost use Rattle.rr_store.specs.Migrating.{FailsToMigrate, MigratesStore};
-ghost use Rattle.rr_store.specs.Opening.{AreObjectsOf, FailsToOpen, OpensStore, RefusesTables};
+ghost use Rattle.rr_store.specs.Opening.{AreObjectsOf, FailsToOpen, IfStore, OpensStore};
+ghost use Rattle.rr_store.specs.Opening.{RefusesTables};
 ghost use Rattle.rr_store.specs.declared.version.Version.TheVariants.{Old};
 ghost use Rattle.rr_store.specs.declared.fault.StoreFault.TheVariants.{Memory};
 
@@ -133,6 +135,7 @@ impl<S: Alter> Store<S> {
         ensures of_source { IfOk result (λ objects. AreObjectsOf source.now objects.items) }
         ensures why { OnCleanDisk S.Store conn.new (IfErr result
             (RefusesTables Old source.now (database S.Store conn.old))) }
+        ensures store { IfErr result (IfStore (FailsOverTidy S.Store conn.old conn.new)) }
     {
         stored_objects(conn, alloc, source, Version::Old)
     }
@@ -238,9 +241,9 @@ impl<S: Alter> Store<S> {
         remove_entry(&mut self.conn, alloc, class, &bytes)
     }
 
-    /// All objects, in order of class and key, each one of the source; a row that is none of one of
-    /// it is a fault of the store. Nothing changes, nor what a stop during the call leaves; one
-    /// after it, while the connection is open, leaves the rows that stand.
+    /// All objects, in order of class and key, each one of the source; a row that is not that of an
+    /// object of the source is a fault of the store. Nothing changes, nor what a stop during the
+    /// call leaves; one after it, while the connection is open, leaves the rows that stand.
     pub fn all(&mut self, alloc: Global, source: &Name) -> Result<Vec<Object>, StoreFault>
         ensures looks { Looks S.Store self.old self.new result }
         ensures all { OnCleanDisk S.Store self.new (IfOk result (λ all.

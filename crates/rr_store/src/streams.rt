@@ -3,7 +3,6 @@
 ghost use Rattle.std.specs.Prelude.{◌≡◌, ◌++◌, List, IfErr, IfOk, IsTrue, OnOk, map};
 ghost use Rattle.std.specs.List.{flat_map};
 ghost use Rattle.sqlite.specs.State.{IsUnchanged};
-ghost use Rattle.sqlite.specs.declared.error.Error.{Error};
 ghost use Rattle.sqlite.specs.Held.{state};
 ghost use Rattle.sqlite_value.specs.declared.value.Value.TheVariants.{Int};
 ghost use Rattle.sqlite_value.specs.Order.{Row as Values};
@@ -12,11 +11,12 @@ ghost use Rattle.rr_rows.specs.Contents.{AreKeyed, IsPast, contents, named_value
 ghost use Rattle.rr_rows.specs.Entries.{named_rows};
 ghost use Rattle.rr_rows.specs.Maps.{entry_in};
 ghost use Rattle.rr_store.specs.Calls.{IsOpen, OnCleanDisk};
-ghost use Rattle.rr_store.specs.Opening.{AreObjectsOf};
+ghost use Rattle.rr_store.specs.Opening.{AreObjectsOf, IfStore};
 ghost use Rattle.rr_store.specs.ReadingParts.{AreNone, AreRead, TellsNoVersion};
-ghost use Rattle.rr_store.specs.StreamParts.{GivesMore, GivesRest, Streams};
+ghost use Rattle.rr_store.specs.StreamParts.{FailsToCount, GivesMore, GivesRest, IsNotNext};
+ghost use Rattle.rr_store.specs.StreamParts.{StopsFor, Streams};
 ghost use Rattle.rr_store.specs.Versions.{form_of};
-ghost use Rattle.rr_store.specs.declared.fault.OpenFault.TheVariants.{BadRow, Store};
+ghost use Rattle.rr_store.specs.declared.fault.OpenFault.TheVariants.{BadRow};
 
 use crate::columns::is_named_row;
 use crate::fault::{BAD_ROWS, OpenFault};
@@ -33,6 +33,7 @@ use std::alloc::Global;
 fn next_number(row: &Row, last: Option<i64>) -> Result<i64, Error>
     ensures number { IfOk result (λ number. rowid row.now ≡ Int number) }
     ensures past { IfOk result (IsPast last) }
+    ensures not_next { IfErr result (IsNotNext last row.now) }
 {
     let number: i64 = row.get(0)?;
     match last {
@@ -54,6 +55,8 @@ pub(crate) fn count_numbered<S: Alter>(rows: &mut Rows<'_, S>) -> Result<usize, 
     ensures streams { Streams S.Store rows.old.conn.now rows.new.conn.now result }
     ensures keyed { OnCleanDisk S.Store rows.new.conn.now (OnOk result ((rest : List Values) ×
         GivesRest S.Store rows.old.conn.now rows.new.conn.now rest × AreKeyed rest)) }
+    ensures fails { OnCleanDisk S.Store rows.new.conn.now (IfErr result
+        (FailsToCount S.Store rows.old.conn.now rows.new.conn.now)) }
 {
     let mut last = None;
     'rows: for count in 0..usize::MAX {
@@ -86,9 +89,11 @@ pub(crate) fn take_objects<S: Alter>(
         GivesMore S.Store rows.old.conn.now rows.new.conn.now more × ((rest : List Values) →
         AreNone (form_of version) source.now (contents (more ++ rest))))) }
     ensures unchanged { OnCleanDisk S.Store rows.new.conn.now (IfErr result (λ fault.
-        ((error : Error) → fault ≡ Store error → ⊥) →
+        IfStore (λ _. ⊥) fault →
         IsUnchanged (state S.Store rows.old.conn.now) (state S.Store rows.new.conn.now))) }
     ensures no_other { IfErr result TellsNoVersion }
+    ensures stops { OnCleanDisk S.Store rows.new.conn.now (IfErr result (IfStore
+        (StopsFor S.Store rows.old.conn.now rows.new.conn.now))) }
 {
     let mut objects = Vec::with_capacity(alloc, count)?;
     'rows: for _ in 0..u64::MAX {
@@ -114,6 +119,8 @@ fn take_names<S: Alter>(
     ensures are { OnCleanDisk S.Store rows.new.conn.now (IfOk result (λ are. IsTrue are →
         (more : List Values) × GivesMore S.Store rows.old.conn.now rows.new.conn.now more ×
         (contents more ≡ map (λ name. named_values name class key.now) names.now))) }
+    ensures stops { OnCleanDisk S.Store rows.new.conn.now (IfErr result
+        (StopsFor S.Store rows.old.conn.now rows.new.conn.now)) }
 {
     for name in names {
         rows.advance()?;
@@ -142,6 +149,8 @@ fn take_names_of<S: Alter>(
         (contents more ≡ named_rows (entry_in (form_of version) object.now)))) }
     ensures no_bad_row { IfErr result (λ fault. fault ≡ BadRow → ⊥) }
     ensures no_other { IfErr result TellsNoVersion }
+    ensures stops { OnCleanDisk S.Store rows.new.conn.now (IfErr result (IfStore
+        (StopsFor S.Store rows.old.conn.now rows.new.conn.now))) }
 {
     let names = maintainers_of(alloc, object)?;
     let key = key_text(alloc, object.key(), version)?;
@@ -164,6 +173,8 @@ pub(crate) fn take_all_names<S: Alter>(
         (contents rest ≡ flat_map named_rows (map (entry_in (form_of version)) objects.now)))) }
     ensures no_bad_row { IfErr result (λ fault. fault ≡ BadRow → ⊥) }
     ensures no_other { IfErr result TellsNoVersion }
+    ensures stops { OnCleanDisk S.Store rows.new.conn.now (IfErr result (IfStore
+        (StopsFor S.Store rows.old.conn.now rows.new.conn.now))) }
 {
     for object in objects {
         if !take_names_of(rows, alloc, object, version)? {

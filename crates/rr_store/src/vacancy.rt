@@ -1,9 +1,9 @@
 //! Whether a database has room for a new store.
 
-ghost use Rattle.std.specs.Prelude.{◌≡◌, false, IfOk, IsTrue};
+ghost use Rattle.std.specs.Prelude.{◌≡◌, false, IfErr, IfOk, IsTrue};
 ghost use Rattle.rr_rows.specs.Made.{HasRow, IsBare, no_schema};
 ghost use Rattle.rr_rows.specs.Tables.{HasTables};
-ghost use Rattle.rr_store.specs.Calls.{Looks, OnCleanDisk, database};
+ghost use Rattle.rr_store.specs.Calls.{FailsFor, Looks, OnCleanDisk, database};
 ghost use Rattle.rr_store.specs.VacancyParts.{SaysEmpty};
 
 use crate::reading::{meta_numbers, named_numbers, object_numbers};
@@ -24,6 +24,7 @@ fn meta_is_empty<S: Alter>(conn: &mut Connection<S>) -> Result<bool, Error>
     ensures looks { Looks S.Store conn.old conn.new result }
     ensures empty { OnCleanDisk S.Store conn.new (IfOk result
         (SaysEmpty ((database S.Store conn.old).trees 0))) }
+    ensures cause { IfErr result (FailsFor S.Store conn.old conn.new) }
 {
     let rows = meta_numbers(conn)?;
     Ok(rows.as_slice().is_empty())
@@ -36,6 +37,7 @@ fn object_is_empty<S: Alter>(conn: &mut Connection<S>) -> Result<bool, Error>
     ensures looks { Looks S.Store conn.old conn.new result }
     ensures empty { OnCleanDisk S.Store conn.new (IfOk result
         (SaysEmpty ((database S.Store conn.old).trees 2))) }
+    ensures cause { IfErr result (FailsFor S.Store conn.old conn.new) }
 {
     let rows = object_numbers(conn)?;
     Ok(rows.as_slice().is_empty())
@@ -48,6 +50,7 @@ fn named_is_empty<S: Alter>(conn: &mut Connection<S>) -> Result<bool, Error>
     ensures looks { Looks S.Store conn.old conn.new result }
     ensures empty { OnCleanDisk S.Store conn.new (IfOk result
         (SaysEmpty ((database S.Store conn.old).trees 4))) }
+    ensures cause { IfErr result (FailsFor S.Store conn.old conn.new) }
 {
     let rows = named_numbers(conn)?;
     Ok(rows.as_slice().is_empty())
@@ -62,6 +65,7 @@ pub(crate) fn is_bare<S: Alter>(conn: &mut Connection<S>) -> Result<bool, Error>
         IsBare (database S.Store conn.old))) }
     ensures filled { OnCleanDisk S.Store conn.new (IfOk result (λ is. is ≡ false →
         HasRow (database S.Store conn.old))) }
+    ensures cause { IfErr result (FailsFor S.Store conn.old conn.new) }
 {
     let meta = meta_is_empty(conn)?;
     let object = object_is_empty(conn)?;

@@ -9,6 +9,12 @@ use itoa::Buffer;
 use rr_object::Key;
 use std::alloc::{AllocError, Global};
 
+/// The version of the tables that a store has.
+pub const VERSION: u32 = 2;
+
+/// The version of the tables that a migration makes those of a store.
+pub const OLD_VERSION: u32 = 1;
+
 /// The version of tables, which says how their keys are written.
 #[derive(Clone, Copy, Debug, PartialEq, Eq)]
 pub(crate) enum Version {
@@ -24,8 +30,8 @@ impl Version {
         ensures { result ≡ version_number self }
     {
         match self {
-            Version::Old => 1,
-            Version::This => 2,
+            Version::Old => OLD_VERSION,
+            Version::This => VERSION,
         }
     }
 

@@ -26,10 +26,10 @@ pub fn objects(alloc: Global, text: &[u8]) -> Result<Vec<Object>, Fail> {
             break;
         };
         objects.push(Object::read(alloc, paragraph, &source)?)?;
-        let Some(behind) = rest.get(next..) else {
+        let Some(after) = rest.get(next..) else {
             break;
         };
-        rest = behind;
+        rest = after;
     }
     Ok(objects)
 }

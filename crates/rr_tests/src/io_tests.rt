@@ -92,7 +92,7 @@ fn an_interrupted_read_is_a_fault(rt: HostRuntime) {
 }
 
 #[test]
-fn a_failed_write_leaves_a_front(rt: HostRuntime) {
+fn a_failed_write_leaves_a_prefix(rt: HostRuntime) {
     let mut sink = Cut::new(Counted::new(Vec::new(rt.alloc())), 2, 5);
     expect_written(&rt, &mut sink, &[b"ab", b"cdef", b"gh"], false, 1);
     expect_written(&rt, &mut sink, &[b"x"], false, 2);

@@ -69,10 +69,10 @@ pub(crate) fn expect_code<R: Abort + AllocGlobal>(
     rt: &R,
     before: &str,
     text: &str,
-    behind: &str,
+    after: &str,
     wanted: &str,
 ) -> Result<(), Fail> {
-    let whole = format!(in rt.alloc(); "{before}{text}{behind}")?;
+    let whole = format!(in rt.alloc(); "{before}{text}{after}")?;
     assert_eq!(rt; code(rt.alloc(), whole.as_str())?, wanted, "{whole}");
     Ok(())
 }
@@ -82,10 +82,10 @@ pub(crate) fn expect_codes<R: Abort + AllocGlobal>(
     rt: &R,
     before: &str,
     cases: &[(&str, &str)],
-    behind: &str,
+    after: &str,
 ) -> Result<(), Fail> {
     for (text, wanted) in cases {
-        expect_code(rt, before, text, behind, wanted)?;
+        expect_code(rt, before, text, after, wanted)?;
     }
     Ok(())
 }

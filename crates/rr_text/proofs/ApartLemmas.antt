@@ -81,18 +81,18 @@ lines_split text [] ys e = record {
 lines_split [] (x ∷ xs) ys e = cc
 lines_split (b ∷ bs) (x ∷ xs) ys e = split_by (is_line_feed b) b bs x xs ys refl e (λ zs. lines_split bs zs ys)
 
-kept_front_by : (t : Bool) (line : List ℕ) (others kept rest : List (List ℕ)) → others ≡ kept ++ rest → (more : List (List ℕ)) × (line ∷ others ≡ kept_before t line kept ++ more)
-kept_front_by true line others kept rest e = (rest, ap (λ ls. line ∷ ls) e)
-kept_front_by false line others [] rest e = (line ∷ others, refl)
-kept_front_by false line others (next ∷ kept) rest e = (rest, ap (λ ls. line ∷ ls) e)
+kept_prefix_by : (t : Bool) (line : List ℕ) (others kept rest : List (List ℕ)) → others ≡ kept ++ rest → (more : List (List ℕ)) × (line ∷ others ≡ kept_before t line kept ++ more)
+kept_prefix_by true line others kept rest e = (rest, ap (λ ls. line ∷ ls) e)
+kept_prefix_by false line others [] rest e = (line ∷ others, refl)
+kept_prefix_by false line others (next ∷ kept) rest e = (rest, ap (λ ls. line ∷ ls) e)
 
 -- what closes is the beginning of the lines
-pub closed_front : (lines : List (List ℕ)) → (rest : List (List ℕ)) × (lines ≡ closed_lines lines ++ rest)
+pub closed_prefix : (lines : List (List ℕ)) → (rest : List (List ℕ)) × (lines ≡ closed_lines lines ++ rest)
 unfolding closed_lines
-closed_front [] = ([], refl)
-closed_front (line ∷ others) =
-    let more = closed_front others in
-    kept_front_by (closes line) line others (closed_lines others) more.0 more.1
+closed_prefix [] = ([], refl)
+closed_prefix (line ∷ others) =
+    let more = closed_prefix others in
+    kept_prefix_by (closes line) line others (closed_lines others) more.0 more.1
 
 -- lines of which none closes leave what the lines before them close
 pub closed_none : (lines : List (List ℕ)) → list_any closes lines ≡ false → closed_lines lines ≡ []
@@ -121,7 +121,7 @@ some_after : (lines : List (List ℕ)) (more : List (List ℕ)) → more ≢ [] 
 some_after [] more some e = some e
 some_after (line ∷ others) more some e = cc
 
--- behind whatever lines, a closed part is all kept
+-- after whatever lines, a closed part is all kept
 pub closed_after : (lines more : List (List ℕ)) → more ≢ [] → closed_lines more ≡ more → closed_lines (lines ++ more) ≡ lines ++ more
 unfolding closed_lines
 closed_after [] more some all = all
@@ -175,7 +175,7 @@ closed_on (line ∷ (next ∷ others)) more e =
 pub whole_lines : (text : List ℕ) → whole_part text ≡ text → closed_lines (text_lines text) ≡ text_lines text
 unfolding whole_part
 whole_lines text e =
-    let prefix = closed_front (text_lines text) in
+    let prefix = closed_prefix (text_lines text) in
     let cut : IsSplit (closed_lines (text_lines text)) prefix.0 = lines_split text (closed_lines (text_lines text)) prefix.0 prefix.1 in
     sym cut.prefix ∙ ap text_lines e
 

@@ -8,7 +8,7 @@ use Rattle.rr_text.proofs.LineLemmas.{text_lines-append, are_whole_lines-append}
 use Rattle.rr_text.specs.Blocks.{blocks, from_unskipped, has_line, from_blank}
 use Rattle.rr_text.specs.PrivateParts.{starts_block, until_blank}
 
--- what `slice_split` gives behind its first part
+-- what `slice_split` gives after its first part
 parts_after : List (List ℕ) → List (List (List ℕ))
 parts_after [] = []
 parts_after (line ∷ others) = slice_split is_blank_line others
@@ -25,7 +25,7 @@ unfolding until_blank from_blank parts_after
 split_until [] = refl
 split_until (line ∷ others) = split_by (is_blank_line line) line others refl (split_until others)
 
--- the blocks of the parts behind the first one
+-- the blocks of the parts after the first one
 later_by : (t : Bool) (line : List ℕ) (others : List (List ℕ)) → is_blank_line line ≡ t
     → filter has_line (map from_unskipped (parts_after (from_blank others))) ≡ blocks (from_blank others)
     → filter has_line (map from_unskipped (parts_after (from_blank (line ∷ others)))) ≡ blocks (from_blank (line ∷ others))
@@ -62,10 +62,10 @@ pub passed_line : (text rest line after prefix : List ℕ) → text ≡ prefix +
 passed_line text rest line after prefix h e = cc (append_assoc prefix line after)
 
 -- any other line begins a block
-pub blocks_front : (line : List ℕ) (others : List (List ℕ)) → is_blank_line line ≡ false → is_skipped_line line ≡ false
+pub blocks_prefix : (line : List ℕ) (others : List (List ℕ)) → is_blank_line line ≡ false → is_skipped_line line ≡ false
     → blocks (line ∷ others) ≡ until_blank (line ∷ others) ∷ blocks (from_blank (line ∷ others))
 unfolding blocks from_unskipped until_blank from_blank
-blocks_front line others h s =
+blocks_prefix line others h s =
     let parts : slice_split is_blank_line (line ∷ others) ≡ (line ∷ until_blank others) ∷ parts_after (from_blank others) =
     rw h (ap (onto_first line) (split_until others))
     in
@@ -116,8 +116,8 @@ unfolding until_blank from_blank
 at_blank rest line after lines h = record { none = rw lines (rw h refl); all = rw lines (rw h refl) }
 
 -- where the search stopped, the text is cut there
-pub taken_front : (text done rest prefix : List ℕ) → IsTaken text done rest → IsAtBlank rest → prefix ≡ take (length text - length rest) text → text_lines prefix ≡ until_blank (text_lines text)
-taken_front text done rest prefix taken stop cut =
+pub taken_prefix : (text done rest prefix : List ℕ) → IsTaken text done rest → IsAtBlank rest → prefix ≡ take (length text - length rest) text → text_lines prefix ≡ until_blank (text_lines text)
+taken_prefix text done rest prefix taken stop cut =
     let lengths : length text ≡ length done + length rest = ap length taken.whole ∙ length-append done rest in
     let is : prefix ≡ done = cut ∙ (ap (take (length text - length rest)) taken.whole ∙ take_at done rest (length text - length rest) (omega arith)) in
     ap text_lines is ∙ (sym (append-nil (text_lines done)) ∙ (ap (λ ls. text_lines done ++ ls) (sym stop.none) ∙ sym taken.block))
@@ -138,17 +138,17 @@ pub record IsFront (lines : List (List ℕ)) : Type 0 where
   pub starts : starts_block (until_blank lines) ≡ true
   pub first : blocks lines ≡ until_blank lines ∷ blocks (from_blank lines)
 
-front_by : (t s : Bool) (line : List ℕ) (others : List (List ℕ)) → is_blank_line line ≡ t → is_skipped_line line ≡ s → (not t && not s) ≡ true → IsFront (line ∷ others)
-front_by true s line others b k h = cc
-front_by false true line others b k h = cc
-front_by false false line others b k h = record {
+prefix_by : (t s : Bool) (line : List ℕ) (others : List (List ℕ)) → is_blank_line line ≡ t → is_skipped_line line ≡ s → (not t && not s) ≡ true → IsFront (line ∷ others)
+prefix_by true s line others b k h = cc
+prefix_by false true line others b k h = cc
+prefix_by false false line others b k h = record {
   starts = let e : until_blank (line ∷ others) ≡ line ∷ until_blank others = (unblank line others b).0 in rw e (rw (b, k) refl);
-  first = blocks_front line others b k;
+  first = blocks_prefix line others b k;
 }
 
-pub front_of : (lines : List (List ℕ)) → starts_block lines ≡ true → IsFront lines
-front_of [] h = cc
-front_of (line ∷ others) h = front_by (is_blank_line line) (is_skipped_line line) line others refl refl h
+pub head_of : (lines : List (List ℕ)) → starts_block lines ≡ true → IsFront lines
+head_of [] h = cc
+head_of (line ∷ others) h = prefix_by (is_blank_line line) (is_skipped_line line) line others refl refl h
 
 -- a text that begins with a line of a paragraph is not empty
 pub some_bytes : (block : List ℕ) → starts_block (text_lines block) ≡ true → 0 < length block
@@ -156,7 +156,7 @@ unfolding text_lines
 some_bytes [] h = cc
 some_bytes (b ∷ bs) h = omega arith
 
--- the place in a text behind a block of its rest
+-- the place in a text after a block of its rest
 pub record IsPlace (text : List ℕ) (from : ℕ) (after : List ℕ) : Type 0 where
   pub past : from < length text - length after
   pub rest : drop (length text - length after) text ≡ after
@@ -184,7 +184,7 @@ pub taken_at : (text : List ℕ) (from : ℕ) (left rest block after : List ℕ)
     × (blocks (text_lines (drop from text)) ≡ text_lines block ∷ blocks (text_lines (drop (length text - length after) text)))
 taken_at text from left rest block after within is_left prefix same starts some cut is_block is_after =
     let begins : starts_block (text_lines rest) ≡ true = elim starts [ inl e ↦ absurd (omega (arith, ap length e)) | inr h ↦ h ] in
-    let first : IsFront (text_lines rest) = front_of (text_lines rest) begins in
+    let first : IsFront (text_lines rest) = head_of (text_lines rest) begins in
     let begun : starts_block (text_lines block) ≡ true = ap starts_block is_block ∙ first.starts in
     let place : IsPlace text from after = place_after text from prefix.0 rest block after within (is_left ∙ prefix.1) cut (some_bytes block begun) in
     let found : blocks (text_lines rest) ≡ text_lines block ∷ blocks (text_lines after) = cc (first.first, is_block, is_after) in (
@@ -225,7 +225,7 @@ split_append : (lines : List (List ℕ)) (blank : List ℕ) (others : List (List
 split_append [] blank others h = rw h refl
 split_append (line ∷ lines) blank others h = split_append_by (is_blank_line line) line lines (blank ∷ others) (slice_split is_blank_line others) refl (split_append lines blank others h)
 
--- a blank line keeps the blocks before and behind it apart
+-- a blank line keeps the blocks before and after it apart
 pub blocks_apart : (lines : List (List ℕ)) (blank : List ℕ) (others : List (List ℕ)) → is_blank_line blank ≡ true → blocks (lines ++ blank ∷ others) ≡ blocks lines ++ blocks others
 unfolding blocks
 blocks_apart lines blank others h =

@@ -1,4 +1,4 @@
--- What stands in a text behind a prefix.
+-- What stands in a text after a prefix.
 use Rattle.std.proofs.Common.{◌≡◌, ◌≢◌, ◌==◌, ◌&&◌, ◌<◌, ◌+◌, ℕ, Bool, true, false, List, [], ◌∷◌, ◌++◌, length, take, drop, refl, sym, ap, ◌∙◌, arith, cond, Option, Some, None, Bor}
 use Rattle.std.specs.Prelude.{MatchOption}
 use Rattle.std.specs.Cmp.Lexicographic.{pointwise}
@@ -15,7 +15,7 @@ same_first : (b c : ℕ) (prefix text left : List ℕ) (t : Bool) → (b == c) �
 same_first b c prefix text left true e more h = let same : b ≡ c = grind (arith, nat_tests) in let rest = more h in cc
 same_first b c prefix text left false e more h = cc
 
--- what is left stands behind the prefix
+-- what is left stands after the prefix
 pub left_is : (prefix text left : List ℕ) → left_after prefix text ≡ Some left → text ≡ prefix ++ left
 unfolding left_after
 left_is [] text left h = cc
@@ -45,7 +45,7 @@ pub stripped : (bytes text : List ℕ) (result : Option (Bor (List ℕ)))
     → option_map (λ left. left.now) result ≡ left_after bytes text
 stripped bytes text result cases = stripped_by bytes text result (strip_prefix_is Decides-eqb text bytes result cases)
 
--- one prefix behind another
+-- one prefix after another
 joined_first : (prefix back text : List ℕ) (t : Bool)
     → left_after (prefix ++ back) text ≡ option_and_then (left_after back) (left_after prefix text)
     → cond t (left_after (prefix ++ back) text) None ≡ option_and_then (left_after back) (cond t (left_after prefix text) None)
@@ -71,7 +71,7 @@ all_first : (b c : ℕ) (prefix text : List ℕ) (t : Bool) → is_all (left_aft
 all_first b c prefix text true h = h
 all_first b c prefix text false h = refl
 
--- nothing is left behind all of a text, and behind no other prefix
+-- nothing is left after all of a text, and after no other prefix
 pub all_left : (form text : List ℕ) → is_all (left_after form text) ≡ bytes_eq form text
 unfolding left_after
 all_left [] [] = refl

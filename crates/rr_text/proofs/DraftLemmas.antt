@@ -19,8 +19,8 @@ use Rattle.rr_text.specs.Entries.{entries, block_entry, size_limit}
 use Rattle.rr_text.specs.WholePart.{closes, closed_lines, whole_part, whole_entries}
 use Rattle.rr_text.proofs.LineLemmas.{text_lines-append, are_whole_lines-append}
 use Rattle.rr_text.proofs.LineSoFarLemmas.{or_none, unended, single_after, whole_after, line_with-append, EndsSo, ends_so}
-use Rattle.rr_text.proofs.BlockLemmas.{blocks_passed, blocks_apart, no_blocks, front_of}
-use Rattle.rr_text.proofs.ApartLemmas.{IsSplit, lines_split, closed_front, closed_before, whole_closed}
+use Rattle.rr_text.proofs.BlockLemmas.{blocks_passed, blocks_apart, no_blocks, head_of}
+use Rattle.rr_text.proofs.ApartLemmas.{IsSplit, lines_split, closed_prefix, closed_before, whole_closed}
 
 -- lines of no paragraph before others give no block
 pub blocks_idle : (passed lines : List (List ℕ)) → list_any is_paragraph_line passed ≡ false → blocks (passed ++ lines) ≡ blocks lines
@@ -45,7 +45,7 @@ unbroken_until (line ∷ others) h =
 pub blocks_one : (lines : List (List ℕ)) → starts_block lines ≡ true → list_any is_blank_line lines ≡ false → blocks lines ≡ lines ∷ []
 blocks_one lines starts h =
     let all = unbroken_until lines h in
-    (front_of lines starts).first ∙ (ap (λ ls. ls ∷ blocks (from_blank lines)) all.0 ∙ (ap (λ ls. lines ∷ blocks ls) all.1 ∙ ap (λ bs. lines ∷ bs) no_blocks))
+    (head_of lines starts).first ∙ (ap (λ ls. ls ∷ blocks (from_blank lines)) all.0 ∙ (ap (λ ls. lines ∷ blocks ls) all.1 ∙ ap (λ bs. lines ∷ bs) no_blocks))
 
 -- the lines of a text at the end of one of them: those of no block, the block before it, and that line
 pub record IsAtLineEnd (text : List ℕ) (started : Bool) (block line : List ℕ) : Type 0 where
@@ -123,7 +123,7 @@ taken_end text block line started at more =
     ∙ (blocks_idle at.passed (text_lines block ++ text_lines line) at.idle
     ∙ (ap blocks (sym more.lines) ∙ blocks_one (text_lines (block ++ line)) more.starts more.unbroken))
 
--- the line that has begun, with a piece behind it
+-- the line that has begun, with a piece after it
 after_lines : (text piece line : List ℕ) (passed block : List (List ℕ)) → ((more : List ℕ) → text_lines (text ++ more) ≡ passed ++ (block ++ text_lines (line ++ more)))
     → (more : List ℕ) → text_lines ((text ++ piece) ++ more) ≡ passed ++ (block ++ text_lines ((line ++ piece) ++ more))
 after_lines text piece line passed block lines more =
@@ -162,10 +162,10 @@ cut_ended text block line piece started cut single = record {
   single = single_after line piece cut.begun single;
 }
 
-front_more : (over : Bool) (whole : ℕ) (kept new piece block : List ℕ) → (whole ≤ length kept) × (take whole kept ≡ block) → (over ≡ false → new ≡ kept ++ piece) → (over ≡ true → new ≡ kept)
+prefix_more : (over : Bool) (whole : ℕ) (kept new piece block : List ℕ) → (whole ≤ length kept) × (take whole kept ≡ block) → (over ≡ false → new ≡ kept ++ piece) → (over ≡ true → new ≡ kept)
     → (whole ≤ length new) × (take whole new ≡ block)
-front_more true whole kept new piece block prefix fits left = let e : new ≡ kept = left refl in rw e prefix
-front_more false whole kept new piece block prefix fits left =
+prefix_more true whole kept new piece block prefix fits left = let e : new ≡ kept = left refl in rw e prefix
+prefix_more false whole kept new piece block prefix fits left =
     let e : new ≡ kept ++ piece = fits refl in
     let within : whole ≤ length kept = prefix.0 in
     (rw e (omega (arith, length-append kept piece)), ap (take whole) e ∙ (take-append-le whole kept piece within ∙ prefix.1))
@@ -186,15 +186,15 @@ pub kept_more : (old new : Draft) (piece block line : List ℕ) → KeepsBlock b
 kept_more old new piece block line kept keeps = record {
   all = λ e. let fits = keeps.fits e in fits.1 ∙ (ap (λ r. r ++ piece) (kept.all fits.0) ∙ append_assoc block line piece);
   large = λ e. large_by old.over block line piece old.kept.items kept.all kept.large (keeps.over e).1;
-  prefix = λ within. let same : new.whole ≡ old.whole = keeps.whole in rw same (front_more new.over old.whole old.kept.items new.kept.items piece block
-      (kept.prefix (omega (arith, within, same))) (λ e. (keeps.fits e).1) (λ e. (keeps.over e).0));
+  kept_whole = λ within. let same : new.whole ≡ old.whole = keeps.whole in rw same (prefix_more new.over old.whole old.kept.items new.kept.items piece block
+      (kept.kept_whole (omega (arith, within, same))) (λ e. (keeps.fits e).1) (λ e. (keeps.over e).0));
   too_large = λ past. kept.too_large (omega (arith, past, keeps.whole));
 }
 
-taken_front : (over : Bool) (whole : ℕ) (kept block : List ℕ) → whole ≡ (if over then size_limit + 1 else length kept) → (over ≡ false → kept ≡ block) → whole ≤ size_limit
+taken_prefix : (over : Bool) (whole : ℕ) (kept block : List ℕ) → whole ≡ (if over then size_limit + 1 else length kept) → (over ≡ false → kept ≡ block) → whole ≤ size_limit
     → (whole ≤ length kept) × (take whole kept ≡ block)
-taken_front true whole kept block is all within = absurd (omega (arith, is, within))
-taken_front false whole kept block is all within = (omega (arith, is), take_all whole kept (omega (arith, is)) ∙ all refl)
+taken_prefix true whole kept block is all within = absurd (omega (arith, is, within))
+taken_prefix false whole kept block is all within = (omega (arith, is), take_all whole kept (omega (arith, is)) ∙ all refl)
 
 taken_large : (over : Bool) (whole : ℕ) (kept block : List ℕ) → length kept ≤ size_limit → whole ≡ (if over then size_limit + 1 else length kept) → (over ≡ true → size_limit < length block)
     → size_limit < whole → size_limit < length block
@@ -211,7 +211,7 @@ kept_taken old new block line most kept takes =
     record {
       all = λ e. items ∙ (kept.all (sym over ∙ e) ∙ sym same);
       large = λ e. rw same (kept.large (sym over ∙ e));
-      prefix = λ within. rw items (taken_front old.over new.whole old.kept.items (block ++ line) takes.whole kept.all within);
+      kept_whole = λ within. rw items (taken_prefix old.over new.whole old.kept.items (block ++ line) takes.whole kept.all within);
       too_large = λ past. taken_large old.over new.whole old.kept.items (block ++ line) most takes.whole kept.large past;
     }
 
@@ -219,7 +219,7 @@ kept_fresh : (draft : Draft) → HasNoText draft → KeepsBlock [] [] draft.kept
 kept_fresh draft fresh = record {
   all = λ _. fresh.kept;
   large = λ e. let over = fresh.over in cc;
-  prefix = λ _. (omega (arith, fresh.whole), ap (λ n. take n draft.kept.items) fresh.whole);
+  kept_whole = λ _. (omega (arith, fresh.whole), ap (λ n. take n draft.kept.items) fresh.whole);
   too_large = λ past. absurd (omega (arith, fresh.whole, past));
 }
 
@@ -272,7 +272,7 @@ feed_in (b ∷ c ∷ cs) some h = ap (λ t. is_line_feed b || t) (feed_in (c ∷
 both_true : (a b : Bool) → a ≡ true → b ≡ true → (a && b) ≡ true
 both_true a b h k = rw (h, k) refl
 
--- what a draft has behind a line with its LF, by what the line's end does
+-- what a draft has after a line with its LF, by what the line's end does
 record IsAtFeed (text piece : List ℕ) (started : Bool) (block line : List ℕ) : Type 0 where
   pub cut : IsCutSo text started block line
   pub at : IsAtLineEnd (text ++ piece) started block (line ++ piece)
@@ -326,7 +326,7 @@ fed_taken text piece block line started mid new at h begins most kept takes =
 entry_of : (text block : List ℕ) (draft : Draft) → starts_block (text_lines block) ≡ true
     → (draft.whole ≤ size_limit → (draft.whole ≤ length draft.kept.items) × (take draft.whole draft.kept.items ≡ block)) → (size_limit < draft.whole → size_limit < length block)
     → blocks (text_lines text) ≡ text_lines block ∷ [] → HasEntry text draft
-entry_of text block draft starts prefix too_large one = record { block = block; starts = starts; prefix = prefix; too_large = too_large; one = entries_are text (text_lines block ∷ []) one }
+entry_of text block draft starts kept_whole too_large one = record { block = block; starts = starts; kept_whole = kept_whole; too_large = too_large; one = entries_are text (text_lines block ∷ []) one }
 
 fed_closed : (text piece block line : List ℕ) (mid : Draft) → IsAtFeed text piece true block line → is_blank_line (line ++ piece) ≡ true
     → KeepsBlock block (line ++ piece) mid.kept.items mid.over mid.whole → IsClosed (text ++ piece) mid
@@ -335,7 +335,7 @@ fed_closed text piece block line mid at h kept =
     let lines : text_lines (text ++ piece) ≡ (at.at.passed ++ text_lines block) ++ (line ++ piece) ∷ [] =
     at.at.lines ∙ (ap (λ ls. at.at.passed ++ (text_lines block ++ ls)) at.whole.single ∙ sym (append_assoc at.at.passed (text_lines block) ((line ++ piece) ∷ [])))
     in record {
-      entry = entry_of (text ++ piece) block mid at.at.starts kept.prefix kept.too_large (closed_end (text ++ piece) block (line ++ piece) at.at h);
+      entry = entry_of (text ++ piece) block mid at.at.starts kept.kept_whole kept.too_large (closed_end (text ++ piece) block (line ++ piece) at.at h);
       apart = whole_closed (text ++ piece) (line ++ piece) (at.at.passed ++ text_lines block) lines closing;
     }
 
@@ -355,7 +355,7 @@ fed_by Closed text piece block line started closes mid new at most kept so ends 
     let was : started ≡ true = so.0 in
     rw (is, same) (fed_closed text piece block line mid (rw was at at) so.1 kept)
 
--- a piece with its LF, behind which the line is at its end
+-- a piece with its LF, after which the line is at its end
 pub begun_fed : (text piece : List ℕ) (old mid new : Draft) (closing : Bool) → IsBegun text old → KeepsPiece old mid piece
     → EndsLine (end_of_line mid.started mid.line) mid new closing → 0 < length piece → text_lines piece ≡ piece ∷ [] → are_whole_lines piece ≡ true → GathersLines closing (text ++ piece) new
 begun_fed text piece old mid new closing begun keeps ends some single h =
@@ -385,7 +385,7 @@ begun_lines : (line : List ℕ) → list_any is_line_feed line ≡ false → (li
 begun_lines [] h = inl refl
 begun_lines (b ∷ bs) h = inr (begun_single b bs h)
 
--- where no line has begun, the text is at its end or behind a line
+-- where no line has begun, the text is at its end or after a line
 bare_end : (text block : List ℕ) (started : Bool) → IsCutSo text started block [] → blocks (text_lines text) ≡ blocks (text_lines block)
 bare_end text block started cut =
     ap blocks (cut_all text block [] started cut)
@@ -405,7 +405,7 @@ bare_by : (started closing : Bool) (text block : List ℕ) (old new : Draft) →
 bare_by true closing text block old new cut kept was ends =
     let same : new ≡ old = ends.0 in
     let P : Draft → Type 0 = λ d. Finishes d.started text d in
-    subst P (sym same) (finishes_one old.started text old was (entry_of text block old cut.starts kept.prefix kept.too_large (bare_end text block true cut ∙ blocks_one (text_lines block) cut.starts cut.unbroken)))
+    subst P (sym same) (finishes_one old.started text old was (entry_of text block old cut.starts kept.kept_whole kept.too_large (bare_end text block true cut ∙ blocks_one (text_lines block) cut.starts cut.unbroken)))
 bare_by false closing text block old new cut kept was ends =
     finishes_none new.started text new ends.0.started (entries_are text [] (bare_end text block false cut ∙ (ap (λ b. blocks (text_lines b)) (cut.none refl) ∙ (ap blocks no_text_lines ∙ no_blocks))))
 
@@ -417,13 +417,13 @@ ended_by Passed text block line started closing old new at kept was so ends =
 ended_by Taken text block line started closing old new at kept was so ends =
     let more : IsLonger block line = longer text block line started at so.0 so.1 in
     let all : KeepsBlock (block ++ line) [] new.kept.items new.over new.whole = kept_taken old new block line old.most kept ends.0 in
-    finishes_one new.started text new ends.0.started (entry_of text (block ++ line) new more.starts all.prefix all.too_large (taken_end text block line started at more))
+    finishes_one new.started text new ends.0.started (entry_of text (block ++ line) new more.starts all.kept_whole all.too_large (taken_end text block line started at more))
 ended_by Closed text block line started closing old new at kept was so ends =
     let same : new ≡ old = ends.0 in
     let begun : started ≡ true = so.0 in
     let whole : IsAtLineEnd text true block line = rw begun at at in
     let P : Draft → Type 0 = λ d. Finishes d.started text d in
-    subst P (sym same) (finishes_one old.started text old (was ∙ begun) (entry_of text block old whole.starts kept.prefix kept.too_large (closed_end text block line whole so.1)))
+    subst P (sym same) (finishes_one old.started text old (was ∙ begun) (entry_of text block old whole.starts kept.kept_whole kept.too_large (closed_end text block line whole so.1)))
 
 -- the end of the text, whether or not a line has begun
 pub begun_ended : (text : List ℕ) (old new : Draft) (closing : Bool) → IsBegun text old → EndsLine (end_of_line old.started old.line) old new closing → Finishes new.started text new
@@ -466,8 +466,8 @@ unclosed_begun line h = elim (begun_lines line h) [
   | inr single ↦ ap (list_any closes) single ∙ none_both (closes line) false (unclosed_line line h) refl
 ]
 
-idle_front : (prefix rest all : List (List ℕ)) → all ≡ prefix ++ rest → list_any is_paragraph_line all ≡ false → list_any is_paragraph_line prefix ≡ false
-idle_front prefix rest all e h =
+idle_prefix : (prefix rest all : List (List ℕ)) → all ≡ prefix ++ rest → list_any is_paragraph_line all ≡ false → list_any is_paragraph_line prefix ≡ false
+idle_prefix prefix rest all e h =
     (or_none (list_any is_paragraph_line prefix) (list_any is_paragraph_line rest) (sym (list_any-append is_paragraph_line prefix rest) ∙ (ap (list_any is_paragraph_line) (sym e) ∙ h))).0
 
 -- of a text whose last block may go on nothing is whole
@@ -482,14 +482,14 @@ begun_whole text draft begun =
     (unclosed_blocks (text_lines begun.block) begun.cut.unbroken) (unclosed_begun begun.line begun.cut.begun)
     in
     let kept : closed_lines (text_lines text) ≡ closed_lines begun.cut.passed = ap closed_lines all ∙ closed_before begun.cut.passed more unclosed in
-    let prefix = closed_front begun.cut.passed in
+    let prefix = closed_prefix begun.cut.passed in
     let cut : IsSplit (closed_lines begun.cut.passed) (prefix.0 ++ more) =
     lines_split text (closed_lines begun.cut.passed) (prefix.0 ++ more)
     (all ∙ (ap (λ ls. ls ++ more) prefix.1 ∙ append_assoc (closed_lines begun.cut.passed) prefix.0 more))
     in
     entries_are (concat (closed_lines (text_lines text))) []
     (ap (λ ls. blocks (text_lines (concat ls))) kept
-    ∙ (ap blocks cut.prefix ∙ idle_alone (closed_lines begun.cut.passed) (idle_front (closed_lines begun.cut.passed) prefix.0 begun.cut.passed prefix.1 begun.cut.idle)))
+    ∙ (ap blocks cut.prefix ∙ idle_alone (closed_lines begun.cut.passed) (idle_prefix (closed_lines begun.cut.passed) prefix.0 begun.cut.passed prefix.1 begun.cut.idle)))
 
 -- one line more of a text is added
 pub lines_taken : (text done rest piece after : List ℕ) → text ≡ done ++ rest → rest ≡ piece ++ after → text ≡ (done ++ piece) ++ after

@@ -116,9 +116,9 @@ entries_end text = rw (drop_all (length text) text (omega arith)) (entries_empty
 pub entries_joined : (prefix blank back : List ℕ) → are_whole_lines prefix ≡ true → IsWholeLine blank → is_blank_line blank ≡ true → entries (prefix ++ (blank ++ back)) ≡ entries prefix ++ entries back
 unfolding entries
 entries_joined prefix blank back whole line h =
-    let behind : text_lines (blank ++ back) ≡ blank ∷ text_lines back = text_lines-append blank back line.ended ∙ ap (λ ls. ls ++ text_lines back) line.single in
+    let later : text_lines (blank ++ back) ≡ blank ∷ text_lines back = text_lines-append blank back line.ended ∙ ap (λ ls. ls ++ text_lines back) line.single in
     let lines : text_lines (prefix ++ (blank ++ back)) ≡ text_lines prefix ++ blank ∷ text_lines back =
-    text_lines-append prefix (blank ++ back) whole ∙ ap (λ ls. text_lines prefix ++ ls) behind
+    text_lines-append prefix (blank ++ back) whole ∙ ap (λ ls. text_lines prefix ++ ls) later
     in ap (λ ls. map block_entry (blocks ls)) lines
     ∙ (ap (map block_entry) (blocks_apart (text_lines prefix) blank (text_lines back) h) ∙ map-append block_entry (blocks (text_lines prefix)) (blocks (text_lines back)))
 

@@ -139,10 +139,10 @@ pub kept_end : (line after : List ℕ) → OpensOrEnds line after → length lin
 kept_end [] after so none = no_line_kept after (so.ends none)
 kept_end (b ∷ bs) after so none = absurd (omega arith)
 
-pub kept_next : (line after next behind : List ℕ) → OpensOrEnds line after → 0 < length line
-    → kept_fields (next ∷ text_lines behind) ≡ kept_fields (text_lines after)
-    → kept_fields (line ∷ text_lines after) ≡ kept_field line (continued (text_lines after)) ∷ kept_fields (next ∷ text_lines behind)
-kept_next line after next behind so some same =
+pub kept_next : (line after next later : List ℕ) → OpensOrEnds line after → 0 < length line
+    → kept_fields (next ∷ text_lines later) ≡ kept_fields (text_lines after)
+    → kept_fields (line ∷ text_lines after) ≡ kept_field line (continued (text_lines after)) ∷ kept_fields (next ∷ text_lines later)
+kept_next line after next later so some same =
     kept_opened line (text_lines after) (opened_kind (line_kind line) (so.opens some)) ∙ ap (λ fs. kept_field line (continued (text_lines after)) ∷ fs) (sym same)
 
 -- steps through texts

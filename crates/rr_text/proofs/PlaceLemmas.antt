@@ -1,4 +1,4 @@
--- The place behind the first block of a text.
+-- The place after the first block of a text.
 use Rattle.std.proofs.Common.{◌≡◌, ℕ, ◌-◌, true, false, List, [], ◌∷◌, length, drop, refl, sym, ap, ◌∙◌, arith}
 use Rattle.std.specs.List.{concat}
 use Rattle.rr_text.specs.Lines.{text_lines, is_paragraph_line}
@@ -21,7 +21,7 @@ unfolding from_block text_lines
 from_block_none [] h = refl
 from_block_none (b ∷ bs) h = absurd (omega arith)
 
--- what is left behind the first block tells the place
+-- what is left after the first block tells the place
 pub place_of_rest : (from : ℕ) (text left rest after : List ℕ) → left ≡ drop from text → text_lines rest ≡ from_block (text_lines left)
     → text_lines after ≡ from_blank (text_lines rest) → length text - length after ≡ place_after from text
 unfolding place_after

@@ -142,9 +142,9 @@ gathers_end Broken before now after left made mid new rest more fills draft = (
 )
 gathers_end Endless before now after left made mid new rest more fills draft = absurd fills
 
-some_front : (prefix : List ℕ) (entry : Entry) → entries prefix ≡ entry ∷ [] → 0 < length prefix
-some_front [] entry e = let none : entries [] ≡ [] = no_entries in cc
-some_front (b ∷ bs) entry e = omega arith
+some_head : (prefix : List ℕ) (entry : Entry) → entries prefix ≡ entry ∷ [] → 0 < length prefix
+some_head [] entry e = let none : entries [] ≡ [] = no_entries in cc
+some_head (b ∷ bs) entry e = omega arith
 
 keeps_after : (state : ReaderState) (now : Told) (prefix more left : List ℕ) → whole_part prefix ≡ prefix → KeepsApart state now more left → KeepsApart state now (prefix ++ more) left
 keeps_after Open now prefix more left whole keeps = whole_joined prefix more whole ∙ ap (λ r. prefix ++ r) keeps
@@ -183,7 +183,7 @@ grown start before after old new given prefix entry has is finds one =
       counts = subst (λ (n : ℕ). CountsReads start after n) (sym finds.reads) (counts_then _ _ _ (reads_of old) finds.count has.counts finds.counts);
       fruitful = λ open_. let some = finds.fruitful open_ in let before_ = has.fruitful is in omega (arith, some, before_, finds.reads, length-append has.text finds.bytes);
       bounded = omega (arith, has.bounded, finds.bounded, finds.reads, length-append has.text finds.bytes);
-      few = omega (arith, has.few, some_front prefix entry one, length-append has.prefix prefix, length-append given (entry ∷ []));
+      few = omega (arith, has.few, some_head prefix entry one, length-append has.prefix prefix, length-append given (entry ∷ []));
     }
 
 -- the answer with the entry that was found
@@ -202,13 +202,13 @@ found_next start after new given prefix (Err fault.Endless) grow found = absurd 
 
 found_some : (prefix : List ℕ) (answer : Result (Option (List Field)) TextFault) → GivesFound prefix answer → 0 < length prefix
 found_some prefix (Ok None) found = absurd found
-found_some prefix (Ok (Some fields)) found = some_front prefix (Ok fields) found.0
-found_some prefix (Err fault.TooLarge) found = some_front prefix (Err fault.TooLarge) found
-found_some prefix (Err fault.BadByte) found = some_front prefix (Err fault.BadByte) found
-found_some prefix (Err fault.FirstContinues) found = some_front prefix (Err fault.FirstContinues) found
-found_some prefix (Err fault.NoColon) found = some_front prefix (Err fault.NoColon) found
-found_some prefix (Err fault.BadName) found = some_front prefix (Err fault.BadName) found
-found_some prefix (Err fault.Memory) found = some_front prefix found.0 found.1
+found_some prefix (Ok (Some fields)) found = some_head prefix (Ok fields) found.0
+found_some prefix (Err fault.TooLarge) found = some_head prefix (Err fault.TooLarge) found
+found_some prefix (Err fault.BadByte) found = some_head prefix (Err fault.BadByte) found
+found_some prefix (Err fault.FirstContinues) found = some_head prefix (Err fault.FirstContinues) found
+found_some prefix (Err fault.NoColon) found = some_head prefix (Err fault.NoColon) found
+found_some prefix (Err fault.BadName) found = some_head prefix (Err fault.BadName) found
+found_some prefix (Err fault.Memory) found = some_head prefix found.0 found.1
 found_some prefix (Err fault.Read) found = absurd found
 found_some prefix (Err fault.Endless) found = absurd found
 

@@ -16,7 +16,7 @@ use Rattle.rr_text.specs.Faults.{written_name, opening_fault, fault_by_kind, lin
 use Rattle.rr_text.specs.Entries.{added_value, opened_value, continued, block_fields, opened_field, block_entry, entries, size_limit}
 use Rattle.rr_text.specs.Blocks.{blocks, from_blank}
 use Rattle.rr_text.specs.PrivateParts.{until_blank}
-use Rattle.rr_text.proofs.BlockLemmas.{blocks_front, no_blocks}
+use Rattle.rr_text.proofs.BlockLemmas.{blocks_prefix, no_blocks}
 use Rattle.rr_text.proofs.EntryLemmas.{entry_small, entries_joined}
 use Rattle.rr_bytes.proofs.TrimLemmas.{trim_end_blank}
 use Rattle.rr_text.specs.Fields.{Field, IsLine, IsField, AreFields}
@@ -244,7 +244,7 @@ unfolding trim_start trim_end
 trim-ended [] = refl
 trim-ended (b ∷ bs) = feed_by (is_blank_or_line_feed b) b bs refl (trim-ended bs)
 
--- blanks before a line and the LF behind it are trimmed
+-- blanks before a line and the LF after it are trimmed
 padded : (n : ℕ) (line : List ℕ) → trim is_blank_or_line_feed line ≡ line → trim is_blank_or_line_feed ((replicate n 32 ++ line) ++ 10 ∷ []) ≡ line
 padded n line trimmed = trim-ended (replicate n 32 ++ line) ∙ (ap (trim_end is_blank_or_line_feed) (start_blanks n line) ∙ trimmed)
 
@@ -454,7 +454,7 @@ blocks_alone : (line : List ℕ) (others : List (List ℕ)) → NoBlank (line �
 unfolding NoBlank
 blocks_alone line others h s =
     let alone = one_block (line ∷ others) h in
-    blocks_front line others h.0 s ∙ (ap (λ ls. ls ∷ blocks (from_blank (line ∷ others))) alone.0 ∙ ap (λ ls. (line ∷ others) ∷ blocks ls) alone.1 ∙ ap (λ bs. (line ∷ others) ∷ bs) no_blocks)
+    blocks_prefix line others h.0 s ∙ (ap (λ ls. ls ∷ blocks (from_blank (line ∷ others))) alone.0 ∙ ap (λ ls. (line ∷ others) ∷ blocks ls) alone.1 ∙ ap (λ bs. (line ∷ others) ∷ bs) no_blocks)
 
 value_blocks : (name : List ℕ) (lines rest : List (List ℕ)) → begins is_ascii_alphabetic name ≡ true → 0 < length lines → AllByRecursion IsLine lines → NoBlank rest
     → blocks (value_lines name lines ++ rest) ≡ (value_lines name lines ++ rest) ∷ []

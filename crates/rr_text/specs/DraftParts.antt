@@ -36,7 +36,7 @@ pub record IsCutSo (text : List ℕ) (started : Bool) (block line : List ℕ) : 
 pub record KeepsBlock (block line kept : List ℕ) (over : Bool) (whole : ℕ) : Type 0 where
   pub all : over ≡ false → kept ≡ block ++ line
   pub large : over ≡ true → size_limit < length (block ++ line)
-  pub prefix : whole ≤ size_limit → (whole ≤ length kept) × (take whole kept ≡ block)
+  pub kept_whole : whole ≤ size_limit → (whole ≤ length kept) × (take whole kept ≡ block)
   pub too_large : size_limit < whole → size_limit < length block
 
 -- the draft of a text whose last block may go on
@@ -51,7 +51,7 @@ pub record IsBegun (text : List ℕ) (draft : Draft) : Type 0 where
 pub record HasEntry (text : List ℕ) (draft : Draft) : Type 0 where
   pub block : List ℕ
   pub starts : starts_block (text_lines block) ≡ true
-  pub prefix : draft.whole ≤ size_limit
+  pub kept_whole : draft.whole ≤ size_limit
       → (draft.whole ≤ length draft.kept.items) × (take draft.whole draft.kept.items ≡ block)
   pub too_large : size_limit < draft.whole → size_limit < length block
   pub one : entries text ≡ block_entry (text_lines block) ∷ []

@@ -6,8 +6,7 @@ returns-in-Ok-clause-served g c = record {
   served = c.serve_all-served.result.served;
   failed = c.serve_all-served.result.failed;
   turns = c.serve_all-served.ensures.turns;
-  prints = c.in-Ok.ensures.writes;
-  status = inl refl;
+  ends = inl (c.in-Ok.ensures.writes, c.answer_served.ensures);
 }
 
 pub returns-in-Err-clause-served : goal.returns-in-Err-clause-served
@@ -15,6 +14,5 @@ returns-in-Err-clause-served g c = record {
   served = c.serve_all-served.result.served;
   failed = c.serve_all-served.result.failed;
   turns = c.serve_all-served.ensures.turns;
-  prints = c.in-Err.ensures.writes;
-  status = inr refl;
+  ends = inr (c.in-Err.ensures.writes, refl);
 }

@@ -1,6 +1,6 @@
 use Rattle.std.proofs.lemmas.Result.{err_from_is_err_and}
 use Rattle.rr_load.proofs.Sources.{dumps_of_source}
-use Rattle.rr_desk.proofs.Loads.{taken_loads, unread_fails, unread_unasked, untaken_fails, untaken_unasked}
+use Rattle.rr_desk.proofs.Loads.{taken_loads, unread_fails, unread_of_dump, untaken_fails, untaken_of_dump}
 use Rattle.rr_desk.proofs.loading.read_registry.Goals as goal
 
 pub returns-in_err-objects-clause-why : goal.returns-in_err-objects-clause-why
@@ -8,20 +8,20 @@ returns-in_err-objects-clause-why g c =
     let exit = err_from_is_err_and c.from_residual.result c.from_residual.ensures.1 in
     rw (exit.1, exit.2) (unread_fails _ _ _ _ c.in_err-objects.ensures.reads)
 
-pub returns-in_err-objects-clause-unasked : goal.returns-in_err-objects-clause-unasked
-returns-in_err-objects-clause-unasked g c =
+pub returns-in_err-objects-clause-of_dump : goal.returns-in_err-objects-clause-of_dump
+returns-in_err-objects-clause-of_dump g c =
     let exit = err_from_is_err_and c.from_residual.result c.from_residual.ensures.1 in
-    rw (exit.1, exit.2) (unread_unasked _)
+    rw (exit.1, exit.2) (unread_of_dump _)
 
 pub returns-in_err-registry-clause-why : goal.returns-in_err-registry-clause-why
 returns-in_err-registry-clause-why g c =
     let exit = err_from_is_err_and c.from_residual-in_err-registry.result c.from_residual-in_err-registry.ensures.1 in
     rw (exit.1, exit.2) (untaken_fails _ _ _ _ _ c.in_ok-objects.ensures.reads c.in_err-registry.ensures.taken)
 
-pub returns-in_err-registry-clause-unasked : goal.returns-in_err-registry-clause-unasked
-returns-in_err-registry-clause-unasked g c =
+pub returns-in_err-registry-clause-of_dump : goal.returns-in_err-registry-clause-of_dump
+returns-in_err-registry-clause-of_dump g c =
     let exit = err_from_is_err_and c.from_residual-in_err-registry.result c.from_residual-in_err-registry.ensures.1 in
-    rw (exit.1, exit.2) (untaken_unasked _)
+    rw (exit.1, exit.2) (untaken_of_dump _)
 
 pub returns-clause-loaded : goal.returns-clause-loaded
 returns-clause-loaded g c = taken_loads _ _ _ _ _ c.in_ok-objects.ensures.reads c.in_ok-registry.ensures.taken

@@ -53,3 +53,6 @@ returns-in-Err-clause-why g c = λ clean.
       tables = why.tables;
       no_root = λ is. is_rootless c.args.settings.now _ c.args.registry (c.requires.grown (omega (arith, kept))) (why.no_root is);
     }
+
+pub returns-in-Err-clause-store : goal.returns-in-Err-clause-store
+returns-in-Err-clause-store g c = rw (← c.root.ensures.root, ← c.source.ensures.source) c.in-Err.ensures.fails.store

@@ -1,11 +1,11 @@
-use Rattle.std.proofs.Common.{subst}
+use Rattle.std.proofs.Common.{inl, subst}
 use Rattle.std.proofs.lemmas.Result.{IfErr-weaker, err_from_is_err_and}
 use Rattle.rr_store.proofs.OtherVersions.{stored_says_it}
 use Rattle.rr_store.specs.Calls.{database}
 use Rattle.rr_store.specs.Opening.{IsOfNoneButOld}
 use Rattle.rr_desk.specs.Migrating.{IsGrown}
 use Rattle.rr_desk.specs.MigratingParts.{IsGrowthFault}
-use Rattle.rr_desk.proofs.Migrated.{always_ok, each_ok, each_shown, grown_of_source, growth_rootless, no_old_registry, refused_old}
+use Rattle.rr_desk.proofs.Migrated.{always_ok, each_ok, each_shown, grown_of_source, growth_rootless, no_old_registry, refused_old, unread_of_store}
 use Rattle.rr_desk.proofs.migrating.migrated_registry.Goals as goal
 
 pub returns-clause-looks : goal.returns-clause-looks
@@ -48,3 +48,12 @@ returns-in_err-objects-clause-why g c =
     rw (exit.1, exit.2) (λ clean.
     let why = rw c.source.ensures.source at (c.in_err-objects.ensures.why clean) in
     refused_old c.args.settings.now _ _ why.wrong_version why.bad_row why.no_other_said why.tables)
+
+pub returns-clause-store : goal.returns-clause-store
+returns-clause-store g c =
+    IfErr-weaker c.grow.result _ _ (λ fault h error is. absurd (subst (IsGrowthFault c.args.settings.now c.in_ok-objects.objects.items) is h)) c.grow.ensures.fault
+
+pub returns-in_err-objects-clause-store : goal.returns-in_err-objects-clause-store
+returns-in_err-objects-clause-store g c =
+    let exit = err_from_is_err_and c.from_residual.result c.from_residual.ensures.1 in
+    rw (exit.1, exit.2) (λ error is tidy clean. inl (c.in_err-objects.ensures.store error (unread_of_store _ error is) tidy clean))

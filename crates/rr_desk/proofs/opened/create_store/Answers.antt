@@ -45,3 +45,9 @@ returns-in-Ok-clause-fails g c =
 
 pub returns-in-Ok-clause-not_empty : goal.returns-in-Ok-clause-not_empty
 returns-in-Ok-clause-not_empty g c = IfErr-weaker c.create.result _ _ (λ e fails. fails.not_empty) c.create.ensures.fails
+
+pub returns-in-Err-clause-store : goal.returns-in-Err-clause-store
+returns-in-Err-clause-store g c = λ error is. absurd (cc)
+
+pub returns-in-Ok-clause-store : goal.returns-in-Ok-clause-store
+returns-in-Ok-clause-store g c = IfErr-weaker c.create.result _ _ (λ e fails. fails.store) c.create.ensures.fails

@@ -29,3 +29,6 @@ returns-in-Err-clause-fails g c = c.in-Err.ensures.fails
 
 pub returns-in-Err-clause-not_empty : goal.returns-in-Err-clause-not_empty
 returns-in-Err-clause-not_empty g c = c.in-Err.ensures.not_empty
+
+pub returns-in-Err-clause-store : goal.returns-in-Err-clause-store
+returns-in-Err-clause-store g c = c.in-Err.ensures.store

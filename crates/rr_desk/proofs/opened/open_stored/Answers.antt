@@ -2,7 +2,7 @@ use Rattle.std.proofs.Common.{subst}
 use Rattle.rr_rows.specs.Maps.{HasRows}
 use Rattle.rr_store.proofs.OtherVersions.{stored_says_it}
 use Rattle.rr_desk.proofs.ListRows.{opened_rows}
-use Rattle.rr_desk.proofs.Listed.{bad_objects, no_version, unreadable_rows}
+use Rattle.rr_desk.proofs.Listed.{bad_objects, no_error, no_version, unreadable_rows}
 use Rattle.rr_desk.proofs.Sources.{taken_of_source}
 use Rattle.rr_desk.proofs.opened.open_stored.Goals as goal
 
@@ -70,3 +70,9 @@ returns-in-Err-clause-why g c = λ clean.
       no_other_said = why.no_other_said;
       tables = why.tables;
     }
+
+pub returns-in-Err-from_objects-clause-store : goal.returns-in-Err-from_objects-clause-store
+returns-in-Err-from_objects-clause-store g c = rw c.refused.ensures (λ error is. absurd (no_error c.in-Err-from_objects.fault error is))
+
+pub returns-in-Err-clause-store : goal.returns-in-Err-clause-store
+returns-in-Err-clause-store g c = c.in-Err.ensures.fails.store

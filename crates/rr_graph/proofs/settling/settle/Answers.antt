@@ -5,7 +5,7 @@ use Rattle.std.specs.Option.{IfSome}
 use Rattle.std.proofs.lemmas.Result.{err_from_is_err_and}
 use Rattle.rr_graph.specs.Carried.{IsFound}
 use Rattle.rr_graph.specs.SettledParts.{IsHeldOr, values_at}
-use Rattle.rr_graph.proofs.KnownNodes.{IsSettled-entered, only_entered}
+use Rattle.rr_graph.proofs.KnownNodes.{HoldsAllValues-entered, only_entered}
 use Rattle.rr_graph.proofs.Listings.{MoreThan-weaker}
 use Rattle.rr_graph.proofs.settling.settle.Goals as goal
 
@@ -20,7 +20,7 @@ returns-in_err-enter-clause-many g c = λ is.
 
 pub returns-in_ok-enter-clause-settled : goal.returns-in_ok-enter-clause-settled
 returns-in_ok-enter-clause-settled g c =
-    IsSettled-entered (g.G.Labelled.edge c.args.graph.now) (g.G.Labelled.own c.args.graph.now) g.G.Labelled.passed g.G.Value.Ord.cmp (values_at g.G.Node.Ord.cmp c.args.settled.now.values) g.met.G.Labelled.exact_nodes (values_at g.G.Node.Ord.cmp c.enter.new.self.values)
+    HoldsAllValues-entered (g.G.Labelled.edge c.args.graph.now) (g.G.Labelled.own c.args.graph.now) g.G.Labelled.passed g.G.Value.Ord.cmp (values_at g.G.Node.Ord.cmp c.args.settled.now.values) g.met.G.Labelled.exact_nodes (values_at g.G.Node.Ord.cmp c.enter.new.self.values)
     c.args.tail.now.node.now c.in_ok-copy.field-0 c.in_ok-copy.ensures c.in-Some.values.items c.in_ok-enter.ensures.entered c.requires.settled
     (subst (λ (o : Option (Vec g.row.G-Value.Denot)). IfSome o (λ values. (v : g.row.G-Value.Denot) → Contains values.items v ↔ IsFound (g.G.Labelled.edge c.args.graph.now) (g.G.Labelled.own c.args.graph.now) g.G.Labelled.passed c.args.tail.now.node.now v)) c.in-Some.is c.in_ok-values.ensures.found)
     (subst (λ (o : Option (Vec g.row.G-Value.Denot)). IfSome o (λ values. IsStrictlySortedBy g.G.Value.Ord.cmp values.items)) c.in-Some.is c.in_ok-values.ensures.sorted)

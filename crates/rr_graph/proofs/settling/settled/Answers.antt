@@ -1,7 +1,7 @@
 use Rattle.std.proofs.Common.{◌≡◌, ◌∙◌, Contains, None, Some, sym, subst}
 use Rattle.std.proofs.lemmas.Result.{err_from_is_err_and}
 use Rattle.rr_graph.specs.Carried.{IsFound}
-use Rattle.rr_graph.specs.SettledParts.{IsAmong, IsFoundAmong, IsHeldOr, IsSettled, IsTallied, values_at}
+use Rattle.rr_graph.specs.SettledParts.{IsAmong, IsFoundAmong, IsHeldOr, HoldsAllValues, IsTallied, values_at}
 use Rattle.rr_graph.specs.declared.tails.Tail.{Tail}
 use Rattle.rr_graph.specs.declared.settled.Settled.{Settled}
 use Rattle.rr_graph.proofs.KnownNodes.{IsFoundAmong-held, IsTallied-none, among_only, read_from_all}
@@ -19,7 +19,7 @@ loop-turn-init g c = (
 pub loop-turn-preserved : goal.loop-turn-preserved
 loop-turn-preserved g c =
     let Kept : Settled g.row.G.Denot g.row.G-Node.Denot g.row.G-Label.Denot g.row.G-Value.Denot g.row.G-Kind.Denot → Type 0 =
-    λ settled. IsSettled (g.G.Labelled.edge c.args.graph.now) (g.G.Labelled.own c.args.graph.now) g.G.Labelled.passed g.G.Value.Ord.cmp (values_at g.G.Node.Ord.cmp settled.values)
+    λ settled. HoldsAllValues (g.G.Labelled.edge c.args.graph.now) (g.G.Labelled.own c.args.graph.now) g.G.Labelled.passed g.G.Value.Ord.cmp (values_at g.G.Node.Ord.cmp settled.values)
     × IsAmong c.args.nodes.now (values_at g.G.Node.Ord.cmp settled.values)
     × IsTallied (values_at g.G.Node.Ord.cmp settled.values) c.args.limit settled.pairs in
     elim c.match-branch-4.branch [

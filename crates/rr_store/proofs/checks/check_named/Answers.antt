@@ -8,6 +8,7 @@ use Rattle.rr_store.specs.declared.fault.OpenFault.TheVariants.{BadRow}
 use Rattle.sqlite.specs.Held.{state}
 use Rattle.sqlite.specs.State.{HasCleanDisk}
 use Rattle.rr_store.proofs.LookLemmas.{looks_failed, looks_then, tables_then}
+use Rattle.rr_store.proofs.StopLemmas.{second_reads}
 use Rattle.rr_store.proofs.checks.check_named.Goals as goal
 
 pub check_sorted_names-requires-clause-tables : goal.check_sorted_names-requires-clause-tables
@@ -28,3 +29,7 @@ pub returns-clause-bad_row : goal.returns-clause-bad_row
 returns-clause-bad_row g c clean =
     let before : HasCleanDisk (state g.S.Store c.names_in_turn.new.conn) = omega (arith, clean, c.check_sorted_names.ensures.looks.rests.crash.clean) in
     subst (λ (d : Database). IfErr c.check_sorted_names.result (λ fault. fault ≡ BadRow → IsPermutation (flat_map named_rows (map (entry_in (form_of c.args.version)) c.args.objects.now)) (contents (d.trees 4)) → ⊥)) (c.in_ok-names_in_turn.ensures.looks.same before).0.now_is (c.check_sorted_names.ensures.bad_row clean)
+
+pub returns-clause-cause : goal.returns-clause-cause
+returns-clause-cause g c =
+    second_reads g.S.Store c.args.conn.now c.names_in_turn.new.conn c.check_sorted_names.new.conn c.in_ok-names_in_turn.ensures.looks.same c.in_ok-names_in_turn.ensures.looks.rests.crash c.check_sorted_names.ensures.looks.rests.crash c.check_sorted_names.result c.check_sorted_names.ensures.cause

@@ -9,6 +9,7 @@ use Rattle.rr_store.proofs.StreamLemmas.{on_any}
 use Rattle.sqlite.specs.Held.{state}
 use Rattle.sqlite.specs.State.{HasCleanDisk}
 use Rattle.rr_store.proofs.LookLemmas.{looks_failed, looks_then, tables_then}
+use Rattle.rr_store.proofs.StopLemmas.{second_reads}
 use Rattle.rr_store.proofs.checks.check_names.Goals as goal
 
 pub check_named-requires-clause-tables : goal.check_named-requires-clause-tables
@@ -32,3 +33,7 @@ pub returns-clause-bad_row : goal.returns-clause-bad_row
 returns-clause-bad_row g c clean =
     let before : HasCleanDisk (state g.S.Store c.count_named.new.conn) = omega (arith, clean, c.check_named.ensures.looks.rests.crash.clean) in
     subst (λ (d : Database). IfErr c.check_named.result (λ fault. fault ≡ BadRow → IsPermutation (flat_map named_rows (map (entry_in (form_of c.args.version)) c.args.objects.now)) (contents (d.trees 4)) → ⊥)) (c.in_ok-_count.ensures.looks.same before).0.now_is (c.check_named.ensures.bad_row clean)
+
+pub returns-clause-cause : goal.returns-clause-cause
+returns-clause-cause g c =
+    second_reads g.S.Store c.args.conn.now c.count_named.new.conn c.check_named.new.conn c.in_ok-_count.ensures.looks.same c.in_ok-_count.ensures.looks.rests.crash c.check_named.ensures.looks.rests.crash c.check_named.result c.check_named.ensures.cause

@@ -8,6 +8,7 @@ use Rattle.rr_store.proofs.StreamLemmas.{on_any}
 use Rattle.sqlite.specs.Held.{state}
 use Rattle.sqlite.specs.State.{HasCleanDisk}
 use Rattle.rr_store.proofs.LookLemmas.{looks_failed, looks_then, tables_then}
+use Rattle.rr_store.proofs.StopLemmas.{second_reads}
 use Rattle.rr_store.proofs.checks.check_objects.Goals as goal
 
 pub read_objects-requires-clause-tables : goal.read_objects-requires-clause-tables
@@ -31,3 +32,7 @@ pub returns-clause-bad_row : goal.returns-clause-bad_row
 returns-clause-bad_row g c clean =
     let before : HasCleanDisk (state g.S.Store c.count_object.new.conn) = omega (arith, clean, c.read_objects.ensures.looks.rests.crash.clean) in
     subst (λ (d : Database). IfErr c.read_objects.result (λ fault. fault ≡ BadRow → HoldsNone (form_of c.args.version) c.args.source.now (contents (d.trees 2)))) (c.in_ok-count.ensures.looks.same before).0.now_is (c.read_objects.ensures.bad_row clean)
+
+pub returns-clause-cause : goal.returns-clause-cause
+returns-clause-cause g c =
+    second_reads g.S.Store c.args.conn.now c.count_object.new.conn c.read_objects.new.conn c.in_ok-count.ensures.looks.same c.in_ok-count.ensures.looks.rests.crash c.read_objects.ensures.looks.rests.crash c.read_objects.result c.read_objects.ensures.cause

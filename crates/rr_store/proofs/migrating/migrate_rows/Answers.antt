@@ -1,4 +1,5 @@
-use Rattle.std.proofs.Common.{◌≡◌, true, refl, arith}
+use Rattle.std.proofs.Common.{◌≡◌, inl, true, refl, arith}
+use Rattle.std.proofs.lemmas.Result.{err_from_is_err_and}
 use Rattle.sqlite.specs.Held.{state}
 use Rattle.rr_store.specs.Calls.{Writes}
 use Rattle.rr_store.specs.Migrating.{IsMigrated, has_mntner}
@@ -6,6 +7,7 @@ use Rattle.rr_store.specs.MigratingParts.{IsRewritten}
 use Rattle.rr_store.proofs.CommitLemmas.{writes_as, writes_failed, writes_ok}
 use Rattle.rr_store.proofs.LookLemmas.{writes_then}
 use Rattle.rr_store.proofs.MigratedLemmas.{migrated}
+use Rattle.rr_store.proofs.OtherVersions.{unread_store}
 use Rattle.rr_store.proofs.migrating.migrate_rows.Goals as goal
 
 pub returns-in_ok-rewrite-clause-migrates : goal.returns-in_ok-rewrite-clause-migrates
@@ -43,3 +45,8 @@ returns-in_err-rewrite-clause-migrates g c =
     writes_as g.S.Store old new (IsRewritten root source objects) (IsMigrated root source) c.rewrite.result
     (λ clean db rewritten. migrated root source objects (state g.S.Store old).now db (c.in_ok-objects.ensures.stored (omega (arith, clean, c.rewrite.ensures.crash.clean))) registered rewritten) written in
     writes_failed g.S.Store old new (IsMigrated root source) (IsMigrated root source) c.rewrite.result c.from_residual-in_err-rewrite.result (rw c.in_err-rewrite.was refl) c.from_residual-in_err-rewrite.ensures.0 done
+
+pub returns-in_err-objects-clause-cause : goal.returns-in_err-objects-clause-cause
+returns-in_err-objects-clause-cause g c =
+    let exit = err_from_is_err_and c.from_residual.result c.from_residual.ensures.1 in
+    rw (exit.1, exit.2) (λ error is tidy clean. inl (c.in_err-objects.ensures.cause error (unread_store c.in_err-objects.field-0.0 error is) tidy clean))

@@ -11,6 +11,7 @@ use Rattle.rr_store.specs.declared.fault.OpenFault.TheVariants.{BadRow}
 use Rattle.rr_store.proofs.CheckLemmas.{both_err}
 use Rattle.rr_store.proofs.LookLemmas.{looks_failed, looks_then}
 use Rattle.rr_store.proofs.StoredLemmas.{rows_refuse, version_refuses}
+use Rattle.rr_store.proofs.StopLemmas.{second_reads}
 use Rattle.rr_store.proofs.opening.read_tables.Goals as goal
 
 pub check_version-requires-clause-tables : goal.check_version-requires-clause-tables
@@ -48,3 +49,7 @@ returns-in_err-check_version-clause-why g c clean =
     let exit = err_from_is_err_and c.from_residual.result c.from_residual.ensures.1 in
     let first : HasCleanDisk (state g.S.Store c.args.conn.now) = omega (arith, clean, c.in_err-check_version.ensures.looks.rests.crash.clean) in
     rw (exit.1, exit.2) (version_refuses c.args.version c.args.source.now (state g.S.Store c.args.conn.now).now c.in_err-check_version.field-0.0 (c.requires.settings first).tables (c.in_err-check_version.ensures.fault clean))
+
+pub returns-clause-cause : goal.returns-clause-cause
+returns-clause-cause g c =
+    second_reads g.S.Store c.args.conn.now c.check_version.new.conn c.checked_objects.new.conn c.in_ok-check_version.ensures.looks.same c.in_ok-check_version.ensures.looks.rests.crash c.checked_objects.ensures.looks.rests.crash c.checked_objects.result c.checked_objects.ensures.cause

@@ -7,6 +7,7 @@ use Rattle.rr_store.specs.CheckParts.{HasSettings}
 use Rattle.rr_store.specs.Opening.{AreStoredAs, RefusesTables}
 use Rattle.rr_store.proofs.LookLemmas.{looks_failed, looks_then}
 use Rattle.rr_store.proofs.StoredLemmas.{database_refuses}
+use Rattle.rr_store.proofs.StopLemmas.{second_reads}
 use Rattle.rr_store.proofs.opening.stored_objects.Goals as goal
 
 pub read_tables-requires-clause-settings : goal.read_tables-requires-clause-settings
@@ -33,3 +34,7 @@ pub returns-in_err-check_settings-clause-why : goal.returns-in_err-check_setting
 returns-in_err-check_settings-clause-why g c clean =
     let exit = err_from_is_err_and c.from_residual.result c.from_residual.ensures.1 in
     rw (exit.1, exit.2) (database_refuses c.args.version c.args.source.now (state g.S.Store c.args.conn.now).now c.in_err-check_settings.field-0.0)
+
+pub returns-clause-cause : goal.returns-clause-cause
+returns-clause-cause g c =
+    second_reads g.S.Store c.args.conn.now c.check_settings.new.conn c.read_tables.new.conn c.in_ok-check_settings.ensures.looks.same c.in_ok-check_settings.ensures.looks.rests.crash c.read_tables.ensures.looks.rests.crash c.read_tables.result c.read_tables.ensures.cause

@@ -1,4 +1,4 @@
-use Rattle.std.proofs.Common.{◌≡◌, ◌∙◌, ap, not, rules, arith, IsTrue, [], IfOk, map, flat_map, IsPermutation}
+use Rattle.std.proofs.Common.{◌≡◌, ◌∙◌, ap, not, rules, arith, IsTrue, [], IfErr, IfOk, map, flat_map, IsPermutation}
 use Rattle.std.proofs.lemmas.Result.{IfOk-weaker}
 use Rattle.rr_rows.specs.Contents.{IsInRank, by_one, contents, numbered}
 use Rattle.rr_rows.specs.Entries.{named_rows}
@@ -13,6 +13,11 @@ use Rattle.rr_rows.proofs.StatementLemmas.{selects_named}
 use Rattle.rr_store.specs.Calls.{Looks}
 use Rattle.rr_store.proofs.LookLemmas.{looks_failed, plain_of, rests_failed}
 use Rattle.rr_store.proofs.StreamLemmas.{Begins, begins, streamed, whole_answer}
+use Rattle.std.proofs.lemmas.Result.{err_from_is_err_and}
+use Rattle.rr_store.specs.Calls.{FailsOverTidy}
+use Rattle.rr_store.specs.Opening.{IfStore}
+use Rattle.rr_store.proofs.CauseLemmas.{select_named_told}
+use Rattle.rr_store.proofs.StopLemmas.{ask_fails, is_store, reads_fail}
 use Rattle.rr_store.proofs.reading.names_in_turn.Goals as goal
 
 pub returns-in_err-rows-clause-looks : goal.returns-in_err-rows-clause-looks
@@ -51,4 +56,22 @@ returns-clause-are g c =
     let rest = h on in
     let ranked = whole_answer g.S.Store select_named [] old begun new b first tables (λ db rows. IsInRank by_one (map numbered (db.trees 4)) rows) selects_named rest.0 rest.1 in
     listed _ _ _ ranked.same rest.2) (c.take_all_names.ensures.are clean) in
+    search rules
+
+pub returns-in_err-rows-clause-cause : goal.returns-in_err-rows-clause-cause
+returns-in_err-rows-clause-cause g c =
+    let old = c.args.conn.now in
+    let new = c.query.follows.lender-at-none in
+    let refused = rw c.in_err-rows.was at c.query.follows.holds-at-none in
+    let exit = err_from_is_err_and c.from_residual.result c.from_residual.ensures.1 in
+    rw (exit.1, exit.2) (is_store (FailsOverTidy g.S.Store old new) c.in_err-rows.field-0.0 (ask_fails g.S.Store select_named select_named_told old new c.in_err-rows.field-0.0 refused.err))
+
+pub returns-clause-cause : goal.returns-clause-cause
+returns-clause-cause g c =
+    let old = c.args.conn.now in
+    let begun = c.in_ok-rows.rows.conn.now in
+    let new = c.take_all_names.new.rows.conn.now in
+    let b : Begins g.S.Store select_named [] old begun = begins g.S.Store select_named [] old begun (λ clean. plain_of old.schema select_named _ select_named_is (c.requires.tables clean)) c.in_ok-rows.ensures.begun c.in_ok-rows.ensures.survives in
+    let told : IfErr c.take_all_names.result (IfStore (FailsOverTidy g.S.Store old new)) =
+    reads_fail g.S.Store select_named select_named_told old new begun b c.take_all_names.ensures.streams.survives c.take_all_names.result c.take_all_names.ensures.stops in
     search rules

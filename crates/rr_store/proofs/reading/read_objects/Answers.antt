@@ -14,6 +14,11 @@ use Rattle.rr_rows.proofs.StatementLemmas.{selects_object}
 use Rattle.rr_store.specs.Calls.{Looks}
 use Rattle.rr_store.proofs.LookLemmas.{looks_failed, plain_of, rests_failed}
 use Rattle.rr_store.proofs.StreamLemmas.{Begins, begins, streamed, begun_answer, whole_answer}
+use Rattle.std.proofs.lemmas.Result.{err_from_is_err_and}
+use Rattle.rr_store.specs.Calls.{FailsOverTidy}
+use Rattle.rr_store.specs.Opening.{IfStore}
+use Rattle.rr_store.proofs.CauseLemmas.{select_object_told}
+use Rattle.rr_store.proofs.StopLemmas.{ask_fails, is_store, reads_fail}
 use Rattle.rr_store.proofs.reading.read_objects.Goals as goal
 
 pub returns-in_err-rows-clause-looks : goal.returns-in_err-rows-clause-looks
@@ -66,4 +71,22 @@ returns-clause-bad_row g c =
     let more = none bad in
     let ranked = begun_answer g.S.Store select_object _ _ select_object_is refl old begun new b first tables (quiet (λ error is. absurd (cc))) (λ db rows. IsInRank by_one (map numbered (db.trees 2)) rows) selects_object more.0 more.1 in
     record { rows = contents (more.0 ++ ranked.0); same = contents_of _ _ ranked.1.same; none = more.2 ranked.0 }) in
+    search rules
+
+pub returns-in_err-rows-clause-cause : goal.returns-in_err-rows-clause-cause
+returns-in_err-rows-clause-cause g c =
+    let old = c.args.conn.now in
+    let new = c.query.follows.lender-at-none in
+    let refused = rw c.in_err-rows.was at c.query.follows.holds-at-none in
+    let exit = err_from_is_err_and c.from_residual.result c.from_residual.ensures.1 in
+    rw (exit.1, exit.2) (is_store (FailsOverTidy g.S.Store old new) c.in_err-rows.field-0.0 (ask_fails g.S.Store select_object select_object_told old new c.in_err-rows.field-0.0 refused.err))
+
+pub returns-clause-cause : goal.returns-clause-cause
+returns-clause-cause g c =
+    let old = c.args.conn.now in
+    let begun = c.in_ok-rows.rows.conn.now in
+    let new = c.take_objects.new.rows.conn.now in
+    let b : Begins g.S.Store select_object [] old begun = begins g.S.Store select_object [] old begun (λ clean. plain_of old.schema select_object _ select_object_is (c.requires.tables clean)) c.in_ok-rows.ensures.begun c.in_ok-rows.ensures.survives in
+    let told : IfErr c.take_objects.result (IfStore (FailsOverTidy g.S.Store old new)) =
+    reads_fail g.S.Store select_object select_object_told old new begun b c.take_objects.ensures.streams.survives c.take_objects.result c.take_objects.ensures.stops in
     search rules

@@ -4,6 +4,8 @@ use Rattle.rr_rows.specs.Texts.{select_sorted_named}
 use Rattle.rr_rows.proofs.TextLemmas.{select_sorted_named_is}
 use Rattle.rr_rows.proofs.StatementLemmas.{selects_sorted_named}
 use Rattle.rr_store.proofs.LookLemmas.{plain_of, shown_of}
+use Rattle.rr_store.proofs.CauseLemmas.{select_sorted_named_told}
+use Rattle.rr_store.proofs.StopLemmas.{asks_fail}
 use Rattle.rr_store.proofs.reading.sorted_named_rows.Goals as goal
 
 pub look-requires-clause-plain : goal.look-requires-clause-plain
@@ -15,3 +17,6 @@ returns-clause-rows g c clean =
     let new = state g.S.Store c.look.new.conn in
     let tables = c.requires.tables (omega (arith, clean, c.look.ensures.looks.rests.crash.clean)) in
     shown_of c.look.result _ _ _ old new _ (c.look.ensures.shown clean) (λ rows h. selects_sorted_named old new tables rows.items h)
+
+pub returns-clause-cause : goal.returns-clause-cause
+returns-clause-cause g c = asks_fail g.S.Store select_sorted_named select_sorted_named_told c.args.conn.now c.look.new.conn c.look.result c.requires.tables c.look.ensures.looks.rests.crash c.look.ensures.refused

@@ -1,4 +1,4 @@
-use Rattle.std.proofs.Common.{rules, ◌≡◌, ◌++◌, ◌∷◌, [], List, Some, None, refl, sym, ap, subst, subst₂, ◌∙◌, append_assoc}
+use Rattle.std.proofs.Common.{rules, ◌≡◌, ◌++◌, ◌∷◌, [], List, Some, None, refl, sym, ap, subst, subst₂, ◌∙◌, append_assoc, arith}
 use Rattle.std.specs.Prelude.{option_copied}
 use Rattle.std.specs.List.{AllByRecursion}
 use Rattle.std.proofs.lemmas.List.{map-append}
@@ -12,6 +12,8 @@ use Rattle.rr_store.proofs.ObjectLemmas as objects
 use Rattle.sqlite_value.specs.Order.{Row}
 use Rattle.sqlite.specs.Given.{Advances, row_if}
 use Rattle.rr_store.proofs.StreamLemmas.{HasRead, none_read, read_all, read_more}
+use Rattle.rr_store.specs.StreamParts.{StopsFor}
+use Rattle.rr_store.proofs.StopLemmas.{is_store, stopped}
 use Rattle.rr_store.proofs.streams.take_objects.Goals as goal
 
 pub rows-init : goal.rows-init
@@ -58,3 +60,12 @@ returns-in_err-take_object-clause-bad_row g c clean =
           let it = objects.read_between form source (contents given.2.0) (columns values) (contents rest) others (subst (λ xs. AreRead form source xs others) whole read) in
           c.in_err-take_object.ensures.bad_row bad it.0 it.1 it.2,
     ))
+
+pub returns-in_err-advance-clause-stops : goal.returns-in_err-advance-clause-stops
+returns-in_err-advance-clause-stops g c clean =
+    let old = c.args.rows.now.conn.now in
+    let new = c.advance.new.self.conn.now in
+    let exit = err_from_is_err_and c.from_residual-in_err-advance.result c.from_residual-in_err-advance.ensures.1 in
+    rw (exit.1, exit.2) (is_store (StopsFor g.S.Store old new) c.in_err-advance.field-0.0
+    (stopped g.S.Store old c.rows.rows.conn.now new (λ rows. AreRead (form_of c.args.version) c.args.source.now (contents rows) c.rows.objects.items) c.rows.invariant.1
+    (omega (arith, clean, c.advance.ensures.survives.clean)) c.in_err-advance.field-0.0 (c.in_err-advance.ensures.err clean)))

@@ -1,7 +1,7 @@
 -- The search passes lines that are not blank, and the text is cut where it stops.
 use Rattle.std.proofs.Common.{◌<◌, ◌++◌, [], length, arith}
 use Rattle.std.proofs.lemmas.Bool.Decides.{nat_tests}
-use Rattle.rr_text.proofs.BlockLemmas.{IsAtBlank, taken_none, taken_more, taken_front, taken_back, at_end, at_blank}
+use Rattle.rr_text.proofs.BlockLemmas.{IsAtBlank, taken_none, taken_more, taken_prefix, taken_back, at_end, at_blank}
 use Rattle.rr_text.proofs.block.split_block.Goals as goal
 use Rattle.rr_text.proofs.block.split_block.Goals.{else-lines-test, then-lines-test+then-is_blank_only}
 
@@ -20,7 +20,7 @@ returns-clause-block c =
     let stop : IsAtBlank c.lines.rest.now = elim c.lines-test.branch [
       | else-lines-test w ↦ at_end _ (grind (arith, nat_tests))
       | then-lines-test+then-is_blank_only w ↦ at_blank _ _ _ w.split_line.ensures.lines (cc)
-    ] in taken_front _ _ _ _ c.lines.invariant.1 stop c.split_at.ensures.front
+    ] in taken_prefix _ _ _ _ c.lines.invariant.1 stop c.split_at.ensures.front
 
 pub returns-clause-after : goal.returns-clause-after
 returns-clause-after c =

@@ -1,4 +1,4 @@
--- The first block is what stands before the first blank line behind the place where it starts.
+-- The first block is what stands before the first blank line after the place where it starts.
 use Rattle.std.proofs.Common.{◌≡◌, ◌<◌, ◌∙◌, length, sym, ap, arith}
 use Rattle.std.proofs.lemmas.Bool.Decides.{nat_tests}
 use Rattle.rr_text.specs.Lines.{text_lines}

@@ -1,4 +1,4 @@
--- What is behind the first block spells the other entries.
+-- What is after the first block spells the other entries.
 use Rattle.std.proofs.Common.{◌∙◌, sym, ap, drop, length, arith}
 use Rattle.rr_text.proofs.EntryLemmas.{entries_empty, entries_skipped, entries_end}
 use Rattle.rr_text.proofs.reader.skip_paragraph.Goals as goal

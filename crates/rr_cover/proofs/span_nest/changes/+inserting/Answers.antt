@@ -31,9 +31,9 @@ insert_below-returns-else-is_ahead-clause-all g t c =
     let node = c.in-Fork.node.value in
     let is = subst IsNest c.in-Fork.is c.requires.order in
     let opened = opened_of c.args.nest.now node.span node.value node.bounds node.before node.after (record { all = λ s. ap (λ n. standing n s) c.in-Fork.is }) is (ap count c.in-Fork.is) in
-    let behind : is_ahead leaf.span node.span ≡ false = sym (rw (c.deref-in-Fork.ensures, c.deref-in-Fork-2.ensures) at c.if-is_ahead.ensures) in
+    let after : is_ahead leaf.span node.span ≡ false = sym (rw (c.deref-in-Fork.ensures, c.deref-in-Fork-2.ensures) at c.if-is_ahead.ensures) in
     let apart : eq_by_cmp span_cmp leaf.span node.span ≡ false = missing_apart c.args.nest.now node.span node.value node.before node.after opened leaf.span c.requires.missing in
-    rw (c.grow_after.ensures, c.deref_mut-else-is_ahead-2.ensures.value, c.deref_mut-else-is_ahead.ensures.value) (all_high c.args.nest.now node.span node.value node.before node.after opened leaf.span leaf.value c.insert_node-else-is_ahead.new.nest (ahead_other leaf.span node.span apart behind) (record { all = rw c.deref_mut-else-is_ahead.ensures.value at c.insert_node-else-is_ahead.ensures.all }))
+    rw (c.grow_after.ensures, c.deref_mut-else-is_ahead-2.ensures.value, c.deref_mut-else-is_ahead.ensures.value) (all_high c.args.nest.now node.span node.value node.before node.after opened leaf.span leaf.value c.insert_node-else-is_ahead.new.nest (ahead_other leaf.span node.span apart after) (record { all = rw c.deref_mut-else-is_ahead.ensures.value at c.insert_node-else-is_ahead.ensures.all }))
 
 pub insert_below-returns-else-is_ahead-clause-nest : goal.insert_below-returns-else-is_ahead-clause-nest
 insert_below-returns-else-is_ahead-clause-nest g t c =
@@ -41,6 +41,6 @@ insert_below-returns-else-is_ahead-clause-nest g t c =
     let node = c.in-Fork.node.value in
     let is = subst IsNest c.in-Fork.is c.requires.order in
     let opened = opened_of c.args.nest.now node.span node.value node.bounds node.before node.after (record { all = λ s. ap (λ n. standing n s) c.in-Fork.is }) is (ap count c.in-Fork.is) in
-    let behind : is_ahead leaf.span node.span ≡ false = sym (rw (c.deref-in-Fork.ensures, c.deref-in-Fork-2.ensures) at c.if-is_ahead.ensures) in
+    let after : is_ahead leaf.span node.span ≡ false = sym (rw (c.deref-in-Fork.ensures, c.deref-in-Fork-2.ensures) at c.if-is_ahead.ensures) in
     let apart : eq_by_cmp span_cmp leaf.span node.span ≡ false = missing_apart c.args.nest.now node.span node.value node.before node.after opened leaf.span c.requires.missing in
-    rw (c.grow_after.ensures, c.last-last.ensures.value, c.deref.ensures, c.deref_mut-else-is_ahead-2.ensures.value, c.deref_mut-else-is_ahead.ensures.value) (node_high node.span node.bounds node.before node.after c.insert_node-else-is_ahead.new.nest leaf.span leaf.value is (ahead_other leaf.span node.span apart behind) (record { all = rw c.deref_mut-else-is_ahead.ensures.value at c.insert_node-else-is_ahead.ensures.all }) c.insert_node-else-is_ahead.ensures.nest)
+    rw (c.grow_after.ensures, c.last-last.ensures.value, c.deref.ensures, c.deref_mut-else-is_ahead-2.ensures.value, c.deref_mut-else-is_ahead.ensures.value) (node_high node.span node.bounds node.before node.after c.insert_node-else-is_ahead.new.nest leaf.span leaf.value is (ahead_other leaf.span node.span apart after) (record { all = rw c.deref_mut-else-is_ahead.ensures.value at c.insert_node-else-is_ahead.ensures.all }) c.insert_node-else-is_ahead.ensures.nest)

@@ -27,6 +27,6 @@ returns-else-is_ahead-clause-all g t c =
     let is = subst IsNest c.in-Fork.is c.requires in
     let opened = opened_of c.args.nest.now node.span node.value node.bounds node.before node.after (record { all = λ s. ap (λ n. standing n s) c.in-Fork.is }) is (ap count c.in-Fork.is) in
     let apart : eq_by_cmp span_cmp c.args.span node.span ≡ false = sym (rw c.deref.ensures at c.if-is_same.ensures) in
-    let behind : is_ahead c.args.span node.span ≡ false = sym (rw c.deref-else-is_same.ensures at c.if-is_ahead.ensures) in
+    let after : is_ahead c.args.span node.span ≡ false = sym (rw c.deref-else-is_same.ensures at c.if-is_ahead.ensures) in
     let all = rw c.deref_mut-else-is_ahead.ensures.value at c.replace-else-is_ahead.ensures.all in
-    on_ok_weaker c.replace-else-is_ahead.result (λ changed. rw c.deref_mut-else-is_ahead.ensures.value (all_high c.args.nest.now node.span node.value node.before node.after opened c.args.span c.args.value c.replace-else-is_ahead.new.nest (ahead_other c.args.span node.span apart behind) (record { all = changed }))) all
+    on_ok_weaker c.replace-else-is_ahead.result (λ changed. rw c.deref_mut-else-is_ahead.ensures.value (all_high c.args.nest.now node.span node.value node.before node.after opened c.args.span c.args.value c.replace-else-is_ahead.new.nest (ahead_other c.args.span node.span apart after) (record { all = changed }))) all

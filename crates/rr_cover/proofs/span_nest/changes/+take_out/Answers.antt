@@ -29,11 +29,11 @@ rebalance-requires-else-is_ahead-clause-fits g t c =
     let root = c.in-Some.root.value in
     let opened = c.in-Some.ensures.some in
     let apart : eq_by_cmp span_cmp c.args.span root.span ≡ false = sym (rw c.deref.ensures at c.if-is_same.ensures) in
-    let behind : is_ahead c.args.span root.span ≡ false = sym (rw c.deref-2.ensures at c.if-is_ahead.ensures) in
+    let later : is_ahead c.args.span root.span ≡ false = sym (rw c.deref-2.ensures at c.if-is_ahead.ensures) in
     record {
       ordered = opened.fits.ordered;
       ahead = opened.fits.ahead;
-      after = only_changed (λ s. is_ahead root.span s) c.in-Some.after c.take_out-value-else-is_ahead.result.1 c.args.span None (record { all = c.take_out-value-else-is_ahead.ensures.all }) (ahead_other c.args.span root.span apart behind) opened.fits.after;
+      after = only_changed (λ s. is_ahead root.span s) c.in-Some.after c.take_out-value-else-is_ahead.result.1 c.args.span None (record { all = c.take_out-value-else-is_ahead.ensures.all }) (ahead_other c.args.span root.span apart later) opened.fits.after;
     }
 
 pub returns-then-is_ahead-clause-all : goal.returns-then-is_ahead-clause-all
@@ -48,5 +48,5 @@ returns-else-is_ahead-clause-all g t c =
     let root = c.in-Some.root.value in
     let opened = c.in-Some.ensures.some in
     let apart : eq_by_cmp span_cmp c.args.span root.span ≡ false = sym (rw c.deref.ensures at c.if-is_same.ensures) in
-    let behind : is_ahead c.args.span root.span ≡ false = sym (rw c.deref-2.ensures at c.if-is_ahead.ensures) in
-    (changed_high c.args.nest root.span root.value c.in-Some.before c.in-Some.after opened c.args.span None c.take_out-value-else-is_ahead.result.1 c.rebalance-else-is_ahead.result (ahead_other c.args.span root.span apart behind) (record { all = c.take_out-value-else-is_ahead.ensures.all }) (record { all = c.rebalance-else-is_ahead.ensures.all })).all
+    let later : is_ahead c.args.span root.span ≡ false = sym (rw c.deref-2.ensures at c.if-is_ahead.ensures) in
+    (changed_high c.args.nest root.span root.value c.in-Some.before c.in-Some.after opened c.args.span None c.take_out-value-else-is_ahead.result.1 c.rebalance-else-is_ahead.result (ahead_other c.args.span root.span apart later) (record { all = c.take_out-value-else-is_ahead.ensures.all }) (record { all = c.rebalance-else-is_ahead.ensures.all })).all

@@ -35,3 +35,9 @@ returns-in-Err-clause-fails g c =
 
 pub returns-in-Err-clause-not_empty : goal.returns-in-Err-clause-not_empty
 returns-in-Err-clause-not_empty g c = c.in-Err.ensures.not_empty
+
+pub returns-in_default-clause-store : goal.returns-in_default-clause-store
+returns-in_default-clause-store g c = λ error is. absurd (cc)
+
+pub returns-in-Err-clause-store : goal.returns-in-Err-clause-store
+returns-in-Err-clause-store g c = c.in-Err.ensures.store

@@ -1,6 +1,7 @@
-use Rattle.std.proofs.Common.{refl, sym, ◌∙◌}
+use Rattle.std.proofs.Common.{refl, subst, sym, ◌∙◌}
 use Rattle.rr_desk.proofs.ListRows.{makes_as, none_as, untouched_back}
-use Rattle.rr_desk.proofs.Loads.{unmade_fails, unmade_of_rows}
+use Rattle.rr_desk.specs.LoadFaults.{IsOfDump}
+use Rattle.rr_desk.proofs.Loads.{unmade_fails, unmade_of_rows, unmade_of_store}
 use Rattle.rr_desk.proofs.desk.Desk.load.Goals as goal
 
 pub returns-in-Ok-create_stored-clause-runs : goal.returns-in-Ok-create_stored-clause-runs
@@ -28,3 +29,13 @@ returns-in-Err-create_stored-clause-not_empty g c = λ is. c.in-Err-create_store
 
 pub returns-in-Err-clause-fails : goal.returns-in-Err-clause-fails
 returns-in-Err-clause-fails g c = untouched_back _ _ _ c.requires.autocommit
+
+pub returns-in-Err-clause-not_empty : goal.returns-in-Err-clause-not_empty
+returns-in-Err-clause-not_empty g c = λ is. absurd (subst IsOfDump is c.in-Err.ensures.of_dump)
+
+pub returns-in-Err-clause-store : goal.returns-in-Err-clause-store
+returns-in-Err-clause-store g c = λ error is. absurd (subst IsOfDump is c.in-Err.ensures.of_dump)
+
+pub returns-in-Err-create_stored-clause-store : goal.returns-in-Err-create_stored-clause-store
+returns-in-Err-create_stored-clause-store g c = λ error is.
+    c.in-Err-create_stored.ensures.store error (unmade_of_store c.in-Err-create_stored.fault error (sym c.from.ensures ∙ is))

@@ -23,3 +23,6 @@ returns-in-Err-clause-fails g c = c.in-Err.ensures.fails
 
 pub returns-in-Err-clause-why : goal.returns-in-Err-clause-why
 returns-in-Err-clause-why g c = rw (← c.source.ensures.source) c.in-Err.ensures.why
+
+pub returns-in-Err-clause-store : goal.returns-in-Err-clause-store
+returns-in-Err-clause-store g c = c.in-Err.ensures.store

@@ -35,4 +35,5 @@ returns-in-Err-clause-fails g c =
       not_empty = λ is clean. c.in-Err.ensures.filled clean is;
       crash = made.crash;
       crash_tables = c.in-Err.ensures.tables.crash;
+      store = c.in-Err.ensures.cause;
     }

@@ -29,4 +29,5 @@ returns-in-Err-clause-fails g c =
       settled = settles g.S.Store g.met.S.Store.settled c.migrate_rows-migrated.new.conn (c.is_autocommit-settled.ensures.settled (c.is_autocommit-settled.ensures.value ∙ ap not (migrated.autocommit c.requires.autocommit)));
       why = c.in-Err.ensures.why;
       crash = migrated.crash;
+      store = c.in-Err.ensures.cause;
     }

@@ -27,4 +27,5 @@ returns-in-Err-clause-fails g c = record {
   rests = c.in-Err.ensures.looks.rests;
   settled = settles g.S.Store g.met.S.Store.settled c.stored_objects-stored.new.conn (c.is_autocommit-settled.ensures.settled (c.is_autocommit-settled.ensures.value ∙ ap not c.in-Err.ensures.looks.rests.autocommit));
   why = c.in-Err.ensures.why;
+  store = c.in-Err.ensures.cause;
 }

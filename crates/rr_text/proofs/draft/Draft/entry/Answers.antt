@@ -12,6 +12,6 @@ returns-then-self-gt-SIZE_LIMIT c = λ text has. has.one ∙ ap (λ entry. entry
 pub returns : goal.returns
 returns c = λ text has.
     let within : c.args.self.now.whole ≤ size_limit = omega arith in
-    let block : c.split_at.result.0.now ≡ has.block = c.split_at.ensures.front ∙ (ap (take c.args.self.now.whole) c.deref.ensures.value ∙ (has.prefix within).1) in
+    let block : c.split_at.result.0.now ≡ has.block = c.split_at.ensures.front ∙ (ap (take c.args.self.now.whole) c.deref.ensures.value ∙ (has.kept_whole within).1) in
     let one : entries text ≡ block_entry (text_lines c.split_at.result.0.now) ∷ [] = has.one ∙ ap (λ b. block_entry (text_lines b) ∷ []) (sym block) in
     gives_one text (text_lines c.split_at.result.0.now) c.read_entry.result one c.read_entry.ensures.found c.read_entry.ensures.fault

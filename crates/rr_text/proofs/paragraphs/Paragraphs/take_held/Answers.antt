@@ -1,4 +1,4 @@
--- The place behind the line that closes is as far behind the first byte held as that line's end.
+-- The place after the line that closes is as far after the first byte held as that line's end.
 use Rattle.std.proofs.Common.{◌≡◌, ◌∙◌, ◌++◌, take, drop, sym, ap}
 use Rattle.std.proofs.lemmas.List.{drop-drop, take-append-drop}
 use Rattle.rr_text.specs.ParagraphReaders.{held}

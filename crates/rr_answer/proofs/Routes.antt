@@ -11,7 +11,8 @@ use Rattle.rr_object.specs.declared.key.Key.TheVariants.{Mntner, AsBlock, AutNum
 use Rattle.rr_object.specs.Objects.{Obj}
 use Rattle.rr_auth.specs.Closest.{origin_at, origins, origins_among, same_prefix}
 use Rattle.rr_auth.specs.Registries.{Reg, Sound}
-use Rattle.rr_auth.proofs.Members.{IsIn, stands_at}
+use Rattle.rr_auth.specs.Elements.{IsIn}
+use Rattle.rr_auth.proofs.Members.{stands_at}
 use Rattle.rr_graph.proofs.Lists.{filter_map_more-None, filter_map_more-Some}
 use Rattle.rr_sets.specs.Lists.{lent}
 use Rattle.rr_answer.specs.Selections.{is_route_of}

@@ -10,7 +10,8 @@ use Rattle.rr_object.specs.declared.key.Key.{Key}
 use Rattle.rr_object.specs.Objects.{Obj}
 use Rattle.rr_auth.specs.Registries.{Reg, Sound}
 use Rattle.rr_auth.specs.Closest.{closest_of, is_closest, is_cover, is_no_closer}
-use Rattle.rr_auth.proofs.Members.{IsIn, all_pass, each_passes, found_in, found_passes, mapped_value, none_found, none_passes, some_passes, stands_at}
+use Rattle.rr_auth.specs.Elements.{IsIn}
+use Rattle.rr_auth.proofs.Members.{all_pass, each_passes, found_in, found_passes, mapped_value, none_found, none_passes, some_passes, stands_at}
 use Rattle.rr_auth.proofs.Nesting.{one_span}
 
 -- an object is closest to s: it is registered, it covers s, and no registered object of the class that does is smaller

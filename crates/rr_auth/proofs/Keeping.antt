@@ -24,7 +24,8 @@ use Rattle.rr_auth.specs.Conditions.{names_unknown, unauthorised, lacks_origin, 
 use Rattle.rr_auth.specs.Verdicts.{verdict, submission, addition, change, deletion, place}
 use Rattle.rr_auth.proofs.Crossing.{keys_cross_back, crosses_itself}
 use Rattle.rr_object.proofs.KeyLaws.{keys_total, same_key}
-use Rattle.rr_auth.proofs.Members.{IsIn, found_in, none_passes}
+use Rattle.rr_auth.specs.Elements.{IsIn}
+use Rattle.rr_auth.proofs.Members.{found_in, none_passes}
 
 -- what stands in a registry after an addition: the new object under its key, and what stood elsewhere
 pub after_insert : (P : Key → Obj → Type 0) (r : Reg) (k : Key) (o : Obj) → P k o → ((l : Key) (x : Obj) → get r l ≡ Some x → P l x)

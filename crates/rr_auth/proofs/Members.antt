@@ -11,13 +11,9 @@ use Rattle.std.proofs.lemmas.Bool.{and_from, and_parts, or_from, or_left, or_par
 use Rattle.rr_object.specs.declared.key.Key.{Key}
 use Rattle.rr_object.specs.Objects.{Obj}
 use Rattle.rr_object.specs.KeyOrders.{key_cmp}
+use Rattle.rr_auth.specs.Elements.{IsIn}
 use Rattle.rr_auth.specs.Registries.{Reg, Sound}
 use Rattle.rr_object.proofs.KeyLaws.{same_key, tied_key}
-
--- x is an element of the list
-abbrev pub IsIn : {A : Type 0} → A → List A → Type 0
-IsIn x [] = ⊥
-IsIn x (y ∷ ys) = (x ≡ y) ⊎ IsIn x ys
 
 pub both_or_none : (a b : Bool) → (a ≡ true → b ≡ true) → (b ≡ true → a ≡ true) → a ≡ b
 both_or_none true b f g = sym (f refl)

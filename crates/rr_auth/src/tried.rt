@@ -97,6 +97,7 @@ impl Tried {
         ensures { Records self.old.answers maintainer.now.auths trial self.new.answers }
     {
         if let Key::Mntner(name) = maintainer.key() {
+            // Without memory for it the lines are tried again, with the same answer.
             let _ = self.put(name, maintainer.auths(), trial);
         }
     }

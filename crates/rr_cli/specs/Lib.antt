@@ -1,3 +1,3 @@
 pub mod Probing
 pub mod Serving
-pub mod Performing
+pub mod Running

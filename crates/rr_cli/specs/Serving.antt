@@ -9,7 +9,7 @@ use Rattle.rr_commands.specs.declared.cause.Cause.{Cause}
 use Rattle.rr_commands.specs.declared.trouble.Trouble.{Trouble}
 use Rattle.rr_commands.specs.declared.trouble.Trouble.TheVariants.{ListenerUnopened, Unaccepted}
 use Rattle.rr_commands.specs.declared.trouble.Trouble.TheVariants.{Unwritten}
-use Rattle.rr_commands.specs.Commands.{Answer, AtDesk, Commands, DeskAction, Ending, Gives}
+use Rattle.rr_commands.specs.Commands.{AtDesk, CommandEnd, Commands, DeskAction, Ending, Gives}
 
 -- the line that says how many turns were served, and how many failed (profile)
 unfoldable pub served_line : ℕ → ℕ → List ℕ
@@ -17,28 +17,28 @@ served_line served failed =
     codes "served " ++ (decimal served ++ (codes ", failed " ++ (decimal failed ++ codes "\n")))
 
 -- no turn was served, and the fault is why a connection could not be accepted (profile)
-pub record IsUnaccepted (served : ℕ) (result : Answer) : Type 0 where
+pub record IsUnaccepted (served : ℕ) (result : CommandEnd) : Type 0 where
   pub cause : Cause
   pub told : result ≡ Err (Unaccepted cause)
   pub none : served ≡ 0
 
 -- how serving ends once that line was printed: the status is 0, also where some turns failed, but a
 -- fault may be told if none was served (profile)
-abbrev pub AnswersServed : ℕ → Answer → Type 0
-AnswersServed served result = (result ≡ Ok 0) ⊎ IsUnaccepted served result
+abbrev pub IsServedEnd : ℕ → CommandEnd → Type 0
+IsServedEnd served result = (result ≡ Ok 0) ⊎ IsUnaccepted served result
 
 -- that line was printed whole, and serving ends so; or it could not be printed whole, which is the
 -- fault then (profile)
-abbrev pub EndsServed : ℕ → ℕ → Told → Told → Answer → Type 0
+abbrev pub EndsServed : ℕ → ℕ → Told → Told → CommandEnd → Type 0
 EndsServed served failed old new result =
-    (Takes old new (served_line served failed) × AnswersServed served result)
+    (Takes old new (served_line served failed) × IsServedEnd served result)
     ⊎ (TakesPrefix old new (served_line served failed) × (result ≡ Err Unwritten))
 
 -- so many turns of a listener were taken, how many were served and how many failed was printed, and
 -- serving ended so (profile)
 pub record HasServed {S : Type 0} (g : Ghosts S) (serves : Serving) (count : ℕ)
     (before after : Desk S) (tally_before tally_after : Tally) (output_before output_after : Told)
-    (result : Answer) : Type 0 where
+    (result : CommandEnd) : Type 0 where
   pub served : ℕ
   pub failed : ℕ
   pub turns : TakesTurns g serves count before after tally_before tally_after served failed
@@ -60,26 +60,26 @@ ListensNot port Unwritten old new = TakesPrefix old new (listening_line port)
 ListensNot port _ old new = ⊥
 
 -- the port is not listened on, or that could not be said: nothing was served (profile)
-pub record HasNotListened (port : ℕ) (old new : Told) (answer : Answer) : Type 0 where
+pub record HasNotListened (port : ℕ) (old new : Told) (ended : CommandEnd) : Type 0 where
   pub trouble : Trouble
-  pub told : answer ≡ Err trouble
+  pub told : ended ≡ Err trouble
   pub said : ListensNot port trouble old new
 
 -- the port was listened on, that was said, and then turns were served (profile)
 pub record HasListened {S : Type 0} (g : Ghosts S) (serves : Serving) (port count : ℕ)
-    (old new : Told) (before after : Desk S) (answer : Answer) : Type 0 where
+    (old new : Told) (before after : Desk S) (ended : CommandEnd) : Type 0 where
   pub between : Told
   pub said : Takes old between (listening_line port)
   pub tally_before : Tally
   pub tally_after : Tally
-  pub served : HasServed g serves count before after tally_before tally_after between new answer
+  pub served : HasServed g serves count before after tally_before tally_after between new ended
 
 -- what the command does at a desk (profile)
 abbrev pub ServesDesk : {S : Type 0} →
     Ghosts S → Serving → ℕ → ℕ → Told → Told → DeskAction S
-ServesDesk g serves port count old new before after answer =
-    (HasNotListened port old new answer × (after ≡ before))
-    ⊎ HasListened g serves port count old new before after answer
+ServesDesk g serves port count old new before after ended =
+    (HasNotListened port old new ended × (after ≡ before))
+    ⊎ HasListened g serves port count old new before after ended
 
 -- what the command does (profile)
 abbrev pub ServesBy : {S : Type 0} →

@@ -1,7 +1,7 @@
 //! The program `irrdesk`: makes a registry, submits to it, and asks and serves what it has.
 #![tactic(auto)]
 
-mod hearing;
+mod peers_with_cause;
 mod probing;
 mod run;
 mod serving;

@@ -1,15 +1,17 @@
 //! A question of the program to itself, over a connection.
 
-ghost use Rattle.std.specs.Prelude.{◌≡◌, ◌+◌, ◌<◌, ◌^◌, OnErr, OnOk, string_bytes};
+ghost use Rattle.std.specs.Prelude.{◌≡◌, ◌+◌, ◌<◌, ◌^◌, IfErr, IsTrue, OnErr, OnOk};
+ghost use Rattle.std.specs.Prelude.{string_bytes};
+ghost use Rattle.rr_http.specs.DeskRegistrars.{serves_desk};
 ghost use Rattle.rr_commands.specs.Commands.{AtDesk};
 ghost use Rattle.rr_cli.specs.Probing.{AsksInVain, PrintsReply, ProbesBy, ProbesDesk};
-ghost use Rattle.rr_cli.specs.Probing.{TakesOneTurn, reply_status};
+ghost use Rattle.rr_cli.specs.Probing.{TakesOneTurn, is_of_probe, reply_status};
 
-use crate::hearing::Hearing;
+use crate::peers_with_cause::PeersWithCause;
 use rr_commands::{
     Cause, Databases, Output, ProgramFault, Trouble, close, ended, open_desk, read_settings_file,
 };
-use rr_desk::{Desk, Peers, Service, Settings, serve_all};
+use rr_desk::{Desk, Peers, Settings, serve_all};
 use rr_http::Both;
 use rr_io::{Sink, write_all};
 use rr_listener::Listener;
@@ -35,12 +37,13 @@ pub fn probe<'a, D: Databases, W: Output>(
     settings: &'a str,
     output: &mut W,
 ) -> Result<u8, ProgramFault<'a>>
-    ensures { ProbesBy D.Disk.Store (D.gives databases.now) ⟦<Both as Service>⟧.serves
+    ensures { ProbesBy D.Disk.Store (D.gives databases.now) serves_desk
         (W.told output.old) (W.told output.new) result }
 {
     let (read, mut path) = read_settings_file(rt, settings)?;
-    let answer = probe_at(rt, databases, read, &mut path, output);
-    ended(answer, settings, path, output)
+    let path_len = path.len();
+    let end = probe_at(rt, databases, read, &mut path, output);
+    ended(rt.alloc(), end, settings, path, path_len, output)
 }
 
 /// Asks the registry in the database at a path for its root maintainer, and prints the reply.
@@ -52,14 +55,14 @@ fn probe_at<D: Databases, W: Sink>(
     output: &mut W,
 ) -> Result<u8, Trouble>
     ensures { AtDesk D.Disk.Store (D.gives databases.now)
-        (ProbesDesk D.Disk.Store ⟦<Both as Service>⟧.serves
+        (ProbesDesk D.Disk.Store serves_desk
         (W.told output.old) (W.told output.new))
         (W.told output.old) (W.told output.new) settings (string_bytes path.old) result }
 {
     let mut desk = open_desk(rt, databases, settings, path)?;
-    let answer = probe_desk(rt, &mut desk, output);
+    let end = probe_desk(rt, &mut desk, output);
     close(databases, desk.close());
-    answer
+    end
 }
 
 /// Asks a desk for its root maintainer, and prints the reply.
@@ -68,7 +71,7 @@ fn probe_desk<S: Alter, W: Sink>(
     desk: &mut Desk<S>,
     output: &mut W,
 ) -> Result<u8, Trouble>
-    ensures { ProbesDesk S.Store ⟦<Both as Service>⟧.serves
+    ensures { ProbesDesk S.Store serves_desk
         (W.told output.old) (W.told output.new) desk.old desk.new result }
 {
     match ask_for_root(rt, desk) {
@@ -89,10 +92,9 @@ fn print_reply<W: Sink>(reply: &[u8], output: &mut W) -> Result<u8, Trouble>
 
 /// The reply to the name of a desk's root maintainer, over a connection.
 fn ask_for_root<S: Alter>(rt: &HostRuntime, desk: &mut Desk<S>) -> Result<Vec<u8>, Trouble>
-    ensures read { OnOk result
-        (TakesOneTurn S.Store ⟦<Both as Service>⟧.serves desk.old desk.new 0) }
-    ensures unread { OnErr result
-        (AsksInVain S.Store ⟦<Both as Service>⟧.serves desk.old desk.new) }
+    ensures read { OnOk result (TakesOneTurn S.Store serves_desk desk.old desk.new 0) }
+    ensures unread { OnErr result (AsksInVain S.Store serves_desk desk.old desk.new) }
+    ensures why { IfErr result (λ trouble. IsTrue (is_of_probe trouble)) }
 {
     match Listener::open(rt, 0) {
         Ok(mut listener) => match ask(rt, &listener, desk.settings().root().as_bytes()) {
@@ -104,17 +106,16 @@ fn ask_for_root<S: Alter>(rt: &HostRuntime, desk: &mut Desk<S>) -> Result<Vec<u8
 }
 
 /// Serves the connection of a peer that has asked, and reads the reply for it.
-fn serve_asked<S: Alter, P: Hearing>(
+fn serve_asked<S: Alter, P: PeersWithCause>(
     alloc: Global,
     desk: &mut Desk<S>,
     peers: &mut P,
     peer: TcpStream,
 ) -> Result<Vec<u8>, Trouble>
     requires { (P.tally peers.old).turns + 1 < 2 ^ 64 }
-    ensures read { OnOk result
-        (TakesOneTurn S.Store ⟦<Both as Service>⟧.serves desk.old desk.new 0) }
-    ensures unread { OnErr result
-        (AsksInVain S.Store ⟦<Both as Service>⟧.serves desk.old desk.new) }
+    ensures read { OnOk result (TakesOneTurn S.Store serves_desk desk.old desk.new 0) }
+    ensures unread { OnErr result (AsksInVain S.Store serves_desk desk.old desk.new) }
+    ensures why { IfErr result (λ trouble. IsTrue (is_of_probe trouble)) }
 {
     let failed = take_turn(alloc, desk, peers);
     if failed == 0 {
@@ -128,7 +129,9 @@ fn serve_asked<S: Alter, P: Hearing>(
 }
 
 /// What went wrong if a turn failed: why no connection was accepted, if that is the cause.
-fn untaken(cause: Option<Cause>) -> Trouble {
+fn untaken(cause: Option<Cause>) -> Trouble
+    ensures { IsTrue (is_of_probe result) }
+{
     match cause {
         Some(cause) => Trouble::ProbeFailed(cause),
         None => Trouble::ProbeFailed(Cause::Unnumbered),
@@ -138,13 +141,15 @@ fn untaken(cause: Option<Cause>) -> Trouble {
 /// Takes a turn of a listener, and gives how many failed: 0, or 1.
 fn take_turn<S: Alter, P: Peers>(alloc: Global, desk: &mut Desk<S>, peers: &mut P) -> u64
     requires { (P.tally peers.old).turns + 1 < 2 ^ 64 }
-    ensures { TakesOneTurn S.Store ⟦<Both as Service>⟧.serves desk.old desk.new result }
+    ensures { TakesOneTurn S.Store serves_desk desk.old desk.new result }
 {
     let turns = serve_all(alloc, desk, peers, &Both, 1);
     turns.failed
 }
 
-fn trouble_of(error: &io::Error) -> Trouble {
+fn trouble_of(error: &io::Error) -> Trouble
+    ensures { IsTrue (is_of_probe result) }
+{
     match error.kind() {
         ErrorKind::OutOfMemory => Trouble::Memory,
         _ => Trouble::ProbeFailed(Cause::of(error)),

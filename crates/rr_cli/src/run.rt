@@ -1,17 +1,17 @@
 //! A run of the program, over its words and its three streams.
 
-ghost use Rattle.rr_cli.specs.Performing.{CarriesOut};
+ghost use Rattle.rr_http.specs.DeskRegistrars.{serves_desk};
+ghost use Rattle.rr_cli.specs.Running.{CarriesOut};
 
 use crate::probing::probe;
 use crate::serving::serve;
 use rr_arguments::{ArgumentsFault, Command, read_command};
 use rr_commands::{
     Databases, Input, Output, ProgramFault, Trouble, dump, init, load, migrate, plain, print,
-    query, submit,
+    query, shown_name, submit,
 };
-use rr_desk::Service;
-use rr_http::Both;
 use rr_io::Sink;
+use std::alloc::Global;
 use std::env::Args;
 use std::io;
 use std::io::{ErrorKind, IsTerminal, Write};
@@ -33,9 +33,9 @@ pub fn run<D: Databases, R: Input, W: Output, E: Sink>(
     errors: &mut E,
 ) -> u8 {
     match collect(rt, words) {
-        Ok(words) => match perform(rt, databases, words.as_slice(), input, output) {
+        Ok(words) => match run_words(rt, databases, words.as_slice(), input, output) {
             Ok(status) => status,
-            Err(fault) => fault.tell(errors),
+            Err(fault) => fault.legible(rt.alloc()).tell(errors),
         },
         Err(trouble) => ProgramFault::plain(trouble).tell(errors),
     }
@@ -50,32 +50,67 @@ fn collect(rt: &HostRuntime, words: io::Result<Args>) -> Result<Vec<String>, Tro
         },
         Err(error) => match error.kind() {
             ErrorKind::OutOfMemory => Err(Trouble::Memory),
-            _ => Err(Trouble::WordsNotText),
+            _ => Err(Trouble::ArgumentsNotText),
         },
     }
 }
 
-/// The fault of words that ask for nothing.
-fn fault_of(fault: ArgumentsFault<'_>) -> ProgramFault<'_> {
+/// The fault of these words, which ask for nothing.
+fn fault_of<'a>(alloc: Global, words: &[String], fault: ArgumentsFault<'a>) -> ProgramFault<'a> {
     match fault {
-        ArgumentsFault::Refused(line) => ProgramFault::named(line, Trouble::BadWords),
-        ArgumentsFault::Unexplained => ProgramFault::plain(Trouble::BadWords),
+        ArgumentsFault::Refused(line) => {
+            // Without memory the words stay in it as they were given.
+            let told = shown_refusal(alloc, words).unwrap_or(line);
+            ProgramFault::named(told, Trouble::BadArguments)
+        }
+        ArgumentsFault::Unexplained => ProgramFault::plain(Trouble::BadArguments),
         ArgumentsFault::Port(word) => ProgramFault::of(word, Trouble::BadPort),
         ArgumentsFault::Count(word) => ProgramFault::of(word, Trouble::BadCount),
         ArgumentsFault::Memory => ProgramFault::plain(Trouble::Memory),
     }
 }
 
+/// Why words are refused, in which they stand as a line shows them.
+fn shown_refusal(alloc: Global, words: &[String]) -> Option<String> {
+    let shown = shown_words(alloc, words)?;
+    refusal_of(alloc, shown.as_slice())
+}
+
+/// These words as a line shows them, if there is memory.
+fn shown_words(alloc: Global, words: &[String]) -> Option<Vec<String>> {
+    let mut shown = Vec::new(alloc);
+    for word in words {
+        shown.push(shown_name(alloc, word.as_bytes()).ok()?).ok()?;
+    }
+    Some(shown)
+}
+
+/// The line that says why these words are refused, if one does.
+fn refusal_of(alloc: Global, words: &[String]) -> Option<String> {
+    match read_command(alloc, words) {
+        Ok(_command) => None,
+        Err(fault) => match fault {
+            ArgumentsFault::Refused(line) => Some(line),
+            ArgumentsFault::Unexplained
+            | ArgumentsFault::Port(_)
+            | ArgumentsFault::Count(_)
+            | ArgumentsFault::Memory => None,
+        },
+    }
+}
+
 /// Does what the words ask for.
-fn perform<'a, D: Databases, R: Input, W: Output>(
+fn run_words<'a, D: Databases, R: Input, W: Output>(
     rt: &HostRuntime,
     databases: &D,
     words: &'a [String],
     input: &mut R,
     output: &mut W,
 ) -> Result<u8, ProgramFault<'a>> {
-    let command = read_command(rt.alloc(), words).map_err(fault_of)?;
-    carry_out(rt, databases, command, input, output)
+    match read_command(rt.alloc(), words) {
+        Ok(command) => carry_out(rt, databases, command, input, output),
+        Err(fault) => Err(fault_of(rt.alloc(), words, fault)),
+    }
 }
 
 /// Carries out a command.
@@ -87,7 +122,7 @@ fn carry_out<'a, D: Databases, R: Input, W: Output>(
     output: &mut W,
 ) -> Result<u8, ProgramFault<'a>>
     ensures { CarriesOut D.Disk.Store
-        (D.gives databases.now) ⟦<Both as Service>⟧.serves command.entry
+        (D.gives databases.now) serves_desk command.entry
         (R.told input.old) (R.told input.new) (W.told output.old) (W.told output.new) result }
 {
     match command {

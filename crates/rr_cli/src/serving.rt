@@ -2,12 +2,13 @@
 
 ghost use Rattle.std.specs.Prelude.{◌≡◌, ◌+◌, ◌<◌, ◌^◌, false, string_bytes};
 ghost use Rattle.rr_io.specs.Sending.{Writes};
-ghost use Rattle.rr_desk.specs.Stocks.{IsStocked};
+ghost use Rattle.rr_desk.specs.Stocks.{StoresUntilStopped};
+ghost use Rattle.rr_http.specs.DeskRegistrars.{serves_desk};
 ghost use Rattle.rr_commands.specs.Commands.{AtDesk, EndsAs};
-ghost use Rattle.rr_cli.specs.Serving.{AnswersServed, HasServed, ServesBy, ServesDesk};
+ghost use Rattle.rr_cli.specs.Serving.{HasServed, IsServedEnd, ServesBy, ServesDesk};
 ghost use Rattle.rr_cli.specs.Serving.{listening_head, listening_line, served_line};
 
-use crate::hearing::Hearing;
+use crate::peers_with_cause::PeersWithCause;
 use itoa::Buffer;
 use rr_commands::{
     Cause, DatabaseCause, Databases, Output, ProgramFault, Trouble, close, ended, open_desk,
@@ -34,33 +35,35 @@ pub fn serve<'a, D: Databases, W: Output>(
     output: &mut W,
 ) -> Result<u8, ProgramFault<'a>>
     ensures { ServesBy D.Disk.Store
-        (D.gives databases.now) ⟦<Both as Service>⟧.serves port count
+        (D.gives databases.now) serves_desk port count
         (W.told output.old) (W.told output.new) result }
 {
     let (read, mut path) = read_settings_file(rt, settings)?;
-    let answer = serve_at(rt, databases, read, &mut path, port, count, output);
-    ended_at(rt.alloc(), answer, port, settings, path, output)
+    let path_len = path.len();
+    let end = serve_at(rt, databases, read, &mut path, port, count, output);
+    ended_at(rt.alloc(), end, port, settings, path, path_len, output)
 }
 
 /// How serving ended; trouble with the listener is about its address.
 fn ended_at<'a, W: Output>(
     alloc: Global,
-    answer: Result<u8, Trouble>,
+    end: Result<u8, Trouble>,
     port: u16,
     settings: &'a str,
     path: String,
+    path_len: usize,
     output: &W,
 ) -> Result<u8, ProgramFault<'a>>
-    ensures { EndsAs answer result }
+    ensures { EndsAs end result }
 {
-    match answer {
+    match end {
         Err(Trouble::ListenerUnopened(cause)) => {
             Err(about_port(alloc, Trouble::ListenerUnopened(cause), port))
         }
         Err(Trouble::Unaccepted(cause)) => {
             Err(about_port(alloc, Trouble::Unaccepted(cause), port))
         }
-        _ => ended(answer, settings, path, output),
+        _ => ended(alloc, end, settings, path, path_len, output),
     }
 }
 
@@ -85,7 +88,7 @@ fn serve_at<D: Databases, W: Sink>(
     output: &mut W,
 ) -> Result<u8, Trouble>
     ensures { AtDesk D.Disk.Store (D.gives databases.now)
-        (ServesDesk D.Disk.Store ⟦<Both as Service>⟧.serves port count
+        (ServesDesk D.Disk.Store serves_desk port count
         (W.told output.old) (W.told output.new))
         (W.told output.old) (W.told output.new) settings (string_bytes path.old) result }
 {
@@ -94,9 +97,9 @@ fn serve_at<D: Databases, W: Sink>(
         rt,
         path: path.as_str(),
     };
-    let answer = serve_desk(rt, &mut desk, &watched, port, count, output);
+    let end = serve_desk(rt, &mut desk, &watched, port, count, output);
     close(databases, desk.close());
-    answer
+    end
 }
 
 /// Listens on this port, says so, and serves so many connections of a desk.
@@ -134,12 +137,14 @@ impl Watched<'_> {
         let mut errors = Counted::new(self.rt.stderr());
         let trouble = Trouble::ServedInVain(DatabaseCause::of(error));
         // Its status is not the program's: serving goes on.
-        let _ = ProgramFault::of(self.path, trouble).tell(&mut errors);
+        let _ = ProgramFault::of(self.path, trouble)
+            .legible(self.rt.alloc())
+            .tell(&mut errors);
     }
 }
 
 impl Service for Watched<'_> {
-    ghost serves = { ⟦<Both as Service>⟧.serves };
+    ghost serves = { serves_desk };
 
     fn serve<S: Alter, C: Connection>(
         &self,
@@ -148,16 +153,16 @@ impl Service for Watched<'_> {
         conn: &mut C,
     ) -> Result<(), ConnFault> {
         let was_stopped = desk.stopped();
-        let answer = Both.serve(alloc, desk, conn);
+        let end = Both.serve(alloc, desk, conn);
         if let (false, Some(error)) = (was_stopped, desk.cause()) {
             self.say(error);
         }
-        answer
+        end
     }
 }
 
 /// Takes so many turns of a listener, and prints how many were served and how many failed.
-fn serve_turns<S: Alter, P: Hearing, V: Service, W: Sink>(
+fn serve_turns<S: Alter, P: PeersWithCause, V: Service, W: Sink>(
     alloc: Global,
     desk: &mut Desk<S>,
     peers: &mut P,
@@ -169,19 +174,19 @@ fn serve_turns<S: Alter, P: Hearing, V: Service, W: Sink>(
     ensures served { HasServed S.Store V.serves count desk.old desk.new
         (P.tally peers.old) (P.tally peers.new) (W.told output.old) (W.told output.new) result }
     ensures settings { desk.new.settings ≡ desk.old.settings }
-    ensures rows { IsStocked S.Store desk.new.stored }
+    ensures rows { StoresUntilStopped S.Store desk.new.stored }
 {
     let served = serve_all(alloc, desk, peers, service, count);
     match write_served(output, served) {
-        Ok(()) => answer_served(served, peers.cause()),
+        Ok(()) => served_end(served, peers.cause()),
         Err(_) => Err(Trouble::Unwritten),
     }
 }
 
 /// The status is 0, unless no turn was served and no connection could be accepted in the last one:
 /// then the fault is its cause.
-fn answer_served(served: Served, cause: Option<Cause>) -> Result<u8, Trouble>
-    ensures { AnswersServed served.served result }
+fn served_end(served: Served, cause: Option<Cause>) -> Result<u8, Trouble>
+    ensures { IsServedEnd served.served result }
 {
     match cause {
         Some(cause) if served.served == 0 => Err(Trouble::Unaccepted(cause)),

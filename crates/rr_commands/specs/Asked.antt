@@ -8,7 +8,7 @@ use Rattle.rr_answer.specs.declared.fault.QueryFault.{QueryFault}
 use Rattle.rr_answer.specs.Answers.{answer_bytes}
 use Rattle.rr_desk.specs.Desks.{GivesAnswer}
 use Rattle.rr_desk.specs.declared.desk.Desk.{Desk}
-use Rattle.rr_commands.specs.Commands.{Answer, AtDesk, Commands, Ending, Gives}
+use Rattle.rr_commands.specs.Commands.{AtDesk, CommandEnd, Commands, Ending, Gives}
 use Rattle.rr_commands.specs.declared.trouble.Trouble.TheVariants.{Unwritten}
 
 -- 0 where no error was written, and else 1, by the number of the error (profile)
@@ -23,12 +23,12 @@ answer_status (Err fault) = 1
 -- a desk was asked: its answer was made whole and then printed, and the status says whether it is
 -- an error; or it could not be written whole (profile)
 pub record HasAsked {S : Type 0} (g : Ghosts S) (text : List ℕ) (unprinted printed : Told)
-    (before after : Desk S) (answer : Answer) : Type 0 where
-  pub given : Result (List ℕ) QueryFault
-  pub gives : GivesAnswer g before after text given
-  pub writes : Writes unprinted printed (answer_bytes given) answer
-  pub status : IfOk answer (λ status. status ≡ answer_status given)
-  pub trouble : IfErr answer (λ trouble. trouble ≡ Unwritten)
+    (before after : Desk S) (ended : CommandEnd) : Type 0 where
+  pub answer : Result (List ℕ) QueryFault
+  pub gives : GivesAnswer g before after text answer
+  pub writes : Writes unprinted printed (answer_bytes answer) ended
+  pub status : IfOk ended (λ status. status ≡ answer_status answer)
+  pub trouble : IfErr ended (λ trouble. trouble ≡ Unwritten)
 
 -- what the command does (profile)
 abbrev pub AsksBy : {S : Type 0} → Ghosts S → Gives S → List ℕ → Told → Told → Ending

@@ -1,5 +1,6 @@
 -- Why a file, a socket or a database could not be used, and how that is told (profile).
-use Rattle.std.specs.Prelude.{ℕ, ℤ, pos, negsuc, List, ◌++◌, Option, None, Some, codes}
+use Rattle.std.specs.Prelude.{ℕ, ℤ, pos, negsuc, ◌==◌, List, ◌++◌, Option, None, Some, codes}
+use Rattle.std.specs.Prelude.{if◌then◌else◌}
 use Rattle.std.specs.declared.io.ErrorKind.{ErrorKind}
 use Rattle.std.specs.declared.io.ErrorKind.TheVariants as kind
 use Rattle.sqlite.specs.declared.error.Error.{Error}
@@ -10,11 +11,21 @@ use Rattle.rr_commands.specs.declared.cause.Cause.{Cause}
 use Rattle.rr_commands.specs.declared.cause.Cause.TheVariants as cause
 use Rattle.rr_commands.specs.declared.cause.DatabaseCause.{DatabaseCause}
 use Rattle.rr_commands.specs.declared.cause.DatabaseCause.TheVariants as database
+use Rattle.rr_commands.specs.declared.cause.TheConstants.{EIO, EMFILE, ENFILE}
+
+-- the cause that has this number of Linux: few without a kind of their own are told apart
+-- (profile)
+abbrev pub number_cause : ℕ → Cause
+number_cause number =
+    if number == EIO then cause.BadDisk
+    else if number == ENFILE then cause.AllFiles
+    else if number == EMFILE then cause.ManyFiles
+    else cause.Numbered number
 
 -- the cause that has this number of the system, if it has one (profile)
 abbrev pub numbered : Option ℤ → Cause
 numbered None = cause.Unnumbered
-numbered (Some (pos number)) = cause.Numbered number
+numbered (Some (pos number)) = number_cause number
 numbered (Some (negsuc number)) = cause.Unnumbered
 
 -- the cause of an error of the system, by its kind, and else by its number (profile)
@@ -89,6 +100,14 @@ cause_text cause.Late = codes "nothing came in time: try again"
 cause_text cause.Broken = codes "the connection broke off: try again"
 cause_text cause.NoNetwork = codes "the network is down: bring it up"
 cause_text cause.Memory = codes "out of memory: give the program more"
+cause_text cause.ManyFiles =
+    codes "the program has too many open files: raise the limit, as `ulimit -n` shows it "
+    ++ codes "(system error 24)"
+cause_text cause.AllFiles =
+    codes "the machine has too many open files: end a program, or raise `fs.file-max` "
+    ++ codes "(system error 23)"
+cause_text cause.BadDisk =
+    codes "input/output error: look at the disk, or take another file (system error 5)"
 cause_text (cause.Numbered number) = codes "system error "
 cause_text cause.Unnumbered = codes "the system does not say why"
 
@@ -120,6 +139,13 @@ abbrev pub stop_cause : Option Error → DatabaseCause
 stop_cause None = database.Unknown
 stop_cause (Some error) = database_cause error
 
+-- of a file that is no database of a registry, or one that was damaged: which of the two, errors do
+-- not surely say (profile)
+abbrev pub unread_text : List ℕ
+unread_text =
+    codes "it is not the database of a registry, or one that was damaged or changed in a way that "
+    ++ codes "irrdesk does not read: name another file, or restore a backup"
+
 -- a cause in words, before that of the system if it has one (profile)
 abbrev pub database_text : DatabaseCause → List ℕ
 database_text database.Missing =
@@ -130,14 +156,15 @@ database_text (database.Refused cause) = codes "the database cannot be opened or
 database_text database.Unopened =
     codes "the database cannot be opened or made: look at its folder, its links, its permissions "
     ++ codes "and the limit on open files"
+database_text database.Empty =
+    codes "the database has no registry that can be read: restore a backup, or make one by "
+    ++ codes "`irrdesk init` or `irrdesk load`"
 database_text database.Busy =
     codes "in use, most likely by the running server: ask it over its port, or stop it first"
-database_text database.Other =
-    codes "it is not the database of a registry, or it is damaged: name another file, or restore "
-    ++ codes "a backup"
+database_text database.Other = unread_text
 database_text database.Encoded =
     codes "its text is UTF-16: `umask 077; sqlite3 OLD .dump | sqlite3 NEW` makes it UTF-8"
-database_text database.Damaged = codes "the database is damaged: restore a backup"
+database_text database.Damaged = unread_text
 database_text database.Full = codes "the disk is full: make room"
 database_text database.Failed =
     codes "the disk cannot be read or written: look at its health, and keep a copy of the "

@@ -13,8 +13,8 @@ use Rattle.rr_commands.specs.declared.trouble.Trouble.{Trouble}
 use Rattle.rr_commands.specs.declared.trouble.Trouble.TheVariants as trouble
 
 -- how a command ends: with a status, or by what went wrong (profile)
-abbrev pub Answer : Type 0
-Answer = Result ℕ Trouble
+abbrev pub CommandEnd : Type 0
+CommandEnd = Result ℕ Trouble
 
 -- how the program ends: with a status, or by a fault (profile)
 abbrev pub Ending : Type 0
@@ -22,23 +22,23 @@ Ending = Result ℕ ProgramFault
 
 -- what a command does by its settings and the path of a database (profile)
 abbrev pub Action : Type 1
-Action = SettingsParts → List ℕ → Answer → Type 0
+Action = SettingsParts → List ℕ → CommandEnd → Type 0
 
 -- what it does at a desk, from one to the next (profile)
 abbrev pub DeskAction : Type 0 → Type 1
-DeskAction S = Desk S → Desk S → Answer → Type 0
+DeskAction S = Desk S → Desk S → CommandEnd → Type 0
 
 -- what it does in a database, from one connection to the next (profile)
 abbrev pub ConnectionAction : Type 0 → Type 1
-ConnectionAction S = Held S → Held S → Answer → Type 0
+ConnectionAction S = Held S → Held S → CommandEnd → Type 0
 
 -- as which connections the database at a path may be opened (profile)
 abbrev pub Gives : Type 0 → Type 1
 Gives S = List ℕ → Held S → Type 0
 
--- the answer of a command and how the program ends: by the same status, or by a fault with the same
+-- how a command ends and how the program does: with the same status, or by a fault with the same
 -- trouble (profile)
-abbrev pub EndsAs : Answer → Ending → Type 0
+abbrev pub EndsAs : CommandEnd → Ending → Type 0
 EndsAs (Ok status) (Ok ended) = ended ≡ status
 EndsAs (Err trouble) (Err fault) = fault.trouble ≡ trouble
 EndsAs (Ok status) (Err fault) = ⊥
@@ -62,6 +62,7 @@ is_of_database trouble.OtherSource = true
 is_of_database trouble.BadObject = true
 is_of_database trouble.Unsound = true
 is_of_database trouble.OtherRows = true
+is_of_database trouble.NoObject = true
 is_of_database trouble.OtherOrder = true
 is_of_database trouble.Obstacle = true
 is_of_database _ = false
@@ -84,25 +85,26 @@ pub record HasNoSettings (old new : Told) (result : Ending) : Type 0 where
 pub record IsDone (does : Action) (result : Ending) : Type 0 where
   pub settings : SettingsParts
   pub path : List ℕ
-  pub answer : Answer
-  pub did : does settings path answer
-  pub ends : EndsAs answer result
+  pub ended : CommandEnd
+  pub did : does settings path ended
+  pub ends : EndsAs ended result
 
 -- what a command does that reads its settings from a file first (profile)
 abbrev pub Commands : Action → Told → Told → Ending → Type 0
 Commands does old new result = HasNoSettings old new result ⊎ IsDone does result
 
--- the database is not opened, or not its registry, and nothing was printed (profile)
-pub record IsUnopened (old new : Told) (answer : Answer) : Type 0 where
+-- the database is not opened, or not its registry, and nothing was printed; the fault is one of the
+-- database, and which is not said: the message tells it, and the status if memory ran out (profile)
+pub record IsUnopened (old new : Told) (ended : CommandEnd) : Type 0 where
   pub trouble : Trouble
-  pub told : answer ≡ Err trouble
+  pub told : ended ≡ Err trouble
   pub cause : IsTrue (is_of_database trouble)
   pub silent : new ≡ old
 
 -- the file that is read is not opened, and nothing was printed (profile)
-pub record HasNoFile (old new : Told) (answer : Answer) : Type 0 where
+pub record HasNoFile (old new : Told) (ended : CommandEnd) : Type 0 where
   pub trouble : Trouble
-  pub told : answer ≡ Err trouble
+  pub told : ended ≡ Err trouble
   pub cause : IsTrue (is_of_file trouble)
   pub silent : new ≡ old
 
@@ -118,28 +120,28 @@ pub record OpensDesk {S : Type 0} (g : Ghosts S) (gives : Held S → Type 0)
 -- a desk was opened, and this was done at it (profile)
 pub record IsDoneAtDesk {S : Type 0} (g : Ghosts S) (gives : Held S → Type 0)
     (does : DeskAction S)
-    (parts : SettingsParts) (answer : Answer) : Type 0 where
+    (parts : SettingsParts) (ended : CommandEnd) : Type 0 where
   pub before : Desk S
   pub after : Desk S
   pub opens : OpensDesk g gives parts before
-  pub did : does before after answer
+  pub did : does before after ended
 
 -- what a command does at the desk that its settings open (profile)
 abbrev pub AtDesk : {S : Type 0} → Ghosts S → Gives S → DeskAction S → Told → Told
     → Action
-AtDesk g gives does old new parts path answer =
-    IsUnopened old new answer ⊎ IsDoneAtDesk g (gives path) does parts answer
+AtDesk g gives does old new parts path ended =
+    IsUnopened old new ended ⊎ IsDoneAtDesk g (gives path) does parts ended
 
 -- a database was opened, and this was done in it (profile)
 pub record IsDoneInDatabase {S : Type 0} (gives : Held S → Type 0) (does : ConnectionAction S)
-    (answer : Answer) : Type 0 where
+    (ended : CommandEnd) : Type 0 where
   pub before : Held S
   pub after : Held S
   pub given : gives before
-  pub did : does before after answer
+  pub did : does before after ended
 
 -- what a command does in the database that its settings name (profile)
 abbrev pub InDatabase : {S : Type 0} →
-    Gives S → ConnectionAction S → Told → Told → List ℕ → Answer → Type 0
-InDatabase gives does old new path answer =
-    IsUnopened old new answer ⊎ IsDoneInDatabase (gives path) does answer
+    Gives S → ConnectionAction S → Told → Told → List ℕ → CommandEnd → Type 0
+InDatabase gives does old new path ended =
+    IsUnopened old new ended ⊎ IsDoneInDatabase (gives path) does ended

@@ -12,7 +12,7 @@ use Rattle.rr_desk.specs.Settings.{SettingsParts}
 use Rattle.rr_desk.specs.declared.desk.Desk.{Desk}
 use Rattle.rr_desk.specs.declared.loading.DeskLoadFault.{DeskLoadFault}
 use Rattle.rr_desk.specs.declared.loading.DeskLoadFault.TheVariants.{NotEmpty}
-use Rattle.rr_commands.specs.Commands.{Answer, Commands, ConnectionAction, Ending, Gives}
+use Rattle.rr_commands.specs.Commands.{CommandEnd, Commands, ConnectionAction, Ending, Gives}
 use Rattle.rr_commands.specs.Commands.{HasNoFile, InDatabase}
 use Rattle.rr_commands.specs.Printed.{Tells}
 use Rattle.rr_commands.specs.declared.trouble.Trouble.TheVariants.{Loading}
@@ -26,54 +26,54 @@ abbrev pub uncounted_line : List ℕ
 uncounted_line = codes "loaded the dump\n"
 
 -- either line was written (profile)
-abbrev pub TellsLoaded : ℕ → Told → Told → Answer → Type 0
-TellsLoaded count old new answer =
-    Tells (loaded_line count) old new answer ⊎ Tells uncounted_line old new answer
+abbrev pub TellsLoaded : ℕ → Told → Told → CommandEnd → Type 0
+TellsLoaded count old new ended =
+    Tells (loaded_line count) old new ended ⊎ Tells uncounted_line old new ended
 
 module _ {S : Type 0} (g : Ghosts S) (settings : SettingsParts) (start end : Told)
     (unprinted printed : Told) where
   -- no registry was made of what was read, and nothing was printed (profile)
-  pub record IsUnloaded (before after : Held S) (answer : Answer) : Type 0 where
+  pub record IsUnloaded (before after : Held S) (ended : CommandEnd) : Type 0 where
     pub fault : DeskLoadFault
-    pub told : answer ≡ Err (Loading fault)
+    pub told : ended ≡ Err (Loading fault)
     pub fails : FailsToLoad settings.source start end fault
     pub none : MakesNone g (HasLoadedRows settings.source start end) before after
     pub not_empty : fault ≡ NotEmpty → OnCleanDisk g after (IsOccupied (database g before))
     pub silent : printed ≡ unprinted
 
   -- a dump was read to its end, its registry was made, and that was printed (profile)
-  pub record HasLoaded (before after : Held S) (answer : Answer) : Type 0 where
+  pub record HasLoaded (before after : Held S) (ended : CommandEnd) : Type 0 where
     pub desk : Desk S
     pub runs : Runs g settings desk
     pub loaded : IsLoaded settings.source start end desk.stored.registry
     pub makes : MakesTables g (HasLoadedRows settings.source start end) before desk.stored.store
     pub closed : after ≡ desk.stored.store
-    pub tells : TellsLoaded (length (values desk.stored.registry)) unprinted printed answer
+    pub tells : TellsLoaded (length (values desk.stored.registry)) unprinted printed ended
 
 -- what the load of a dump does in a database: the reader of the dump told this at its start and at
 -- its end (profile)
 abbrev pub Loads : {S : Type 0} → Ghosts S → SettingsParts → Told → Told → Told → Told
     →
     ConnectionAction S
-Loads g settings start end old new before after answer =
-    IsUnloaded g settings start end old new before after answer
-    ⊎ HasLoaded g settings start end old new before after answer
+Loads g settings start end old new before after ended =
+    IsUnloaded g settings start end old new before after ended
+    ⊎ HasLoaded g settings start end old new before after ended
 
 -- a file was loaded into a database: what its reader told when it was opened, and when all was done
 -- (profile)
 pub record LoadsFile {S : Type 0} (g : Ghosts S) (settings : SettingsParts) (old new : Told)
-    (before after : Held S) (answer : Answer) : Type 0 where
+    (before after : Held S) (ended : CommandEnd) : Type 0 where
   pub start : Told
   pub end : Told
-  pub loads : Loads g settings start end old new before after answer
+  pub loads : Loads g settings start end old new before after ended
 
 -- what the command does in a database: its file is not opened and the database as it was, or what
 -- is read is loaded (profile)
 abbrev pub LoadsIn : {S : Type 0} → Ghosts S → SettingsParts → Told → Told
     → ConnectionAction S
-LoadsIn g settings old new before after answer =
-    (HasNoFile old new answer × (after ≡ before))
-    ⊎ LoadsFile g settings old new before after answer
+LoadsIn g settings old new before after ended =
+    (HasNoFile old new ended × (after ≡ before))
+    ⊎ LoadsFile g settings old new before after ended
 
 -- what the command does (profile)
 abbrev pub LoadsBy : {S : Type 0} → Ghosts S → Gives S → Told → Told → Ending → Type 0

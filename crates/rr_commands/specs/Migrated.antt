@@ -1,6 +1,6 @@
 -- What the migration of a command does, by how it ends (profile).
 use Rattle.std.specs.Prelude.{◌≡◌, ℕ, ◌⊎◌, Bool, true, false, List, Err, IsTrue, codes}
-use Rattle.std.specs.Prelude.{nat_lt}
+use Rattle.std.specs.Prelude.{◌==◌, nat_lt}
 use Rattle.sqlite_trees.specs.declared.store.Store.{Ghosts}
 use Rattle.sqlite.specs.Held.{Held}
 use Rattle.rr_io.specs.Told.{Told}
@@ -12,7 +12,7 @@ use Rattle.rr_desk.specs.Migrating.{IsMigratedBy, MigratesTables, RefusesOldRegi
 use Rattle.rr_desk.specs.Opened.{MakesNone, Runs}
 use Rattle.rr_desk.specs.Settings.{SettingsParts}
 use Rattle.rr_desk.specs.declared.desk.Desk.{Desk}
-use Rattle.rr_commands.specs.Commands.{Answer, Commands, ConnectionAction, Ending, Gives}
+use Rattle.rr_commands.specs.Commands.{CommandEnd, Commands, ConnectionAction, Ending, Gives}
 use Rattle.rr_commands.specs.Commands.{InDatabase}
 use Rattle.rr_commands.specs.Printed.{Tells}
 use Rattle.rr_commands.specs.declared.trouble.Trouble.{Trouble}
@@ -25,28 +25,28 @@ migrated_line = codes "migrated to version 2\n"
 
 module _ {S : Type 0} (g : Ghosts S) (settings : SettingsParts) (unprinted printed : Told) where
   -- the tables were not migrated, and nothing was printed (profile)
-  pub record IsUnmigrated (before after : Held S) (answer : Answer) : Type 0 where
+  pub record IsUnmigrated (before after : Held S) (ended : CommandEnd) : Type 0 where
     pub fault : MigrateFault
-    pub told : answer ≡ Err (Migrating fault)
+    pub told : ended ≡ Err (Migrating fault)
     pub none : MakesNone g (IsMigratedBy settings (database g before)) before after
     pub why : OnCleanDisk g after (RefusesOldRegistry settings (database g before) fault)
     pub silent : printed ≡ unprinted
 
   -- the rows of a registry of version 1 were made those of version 2, with the block of the other
   -- AS numbers, and that was printed (RFC 6793; profile)
-  pub record IsMigrated (before after : Held S) (answer : Answer) : Type 0 where
+  pub record IsMigrated (before after : Held S) (ended : CommandEnd) : Type 0 where
     pub desk : Desk S
     pub runs : Runs g settings desk
     pub migrates : MigratesTables g settings before desk.stored
     pub closed : after ≡ desk.stored.store
-    pub tells : Tells migrated_line unprinted printed answer
+    pub tells : Tells migrated_line unprinted printed ended
 
 -- what the command does in a database (profile)
 abbrev pub MigratesIn : {S : Type 0} →
     Ghosts S → SettingsParts → Told → Told → ConnectionAction S
-MigratesIn g settings old new before after answer =
-    IsUnmigrated g settings old new before after answer
-    ⊎ IsMigrated g settings old new before after answer
+MigratesIn g settings old new before after ended =
+    IsUnmigrated g settings old new before after ended
+    ⊎ IsMigrated g settings old new before after ended
 
 -- what a look at the tables may find: another order, what was added, or a later version (profile)
 abbrev pub is_of_tables : Trouble → Bool
@@ -61,33 +61,43 @@ is_of_rows trouble.OtherSource = true
 is_of_rows trouble.BadObject = true
 is_of_rows trouble.Unsound = true
 is_of_rows trouble.OtherRows = true
+is_of_rows trouble.NoObject = true
 is_of_rows _ = false
 
--- what may be found where the database was refused, and where its rows were (profile)
+-- what a look at tables may find that say this version and are not migrated: if it is the one that
+-- is read, that `meta` has other rows beside it (profile)
+abbrev pub is_of_version : ℕ → Trouble → Bool
+is_of_version version trouble.OtherRows = version == VERSION
+is_of_version _ _ = false
+
+-- what may be found where the database was refused, where its rows were, and where its version was
+-- (profile)
 abbrev pub is_found : MigrateFault → Trouble → Bool
 is_found (migrating.Store error) found = is_of_tables found
 is_found migrating.BadRow found = is_of_rows found
+is_found (migrating.WrongVersion version) found = is_of_version version found
 is_found _ found = false
 
 -- the database was refused, and what a further look at it found is told (profile)
-pub record IsFoundOut (first answer : Answer) : Type 0 where
+pub record IsFoundOut (first ended : CommandEnd) : Type 0 where
   pub fault : MigrateFault
   pub told_first : first ≡ Err (Migrating fault)
   pub trouble : Trouble
   pub found : IsTrue (is_found fault trouble)
-  pub told : answer ≡ Err trouble
+  pub told : ended ≡ Err trouble
 
--- what is told of an answer: that, or what a further look at the database found (profile)
-abbrev pub IsDiagnosis : Answer → Answer → Type 0
-IsDiagnosis first answer = (answer ≡ first) ⊎ IsFoundOut first answer
+-- what is told of how a migration ended: that, or what a further look at the database found
+-- (profile)
+abbrev pub IsDiagnosis : CommandEnd → CommandEnd → Type 0
+IsDiagnosis first ended = (ended ≡ first) ⊎ IsFoundOut first ended
 
--- the command did this and answered `first`; what is told is that, or what a look at the database
+-- the command did this and ended as `first`; what is told is that, or what a look at the database
 -- afterwards found, which is not spoken of here (profile)
 pub record IsDiagnosed {S : Type 0} (does : ConnectionAction S) (before after : Held S)
-    (answer : Answer) : Type 0 where
-  pub first : Answer
+    (ended : CommandEnd) : Type 0 where
+  pub first : CommandEnd
   pub did : does before after first
-  pub diagnosis : IsDiagnosis first answer
+  pub diagnosis : IsDiagnosis first ended
 
 -- what the command does (profile)
 abbrev pub MigratesBy : {S : Type 0} → Ghosts S → Gives S → Told → Told → Ending

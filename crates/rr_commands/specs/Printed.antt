@@ -2,11 +2,11 @@
 use Rattle.std.specs.Prelude.{◌≡◌, ℕ, List, Ok, Err}
 use Rattle.rr_io.specs.Sending.{Takes, TakesPrefix}
 use Rattle.rr_io.specs.Told.{Told}
-use Rattle.rr_commands.specs.Commands.{Answer, Ending}
+use Rattle.rr_commands.specs.Commands.{CommandEnd, Ending}
 use Rattle.rr_commands.specs.declared.trouble.Trouble.TheVariants.{Unwritten}
 
 -- a text was written, and the status is 0; or it could not be written whole (profile)
-abbrev pub Tells : List ℕ → Told → Told → Answer → Type 0
+abbrev pub Tells : List ℕ → Told → Told → CommandEnd → Type 0
 Tells text old new (Ok status) = (status ≡ 0) × Takes old new text
 Tells text old new (Err fault) = (fault ≡ Unwritten) × TakesPrefix old new text
 

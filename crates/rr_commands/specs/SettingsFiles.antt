@@ -1,8 +1,9 @@
 -- Settings as TOML (profile).
-use Rattle.std.specs.Prelude.{◌==◌, ℕ, ℤ, pos, negsuc, List, length, Option}
+use Rattle.std.specs.Prelude.{◌≡◌, ◌==◌, ◌<◌, ℕ, ℤ, pos, negsuc, List, length, Option}
 use Rattle.std.specs.Prelude.{Some, None}
 use Rattle.std.specs.Prelude.{Result, Ok, Err, codes, if◌then◌else◌}
 use Rattle.std.specs.Option.{option_and_then}
+use Rattle.std.specs.Str.{IsUtf8}
 use Rattle.toml.specs.Data.{Members, as_integer, as_str, get_member}
 use Rattle.toml.specs.Parse.{parse_document}
 use Rattle.rr_desk.specs.Settings.{SettingsParts, settings_of}
@@ -15,6 +16,9 @@ use Rattle.rr_commands.specs.declared.settings_file.SettingKey.TheVariants as ke
 use Rattle.rr_commands.specs.declared.settings_file.SettingsFault.{SettingsFault}
 use Rattle.rr_commands.specs.declared.settings_file.SettingsFault.TheVariants.{BadToml, BadKey}
 use Rattle.rr_commands.specs.declared.settings_file.SettingsFault.TheVariants.{Memory}
+use Rattle.rr_commands.specs.declared.settings_reading.TheConstants.{MOST_BYTES}
+use Rattle.rr_commands.specs.declared.trouble.Trouble.{Trouble}
+use Rattle.rr_commands.specs.declared.trouble.Trouble.TheVariants as trouble
 
 -- the key of a setting (profile)
 abbrev pub key_of : Setting → SettingKey
@@ -27,18 +31,18 @@ key_of setting.Limit = key.Limit
 abbrev pub text_at : List ℕ → Members → Option (List ℕ)
 text_at name table = option_and_then as_str (get_member name table)
 
--- a number that is not negative
-abbrev pub whole : ℤ → Option ℕ
-whole (pos n) = Some n
-whole (negsuc n) = None
+-- the number, if it is not negative
+abbrev pub non_negative : ℤ → Option ℕ
+non_negative (pos n) = Some n
+non_negative (negsuc n) = None
 
--- the whole number at a key of a table (TOML 1.1, Integer)
+-- the integer at a key of a table (TOML 1.1, Integer)
 abbrev pub integer_at : List ℕ → Members → Option ℤ
 integer_at name table = option_and_then as_integer (get_member name table)
 
 -- the same where it is not negative
 abbrev pub number_at : List ℕ → Members → Option ℕ
-number_at name table = option_and_then whole (integer_at name table)
+number_at name table = option_and_then non_negative (integer_at name table)
 
 -- why a table has no settings of a registry, by the setting that is missing or bad (profile)
 abbrev pub fault_of : ValueFault → SettingsFault
@@ -81,3 +85,13 @@ settings_in (Some table) = both (parts_of table) (store_of table)
 -- the settings and the path of the database that a text has (profile)
 abbrev pub settings_text : List ℕ → Result (SettingsParts × List ℕ) SettingsFault
 settings_text text = settings_in (parse_document text)
+
+-- why the bytes of a file are no settings: they are too many, no text, no TOML, or a key is missing
+-- or bad; or memory ran out (profile)
+abbrev pub AreNoSettings : List ℕ → Trouble → Type 0
+AreNoSettings bytes trouble.SettingsTooLong = MOST_BYTES < length bytes
+AreNoSettings bytes trouble.SettingsNotText = ¬ (IsUtf8 bytes)
+AreNoSettings bytes (trouble.SettingsNotToml line) = settings_text bytes ≡ Err BadToml
+AreNoSettings bytes (trouble.SettingBad key) = settings_text bytes ≡ Err (BadKey key)
+AreNoSettings bytes trouble.Memory = Unit {0}
+AreNoSettings bytes _ = ⊥

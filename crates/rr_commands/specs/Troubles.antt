@@ -28,10 +28,10 @@ submission_status desk.Stopped = 4
 -- the status: 2 at wrong arguments, 3 at wrong settings, 4 if the store failed or is stopped, and
 -- else 5, also if memory ran out (profile)
 abbrev pub trouble_status : Trouble → ℕ
-trouble_status trouble.BadWords = 2
+trouble_status trouble.BadArguments = 2
 trouble_status trouble.BadPort = 2
 trouble_status trouble.BadCount = 2
-trouble_status trouble.WordsNotText = 2
+trouble_status trouble.ArgumentsNotText = 2
 trouble_status (trouble.SettingsUnread cause) = 3
 trouble_status trouble.SettingsNotText = 3
 trouble_status trouble.SettingsTooLong = 3
@@ -51,6 +51,7 @@ trouble_status trouble.OtherSource = 4
 trouble_status trouble.BadObject = 4
 trouble_status trouble.Unsound = 4
 trouble_status trouble.OtherRows = 4
+trouble_status trouble.NoObject = 4
 trouble_status trouble.OtherOrder = 4
 trouble_status trouble.Obstacle = 4
 trouble_status (trouble.ServedInVain cause) = 4
@@ -158,6 +159,7 @@ place_of trouble.OtherSource = place.Database
 place_of trouble.BadObject = place.Database
 place_of trouble.Unsound = place.Database
 place_of trouble.OtherRows = place.Database
+place_of trouble.NoObject = place.Database
 place_of trouble.OtherOrder = place.Database
 place_of trouble.Obstacle = place.Database
 place_of (trouble.ServedInVain cause) = place.Database

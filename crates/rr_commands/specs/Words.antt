@@ -22,19 +22,24 @@ use Rattle.rr_commands.specs.declared.settings_file.SettingKey.TheVariants as ke
 use Rattle.rr_commands.specs.declared.trouble.Trouble.{Trouble}
 use Rattle.rr_commands.specs.declared.trouble.Trouble.TheVariants as trouble
 
+-- memory ran out (profile)
 abbrev pub out_of_memory : List ℕ
 out_of_memory = codes "out of memory: give the program more"
 
+-- of a registry that is to be made where one is (profile)
 abbrev pub not_empty : List ℕ
 not_empty = codes "the database has a registry already: take a new one"
 
+-- of tables that the database refused, if its cause tells no more (profile)
 abbrev pub no_tables_made : List ℕ
 no_tables_made =
     codes "the database refuses the tables of a registry: take a new one, on a disk with room"
 
+-- of tables of another version, before its number (profile)
 abbrev pub of_version : List ℕ
 of_version = codes "the tables of the database are of version "
 
+-- of a desk that is stopped (profile)
 abbrev pub stopped : List ℕ
 stopped = codes "the database failed before: run the command again"
 
@@ -121,10 +126,10 @@ migrating_words migrating.Memory = out_of_memory
 
 -- the words before the cause and the number, or all of them (profile)
 abbrev pub before : Trouble → List ℕ
-before trouble.BadWords = codes "`irrdesk help` lists the commands"
+before trouble.BadArguments = codes "`irrdesk help` lists the commands"
 before trouble.BadPort = codes "a port is a number from 1 to 65535"
 before trouble.BadCount = codes "a count is a number from 1 to 1000000"
-before trouble.WordsNotText = codes "an argument is not UTF-8 text: write it as such"
+before trouble.ArgumentsNotText = codes "an argument is not UTF-8 text: write it as such"
 before (trouble.SettingsUnread cause) = codes "the settings cannot be read: "
 before trouble.SettingsNotText = codes "the settings are not UTF-8 text: save them as such"
 before trouble.SettingsTooLong = codes "the settings are longer than 1048576 bytes: shorten them"
@@ -143,6 +148,9 @@ before trouble.Unsound =
     ++ codes "before it: restore a backup, or mend the rows"
 before trouble.OtherRows =
     codes "its rows are not those of a registry: restore a backup, or mend the table"
+before trouble.NoObject =
+    codes "`named` has a row of this class and okey, and `object` has none: restore a backup, or "
+    ++ codes "take that row out"
 before trouble.OtherOrder =
     codes "the tables of the registry are not first and in order: `umask 077; sqlite3 OLD '.dump "
     ++ codes "meta' '.dump object' '.dump named' | sqlite3 NEW` lays them so in a new file"
@@ -204,7 +212,7 @@ reason E05 =
     ++ codes "full: load a full one, or mend it"
 reason E06 =
     codes " is not an object: E06, its `source` is not that of the settings: let both be the same"
-reason _ = codes " is not an object: mend it"
+reason _ = []
 
 -- what is the matter with a paragraph of a dump, after its number (profile)
 abbrev pub after_paragraph : DeskLoadFault → List ℕ

@@ -3,11 +3,21 @@
 ghost use Rattle.std.specs.Prelude.{◌≡◌, Option};
 ghost use Rattle.std.specs.IoError.{error_kind, raw_os_error};
 ghost use Rattle.rr_commands.specs.Causes.{cause_text, code_cause, database_cause, database_text};
-ghost use Rattle.rr_commands.specs.Causes.{number_of, numbered, stop_cause, system_cause, text_or};
+ghost use Rattle.rr_commands.specs.Causes.{number_cause, number_of, numbered, stop_cause};
+ghost use Rattle.rr_commands.specs.Causes.{system_cause, text_or};
 
 use sqlite::ErrorCode;
 use std::io;
 use std::io::ErrorKind;
+
+/// The number of Linux of an error of a disk or a device, which the kinds of errors have not.
+const EIO: u32 = 5;
+
+/// The number of Linux if the machine has too many open files.
+const ENFILE: u32 = 23;
+
+/// The number of Linux if the program has too many open files.
+const EMFILE: u32 = 24;
 
 /// Why the system refused a file or a socket. Only causes that ask for different things of the
 /// reader are told apart.
@@ -63,6 +73,12 @@ pub enum Cause {
     NoNetwork,
     /// Memory ran out.
     Memory,
+    /// The program has too many open files.
+    ManyFiles,
+    /// The machine has too many open files.
+    AllFiles,
+    /// A disk or a device fails.
+    BadDisk,
     /// Any other cause, by the number that the system gives it.
     Numbered(u32),
     /// A cause that has no number.
@@ -120,10 +136,25 @@ impl Cause {
     {
         match code {
             Some(code) => match u32::try_from(code) {
-                Ok(number) => Cause::Numbered(number),
+                Ok(number) => Cause::of_number(number),
                 Err(_) => Cause::Unnumbered,
             },
             None => Cause::Unnumbered,
+        }
+    }
+
+    /// The cause of this number.
+    fn of_number(number: u32) -> Cause
+        ensures { result ≡ number_cause number }
+    {
+        if number == EIO {
+            Cause::BadDisk
+        } else if number == ENFILE {
+            Cause::AllFiles
+        } else if number == EMFILE {
+            Cause::ManyFiles
+        } else {
+            Cause::Numbered(number)
         }
     }
 
@@ -158,6 +189,14 @@ impl Cause {
             Cause::Broken => "the connection broke off: try again",
             Cause::NoNetwork => "the network is down: bring it up",
             Cause::Memory => "out of memory: give the program more",
+            Cause::ManyFiles =>
+                "the program has too many open files: raise the limit, as `ulimit -n` shows it \
+                (system error 24)",
+            Cause::AllFiles =>
+                "the machine has too many open files: end a program, or raise `fs.file-max` \
+                (system error 23)",
+            Cause::BadDisk =>
+                "input/output error: look at the disk, or take another file (system error 5)",
             Cause::Numbered(_) => "system error ",
             Cause::Unnumbered => "the system does not say why",
         }
@@ -174,7 +213,7 @@ impl Cause {
     }
 }
 
-/// Why a database could not be opened.
+/// Why a database could not be opened, or failed.
 #[derive(Clone, Copy)]
 pub enum DatabaseCause {
     /// The file is missing.
@@ -185,13 +224,15 @@ pub enum DatabaseCause {
     Refused(Cause),
     /// The file, its log or its folder cannot be opened or made.
     Unopened,
+    /// The file is empty.
+    Empty,
     /// Another process has it open.
     Busy,
-    /// The file is not a database, or has other tables than a registry.
+    /// The file is not a database, or it was damaged, or changed in a way that is not read.
     Other,
     /// The file is a database whose text is UTF-16.
     Encoded,
-    /// The file is damaged.
+    /// The file was damaged, or changed in a way that is not read.
     Damaged,
     /// The disk is full.
     Full,
@@ -201,7 +242,7 @@ pub enum DatabaseCause {
     Forbidden,
     /// Memory ran out.
     Memory,
-    /// A cause that asks for nothing else.
+    /// Any other cause.
     Unknown,
 }
 
@@ -255,15 +296,17 @@ impl DatabaseCause {
             DatabaseCause::Unopened =>
                 "the database cannot be opened or made: look at its folder, its links, its \
                 permissions and the limit on open files",
+            DatabaseCause::Empty =>
+                "the database has no registry that can be read: restore a backup, or make one by \
+                `irrdesk init` or `irrdesk load`",
             DatabaseCause::Busy =>
                 "in use, most likely by the running server: ask it over its port, or stop it first",
-            DatabaseCause::Other =>
-                "it is not the database of a registry, or it is damaged: name another file, or \
-                restore a backup",
+            DatabaseCause::Other | DatabaseCause::Damaged =>
+                "it is not the database of a registry, or one that was damaged or changed in a way \
+                that irrdesk does not read: name another file, or restore a backup",
             DatabaseCause::Encoded => {
                 "its text is UTF-16: `umask 077; sqlite3 OLD .dump | sqlite3 NEW` makes it UTF-8"
             }
-            DatabaseCause::Damaged => "the database is damaged: restore a backup",
             DatabaseCause::Full => "the disk is full: make room",
             DatabaseCause::Failed =>
                 "the disk cannot be read or written: look at its health, and keep a copy of the \

@@ -25,8 +25,9 @@ pub fn init<'a, D: Databases, W: Output>(
         (W.told output.old) (W.told output.new) result }
 {
     let (read, path) = read_settings_file(rt, settings)?;
-    let answer = init_at(rt.alloc(), databases, read, path.as_str(), output);
-    ended(answer, settings, path, output)
+    let path_len = path.len();
+    let end = init_at(rt.alloc(), databases, read, path.as_str(), output);
+    ended(rt.alloc(), end, settings, path, path_len, output)
 }
 
 /// Makes the registry that opens with these settings in the database at a path, and says so.
@@ -43,9 +44,9 @@ fn init_at<D: Databases, W: Sink>(
 {
     match databases.open(path, Absent::Made) {
         Ok(conn) => {
-            let (conn, answer) = create_to(alloc, conn, settings, output);
+            let (conn, end) = create_to(alloc, conn, settings, output);
             close(databases, conn);
-            answer
+            end
         }
         Err(cause) => Err(Trouble::Database(cause)),
     }

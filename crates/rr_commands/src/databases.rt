@@ -141,7 +141,10 @@ fn make_ready(rt: &HostRuntime, path: &str, absent: Absent) -> Result<(), Databa
         return Err(DatabaseCause::Unopened);
     }
     match fs::metadata(rt, path) {
-        Ok(found) if found.is_file() => try_file(rt, path),
+        Ok(found) if found.is_file() => {
+            try_file(rt, path)?;
+            refuse_empty(rt, path, absent)
+        }
         // What stands there is no file: the opening refuses it.
         Ok(_) => Ok(()),
         Err(error) if error.kind() == ErrorKind::NotFound => match absent {
@@ -157,6 +160,34 @@ fn try_file(rt: &HostRuntime, path: &str) -> Result<(), DatabaseCause> {
     match OpenOptions::new().read(true).write(true).open(rt, path) {
         Ok(_) => Ok(()),
         Err(error) => Err(DatabaseCause::Refused(Cause::of(&error))),
+    }
+}
+
+/// Refuses an empty file that is not to be made a database: the library would write a header to it.
+/// One with a log beside it is left to the library, because what was committed may be there.
+fn refuse_empty(rt: &HostRuntime, path: &str, absent: Absent) -> Result<(), DatabaseCause> {
+    match absent {
+        Absent::Refused if is_empty(rt, path) && !has_log(rt, path) => Err(DatabaseCause::Empty),
+        _ => Ok(()),
+    }
+}
+
+/// Whether the file at a path is empty.
+fn is_empty(rt: &HostRuntime, path: &str) -> bool {
+    match fs::metadata(rt, path) {
+        Ok(found) => found.len() == 0,
+        Err(_) => false,
+    }
+}
+
+/// Whether a file may have a log beside it.
+fn has_log(rt: &HostRuntime, path: &str) -> bool {
+    match format!(in rt.alloc(); "{path}-wal") {
+        Ok(log) => match fs::metadata(rt, log.as_str()) {
+            Ok(_) => true,
+            Err(error) => error.kind() != ErrorKind::NotFound,
+        },
+        Err(_) => true,
     }
 }
 

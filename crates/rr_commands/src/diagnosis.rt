@@ -6,17 +6,17 @@
 ghost use Rattle.std.specs.Prelude.{IfSome, IsTrue, nat_lt};
 ghost use Rattle.rr_commands.specs.Commands.{is_of_database};
 ghost use Rattle.rr_commands.specs.Migrated.{IsDiagnosis, is_of_rows, is_of_tables};
+ghost use Rattle.rr_commands.specs.Migrated.{is_of_version};
 
-use crate::obstacle::push_obstacle;
-use crate::shown::push_shown;
+use crate::obstacle::{push_obstacle, text_at};
+use crate::shown::push_key;
 use crate::trouble::Trouble;
-use itoa::Buffer;
 use rr_desk::{MigrateFault, OpenFault};
 use rr_index::IndexedBook;
 use rr_number::Name;
 use rr_object::{Key, Object, ObjectFault};
 use rr_registry::{LoadFault, Registry};
-use rr_store::{OLD_VERSION, VERSION};
+use rr_store::{OLD_VERSION, VERSION, Version, number_of, says_version};
 use rr_text::read_canonical;
 use sqlite::{Alter, Connection, Row};
 use sqlite_schema::schema::Schema;
@@ -26,38 +26,15 @@ use std::alloc::{AllocError, Global};
 /// What a file has, in its order: each of the three tables is followed by the index of its key.
 const LISTED: &str = "SELECT name, type, tbl_name, sql FROM sqlite_schema ORDER BY rowid";
 
-/// The rows of settings.
-const SETTINGS: &str = "SELECT name, value FROM meta";
+/// The rows of `meta`.
+const META: &str = "SELECT name, value FROM meta";
 
 /// The rows of objects.
 const OBJECTS: &str = "SELECT class, okey, body FROM object ORDER BY class, okey";
 
-/// The version of the tables that are looked at.
-#[derive(Clone, Copy)]
-enum Version {
-    /// The one that is migrated.
-    Old,
-    /// The one that is read.
-    This,
-}
-
-impl Version {
-    /// The number.
-    fn number(self) -> u32 {
-        match self {
-            Version::Old => OLD_VERSION,
-            Version::This => VERSION,
-        }
-    }
-
-    /// The text of a key, if it has one in tables of this version.
-    fn key_bytes(self, alloc: Global, key: &Key) -> Result<Option<Vec<u8>>, AllocError> {
-        match self {
-            Version::Old => key.old_bytes(alloc),
-            Version::This => Ok(Some(key.bytes(alloc)?)),
-        }
-    }
-}
+/// The first row of names, by class and key, that is of no object.
+const NAMES_ALONE: &str = "SELECT class, okey FROM named EXCEPT SELECT class, okey FROM object \
+    ORDER BY class, okey LIMIT 1";
 
 /// Why a row has no object of a registry by its class and key.
 #[derive(Clone, Copy, PartialEq, Eq)]
@@ -73,7 +50,7 @@ enum RowFault {
 /// What is the matter with a database whose registry was not opened for this reason. If a row of an
 /// object is, its class and key are added to the name of the database, if another row is, its
 /// table, and if it is what was added to a table, that.
-pub fn trouble_with<S: Alter>(
+pub(crate) fn trouble_with<S: Alter>(
     alloc: Global,
     conn: &mut Connection<S>,
     source: &Name,
@@ -97,34 +74,72 @@ pub fn trouble_with<S: Alter>(
             Some(trouble) => trouble,
             None => Trouble::Opening(fault),
         },
-        OpenFault::WrongVersion(_) | OpenFault::Memory => Trouble::Opening(fault),
+        OpenFault::WrongVersion(version) => {
+            if version == OLD_VERSION && has_other_meta(conn, Version::Old) {
+                push_meta(name);
+                Trouble::OtherRows
+            } else {
+                Trouble::Opening(fault)
+            }
+        }
+        OpenFault::Memory => Trouble::Opening(fault),
     }
 }
 
-/// What is told of the answer of a migration: that, or what is found the matter with a database
+/// What is told of how a migration ended: that, or what is found the matter with a database
 /// that was refused, as above. Its rows are looked at if a copy of the source was made.
-pub fn told_of<S: Alter>(
+pub(crate) fn told_of<S: Alter>(
     alloc: Global,
     conn: &mut Connection<S>,
     source: Result<Name, AllocError>,
-    answer: Result<u8, Trouble>,
+    end: Result<u8, Trouble>,
     name: &mut String,
 ) -> Result<u8, Trouble>
-    ensures { IsDiagnosis answer result }
+    ensures { IsDiagnosis end result }
 {
-    match (answer, source) {
+    match (end, source) {
         (Err(Trouble::Migrating(MigrateFault::Store(_))), _) => match found_in_tables(conn, name) {
             Some(trouble) => Err(trouble),
-            None => answer,
+            None => end,
         },
         (Err(Trouble::Migrating(MigrateFault::BadRow)), Ok(source)) => {
             match found_in_rows(alloc, conn, &source, Version::Old, name) {
                 Some(trouble) => Err(trouble),
-                None => answer,
+                None => end,
             }
         }
-        _ => answer,
+        (Err(Trouble::Migrating(MigrateFault::WrongVersion(version))), _) => {
+            match found_in_meta(conn, version, name) {
+                Some(trouble) => Err(trouble),
+                None => end,
+            }
+        }
+        _ => end,
     }
+}
+
+/// What is the matter with a `meta` that says this version and is not migrated, if it is found: of
+/// the version that is read, another row beside it.
+fn found_in_meta<S: Alter>(
+    conn: &mut Connection<S>,
+    version: u32,
+    name: &mut String,
+) -> Option<Trouble>
+    ensures { IfSome result (λ trouble. IsTrue (is_of_version version trouble)) }
+{
+    if version == VERSION {
+        if has_other_meta(conn, Version::This) {
+            push_meta(name);
+            return Some(Trouble::OtherRows);
+        }
+    }
+    None
+}
+
+/// Adds that the rows of `meta` are the matter.
+fn push_meta(name: &mut String) {
+    // Without memory for this, the message names the database alone.
+    let _ = name.push_str(", table meta");
 }
 
 /// What is the matter with tables that are not migrated, if it is found.
@@ -163,12 +178,12 @@ fn judge_schema(schema: &Schema, rows: &[Row], name: &mut String) -> Option<Trou
     }
 }
 
-/// The version that the settings of tables say, if it is a later one: those tables may have other
+/// The version that `meta` says, if it is a later one: those tables may have other
 /// columns.
 fn later_version<S: Alter>(conn: &mut Connection<S>) -> Option<u32>
     ensures { IfSome result (λ version. IsTrue (nat_lt VERSION version)) }
 {
-    match conn.query_all(SETTINGS, &[]) {
+    match conn.query_all(META, &[]) {
         Ok(rows) => {
             let version = version_in(rows.as_slice())?;
             if version > VERSION {
@@ -181,40 +196,55 @@ fn later_version<S: Alter>(conn: &mut Connection<S>) -> Option<u32>
     }
 }
 
-/// The version among rows of settings.
+/// The version among rows of `meta`.
 fn version_in(rows: &[Row]) -> Option<u32> {
     let row = rows.iter().find(|row| is_named(row, "version"))?;
     let found: Result<String, sqlite::Error> = row.get(1);
     match found {
-        Ok(found) => number_of(found.as_str()),
+        Ok(found) => number_of(found.as_bytes()),
         Err(_) => None,
     }
 }
 
-/// The number that a text writes in decimal digits, without leading zeros.
-fn number_of(text: &str) -> Option<u32> {
-    let number = text.parse::<u32>().ok()?;
-    let mut digits = Buffer::new();
-    if digits.format(number).as_bytes() == text.as_bytes() {
-        Some(number)
-    } else {
-        None
-    }
-}
-
-/// Whether the three tables are there, but do not stand first, or not in their order.
+/// Whether the three tables are there, each with the index of its key alone, but do not stand
+/// first, or not in their order.
 fn has_other_order(rows: &[Row]) -> bool {
     let places = [
         place_of("meta", rows),
         place_of("object", rows),
         place_of("named", rows),
     ];
-    places != [Some(0), Some(2), Some(4)] && places.iter().all(Option::is_some)
+    let are_plain = has_key_alone("meta", rows)
+        && has_key_alone("object", rows)
+        && has_key_alone("named", rows);
+    // The trees of the three in `rr_rows`: the index of its key stands after each table.
+    are_plain && places != [Some(0), Some(2), Some(4)] && places.iter().all(Option::is_some)
 }
 
-/// Where a name stands among rows of names.
+/// Where a table stands among these rows.
 fn place_of(name: &str, rows: &[Row]) -> Option<usize> {
-    rows.iter().position(|row| is_named(row, name))
+    rows.iter().position(|row| is_named(row, name) && text_at(row, 1) == b"table".as_slice())
+}
+
+/// Whether a table has one index that came with it.
+fn has_key_alone(name: &str, rows: &[Row]) -> bool {
+    let mut has_one = false;
+    for row in rows {
+        if is_index_of(row, name) {
+            if has_one {
+                return false;
+            }
+            has_one = true;
+        }
+    }
+    has_one
+}
+
+/// Whether a row lists an index that came with the table of this name: it has no text.
+fn is_index_of(row: &Row, table: &str) -> bool {
+    text_at(row, 1) == b"index".as_slice()
+        && text_at(row, 2) == table.as_bytes()
+        && text_at(row, 3).is_empty()
 }
 
 /// Whether a row has this name.
@@ -238,29 +268,30 @@ fn found_in_rows<S: Alter>(
     ensures found { IfSome result (λ trouble. IsTrue (is_of_rows trouble)) }
     ensures database { IfSome result (λ trouble. IsTrue (is_of_database trouble)) }
 {
-    if has_other_settings(conn, version) {
-        // Here and below: without memory for the row, the message names the database alone.
-        let _ = name.push_str(", table meta");
+    if has_other_meta(conn, version) {
+        push_meta(name);
         return Some(Trouble::OtherRows);
     }
     match conn.query_all(OBJECTS, &[]) {
-        Ok(rows) => judge_rows(alloc, rows.as_slice(), source, version, name),
+        Ok(rows) => judge_rows(alloc, conn, rows.as_slice(), source, version, name),
         Err(_) => None,
     }
 }
 
 /// Whether `meta` has other rows than that of this version.
-fn has_other_settings<S: Alter>(conn: &mut Connection<S>, version: Version) -> bool {
-    match conn.query_all(SETTINGS, &[]) {
-        Ok(rows) => !is_version_alone(rows.as_slice(), version),
+fn has_other_meta<S: Alter>(conn: &mut Connection<S>, version: Version) -> bool {
+    match conn.query_all(META, &[]) {
+        Ok(rows) => !says_version(rows.as_slice(), version),
         Err(_) => false,
     }
 }
 
-/// What is the matter with these rows of objects: if all are of another source, that; otherwise the
-/// first that is bad by itself, and else what is bad of all together.
-fn judge_rows(
+/// What is the matter with these rows of objects: if all are of another source, that; if all are
+/// good in the other version, that `meta` says this one; otherwise the first that is bad by itself,
+/// and else what is bad of all together.
+fn judge_rows<S: Alter>(
     alloc: Global,
+    conn: &mut Connection<S>,
     rows: &[Row],
     source: &Name,
     version: Version,
@@ -274,17 +305,23 @@ fn judge_rows(
     match first_bad(alloc, rows, source, version) {
         Some(_) if are_others => Some(Trouble::OtherSource),
         Some(row) => {
+            if are_good(alloc, rows, source, version.other()) {
+                push_meta(name);
+                return Some(Trouble::OtherRows);
+            }
+            // Without memory for the row, the message names the database alone.
             let _ = push_row(name, row);
             Some(Trouble::BadObject)
         }
-        None => judge_together(alloc, rows, source, version, name),
+        None => judge_together(alloc, conn, rows, source, version, name),
     }
 }
 
 /// What is the matter with rows of objects that are good one by one: the first whose object names a
 /// maintainer who is not there, or has a span that crosses one before it, and else `named`.
-fn judge_together(
+fn judge_together<S: Alter>(
     alloc: Global,
+    conn: &mut Connection<S>,
     rows: &[Row],
     source: &Name,
     version: Version,
@@ -299,17 +336,36 @@ fn judge_together(
     let loaded: Result<Registry<IndexedBook>, LoadFault> = Registry::from_objects(alloc, objects);
     match loaded {
         Ok(_) => {
-            let _ = name.push_str(", table named");
-            Some(Trouble::OtherRows)
+            let trouble = judge_names(conn, name);
+            Some(trouble)
         }
         Err(LoadFault::Overlap(number) | LoadFault::Unnamed(number)) => {
             if let Some(row) = row_at(rows, number) {
+                // Without memory for the row, the message names the database alone.
                 let _ = push_row(name, row);
             }
             Some(Trouble::Unsound)
         }
         Err(_) => None,
     }
+}
+
+/// What is the matter with the rows of `named` beside those of a registry: the first that is of no
+/// object, and else all of them.
+fn judge_names<S: Alter>(conn: &mut Connection<S>, name: &mut String) -> Trouble
+    ensures found { IsTrue (is_of_rows result) }
+    ensures database { IsTrue (is_of_database result) }
+{
+    if let Ok(rows) = conn.query_all(NAMES_ALONE, &[]) {
+        if let Some(row) = rows.as_slice().first() {
+            // Without memory for the row, the message names the database alone.
+            let _ = push_row(name, row);
+            return Trouble::NoObject;
+        }
+    }
+    // Without memory for the table, the message names the database alone.
+    let _ = name.push_str(", table named");
+    Trouble::OtherRows
 }
 
 /// The row of this number, from 1.
@@ -330,6 +386,12 @@ fn first_bad<'a>(
             Some(RowFault::OtherSource | RowFault::Bad)
         )
     })
+}
+
+/// Whether each row has an object of the source by its class and key.
+fn are_good(alloc: Global, rows: &[Row], source: &Name, version: Version) -> bool {
+    rows.iter()
+        .all(|row| fault_of(alloc, row, source, version).is_none())
 }
 
 /// The objects of rows.
@@ -412,13 +474,8 @@ fn push_row(name: &mut String, row: &Row) -> Result<(), AllocError> {
     match (row.get_ref(0), row.get_ref(1)) {
         (Ok(ValueRef::Int(class)), Ok(ValueRef::Text(key))) => {
             write!(name, ", class {class}, okey ")?;
-            push_shown(name, key)
+            push_key(name, key)
         }
         _ => Ok(()),
     }
-}
-
-/// Whether rows of settings are this version, and nothing else.
-fn is_version_alone(rows: &[Row], version: Version) -> bool {
-    rows.len() == 1 && version_in(rows) == Some(version.number())
 }

@@ -29,8 +29,9 @@ pub fn dump<'a, D: Databases, W: Output>(
         (W.told output.old) (W.told output.new) result }
 {
     let (read, mut path) = read_settings_file(rt, settings)?;
-    let answer = dump_at(rt, databases, read, &mut path, full, output);
-    ended(answer, settings, path, output)
+    let path_len = path.len();
+    let end = dump_at(rt, databases, read, &mut path, full, output);
+    ended(rt.alloc(), end, settings, path, path_len, output)
 }
 
 /// Prints the dump of the registry in the database at a path.
@@ -48,10 +49,10 @@ fn dump_at<D: Databases, W: Output>(
 {
     let desk = open_desk(rt, databases, settings, path)?;
     output.show(Shown::Objects);
-    let answer = dump_to(rt.alloc(), &desk, full, output);
+    let end = dump_to(rt.alloc(), &desk, full, output);
     output.show(Shown::Nothing);
     close(databases, desk.close());
-    answer
+    end
 }
 
 /// Writes the dump of a desk.

@@ -10,10 +10,12 @@ ghost use Rattle.rr_commands.specs.declared.trouble.Place.TheVariants as place;
 
 use crate::cause::Cause;
 use crate::output::STANDARD_OUTPUT;
+use crate::shown::shown_name;
 use crate::trouble::{Place, Trouble};
 use crate::words::{after_number, before, before_number};
 use itoa::Buffer;
 use rr_io::{Sink, write_all, write_pieces};
+use std::alloc::Global;
 use std::io;
 
 /// What a fault is about.
@@ -21,9 +23,9 @@ use std::io;
 pub enum About<'a> {
     /// Nothing that has a name.
     Nothing,
-    /// A word, or a file that a word names.
+    /// A word, or a file that a word names, as it was given.
     Word(&'a str),
-    /// A file that the settings name, or what the words are not.
+    /// A file that the settings name, or what the words are not, as a line shows it.
     Named(String),
 }
 
@@ -119,6 +121,30 @@ impl<'a> ProgramFault<'a> {
         }
     }
 
+    /// The same fault, about the same as a line shows it. Without memory a word stays as it was
+    /// given, and its control characters alone are not written.
+    pub fn legible(self, alloc: Global) -> ProgramFault<'a>
+        ensures trouble { result.trouble ≡ self.entry.trouble }
+        ensures stream { result.stream ≡ self.entry.stream }
+    {
+        match self.shown_word(alloc) {
+            Some(name) => ProgramFault {
+                about: About::Named(name),
+                trouble: self.trouble,
+                stream: self.stream,
+            },
+            None => self,
+        }
+    }
+
+    /// The word that it is about, as a line shows it, if it is about one and there is memory.
+    fn shown_word(&self, alloc: Global) -> Option<String> {
+        match &self.about {
+            About::Word(word) => shown_name(alloc, word.as_bytes()).ok(),
+            About::Nothing | About::Named(_) => None,
+        }
+    }
+
     /// Says the fault in one line on standard error, and gives the program's status, which a failed
     /// write does not change.
     pub fn tell<E: Sink>(self, errors: &mut E) -> u8
@@ -127,6 +153,7 @@ impl<'a> ProgramFault<'a> {
         ensures status { result ≡ trouble_status self.entry.trouble }
         ensures aside { E.aside errors.new ≡ E.aside errors.old }
     {
+        // A failed write cannot be said anywhere else, and the status says that there is a fault.
         let _ = self.write_line(errors);
         self.trouble.status()
     }

@@ -9,7 +9,7 @@ use std::fs::File;
 use std::io::ErrorKind;
 
 /// Opens a file to read it.
-pub fn open_file(rt: &HostRuntime, path: &str) -> Result<File, Trouble>
+pub(crate) fn open_file(rt: &HostRuntime, path: &str) -> Result<File, Trouble>
     ensures { IfErr result (λ trouble. IsTrue (is_of_file trouble)) }
 {
     match File::open(rt, path) {

@@ -35,5 +35,6 @@ pub use progress::{Progress, Reading, Shown};
 pub use querying::{answer_to, query};
 pub use settings_file::{SettingKey, SettingsFault, read_settings};
 pub use settings_reading::read_settings_file;
+pub use shown::shown_name;
 pub use submission::{plain, submit, submit_plain, submit_to};
 pub use trouble::Trouble;

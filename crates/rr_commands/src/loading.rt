@@ -9,7 +9,7 @@ ghost use Rattle.rr_commands.specs.Printed.{Tells};
 use crate::databases::{Absent, Databases, close};
 use crate::fault::ProgramFault;
 use crate::files::open_file;
-use crate::output::{Output, cause_of, tell};
+use crate::output::{Output, cause_of, shown_database, tell};
 use crate::places::about_paragraph;
 use crate::progress::{Reading, Shown};
 use crate::settings_reading::read_settings_file;
@@ -36,25 +36,29 @@ pub fn load<'a, D: Databases, W: Output>(
         (W.told output.old) (W.told output.new) result }
 {
     let (read, path) = read_settings_file(rt, settings)?;
-    let answer = load_at(rt, databases, read, path.as_str(), file, output);
-    ended_in_dump(rt, answer, file, path, output)
+    let end = load_at(rt, databases, read, path.as_str(), file, output);
+    ended_in_dump(rt, end, file, path, output)
 }
 
 /// How a load ended; trouble with a paragraph of the dump is about its line and its key.
 fn ended_in_dump<'a, W: Output>(
     rt: &HostRuntime,
-    answer: Result<u8, Trouble>,
+    end: Result<u8, Trouble>,
     file: &'a str,
     path: String,
     output: &W,
 ) -> Result<u8, ProgramFault<'a>>
-    ensures { EndsAs answer result }
+    ensures { EndsAs end result }
 {
-    match answer {
+    match end {
         Ok(status) => Ok(status),
         Err(trouble) => match trouble.paragraph() {
             Some(number) => Err(about_paragraph(rt, file, number, trouble)),
-            None => Err(ProgramFault::placed(trouble, file, path, output.cause())),
+            None => {
+                let path_len = path.len();
+                let shown = shown_database(rt.alloc(), path, path_len);
+                Err(ProgramFault::placed(trouble, file, shown, output.cause()))
+            }
         },
     }
 }
@@ -74,9 +78,9 @@ fn load_at<D: Databases, W: Output>(
 {
     match databases.open(path, Absent::Made) {
         Ok(conn) => {
-            let (conn, answer) = load_file(rt, conn, settings, file, output);
+            let (conn, end) = load_file(rt, conn, settings, file, output);
             close(databases, conn);
-            answer
+            end
         }
         Err(cause) => Err(Trouble::Database(cause)),
     }
@@ -114,11 +118,11 @@ fn load_shown<S: Alter, W: Output>(
 {
     let mut reading = Reading::new(rt, Counted::new(file));
     output.show(Shown::Others);
-    let (conn, answer) = load_to(rt.alloc(), conn, settings, &mut reading, output);
+    let (conn, end) = load_to(rt.alloc(), conn, settings, &mut reading, output);
     reading.end();
-    let cause = cause_of(answer, &reading, output);
+    let cause = cause_of(end, &reading, output);
     output.keep(cause);
-    (conn, answer)
+    (conn, end)
 }
 
 /// Makes the registry of the dump that a reader gives in a database, and writes how many objects it

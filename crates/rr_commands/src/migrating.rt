@@ -26,8 +26,9 @@ pub fn migrate<'a, D: Databases, W: Output>(
         (W.told output.old) (W.told output.new) result }
 {
     let (read, mut path) = read_settings_file(rt, settings)?;
-    let answer = migrate_at(rt.alloc(), databases, read, &mut path, output);
-    ended(answer, settings, path, output)
+    let path_len = path.len();
+    let end = migrate_at(rt.alloc(), databases, read, &mut path, output);
+    ended(rt.alloc(), end, settings, path, path_len, output)
 }
 
 /// Migrates the tables of version 1 of the database of this name, its path, and says so. If a row
@@ -65,8 +66,8 @@ fn migrate_over<D: Databases, W: Sink>(
         result }
 {
     let source = settings.source().copy(alloc);
-    let (mut conn, answer) = migrate_to(alloc, conn, settings, output);
-    let told = told_of(alloc, &mut conn, source, answer, name);
+    let (mut conn, end) = migrate_to(alloc, conn, settings, output);
+    let told = told_of(alloc, &mut conn, source, end, name);
     close(databases, conn);
     told
 }

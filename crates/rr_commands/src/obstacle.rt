@@ -1,10 +1,11 @@
 //! What was added to the tables of a registry and keeps them from being read, for messages alone.
 
-use crate::shown::push_shown;
+use crate::shown::push_key;
 use rr_rows::has_tables;
 use sqlite::Row;
 use sqlite_schema::schema::{Column, Reference, Schema, Table};
-use sqlite_value::value::ValueRef;
+use sqlite_value::keys::Collation;
+use sqlite_value::value::{Value, ValueRef};
 use std::alloc::AllocError;
 
 /// What has a name and was added to a table.
@@ -17,7 +18,7 @@ struct Obstacle<'a> {
 
 /// Adds what keeps the three tables of a schema from being read, if it is found; says whether. The
 /// rows list the schema as name, kind, table and text.
-pub fn push_obstacle(schema: &Schema, rows: &[Row], name: &mut String) -> bool {
+pub(crate) fn push_obstacle(schema: &Schema, rows: &[Row], name: &mut String) -> bool {
     match obstacle_in(schema, rows) {
         Some(obstacle) if !has_tables(schema) => push_found(name, &obstacle).is_ok(),
         _ => false,
@@ -27,14 +28,15 @@ pub fn push_obstacle(schema: &Schema, rows: &[Row], name: &mut String) -> bool {
 fn push_found(name: &mut String, obstacle: &Obstacle<'_>) -> Result<(), AllocError> {
     let kind = obstacle.kind;
     write!(name, ", {kind} ")?;
-    push_shown(name, obstacle.name)?;
+    push_key(name, obstacle.name)?;
     name.push_str(" of ")?;
-    push_shown(name, obstacle.table)
+    push_key(name, obstacle.table)
 }
 
-/// The first trigger or index, column or foreign key that keeps the tables from being read.
+/// The first trigger or index, column, default or collation, or foreign key that keeps the tables
+/// from being read.
 fn obstacle_in<'a>(schema: &'a Schema, rows: &'a [Row]) -> Option<Obstacle<'a>> {
-    if let Some(row) = rows.iter().find(|row| is_obstacle(row)) {
+    if let Some(row) = rows.iter().find(|row| is_bound_by(schema, row)) {
         return obstacle_of(row);
     }
     if let Some(table) = schema
@@ -45,6 +47,14 @@ fn obstacle_in<'a>(schema: &'a Schema, rows: &'a [Row]) -> Option<Obstacle<'a>> 
     {
         return column_of(table);
     }
+    if let Some(table) = schema
+        .tables
+        .as_slice()
+        .iter()
+        .find(|table| has_more_rules(table))
+    {
+        return rule_of(table);
+    }
     let table = schema
         .tables
         .as_slice()
@@ -53,12 +63,12 @@ fn obstacle_in<'a>(schema: &'a Schema, rows: &'a [Row]) -> Option<Obstacle<'a>> 
     key_of_table(table)
 }
 
-/// Whether a row lists a trigger on one of the three tables, or an index on it that is partial or
-/// over expressions.
-fn is_obstacle(row: &Row) -> bool {
-    let kind = text_at(row, 1);
-    let is_index = kind == b"index".as_slice() && is_odd_index(text_at(row, 3));
-    columns_of(text_at(row, 2)).is_some() && (is_index || kind == b"trigger".as_slice())
+/// Whether a row lists what keeps the library from reading one of the three tables: a trigger on
+/// it, or an index that the library does not understand.
+fn is_bound_by(schema: &Schema, row: &Row) -> bool {
+    columns_of(text_at(row, 2)).is_some()
+        && schema.views.as_slice().iter().any(|view| view.binds
+            && view.name.as_slice() == text_at(row, 0))
 }
 
 fn obstacle_of(row: &Row) -> Option<Obstacle<'_>> {
@@ -75,40 +85,20 @@ fn obstacle_of(row: &Row) -> Option<Obstacle<'_>> {
 }
 
 /// The text of a row at a place, or nothing.
-fn text_at(row: &Row, at: usize) -> &[u8] {
+pub(crate) fn text_at(row: &Row, at: usize) -> &[u8] {
     match row.get_ref(at) {
         Ok(ValueRef::Text(text)) => text,
         _ => b"",
     }
 }
 
-/// Whether the text that makes an index has more than a list of columns; that of a key is empty.
-fn is_odd_index(text: &[u8]) -> bool {
-    match text.iter().position(|byte| *byte == b'(') {
-        Some(start) => !is_plain_list(&text[start..]),
-        None => false,
-    }
-}
-
-/// Whether a text is one pair of parentheses, around names, commas and blanks.
-fn is_plain_list(text: &[u8]) -> bool {
-    match text {
-        [_, names @ .., last] => *last == b')' && names.iter().all(|byte| is_of_names(*byte)),
-        _ => false,
-    }
-}
-
-fn is_of_names(byte: u8) -> bool {
-    byte.is_ascii_alphanumeric() || byte.is_ascii_whitespace() || b"_,\"`[]".contains(&byte)
-}
-
-/// The columns of the table of this name, if it is one of the three.
+/// The columns of the table of this name, if it is one of the three, in letters of any case.
 fn columns_of(table: &[u8]) -> Option<&'static [&'static str]> {
-    if table == b"meta".as_slice() {
+    if table.eq_ignore_ascii_case(b"meta") {
         Some(&["name", "value"])
-    } else if table == b"object".as_slice() {
+    } else if table.eq_ignore_ascii_case(b"object") {
         Some(&["class", "okey", "body"])
-    } else if table == b"named".as_slice() {
+    } else if table.eq_ignore_ascii_case(b"named") {
         Some(&["maintainer", "class", "okey"])
     } else {
         None
@@ -120,19 +110,26 @@ fn has_more(table: &Table) -> bool {
     column_of(table).is_some()
 }
 
-/// The first further column of a table that is one of the three.
+/// The first further column of a table that is one of the three and has its own: one that is
+/// spelled otherwise is needed.
 fn column_of(table: &Table) -> Option<Obstacle<'_>> {
     let wanted = columns_of(table.name.as_slice())?;
-    let column = table
-        .columns
-        .as_slice()
-        .iter()
-        .find(|column| is_further(column, wanted))?;
+    let columns = table.columns.as_slice();
+    if !wanted.iter().all(|name| has_column(columns, name)) {
+        return None;
+    }
+    let column = columns.iter().find(|column| is_further(column, wanted))?;
     Some(Obstacle {
         kind: "column",
         name: column.name.as_slice(),
         table: table.name.as_slice(),
     })
+}
+
+fn has_column(columns: &[Column], name: &str) -> bool {
+    columns
+        .iter()
+        .any(|column| column.name.as_slice() == name.as_bytes())
 }
 
 fn is_further(column: &Column, wanted: &[&str]) -> bool {
@@ -141,18 +138,61 @@ fn is_further(column: &Column, wanted: &[&str]) -> bool {
         .any(|name| name.as_bytes() == column.name.as_slice())
 }
 
-/// Whether a table has a foreign key to one of the three.
+/// Whether a table is one of the three, and one of its columns has a default or a collation.
+fn has_more_rules(table: &Table) -> bool {
+    rule_of(table).is_some()
+}
+
+/// The first default of a table that is one of the three, or else the first collation.
+fn rule_of(table: &Table) -> Option<Obstacle<'_>> {
+    columns_of(table.name.as_slice())?;
+    let columns = table.columns.as_slice();
+    if let Some(column) = column_with_default(table) {
+        return Some(Obstacle {
+            kind: "default of column",
+            name: column.name.as_slice(),
+            table: table.name.as_slice(),
+        });
+    }
+    let column = columns
+        .iter()
+        .find(|column| column.collation != Collation::Binary)?;
+    Some(Obstacle {
+        kind: "collation of column",
+        name: column.name.as_slice(),
+        table: table.name.as_slice(),
+    })
+}
+
+/// The first column with a default: a literal, an expression, or the time.
+fn column_with_default(table: &Table) -> Option<&Column> {
+    let columns = table.columns.as_slice();
+    if let Some(column) = columns
+        .iter()
+        .find(|column| !matches!(column.default, Value::Null))
+    {
+        return Some(column);
+    }
+    let place = match table.computed.as_slice() {
+        [place, ..] => *place,
+        [] => *table.stamps.places.as_slice().first()?,
+    };
+    columns.get(place.checked_sub(1)?)
+}
+
+/// Whether a table has a foreign key that keeps the three from being read.
 fn refers_here(table: &Table) -> bool {
     key_of_table(table).is_some()
 }
 
-/// The first foreign key of a table to one of the three.
+/// The first foreign key of a table to one of the three, or to any table if it is one of them.
 fn key_of_table(table: &Table) -> Option<Obstacle<'_>> {
+    let is_ours = columns_of(table.name.as_slice()).is_some();
     let key = table
         .references
         .as_slice()
         .iter()
-        .find(|key| is_to_ours(key))?;
+        .find(|key| is_ours || is_to_ours(key))?;
     Some(Obstacle {
         kind: "foreign key to",
         name: key.parent.as_slice(),

@@ -4,7 +4,7 @@ ghost use Rattle.std.specs.Prelude.{◌≡◌, ◌≤◌, length};
 
 use crate::fault::ProgramFault;
 use crate::files::open_file;
-use crate::shown::push_shown;
+use crate::shown::{push_key, shown_name};
 use crate::trouble::Trouble;
 use rr_io::{Counted, Source};
 use rr_object::{Key, key_of};
@@ -16,7 +16,7 @@ use std::{fs, io};
 
 /// A fault about the paragraph of this number, from 1, of a file: it names the line and, if they
 /// can be read, the class and the key, if the file is one that can be read again.
-pub fn about_paragraph<'a>(
+pub(crate) fn about_paragraph<'a>(
     rt: &HostRuntime,
     file: &'a str,
     number: u64,
@@ -40,6 +40,7 @@ fn place(rt: &HostRuntime, file: &str, number: u64) -> Option<String> {
     let mut lines = Lines::new(alloc, reader);
     let key = find_paragraph(alloc, &mut lines, number)?;
     let line = lines.start?;
+    let file = shown_name(alloc, file.as_bytes()).ok()?;
     match key {
         Some(key) => {
             let class = key.class().name();
@@ -55,7 +56,7 @@ fn key_text(alloc: Global, key: &Key) -> Option<String> {
     let mut text = Counted::new(Vec::new(alloc));
     key.print_to(&mut text).ok()?;
     let mut shown = String::new(alloc);
-    push_shown(&mut shown, text.into_inner().as_slice()).ok()?;
+    push_key(&mut shown, text.into_inner().as_slice()).ok()?;
     Some(shown)
 }
 

@@ -114,7 +114,7 @@ impl<'a> Meter<'a> {
     fn clear(&mut self) {
         if self.is_shown {
             self.is_shown = false;
-            // Here and below: a command does not fail because a terminal shows no progress.
+            // A command does not fail because a terminal shows no progress.
             let _ = self.rt.stderr().write_all(CLEARED);
         }
     }
@@ -196,6 +196,7 @@ impl<'a> Meter<'a> {
         let things = self.things.name();
         self.drawn = Some(now);
         self.is_shown = true;
+        // As in `clear`: a command does not fail because a terminal shows no progress.
         let _ = eprint!(self.rt; "\r\x1b[K{count} {things} so far");
     }
 }
@@ -357,6 +358,7 @@ impl<'a> Opening<'a> {
     pub fn begin(rt: &'a HostRuntime, size: u64) -> Opening<'a> {
         let is_shown = size >= LARGE && rt.stderr().is_terminal();
         if is_shown {
+            // Without the line the database is opened all the same.
             let _ = rt.stderr().write_all(b"opening the database");
         }
         Opening { rt, is_shown }
@@ -366,6 +368,7 @@ impl<'a> Opening<'a> {
     pub fn end(&mut self) {
         if self.is_shown {
             self.is_shown = false;
+            // What is left on a terminal does not change how the command ends.
             let _ = self.rt.stderr().write_all(CLEARED);
         }
     }

@@ -32,8 +32,9 @@ pub fn query<'a, D: Databases, W: Output>(
         (W.told output.old) (W.told output.new) result }
 {
     let (read, mut path) = read_settings_file(rt, settings)?;
-    let answer = query_at(rt, databases, read, &mut path, text.as_bytes(), output);
-    ended(answer, settings, path, output)
+    let path_len = path.len();
+    let end = query_at(rt, databases, read, &mut path, text.as_bytes(), output);
+    ended(rt.alloc(), end, settings, path, path_len, output)
 }
 
 /// Asks the registry in the database at a path, and prints the answer.
@@ -50,9 +51,9 @@ fn query_at<D: Databases, W: Sink>(
         (W.told output.old) (W.told output.new) settings (string_bytes path.old) result }
 {
     let mut desk = open_desk(rt, databases, settings, path)?;
-    let answer = answer_to(rt.alloc(), &mut desk, text, output);
+    let end = answer_to(rt.alloc(), &mut desk, text, output);
     close(databases, desk.close());
-    answer
+    end
 }
 
 /// Asks a desk, and writes the answer: the status is 0, or 1 if the answer is an error.

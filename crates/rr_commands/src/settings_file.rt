@@ -5,8 +5,8 @@ ghost use Rattle.std.specs.Prelude.{string_bytes};
 ghost use Rattle.std.specs.Option.{option_copied};
 ghost use Rattle.toml.specs.Parse.{parse_document};
 ghost use Rattle.toml.specs.View.{table_view};
-ghost use Rattle.rr_commands.specs.SettingsFiles.{integer_at, key_of, number_at, parts_of};
-ghost use Rattle.rr_commands.specs.SettingsFiles.{settings_text, store_of, text_at, whole};
+ghost use Rattle.rr_commands.specs.SettingsFiles.{integer_at, key_of, non_negative, number_at};
+ghost use Rattle.rr_commands.specs.SettingsFiles.{parts_of, settings_text, store_of, text_at};
 ghost use Rattle.rr_commands.specs.declared.settings_file.SettingsFault.TheVariants.{BadToml};
 ghost use Rattle.rr_commands.specs.declared.settings_file.SettingsFault.TheVariants.{Memory};
 
@@ -136,17 +136,17 @@ fn text_at<'a>(table: &'a Table, key: &str) -> Option<&'a str>
     }
 }
 
-/// The whole number at a key, if there is one that is not negative.
+/// The integer at a key, if there is one that is not negative.
 fn number_at(table: &Table, key: &str) -> Option<u64>
     ensures { result ≡ number_at key.now (table_view table.now) }
 {
     match integer_at(table, key) {
-        Some(number) => whole(number),
+        Some(number) => non_negative(number),
         None => None,
     }
 }
 
-/// The whole number at a key, if there is one.
+/// The integer at a key, if there is one.
 fn integer_at(table: &Table, key: &str) -> Option<i64>
     ensures { result ≡ integer_at key.now (table_view table.now) }
 {
@@ -157,11 +157,11 @@ fn integer_at(table: &Table, key: &str) -> Option<i64>
 }
 
 /// The number, if it is not negative.
-fn whole(number: i64) -> Option<u64>
-    ensures { result ≡ whole number }
+fn non_negative(number: i64) -> Option<u64>
+    ensures { result ≡ non_negative number }
 {
     match u64::try_from(number) {
-        Ok(whole) => Some(whole),
+        Ok(found) => Some(found),
         Err(_) => None,
     }
 }

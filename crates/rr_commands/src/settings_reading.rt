@@ -1,7 +1,8 @@
 //! Settings files.
 
-ghost use Rattle.std.specs.Prelude.{IfErr, IsTrue};
+ghost use Rattle.std.specs.Prelude.{◌≡◌, IfErr, IfOk, IsTrue, Ok, string_bytes};
 ghost use Rattle.rr_commands.specs.Commands.{is_of_settings};
+ghost use Rattle.rr_commands.specs.SettingsFiles.{AreNoSettings, settings_text};
 
 use crate::cause::Cause;
 use crate::fault::ProgramFault;
@@ -52,21 +53,24 @@ fn trouble_of(error: &io::Error) -> Trouble
     }
 }
 
-/// The settings that the bytes of a file are.
+/// The settings that the bytes of a file are, and the path of the database.
 fn read_text(alloc: Global, bytes: &[u8]) -> Result<(Settings, String), Trouble>
-    ensures { IfErr result (λ trouble. IsTrue (is_of_settings trouble)) }
+    ensures ok { IfOk result
+        (λ read. settings_text bytes.now ≡ Ok (read.0, string_bytes read.1)) }
+    ensures why { IfErr result (λ trouble. AreNoSettings bytes.now trouble) }
+    ensures fault { IfErr result (λ trouble. IsTrue (is_of_settings trouble)) }
 {
     if bytes.len() as u64 > MOST_BYTES {
         return Err(Trouble::SettingsTooLong);
     }
-    let Ok(text) = std::str::from_utf8(bytes) else {
-        return Err(Trouble::SettingsNotText);
-    };
-    match read_settings(alloc, text) {
-        Ok(read) => Ok(read),
-        Err(SettingsFault::BadToml) => Err(Trouble::SettingsNotToml(bad_line(alloc, text))),
-        Err(SettingsFault::BadKey(key)) => Err(Trouble::SettingBad(key)),
-        Err(SettingsFault::Memory) => Err(Trouble::Memory),
+    match std::str::from_utf8(bytes) {
+        Ok(text) => match read_settings(alloc, text) {
+            Ok(read) => Ok(read),
+            Err(SettingsFault::BadToml) => Err(Trouble::SettingsNotToml(bad_line(alloc, text))),
+            Err(SettingsFault::BadKey(key)) => Err(Trouble::SettingBad(key)),
+            Err(SettingsFault::Memory) => Err(Trouble::Memory),
+        },
+        Err(_) => Err(Trouble::SettingsNotText),
     }
 }
 

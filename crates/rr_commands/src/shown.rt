@@ -1,15 +1,36 @@
-//! What strangers wrote, as lines for a terminal show it: keys, and names in a database.
+//! What strangers wrote, as lines for a terminal show it: keys, names in a database, names of files
+//! and arguments.
 
-use std::alloc::AllocError;
+use std::alloc::{AllocError, Global};
 
-/// The most characters of one text that are shown.
-const MOST_SHOWN: usize = 80;
+/// The most characters of a key, or of a name in a database, that are shown.
+const MOST_OF_KEY: usize = 80;
 
-/// Adds a text as a line shows it: what is not printable is escaped, also what changes the order of
-/// what stands beside it, and bytes that are no text; what is longer than 80 characters ends in two
-/// dots.
-pub fn push_shown(line: &mut String, text: &[u8]) -> Result<(), AllocError> {
-    let mut left = MOST_SHOWN + 1;
+/// The most characters of the name of a file, or of an argument, that are shown.
+const MOST_OF_NAME: usize = 4_096;
+
+/// Adds a key, or a name in a database, as a line shows it, 80 characters at most.
+pub(crate) fn push_key(line: &mut String, text: &[u8]) -> Result<(), AllocError> {
+    push_shown(line, text, MOST_OF_KEY)
+}
+
+/// Adds the name of a file, or an argument, as a line shows it, 4,096 characters at most.
+pub(crate) fn push_name(line: &mut String, text: &[u8]) -> Result<(), AllocError> {
+    push_shown(line, text, MOST_OF_NAME)
+}
+
+/// The name of a file, or an argument, as a line shows it.
+pub fn shown_name(alloc: Global, text: &[u8]) -> Result<String, AllocError> {
+    let mut line = String::new(alloc);
+    push_name(&mut line, text)?;
+    Ok(line)
+}
+
+/// Adds a text as a line shows it: no two texts that are not cut are shown alike. What is surely
+/// seen, and read from left to right, stands as it is; other characters are escaped, and bytes that
+/// are no text, and a backslash; what is longer than so many characters ends in two dots.
+fn push_shown(line: &mut String, text: &[u8], most: usize) -> Result<(), AllocError> {
+    let mut left = most.saturating_add(1);
     for chunk in text.utf8_chunks() {
         let after = push_text(line, chunk.valid(), left)?;
         left = push_bytes(line, chunk.invalid(), after)?;
@@ -39,20 +60,39 @@ fn push_bytes(line: &mut String, bytes: &[u8], room: usize) -> Result<usize, All
         match left {
             0 => return Ok(0),
             1 => line.push_str("..")?,
-            _ => write!(line, "\\x{byte:02x}")?,
+            _ => write!(line, "\\x{byte:02X}")?,
         }
         left -= 1;
     }
     Ok(left)
 }
 
-/// Adds a character, escaped unless it is printable.
+/// Adds a character, escaped unless it is surely seen and read from left to right.
 fn push_character(line: &mut String, character: char) -> Result<(), AllocError> {
-    if character == '\'' || character == '"' {
-        return line.push(character);
+    let number = u32::from(character);
+    if character == '\\' {
+        line.push_str("\\\\")
+    } else if is_seen(number) {
+        line.push(character)
+    } else {
+        write!(line, "\\u{{{number:X}}}")
     }
-    for escaped in character.escape_debug() {
-        line.push(escaped)?;
+}
+
+/// Whether the character of this number is surely seen, and read from left to right: one of ASCII,
+/// of Latin, Greek or Cyrillic letters, of kana, of Chinese characters or of Hangul.
+fn is_seen(number: u32) -> bool {
+    match number {
+        0x20..=0x7E
+        | 0xA1..=0xAC
+        | 0xAE..=0x24F
+        | 0x370..=0x3FF
+        | 0x400..=0x482
+        | 0x48A..=0x52F
+        | 0x3041..=0x3096
+        | 0x30A1..=0x30FA
+        | 0x4E00..=0x9FFF
+        | 0xAC00..=0xD7A3 => true,
+        _ => false,
     }
-    Ok(())
 }

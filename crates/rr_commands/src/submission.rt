@@ -2,9 +2,9 @@
 
 ghost use Rattle.std.specs.Prelude.{◌≡◌, IfOk, false, string_bytes};
 ghost use Rattle.sqlite.specs.Steps.{over_memory};
-ghost use Rattle.rr_desk.specs.Opening.{IsOpened};
+ghost use Rattle.rr_desk.specs.Opening.{IsOpeningRegistry};
 ghost use Rattle.rr_desk.specs.Settings.{built_in};
-ghost use Rattle.rr_desk.specs.Stocks.{IsStocked};
+ghost use Rattle.rr_desk.specs.Stocks.{StoresUntilStopped};
 ghost use Rattle.rr_commands.specs.Commands.{AtDesk};
 ghost use Rattle.rr_commands.specs.Submitted.{EndsPlain, HasSubmitted, RunsPlain, SubmitsBy};
 ghost use Rattle.rr_commands.specs.Submitted.{SubmitsDesk};
@@ -47,7 +47,7 @@ pub fn plain<'a, R: Input, W: Output>(
     }
 }
 
-/// What went wrong without words: a database in memory fails only because memory ran out.
+/// What went wrong without arguments: a database in memory fails only because memory ran out.
 fn plain_trouble(trouble: Trouble) -> Trouble
     ensures { result ≡ plain_trouble trouble }
 {
@@ -73,8 +73,9 @@ pub fn submit<'a, D: Databases, W: Output>(
         (W.told output.old) (W.told output.new) result }
 {
     let (read, mut path) = read_settings_file(rt, settings)?;
-    let answer = submit_at(rt, databases, read, &mut path, file, output);
-    ended(answer, file, path, output)
+    let path_len = path.len();
+    let end = submit_at(rt, databases, read, &mut path, file, output);
+    ended(rt.alloc(), end, file, path, path_len, output)
 }
 
 /// Submits a file to the registry in the database at a path, and prints the report.
@@ -91,9 +92,9 @@ fn submit_at<D: Databases, W: Output>(
         (W.told output.old) (W.told output.new) settings (string_bytes path.old) result }
 {
     let mut desk = open_desk(rt, databases, settings, path)?;
-    let answer = submit_file(rt, &mut desk, file, output);
+    let end = submit_file(rt, &mut desk, file, output);
     close(databases, desk.close());
-    answer
+    end
 }
 
 /// Submits a file to a desk, and prints the report.
@@ -108,11 +109,11 @@ fn submit_file<S: Alter, W: Output>(
 {
     let mut reader = Reading::silent(rt, Counted::new(open_file(rt, file)?));
     output.show(Shown::Items);
-    let answer = submit_to(rt.alloc(), desk, &mut reader, output);
+    let end = submit_to(rt.alloc(), desk, &mut reader, output);
     output.show(Shown::Nothing);
-    let cause = cause_of(answer, &reader, output);
+    let cause = cause_of(end, &reader, output);
     output.keep(cause);
-    answer
+    end
 }
 
 /// Submits `input` to a new desk over a database in memory.
@@ -150,7 +151,7 @@ fn plain_desk<S: Alter + Drop>(alloc: Global, conn: Connection<S>) -> Result<Des
     requires { conn.in_transaction ≡ false }
     ensures running { IfOk result (λ desk. desk.stored.stopped ≡ false) }
     ensures settings { IfOk result (λ desk. desk.settings ≡ built_in) }
-    ensures opened { IfOk result (λ desk. IsOpened built_in desk.stored.registry) }
+    ensures opened { IfOk result (λ desk. IsOpeningRegistry built_in desk.stored.registry) }
 {
     let Ok(settings) = Settings::built_in(alloc) else {
         return Err(Trouble::Memory);
@@ -171,7 +172,7 @@ pub fn submit_to<S: Alter, R: Source, W: Sink>(
     requires { desk.old.stored.stopped ≡ false }
     ensures submitted { HasSubmitted S.Store desk.old desk.new
         (R.told reader.old) (R.told reader.new) (W.told writer.old) (W.told writer.new) result }
-    ensures rows { IsStocked S.Store desk.new.stored }
+    ensures rows { StoresUntilStopped S.Store desk.new.stored }
     ensures settings { desk.new.settings ≡ desk.old.settings }
 {
     match desk.submit(alloc, reader, writer) {

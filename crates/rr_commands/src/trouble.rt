@@ -26,13 +26,13 @@ const FAILED: u8 = 5;
 #[derive(Clone, Copy)]
 pub enum Trouble {
     /// The arguments are none of a command.
-    BadWords,
+    BadArguments,
     /// A port is not a number, or out of its bounds.
     BadPort,
     /// A count is not a number, or out of its bounds.
     BadCount,
     /// An argument is not text.
-    WordsNotText,
+    ArgumentsNotText,
     /// The settings file cannot be read.
     SettingsUnread(Cause),
     /// The settings file is not text.
@@ -53,10 +53,12 @@ pub enum Trouble {
     OtherSource,
     /// A row of the database has no object of the source by its class and key.
     BadObject,
-    /// A row of the database has an object that is none of a registry beside the others.
+    /// A row's object names a maintainer who is not there, or its span crosses one before it.
     Unsound,
-    /// The objects of the database are those of a registry, and other rows are not.
+    /// The rows of `meta`, or those of `named`, are not those of a registry.
     OtherRows,
+    /// The objects of the database are those of a registry, and a row of names is of none of them.
+    NoObject,
     /// The three tables of the database do not stand first and in order.
     OtherOrder,
     /// What was added to a table keeps the tables from being read.
@@ -105,9 +107,10 @@ impl Trouble {
         ensures { result ≡ trouble_status self }
     {
         match self {
-            Trouble::BadWords | Trouble::BadPort | Trouble::BadCount | Trouble::WordsNotText => {
-                WRONG_ARGUMENTS
-            }
+            Trouble::BadArguments
+            | Trouble::BadPort
+            | Trouble::BadCount
+            | Trouble::ArgumentsNotText => WRONG_ARGUMENTS,
             Trouble::SettingsUnread(_)
             | Trouble::SettingsNotText
             | Trouble::SettingsTooLong
@@ -120,6 +123,7 @@ impl Trouble {
             | Trouble::BadObject
             | Trouble::Unsound
             | Trouble::OtherRows
+            | Trouble::NoObject
             | Trouble::OtherOrder
             | Trouble::Obstacle
             | Trouble::ServedInVain(_) => STORE_FAILED,
@@ -147,6 +151,7 @@ impl Trouble {
             | Trouble::BadObject
             | Trouble::Unsound
             | Trouble::OtherRows
+            | Trouble::NoObject
             | Trouble::OtherOrder
             | Trouble::Obstacle
             | Trouble::ServedInVain(_)
@@ -179,10 +184,10 @@ impl Trouble {
                 | DeskLoadFault::Overlap(_)
                 | DeskLoadFault::Unnamed(_),
             ) => Place::File,
-            Trouble::BadWords
+            Trouble::BadArguments
             | Trouble::BadPort
             | Trouble::BadCount
-            | Trouble::WordsNotText
+            | Trouble::ArgumentsNotText
             | Trouble::Creating(CreateFault::Memory)
             | Trouble::Submission(DeskFault::Memory, _)
             | Trouble::Dumping(DeskDumpFault::Memory)

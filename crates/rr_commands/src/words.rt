@@ -27,14 +27,14 @@ const OF_VERSION: &str = "the tables of the database are of version ";
 const STOPPED: &str = "the database failed before: run the command again";
 
 /// The words before the cause and the number, or all of them.
-pub fn before(trouble: Trouble) -> &'static str
+pub(crate) fn before(trouble: Trouble) -> &'static str
     ensures { result.now ≡ before trouble }
 {
     match trouble {
-        Trouble::BadWords => "`irrdesk help` lists the commands",
+        Trouble::BadArguments => "`irrdesk help` lists the commands",
         Trouble::BadPort => "a port is a number from 1 to 65535",
         Trouble::BadCount => "a count is a number from 1 to 1000000",
-        Trouble::WordsNotText => "an argument is not UTF-8 text: write it as such",
+        Trouble::ArgumentsNotText => "an argument is not UTF-8 text: write it as such",
         Trouble::SettingsUnread(_) => "the settings cannot be read: ",
         Trouble::SettingsNotText => "the settings are not UTF-8 text: save them as such",
         Trouble::SettingsTooLong => "the settings are longer than 1048576 bytes: shorten them",
@@ -53,6 +53,9 @@ pub fn before(trouble: Trouble) -> &'static str
             before it: restore a backup, or mend the rows",
         Trouble::OtherRows =>
             "its rows are not those of a registry: restore a backup, or mend the table",
+        Trouble::NoObject =>
+            "`named` has a row of this class and okey, and `object` has none: restore a backup, or \
+            take that row out",
         Trouble::OtherOrder =>
             "the tables of the registry are not first and in order: `umask 077; sqlite3 OLD '.dump \
             meta' '.dump object' '.dump named' | sqlite3 NEW` lays them so in a new file",
@@ -73,7 +76,7 @@ pub fn before(trouble: Trouble) -> &'static str
 }
 
 /// The words between the cause and the number.
-pub fn before_number(trouble: Trouble) -> &'static str
+pub(crate) fn before_number(trouble: Trouble) -> &'static str
     ensures { result.now ≡ before_number trouble }
 {
     match trouble {
@@ -88,7 +91,7 @@ pub fn before_number(trouble: Trouble) -> &'static str
 }
 
 /// The words after the number.
-pub fn after_number(trouble: Trouble) -> &'static str
+pub(crate) fn after_number(trouble: Trouble) -> &'static str
     ensures { result.now ≡ after_number trouble }
 {
     match trouble {
@@ -273,6 +276,7 @@ fn reason(code: Code) -> &'static str
         Code::E06 =>
             " is not an object: E06, its `source` is not that of the settings: let both be the \
             same",
-        _ => " is not an object: mend it",
+        // No object is refused with another code as it is read.
+        _ => "",
     }
 }

@@ -13,7 +13,8 @@ use Rattle.rr_object.specs.KeyOrders.{IsKeyValue, key_cmp}
 use Rattle.rr_object.specs.Objects.{Obj, names_of}
 use Rattle.rr_auth.specs.Registries.{Sound, keys_cross, maintainer, some_is_unknown}
 use Rattle.rr_object.proofs.KeyLaws.{keys_total, same_key}
-use Rattle.rr_auth.proofs.Members.{IsIn, all_fail, each_passes}
+use Rattle.rr_auth.specs.Elements.{IsIn}
+use Rattle.rr_auth.proofs.Members.{all_fail, each_passes}
 use Rattle.rr_bytes.specs.LetterCase.{upper as upper_of}
 use Rattle.rr_bytes.specs.NameBytes.{is_name}
 use Rattle.rr_number.specs.Names.{IsUpperName}

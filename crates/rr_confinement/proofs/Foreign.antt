@@ -29,7 +29,8 @@ use Rattle.rr_auth.specs.Registries.{Reg, Sound, seen_by}
 use Rattle.rr_auth.specs.SetParents.{parent_key, parent_object, parent_refuses}
 use Rattle.rr_auth.specs.Verdicts.{addition, after, deletion, place, step, submission, verdict}
 use Rattle.rr_auth.proofs.Covers.{closest_said}
-use Rattle.rr_auth.proofs.Members.{IsIn, all_fail, stands_at}
+use Rattle.rr_auth.specs.Elements.{IsIn}
+use Rattle.rr_auth.proofs.Members.{all_fail, stands_at}
 use Rattle.rr_auth.proofs.Refusing.{change_refused, deletion_refused, refused_if, refused_now}
 use Rattle.rr_auth.proofs.RouteSpace.{routes_ask_the_closest}
 use Rattle.rr_confinement.specs.Holdings.{Agree, Holding, IsHeld, is_foreign, is_held, is_mntner, is_under, space_of}

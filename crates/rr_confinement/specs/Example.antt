@@ -1,8 +1,9 @@
 -- The worked example: A-MNT holds 10.1.0.0/16 with AS1 in a registry of its neighbours. Only what
 -- authority speaks of is written down: the texts of the objects are left out.
-use Rattle.std.specs.Prelude.{ℕ, false, List, [], ◌∷◌, codes, map}
+use Rattle.std.specs.Prelude.{ℕ, ◌+◌, false, List, [], ◌∷◌, codes, map}
 use Rattle.std.specs.FinMap.{from_entries}
-use Rattle.rr_number.specs.AsNumbers.{greatest_as_number}
+use Rattle.rr_number.specs.Addresses.{greatest_address}
+use Rattle.rr_number.specs.AsNumbers.{greatest_16_bit_as_number, greatest_as_number}
 use Rattle.rr_number.specs.Spans.{Ends}
 use Rattle.rr_object.specs.declared.key.Key.{Key}
 use Rattle.rr_object.specs.declared.key.Key.TheVariants.{Mntner, AsBlock, AutNum, Inetnum, Route}
@@ -11,6 +12,7 @@ use Rattle.rr_object.specs.Parts.{AuthParts}
 use Rattle.rr_auth.specs.Registries.{Reg}
 use Rattle.rr_confinement.specs.Holdings.{Holding}
 
+-- The maintainer of all AS numbers and of all addresses.
 abbrev pub root_mnt : List ℕ
 root_mnt = codes "ROOT-MNT"
 
@@ -53,6 +55,7 @@ maintainer_with name salt =
 abbrev pub object_by : List ℕ → Key → Obj
 object_by name key = object_of_maintainer key [] name
 
+-- The span from one number to another.
 abbrev pub ends : ℕ → ℕ → Ends
 ends first last = record { first = first; last = last }
 
@@ -62,10 +65,10 @@ abbrev pub example_objects : List Obj
 example_objects =
     maintainer_with a_mnt (codes "ab")
     ∷ (maintainer_with b_mnt [] ∷ (maintainer_with root_mnt (codes "a") ∷ (
-    object_by root_mnt (AsBlock (ends 0 65535))
-    ∷ (object_by root_mnt (AsBlock (ends 65536 greatest_as_number)) ∷ (
+    object_by root_mnt (AsBlock (ends 0 greatest_16_bit_as_number)) ∷ (
+    object_by root_mnt (AsBlock (ends (greatest_16_bit_as_number + 1) greatest_as_number)) ∷ (
     object_by a_mnt (AutNum 1) ∷ (object_by b_mnt (AutNum 2) ∷ (
-    object_by root_mnt (Inetnum (ends 0 4294967295))
+    object_by root_mnt (Inetnum (ends 0 greatest_address))
     ∷ (object_by b_mnt (Inetnum (ends 167772160 184549375)) ∷ (
     object_by a_mnt (Inetnum (ends 167837696 167903231)) ∷ (
     object_by a_mnt (Route (record { address = 167837696; length = 16 }) 1) ∷ []))))))))))

@@ -32,8 +32,8 @@ use Rattle.rr_registry.specs.Runs.{IsStep, outcome_of}
 use Rattle.rr_rows.specs.Entries.{TreesOf}
 use Rattle.rr_rows.specs.Maps.{HasRows, Puts, TakesOut}
 use Rattle.rr_store.specs.Adding.{AddsTo}
-use Rattle.rr_store.specs.Calls.{IsSettled, Writes, database}
-use Rattle.rr_desk.specs.Stops.{IsStopped, changes}
+use Rattle.rr_store.specs.Calls.{IsSettled, Transacts, database}
+use Rattle.rr_desk.specs.Stops.{LeavesStopped, changes}
 use Rattle.rr_desk.specs.Rows.{Holds}
 use Rattle.rr_desk.specs.Private.{Follows, FollowsGain, FollowsIn, FollowsNew, Gains, LeadsTo, puts_one}
 
@@ -127,7 +127,7 @@ then_ok (Err e) h f = tt
 
 module _ {S X E : Type 0} (g : Ghosts S) (P Q : Database → Database → Type 0) (old new : Held S) (result : Result X E) (f : (db : Database) → P (database g old) db → Q (database g old) db) where
   -- one change of the rows is another
-  pub writes_as : Writes g P old new result → Writes g Q old new result
+  pub writes_as : Transacts g P old new result → Transacts g Q old new result
   writes_as writes = record {
     autocommit = writes.autocommit;
     opened = writes.opened;
@@ -138,7 +138,7 @@ module _ {S X E : Type 0} (g : Ghosts S) (P Q : Database → Database → Type 0
   }
 
   -- and so the rows follow
-  pub writes_follow : Writes g P old new result → IsSettled g new → FollowsIn g Q old new result
+  pub writes_follow : Transacts g P old new result → IsSettled g new → FollowsIn g Q old new result
   writes_follow writes settled =
       let made = writes_as writes in
       record { done = made.done; is_open = λ clean on. made.is_open clean; settled = λ before. settled; kept = made.kept; crash = made.crash }
@@ -154,7 +154,7 @@ still_held g old new before after key outcome x held leading follows clean =
 -- where they could not follow, those of the registry before the item stand
 pub stops_there : {S X E : Type 0} (g : Ghosts S) (held_before held_after : Held S) (before after : Reg) (secrets : List (List ℕ)) (item : Item) (key : Key) (outcome : Outcome) (e : E) → key ≡ key_about item → IsStep before secrets item outcome after → LeavesOthers before secrets after → changes outcome ≡ true
     → (HasCleanDisk (state g held_before) → Holds before (state g held_before)) → FollowsIn {X = X} g (Follows key outcome after) held_before held_after (Err e)
-    → IsStopped before secrets item after true (state g held_before) (state g held_after)
+    → LeavesStopped before secrets item after true (state g held_before) (state g held_after)
 stops_there g held_before held_after before after secrets item key outcome e is_key step others changing held follows =
     let old = state g held_before in
     let new = state g held_after in

@@ -20,15 +20,14 @@ use Rattle.rr_auth.proofs.Keeping.{kept_names, sound_insert}
 use Rattle.rr_registry.specs.Loading.{IsTaken, load_fault}
 use Rattle.rr_rows.specs.Maps.{AreApart}
 use Rattle.rr_rows.proofs.MapLists.{put_all}
-use Rattle.rr_store.specs.Migrating.{has_mntner, is_mntner_of}
+use Rattle.rr_store.specs.Migrating.{has_mntner, is_mntner_of, upper_block}
 use Rattle.rr_desk.specs.MigratingParts.{HasLoadFault}
-use Rattle.rr_desk.specs.Opening.{four_octets_fields}
 use Rattle.rr_desk.specs.Settings.{IsSettings, SettingsParts}
 use Rattle.rr_desk.proofs.ListRows.{gathered_is}
 use Rattle.rr_desk.proofs.TakenApart.{taken_apart}
 use Rattle.rr_load.proofs.SoundLists.{sound_list, stands}
-use Rattle.rr_desk.proofs.Opens.{block_named, four_octets, four_octets_read}
-use Rattle.rr_desk.proofs.OpeningRegistry.{four_octets_object}
+use Rattle.rr_desk.proofs.Opens.{block_named, upper_read, upper_span}
+use Rattle.rr_desk.proofs.OpeningRegistry.{upper_object}
 use Rattle.rr_desk.proofs.Sources.{taken_each}
 
 -- keys of tables of version 1
@@ -36,10 +35,10 @@ abbrev pub HasOldKey : Obj → Type 0
 HasOldKey o = is_some (old_key_bytes o.key) ≡ true
 
 -- the block has none
-no_old_key : old_key_bytes (AsBlock four_octets) ≡ None
+no_old_key : old_key_bytes (AsBlock upper_span) ≡ None
 no_old_key = refl
 
-pub other_key : (k : Key) → is_some (old_key_bytes k) ≡ true → k ≢ AsBlock four_octets
+pub other_key : (k : Key) → is_some (old_key_bytes k) ≡ true → k ≢ AsBlock upper_span
 other_key k formed same = true≢false (sym formed ∙ ap is_some (ap old_key_bytes same ∙ no_old_key))
 
 -- a block of AS numbers of two octets crosses none of the others
@@ -56,10 +55,10 @@ unmet true true c is = absurd (true≢false is)
 unmet true false c is = refl
 unmet false b c is = refl
 
-old_uncrossed : (k : Key) → is_some (old_key_bytes k) ≡ true → keys_cross k (AsBlock four_octets) ≡ false
+old_uncrossed : (k : Key) → is_some (old_key_bytes k) ≡ true → keys_cross k (AsBlock upper_span) ≡ false
 old_uncrossed (Mntner n) formed = refl
 old_uncrossed (AsBlock s) formed =
-    unmet (nat_le s.first 4294967295) (nat_le 65536 s.last) (not (covers s four_octets) && not (covers four_octets s)) (too_small s.last (last_small (nat_le s.first 65535) (nat_le s.last 65535) _ formed))
+    unmet (nat_le s.first 4294967295) (nat_le 65536 s.last) (not (covers s upper_span) && not (covers upper_span s)) (too_small s.last (last_small (nat_le s.first 65535) (nat_le s.last 65535) _ formed))
 old_uncrossed (AutNum n) formed = refl
 old_uncrossed (Inetnum s) formed = refl
 old_uncrossed (Route p n) formed = refl
@@ -89,21 +88,21 @@ root_stands root r (o ∷ os) all has =
     ] refl has
 
 -- the block is the object of its paragraph
-block_key : (s : SettingsParts) → (four_octets_object s).key ≡ AsBlock four_octets
+upper_key : (s : SettingsParts) → (upper_object s).key ≡ AsBlock upper_span
 unfolding obj_at
-block_key s = refl
+upper_key s = refl
 
-pub the_block : (s : SettingsParts) (b : Obj) → IsSettings s → ReadsAs s.source (four_octets_fields s) b → b ≡ four_octets_object s
-the_block s b is read =
-    let both : ◌≡◌ {A = Result Obj ObjectFault} (Ok b) (Ok (four_octets_object s)) = sym read ∙ four_octets_read s is in
+pub the_upper_object : (s : SettingsParts) (b : Obj) → IsSettings s → ReadsAs s.source (upper_block s.root s.source) b → b ≡ upper_object s
+the_upper_object s b is read =
+    let both : ◌≡◌ {A = Result Obj ObjectFault} (Ok b) (Ok (upper_object s)) = sym read ∙ upper_read s is in
     cc
 
-module _ (s : SettingsParts) (is : IsSettings s) (os : List Obj) (r : Reg) (taken : IsTaken os r) (sound : Sound r) (formed : AllByRecursion HasOldKey os) (b : Obj) (read : ReadsAs s.source (four_octets_fields s) b) where
-  key_is : b.key ≡ AsBlock four_octets
-  key_is = ap (λ o. o.key) (the_block s b is read) ∙ block_key s
+module _ (s : SettingsParts) (is : IsSettings s) (os : List Obj) (r : Reg) (taken : IsTaken os r) (sound : Sound r) (formed : AllByRecursion HasOldKey os) (b : Obj) (read : ReadsAs s.source (upper_block s.root s.source) b) where
+  key_is : b.key ≡ AsBlock upper_span
+  key_is = ap (λ o. o.key) (the_upper_object s b is read) ∙ upper_key s
 
   names_are : names_of b ≡ s.root ∷ []
-  names_are = ap names_of (the_block s b is read) ∙ block_named four_octets (codes "AS65536 - AS4294967295") s is
+  names_are = ap names_of (the_upper_object s b is read) ∙ block_named upper_span (codes "AS65536 - AS4294967295") s is
 
   whole : put_all empty os ≡ r
   whole = sym (taken.whole ∙ gathered_is empty os)
@@ -126,7 +125,7 @@ module _ (s : SettingsParts) (is : IsSettings s) (os : List Obj) (r : Reg) (take
         ap (some_is_unknown r) names_are ∙ ap (λ v. v || false) (root_stands s.root r os there has)
 
     grown_sound : Sound (insert r b.key b)
-    grown_sound = sound_insert r b sound (object_key_formed (four_octets_fields s) s.source b read) (kept_names r b.key b (names_of b) known) uncrossed
+    grown_sound = sound_insert r b sound (object_key_formed (upper_block s.root s.source) s.source b read) (kept_names r b.key b (names_of b) known) uncrossed
 
     grown_faultless : load_fault (os ++ b ∷ []) ≡ None
     grown_faultless = sound_list (os ++ b ∷ []) (insert r b.key b) apart grown_sound (gathered_is empty (os ++ b ∷ []) ∙ joined)

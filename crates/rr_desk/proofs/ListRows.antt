@@ -10,14 +10,13 @@ use Rattle.sqlite.specs.State.{State, Survives}
 use Rattle.sqlite.proofs.StateLemmas.{survives_weaker}
 use Rattle.rr_object.specs.declared.key.Key.{Key}
 use Rattle.rr_object.specs.KeyOrders.{key_cmp}
-use Rattle.rr_object.specs.Objects.{Obj}
+use Rattle.rr_object.specs.Objects.{Obj, lent}
 use Rattle.rr_auth.specs.Registries.{Reg, Sound}
 use Rattle.rr_registry.specs.Loading.{IsTaken, gathered}
 use Rattle.rr_rows.specs.Entries.{TreesOf, entry_of}
 use Rattle.rr_rows.specs.Maps.{AreStored, HasRows, IsFilled, IsObject}
 use Rattle.rr_rows.proofs.MapLists.{put_all, stored_rows}
 use Rattle.rr_store.specs.Creating.{IsStoreOf}
-use Rattle.rr_store.specs.Lent.{lent}
 use Rattle.rr_load.proofs.Sources.{one_found}
 use Rattle.sqlite_trees.specs.declared.store.Store.{Ghosts}
 use Rattle.sqlite.specs.Held.{Held}

@@ -1,5 +1,5 @@
 -- Rows of objects that are no sound registry, and those of one.
-use Rattle.std.proofs.Common.{◌≡◌, inl, inr, ℕ, List, refl, subst, ◌∙◌}
+use Rattle.std.proofs.Common.{◌≡◌, inl, inr, ℕ, List, Some, refl, subst, ◌∙◌}
 use Rattle.std.specs.FinMap.{empty, values}
 use Rattle.sqlite_trees.proofs.ListLemmas.{all_of}
 use Rattle.sqlite.specs.Effect.{Database}
@@ -9,16 +9,23 @@ use Rattle.rr_auth.specs.Registries.{Reg}
 use Rattle.rr_auth.specs.Sources.{IsRegistryOf}
 use Rattle.rr_registry.specs.declared.load.LoadFault.{LoadFault}
 use Rattle.rr_registry.specs.declared.load.LoadFault.TheVariants.{Duplicate, Overlap, Unnamed, Memory}
-use Rattle.rr_registry.specs.Loading.{IsFaultOf}
+use Rattle.rr_registry.specs.Loading.{IsFaultOf, load_fault}
 use Rattle.rr_rows.specs.Maps.{AreStored, HasRows, IsObjectOf}
 use Rattle.rr_rows.proofs.MapLists.{in_order_apart, one_map, put_all, stored_rows, values_in_order}
 use Rattle.rr_rows.proofs.MapRows.{each_value}
-use Rattle.rr_store.specs.Opening.{IsUnreadable}
 use Rattle.rr_store.specs.declared.fault.OpenFault.TheVariants as opened
 use Rattle.rr_load.proofs.SoundLists.{sound_list}
 use Rattle.rr_desk.specs.Opened.{HasNoRegistry}
-use Rattle.rr_desk.specs.Private.{IsUnsound, opening_fault}
+use Rattle.rr_desk.specs.Private.{opening_fault}
 use Rattle.rr_desk.proofs.ListRows.{gathered_is}
+
+-- the tables hold the rows of objects of the source which are not a sound registry: one crosses
+-- another, or names a maintainer who is not among them (profile)
+pub record IsUnsound (source : List ℕ) (db : Database) : Type 0 where
+  pub objects : List Obj
+  pub stored : AreStored source objects db
+  pub fault : LoadFault
+  pub is_fault : load_fault objects ≡ Some fault
 
 -- rows of objects that are no registry are those of no registry
 pub unsound_rows : (source : List ℕ) (db : Database) → IsUnsound source db → HasNoRegistry source db
@@ -37,6 +44,10 @@ registry_stored source r db of_source rows = record {
   of_source = each_value r rows.keyed (IsObjectOf source) (λ k o found. record { fields = (rows.keyed.read k o found).fields; read = of_source.read k o found });
   apart = in_order_apart (values r) (values_in_order r rows.keyed);
 }
+
+-- no list of objects of the source has these rows in tables of version 2
+abbrev pub IsUnreadable : List ℕ → Database → Type 0
+IsUnreadable source db = (objects : List Obj) → AreStored source objects db → ⊥
 
 -- rows that no list of objects has are those of no registry
 pub unreadable_rows : (source : List ℕ) (db : Database) → IsUnreadable source db → HasNoRegistry source db

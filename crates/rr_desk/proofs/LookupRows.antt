@@ -6,9 +6,9 @@ use Rattle.sqlite.specs.Effect.{Database}
 use Rattle.sqlite.specs.State.{State, HasCleanDisk, IsUnchanged}
 use Rattle.rr_auth.specs.Registries.{Reg}
 use Rattle.rr_store.specs.declared.fault.StoreFault.{StoreFault}
-use Rattle.rr_store.specs.declared.fault.StoreFault.TheVariants as unread
+use Rattle.rr_store.specs.declared.fault.StoreFault.TheVariants as store_fault
 use Rattle.rr_rows.specs.Maps.{HasRows}
-use Rattle.rr_desk.specs.LookupParts.{refusal}
+use Rattle.rr_desk.specs.LookupParts.{database_error}
 use Rattle.rr_desk.specs.Rows.{OnlyLooks, Holds, KeepsRows}
 
 -- a store that holds the rows of a registry keeps them
@@ -46,10 +46,10 @@ unchanged_holds old new r was survives clean same = record {
 
 -- and so it does after a look that the database did not refuse
 pub look_holds : {X : Type 0} (old new : State) (r : Reg) (found : Result X StoreFault) → (HasCleanDisk old → Holds r old) → OnlyLooks old new → (HasCleanDisk new → OnOk found (IsUnchanged old new))
-    → (HasCleanDisk new → IfErr found (λ fault. fault ≡ unread.Memory → IsUnchanged old new)) → is_some (refusal found) ≡ false → HasCleanDisk new → Holds r new
+    → (HasCleanDisk new → IfErr found (λ fault. fault ≡ store_fault.Memory → IsUnchanged old new)) → is_some (database_error found) ≡ false → HasCleanDisk new → Holds r new
 look_holds old new r (Ok x) held survives same memory kept clean = unchanged_holds old new r (held (omega (arith, survives.clean))) survives clean (same clean)
-look_holds old new r (Err unread.Memory) held survives same memory kept clean = unchanged_holds old new r (held (omega (arith, survives.clean))) survives clean (memory clean refl)
-look_holds old new r (Err (unread.Store error)) held survives same memory kept clean = absurd (true≢false kept)
+look_holds old new r (Err store_fault.Memory) held survives same memory kept clean = unchanged_holds old new r (held (omega (arith, survives.clean))) survives clean (memory clean refl)
+look_holds old new r (Err (store_fault.Store error)) held survives same memory kept clean = absurd (true≢false kept)
 
 -- whether it was refused or not, what stands while the store is open is what stood
 pub look_same : {X : Type 0} (old new : State) (found : Result X StoreFault) → (HasCleanDisk new → OnOk found (IsUnchanged old new)) → (HasCleanDisk new → IsTrue new.is_open → OnErr found (new.now ≡ old.now))

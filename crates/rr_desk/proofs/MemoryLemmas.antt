@@ -13,13 +13,13 @@ replicate_more (suc n) turn =
     ap (λ k. replicate k turn) (let e : suc n + 1 ≡ suc (n + 1) = omega arith in e) ∙ ap (λ turns. turn ∷ turns) (replicate_more n turn)
 
 -- one more accept found no connection
-pub failed_told : (kept : List Turn) (past : ℕ) → kept ++ replicate (past + 1) unaccepted ≡ (kept ++ replicate past unaccepted) ++ unaccepted ∷ []
-failed_told kept past = ap (λ more. kept ++ more) (replicate_more past unaccepted) ∙ sym (append_assoc kept (replicate past unaccepted) (unaccepted ∷ []))
+pub failed_told : (kept : List Turn) (failed : ℕ) → kept ++ replicate (failed + 1) unaccepted ≡ (kept ++ replicate failed unaccepted) ++ unaccepted ∷ []
+failed_told kept failed = ap (λ more. kept ++ more) (replicate_more failed unaccepted) ∙ sym (append_assoc kept (replicate failed unaccepted) (unaccepted ∷ []))
 
 -- one more connection was closed
-pub closed_told : (kept : List MemoryTurn) (turn : MemoryTurn) (past : ℕ) → past ≡ 0 →
-    map memory_turn (kept ++ turn ∷ []) ++ replicate past unaccepted ≡ (map memory_turn kept ++ replicate past unaccepted) ++ memory_turn turn ∷ []
-closed_told kept turn past none =
+pub closed_told : (kept : List MemoryTurn) (turn : MemoryTurn) (failed : ℕ) → failed ≡ 0 →
+    map memory_turn (kept ++ turn ∷ []) ++ replicate failed unaccepted ≡ (map memory_turn kept ++ replicate failed unaccepted) ++ memory_turn turn ∷ []
+closed_told kept turn failed none =
     subst (λ n. map memory_turn (kept ++ turn ∷ []) ++ replicate n unaccepted ≡ (map memory_turn kept ++ replicate n unaccepted) ++ memory_turn turn ∷ []) (sym none)
     (append-nil _ ∙ (map-append memory_turn kept (turn ∷ []) ∙ ap (λ turns. turns ++ memory_turn turn ∷ []) (sym (append-nil (map memory_turn kept)))))
 

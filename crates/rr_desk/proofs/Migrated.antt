@@ -16,7 +16,8 @@ use Rattle.rr_object.specs.OldKeys.{old_key_bytes}
 use Rattle.rr_object.specs.Readings.{ReadsAs}
 use Rattle.rr_auth.specs.Registries.{Reg, Sound}
 use Rattle.rr_auth.specs.Sources.{IsRegistryOf}
-use Rattle.rr_auth.proofs.Members.{IsIn, found_in}
+use Rattle.rr_auth.specs.Elements.{IsIn}
+use Rattle.rr_auth.proofs.Members.{found_in}
 use Rattle.rr_registry.specs.declared.load.LoadFault.{LoadFault}
 use Rattle.rr_registry.specs.declared.load.LoadFault.TheVariants.{Duplicate, Overlap, Unnamed, Memory}
 use Rattle.rr_registry.specs.Loading.{IsFaultOf}
@@ -39,13 +40,12 @@ use Rattle.rr_store.specs.declared.fault.OpenFault.TheVariants as opened
 use Rattle.rr_desk.specs.Opened.{MakesNone}
 use Rattle.rr_desk.specs.Rows.{OnlyLooks}
 use Rattle.rr_desk.specs.Stocks.{Stock}
-use Rattle.rr_store.specs.Migrating.{HasNoRoot, HasRoot, IsMigrated, has_mntner, is_mntner_of}
+use Rattle.rr_store.specs.Migrating.{HasNoRoot, HasRoot, IsMigrated, has_mntner, is_mntner_of, upper_block}
 use Rattle.rr_store.proofs.CauseLemmas.{caused_then}
-use Rattle.rr_desk.specs.Migrating.{AreRegistry, FailsMigrating, HasBlock, HasNoOldRegistry, IsGrown, IsMigratedBy, IsRootless, MigratesTables, RefusesOldRegistry}
-use Rattle.rr_desk.specs.MigratingParts.{HasBlockFault, HasLoadFault, IsGrowthFault, told_as}
-use Rattle.rr_desk.specs.Opening.{four_octets_fields}
+use Rattle.rr_desk.specs.Migrating.{AreRegistry, FailsMigrating, HasNoOldRegistry, HasUpper, IsGrown, IsMigratedBy, IsRootless, MigratesTables, RefusesOldRegistry}
+use Rattle.rr_desk.specs.MigratingParts.{HasLoadFault, HasUpperFault, IsGrowthFault, told_as}
 use Rattle.rr_desk.specs.Settings.{IsSettings, SettingsParts}
-use Rattle.rr_desk.proofs.Grown.{rootless, the_block}
+use Rattle.rr_desk.proofs.Grown.{rootless, the_upper_object}
 use Rattle.rr_desk.proofs.ListRows.{gathered_is}
 use Rattle.rr_desk.proofs.TakenApart.{taken_apart}
 use Rattle.rr_load.proofs.SoundLists.{sound_list}
@@ -59,17 +59,17 @@ told_so os (Overlap n) told (inr is) = inr (refl, record { fault = Overlap n; is
 told_so os (Unnamed n) told (inr is) = inr (refl, record { fault = Unnamed n; is_fault = is })
 told_so os Memory told (inr is) = inl refl
 
-pub block_fault : (s : SettingsParts) (os : List Obj) (block : Obj) (fault : LoadFault) → ReadsAs s.source (four_octets_fields s) block
-    → (told_as fault migrate.NoRoot ≡ migrate.Memory) ⊎ ((told_as fault migrate.NoRoot ≡ migrate.NoRoot) × HasLoadFault (os ++ block ∷ []))
-    → (told_as fault migrate.NoRoot ≡ migrate.Memory) ⊎ ((told_as fault migrate.NoRoot ≡ migrate.NoRoot) × HasBlockFault s os)
-block_fault s os block fault read (inl memory) = inl memory
-block_fault s os block fault read (inr bad) = inr (bad.0, record { block = block; read = read; fault = bad.1 })
+pub upper_fault : (s : SettingsParts) (os : List Obj) (upper : Obj) (fault : LoadFault) → ReadsAs s.source (upper_block s.root s.source) upper
+    → (told_as fault migrate.NoRoot ≡ migrate.Memory) ⊎ ((told_as fault migrate.NoRoot ≡ migrate.NoRoot) × HasLoadFault (os ++ upper ∷ []))
+    → (told_as fault migrate.NoRoot ≡ migrate.Memory) ⊎ ((told_as fault migrate.NoRoot ≡ migrate.NoRoot) × HasUpperFault s os)
+upper_fault s os upper fault read (inl memory) = inl memory
+upper_fault s os upper fault read (inr bad) = inr (bad.0, record { upper = upper; read = read; fault = bad.1 })
 
 pub unsound_growth : (s : SettingsParts) (os : List Obj) (fault : MigrateFault) → (fault ≡ migrate.Memory) ⊎ ((fault ≡ migrate.BadRow) × HasLoadFault os) → IsGrowthFault s os fault
 unsound_growth s os fault (inl memory) = subst (IsGrowthFault s os) (sym memory) tt
 unsound_growth s os fault (inr bad) = subst (IsGrowthFault s os) (sym bad.0) bad.1
 
-pub unowned_growth : (s : SettingsParts) (os : List Obj) (fault : MigrateFault) → AreRegistry os → (fault ≡ migrate.Memory) ⊎ ((fault ≡ migrate.NoRoot) × HasBlockFault s os) → IsGrowthFault s os fault
+pub unowned_growth : (s : SettingsParts) (os : List Obj) (fault : MigrateFault) → AreRegistry os → (fault ≡ migrate.Memory) ⊎ ((fault ≡ migrate.NoRoot) × HasUpperFault s os) → IsGrowthFault s os fault
 unowned_growth s os fault sound (inl memory) = subst (IsGrowthFault s os) (sym memory) tt
 unowned_growth s os fault sound (inr bad) = subst (IsGrowthFault s os) (sym bad.0) (sound, bad.1)
 
@@ -132,19 +132,19 @@ is_rootless s db r grown none = record {
 }
 
 -- where the root is no maintainer of a registry of version 1, the block is none's
-pub growth_rootless : (s : SettingsParts) (os : List Obj) (db : Database) → IsSettings s → AreOldStored s.source os db → AreRegistry os × HasBlockFault s os → IsRootless s db
+pub growth_rootless : (s : SettingsParts) (os : List Obj) (db : Database) → IsSettings s → AreOldStored s.source os db → AreRegistry os × HasUpperFault s os → IsRootless s db
 growth_rootless s os db is stored h = record {
   objects = os;
   before = stored;
   sound = h.0;
-  missing = rootless s is os h.0.registry h.0.taken h.0.sound stored.formed h.1.block h.1.read h.1.fault;
+  missing = rootless s is os h.0.registry h.0.taken h.0.sound stored.formed h.1.upper h.1.read h.1.fault;
 }
 
 -- the registry with the block is of the settings' source
-pub grown_of_source : (s : SettingsParts) (os : List Obj) (r : Reg) → IsSettings s → AllByRecursion (IsObjectOf s.source) os → HasBlock s os r → Sound r → IsRegistryOf s.source r
+pub grown_of_source : (s : SettingsParts) (os : List Obj) (r : Reg) → IsSettings s → AllByRecursion (IsObjectOf s.source) os → HasUpper s os r → Sound r → IsRegistryOf s.source r
 grown_of_source s os r is all grown sound =
-    taken_read s.source (os ++ grown.block ∷ []) r grown.taken sound
-    (all-append (IsReadIn s.source) os (grown.block ∷ []) (all_weaker (IsObjectOf s.source) (IsReadIn s.source) (λ o of. of.read) os all) (block_read s grown.block is (the_block s grown.block is grown.read), tt))
+    taken_read s.source (os ++ grown.upper ∷ []) r grown.taken sound
+    (all-append (IsReadIn s.source) os (grown.upper ∷ []) (all_weaker (IsObjectOf s.source) (IsReadIn s.source) (λ o of. of.read) os all) (block_read s grown.upper is (the_upper_object s grown.upper is grown.read), tt))
 
 -- the registry that was made before has the rows that migration makes
 same_block : (source : List ℕ) (fields : List Field) (a b : Obj) → ReadsAs source fields a → ReadsAs source fields b → a ≡ b
@@ -155,15 +155,15 @@ same_block source fields a b first second =
 pub migrated_rows : (s : SettingsParts) (r : Reg) (old new : Database) → IsGrown s old r → IsMigrated s.root s.source old new → HasRows r new
 migrated_rows s r old new grown made =
     let os = grown.objects in
-    let block = grown.grown.block in
+    let upper = grown.grown.upper in
     let taken = grown.grown.taken in
-    let same : made.block ≡ block = same_block s.source (four_octets_fields s) made.block block made.read grown.grown.read in
-    let alike : IsPermutation (made.objects ++ made.block ∷ []) (os ++ block ∷ []) =
-    subst (λ b. IsPermutation (made.objects ++ made.block ∷ []) (os ++ b ∷ [])) same
-    (IsPermutation-append_left (made.block ∷ []) made.objects os (stored_alike old_key_bytes old_version s.source made.objects os old made.before grown.before)) in
-    let all = all_weaker (IsObjectOf s.source) IsObject (of_any s.source) (os ++ block ∷ []) (all-permutation (IsObjectOf s.source) _ _ alike made.after.of_source) in
-    subst (λ m. HasRows m new) (sym (taken.whole ∙ gathered_is empty (os ++ block ∷ [])))
-    (listed_rows (os ++ block ∷ []) new all (taken_apart (os ++ block ∷ []) r taken) (rows_permuted _ _ new (IsPermutation-map entry_of _ _ alike) made.after.rows) made.after.version)
+    let same : made.upper ≡ upper = same_block s.source (upper_block s.root s.source) made.upper upper made.read grown.grown.read in
+    let alike : IsPermutation (made.objects ++ made.upper ∷ []) (os ++ upper ∷ []) =
+    subst (λ b. IsPermutation (made.objects ++ made.upper ∷ []) (os ++ b ∷ [])) same
+    (IsPermutation-append_left (made.upper ∷ []) made.objects os (stored_alike old_key_bytes old_version s.source made.objects os old made.before grown.before)) in
+    let all = all_weaker (IsObjectOf s.source) IsObject (of_any s.source) (os ++ upper ∷ []) (all-permutation (IsObjectOf s.source) _ _ alike made.after.of_source) in
+    subst (λ m. HasRows m new) (sym (taken.whole ∙ gathered_is empty (os ++ upper ∷ [])))
+    (listed_rows (os ++ upper ∷ []) new all (taken_apart (os ++ upper ∷ []) r taken) (rows_permuted _ _ new (IsPermutation-map entry_of _ _ alike) made.after.rows) made.after.version)
 
 -- why tables of version 1 are not read is why they are not migrated
 module _ (s : SettingsParts) (db : Database) where

@@ -12,17 +12,17 @@ use Rattle.rr_registry.proofs.Gathering.{found_fault}
 use Rattle.rr_desk.specs.Opening.{AreOpening, opening_paragraphs}
 use Rattle.rr_desk.specs.Settings.{IsSettings, SettingsParts}
 use Rattle.rr_desk.proofs.OpeningLines.{equal_texts}
-use Rattle.rr_desk.proofs.Opens.{addresses_named, addresses_object, addresses_read, block_named, block_object, four_octets, four_octets_read, numbers, numbers_read, root_named, root_object, root_read}
+use Rattle.rr_desk.proofs.Opens.{addresses_named, addresses_object, addresses_read, block_named, block_object, numbers, numbers_read, root_named, root_object, root_read, upper_read, upper_span}
 
 abbrev pub numbers_object : SettingsParts → Obj
 numbers_object s = block_object numbers (codes "AS0 - AS65535") s
 
-abbrev pub four_octets_object : SettingsParts → Obj
-four_octets_object s = block_object four_octets (codes "AS65536 - AS4294967295") s
+abbrev pub upper_object : SettingsParts → Obj
+upper_object s = block_object upper_span (codes "AS65536 - AS4294967295") s
 
 -- the opening objects in order
 abbrev pub opening_objects : SettingsParts → List Obj
-opening_objects s = root_object s ∷ (numbers_object s ∷ (four_octets_object s ∷ (addresses_object s ∷ [])))
+opening_objects s = root_object s ∷ (numbers_object s ∷ (upper_object s ∷ (addresses_object s ∷ [])))
 
 -- a list is told by its results
 same_objects : (xs ys : List Obj) → map {A = Obj} {B = Result Obj ObjectFault} Ok xs ≡ map Ok ys → xs ≡ ys
@@ -35,7 +35,7 @@ same_objects (x ∷ xs) (y ∷ ys) e =
     cc
 
 paragraphs_read : (s : SettingsParts) → IsSettings s → map (λ fields. object_of fields s.source) (opening_paragraphs s) ≡ map Ok (opening_objects s)
-paragraphs_read s is = rw (root_read s is, numbers_read s is, four_octets_read s is, addresses_read s is) refl
+paragraphs_read s is = rw (root_read s is, numbers_read s is, upper_read s is, addresses_read s is) refl
 
 -- which the opening objects are
 pub are_these : (s : SettingsParts) (objects : List Obj) → IsSettings s → AreOpening s objects → objects ≡ opening_objects s
@@ -64,8 +64,8 @@ root_key_is s = refl
 all_named : (s : SettingsParts) → IsSettings s
     → position (λ o. list_any (λ n. not (list_any (λ x. is_mntner_of n x.key) (opening_objects s))) (names_of o)) (opening_objects s) ≡ None
 all_named s is =
-    named_by_root s.root (root_object s) (numbers_object s) (four_octets_object s) (addresses_object s) (root_key_is s) (root_named s is)
-    (block_named numbers (codes "AS0 - AS65535") s is) (block_named four_octets (codes "AS65536 - AS4294967295") s is) (addresses_named s is)
+    named_by_root s.root (root_object s) (numbers_object s) (upper_object s) (addresses_object s) (root_key_is s) (root_named s is)
+    (block_named numbers (codes "AS0 - AS65535") s is) (block_named upper_span (codes "AS65536 - AS4294967295") s is) (addresses_named s is)
 
 opening_is_sound : (s : SettingsParts) → IsSettings s → load_fault (opening_objects s) ≡ None
 opening_is_sound s is = rw (unclashed s, found_fault (opening_objects s) None (sym (all_named s is)))

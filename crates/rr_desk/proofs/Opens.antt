@@ -31,7 +31,7 @@ use Rattle.rr_object.specs.declared.key.Key.{Key}
 use Rattle.rr_object.specs.declared.key.Key.TheVariants.{Mntner, AsBlock, Inetnum}
 use Rattle.rr_object.specs.declared.kind.Kind.TheVariants.{MntBy, Source, Auth, MntLower, MntRoutes}
 use Rattle.rr_store.specs.Migrating.{upper_block}
-use Rattle.rr_desk.specs.Opening.{AreOpening, addresses_fields, auth_line, four_octets_fields, numbers_fields, owned, root_fields}
+use Rattle.rr_desk.specs.Opening.{AreOpening, addresses_fields, auth_line, numbers_fields, owned, root_fields}
 use Rattle.rr_desk.specs.Private.{IsParagraphOf, HasObject}
 use Rattle.rr_desk.specs.Settings.{IsSettings, SettingsParts}
 use Rattle.rr_desk.proofs.PlainTexts.{IsShown, shown_line, shown_meaning}
@@ -176,22 +176,22 @@ block_named block line s is =
 abbrev pub numbers : Ends
 numbers = record { first = 0; last = 65535 }
 
-abbrev pub four_octets : Ends
-four_octets = record { first = 65536; last = 4294967295 }
+abbrev pub upper_span : Ends
+upper_span = record { first = 65536; last = 4294967295 }
 
 numbers_key : (s : SettingsParts) → key_of (numbers_fields s) ≡ Ok (AsBlock numbers)
 unfolding key_of key_at key_of_text value_meaning trim_end trim_start as_span_of ends_between dashed_of cut_at as_number_of number_of
 numbers_key s = refl
 
-four_octets_key : (s : SettingsParts) → key_of (four_octets_fields s) ≡ Ok (AsBlock four_octets)
+upper_key : (s : SettingsParts) → key_of (upper_block s.root s.source) ≡ Ok (AsBlock upper_span)
 unfolding key_of key_at key_of_text value_meaning trim_end trim_start as_span_of ends_between dashed_of cut_at as_number_of number_of
-four_octets_key s = refl
+upper_key s = refl
 
 pub numbers_read : (s : SettingsParts) → IsSettings s → object_of (numbers_fields s) s.source ≡ Ok (block_object numbers (codes "AS0 - AS65535") s)
 numbers_read s is = block_read numbers (codes "AS0 - AS65535") s is (numbers_key s)
 
-pub four_octets_read : (s : SettingsParts) → IsSettings s → object_of (four_octets_fields s) s.source ≡ Ok (block_object four_octets (codes "AS65536 - AS4294967295") s)
-four_octets_read s is = block_read four_octets (codes "AS65536 - AS4294967295") s is (four_octets_key s)
+pub upper_read : (s : SettingsParts) → IsSettings s → object_of (upper_block s.root s.source) s.source ≡ Ok (block_object upper_span (codes "AS65536 - AS4294967295") s)
+upper_read s is = block_read upper_span (codes "AS65536 - AS4294967295") s is (upper_key s)
 
 -- the span of all addresses
 addresses_maintained : (s : SettingsParts) → IsSettings s → items_of MntBy (addresses_fields s) ≡ s.root ∷ []
@@ -268,8 +268,8 @@ pub numbers_readable : (s : SettingsParts) (source : List ℕ) (fields : List Fi
 numbers_readable s source fields is same own = readable_at source s.source fields (numbers_fields s) _ same own (numbers_read s is)
 
 -- that block can be read, so that it is never refused
-pub four_octets_told : (s : SettingsParts) (root source : List ℕ) → IsSettings s → root ≡ s.root → source ≡ s.source → ReadsAs source (upper_block root source) (block_object four_octets (codes "AS65536 - AS4294967295") s)
-four_octets_told s root source is of_root of_source = rw (of_root, of_source) (four_octets_read s is)
+pub upper_told : (s : SettingsParts) (root source : List ℕ) → IsSettings s → root ≡ s.root → source ≡ s.source → ReadsAs source (upper_block root source) (block_object upper_span (codes "AS65536 - AS4294967295") s)
+upper_told s root source is of_root of_source = rw (of_root, of_source) (upper_read s is)
 
 pub addresses_readable : (s : SettingsParts) (source : List ℕ) (fields : List Field) → IsSettings s → fields ≡ addresses_fields s → source ≡ s.source → HasObject source fields
 addresses_readable s source fields is same own = readable_at source s.source fields (addresses_fields s) _ same own (addresses_read s is)
@@ -313,7 +313,7 @@ root_good s is = (
 -- four objects read so are the opening objects
 pub four_open : (s : SettingsParts) (a b c d : Obj) (objects : List Obj) → objects ≡ a ∷ (b ∷ (c ∷ (d ∷ [])))
     → IsParagraphOf s.source (root_fields s) a → IsParagraphOf s.source (numbers_fields s) b
-    → IsParagraphOf s.source (four_octets_fields s) c → IsParagraphOf s.source (addresses_fields s) d → AreOpening s objects
+    → IsParagraphOf s.source (upper_block s.root s.source) c → IsParagraphOf s.source (addresses_fields s) d → AreOpening s objects
 four_open s a b c d objects same first second third last =
     record { read = rw (same, first.read, second.read, third.read, last.read) refl }
 

@@ -1,5 +1,5 @@
 -- The registries of desks are of their settings' source.
-use Rattle.std.proofs.Common.{◌≡◌, ℕ, List, [], ◌∷◌, ◌++◌, map, Result, Ok, Err, inl, inr, sym, ap, subst, ◌∙◌}
+use Rattle.std.proofs.Common.{◌≡◌, ℕ, List, [], ◌∷◌, ◌++◌, map, Result, Ok, Err, inl, inr, Bool, true, false, refl, sym, ap, subst, ◌∙◌}
 use Rattle.std.proofs.lemmas.List.{map-append}
 use Rattle.std.specs.Prelude.{None, Some}
 use Rattle.std.specs.List.{AllByRecursion}
@@ -30,11 +30,12 @@ use Rattle.rr_submission.specs.Handled.{StopsAt, HandlesStopped}
 use Rattle.rr_submission.specs.SubmissionItems.{submitted}
 use Rattle.rr_submission.specs.Submissions.{Submits}
 use Rattle.rr_submission.proofs.Keeping.{items_keep_the_source}
-use Rattle.rr_desk.specs.Opening.{IsOpened}
+use Rattle.rr_desk.specs.declared.desk.Desk.{Desk}
+use Rattle.rr_desk.specs.Opening.{IsOpeningRegistry}
 use Rattle.rr_desk.specs.Settings.{IsSettings, SettingsParts}
 use Rattle.rr_desk.specs.Stocks.{Stock, stock_ledger}
-use Rattle.rr_desk.proofs.Opens.{addresses_read, four_octets_read, numbers_read, root_read}
-use Rattle.rr_desk.proofs.OpeningRegistry.{are_these, four_octets_object, opening_objects}
+use Rattle.rr_desk.proofs.Opens.{addresses_read, numbers_read, root_read, upper_read}
+use Rattle.rr_desk.proofs.OpeningRegistry.{are_these, opening_objects, upper_object}
 
 gathered_each : (P : Obj → Type 0) (r : Reg) (os : List Obj) → ((k : Key) (o : Obj) → get r k ≡ Some o → P o) → AllByRecursion P os → (k : Key) (o : Obj) → get (gathered r os) k ≡ Some o → P o
 gathered_each P r [] old all = old
@@ -60,16 +61,16 @@ pub taken_of_source : (source : List ℕ) (os : List Obj) (r : Reg) → IsTaken 
 taken_of_source source os r taken sound all = taken_read source os r taken sound (all_weaker (IsObjectOf source) (IsReadIn source) (λ o is. is.read) os all)
 
 -- with the block of the other AS numbers too
-pub block_read : (s : SettingsParts) (b : Obj) → IsSettings s → b ≡ four_octets_object s → IsReadIn s.source b
+pub block_read : (s : SettingsParts) (b : Obj) → IsSettings s → b ≡ upper_object s → IsReadIn s.source b
 unfolding obj_at
-block_read s b is same = subst (IsReadIn s.source) (sym same) (four_octets_read s is)
+block_read s b is same = subst (IsReadIn s.source) (sym same) (upper_read s is)
 
 -- the registry that opens with settings is of their source
 opening_read : (s : SettingsParts) → IsSettings s → AllByRecursion (IsReadIn s.source) (opening_objects s)
 unfolding obj_at
-opening_read s is = (root_read s is, (numbers_read s is, (four_octets_read s is, (addresses_read s is, tt))))
+opening_read s is = (root_read s is, (numbers_read s is, (upper_read s is, (addresses_read s is, tt))))
 
-pub opened_of_source : (s : SettingsParts) (r : Reg) → IsSettings s → Sound r → IsOpened s r → IsRegistryOf s.source r
+pub opened_of_source : (s : SettingsParts) (r : Reg) → IsSettings s → Sound r → IsOpeningRegistry s r → IsRegistryOf s.source r
 opened_of_source s r is sound opened =
     taken_read s.source opened.objects r opened.taken sound (subst (AllByRecursion (IsReadIn s.source)) (sym (are_these s opened.objects is opened.are_opening)) (opening_read s is))
 
@@ -88,7 +89,7 @@ module _ {S : Type 0} (g : store.Ghosts S) (source : List ℕ) (old new : Stock 
       (subst (λ items. Run old.registry items (s.outcomes ++ last.0 ∷ []) new.registry) (sym (map-append submitted s.told (s.last ∷ []))) run)
 
   -- a submission leaves the registry one of its source
-  pub kept_of_source : (start now before after : Told) (result : Result Done DeskFault)
+  kept_of_source : (start now before after : Told) (result : Result Done DeskFault)
       → Submits (stock_ledger g) source (record { reader_before = start; reader_after = now; writer_before = before; writer_after = after; before = old.registry; after = new.registry }) old new result
       → IsRegistryOf source old.registry → IsRegistryOf source new.registry
   kept_of_source start now before after (Ok done) h of = items_keep_the_source source (entries h.text) h.items old.registry new.registry h.outcomes of h.are_items h.runs
@@ -100,3 +101,23 @@ module _ {S : Type 0} (g : store.Ghosts S) (source : List ℕ) (old new : Stock 
   kept_of_source start now before after (Err (StoreFault count)) h of = stopped_of_source start now before after count h of
   kept_of_source start now before after (Err Memory) h of = subst (IsRegistryOf source) (sym h.same) of
   kept_of_source start now before after (Err Stopped) h of = absurd h
+
+  -- and so does one that was refused
+  submitted_where : (stopped : Bool) (start now before after : Told) (result : Result Done DeskFault) → (stopped ≡ true → new ≡ old)
+      → (stopped ≡ false → Submits (stock_ledger g) source (record { reader_before = start; reader_after = now; writer_before = before; writer_after = after; before = old.registry; after = new.registry }) old new result)
+      → IsRegistryOf source old.registry → IsRegistryOf source new.registry
+  submitted_where true start now before after result same submits of = subst (λ (s : Stock S). IsRegistryOf source s.registry) (sym (same refl)) of
+  submitted_where false start now before after result same submits of = kept_of_source start now before after result (submits refl) of
+
+  pub submitted_of_source : (start now before after : Told) (result : Result Done DeskFault) → (old.stopped ≡ true → new ≡ old)
+      → (old.stopped ≡ false → Submits (stock_ledger g) source (record { reader_before = start; reader_after = now; writer_before = before; writer_after = after; before = old.registry; after = new.registry }) old new result)
+      → IsRegistryOf source old.registry → IsRegistryOf source new.registry
+  submitted_of_source start now before after result same submits of = submitted_where old.stopped start now before after result same submits of
+
+-- a desk with another registry and store
+abbrev pub with_stock : {S : Type 0} → Desk S → Stock S → Desk S
+with_stock desk stock = record { settings = desk.settings; stored = stock }
+
+-- a desk is as it was where its registry and its store are
+pub same_desk : {S : Type 0} (desk : Desk S) (stock : Stock S) → stock ≡ desk.stored → with_stock desk stock ≡ desk
+same_desk desk stock same = ap (with_stock desk) same

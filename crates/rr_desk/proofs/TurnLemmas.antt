@@ -8,7 +8,7 @@ use Rattle.rr_desk.specs.declared.desk.Desk.{Desk}
 use Rattle.std.specs.Prelude.{is_ok}
 use Rattle.rr_io.specs.Told.{Told}
 use Rattle.rr_desk.specs.TurnParts.{TakesTurn}
-use Rattle.rr_desk.specs.Turns.{Answer, Does, DoesAll, InOrder, IsAccepted, IsClosed, IsNext, IsUnaccepted, Serving, TakesTurns, Tally, Turn, Visit, asked_in, closed, is_served, turn_of, with_turn}
+use Rattle.rr_desk.specs.Turns.{ConnEnd, Does, DoesAll, InOrder, IsAccepted, IsClosed, IsNext, IsUnaccepted, Serving, TakesTurns, Tally, Turn, Visit, closed, given_in, is_served, turn_of, with_turn}
 
 mapped_more : (visits : List (Option Visit)) (visit : Option Visit) → map turn_of (visits ++ visit ∷ []) ≡ map turn_of visits ++ turn_of visit ∷ []
 mapped_more [] visit = refl
@@ -30,8 +30,8 @@ all_more {S} g serves (v ∷ visits) visit first before after all does = (all.0,
 
 -- the connections to come are accepted in their order by one turn more
 order_more : (visits : List (Option Visit)) (visit : Option Visit) (first before after : Option (List (List ℕ))) →
-    InOrder visits first before → IsNext (asked_in visit) before after → InOrder (visits ++ visit ∷ []) first after
-order_more [] visit first before after none next = (after, subst (λ waiting. IsNext (asked_in visit) waiting after) none next, refl)
+    InOrder visits first before → IsNext (given_in visit) before after → InOrder (visits ++ visit ∷ []) first after
+order_more [] visit first before after none next = (after, subst (λ waiting. IsNext (given_in visit) waiting after) none next, refl)
 order_more (v ∷ visits) visit first before after all next = (all.0, all.1, order_more visits visit all.0 before after all.2 next)
 
 module _ {S : Type 0} (g : Ghosts S) (serves : Serving) (first before after : Desk S) (tally_first tally_before tally_after : Tally) where
@@ -48,9 +48,9 @@ module _ {S : Type 0} (g : Ghosts S) (serves : Serving) (first before after : De
     counted = (let a = turns.counted in let b = turn.taken.counted in omega arith);
     told = turn.taken.told ∙ (ap (λ told. with_turn told (turn_of turn.visit)) turns.told ∙ told_more tally_first.told turns.visits turn.visit);
     are_served = ap (λ n. n + (if well then 1 else 0)) turns.are_served
-        ∙ (ap (λ b. count_by is_served turns.visits + (if b then 1 else 0)) turn.answer ∙ sym (counted_more is_served turns.visits turn.visit));
+        ∙ (ap (λ b. count_by is_served turns.visits + (if b then 1 else 0)) turn.served_well ∙ sym (counted_more is_served turns.visits turn.visit));
     are_failed = ap (λ n. n + (if not well then 1 else 0)) turns.are_failed
-        ∙ (ap (λ b. count_by (λ visit. not (is_served visit)) turns.visits + (if not b then 1 else 0)) turn.answer
+        ∙ (ap (λ b. count_by (λ visit. not (is_served visit)) turns.visits + (if not b then 1 else 0)) turn.served_well
         ∙ sym (counted_more (λ visit. not (is_served visit)) turns.visits turn.visit));
   }
 
@@ -87,23 +87,23 @@ no_turn g serves desk tally = record {
     none_more (Some turns) = ap Some (sym (append-nil turns))
 
 -- a connection was accepted, served and closed, which is a turn
-pub served_turn : {S : Type 0} (g : Ghosts S) (serves : Serving) (before after : Desk S) (first between last : Tally) (asked : Option (List ℕ)) (reader_before reader_after writer_before writer_after : Told) (answer : Answer) (well : Bool) → well ≡ is_ok answer →
-    IsAccepted first between asked reader_before writer_before →
-    serves S g before after reader_before reader_after writer_before writer_after answer →
-    IsClosed asked writer_after.bytes between last →
+pub served_turn : {S : Type 0} (g : Ghosts S) (serves : Serving) (before after : Desk S) (first between last : Tally) (given : Option (List ℕ)) (reader_before reader_after writer_before writer_after : Told) (ended : ConnEnd) (well : Bool) → well ≡ is_ok ended →
+    IsAccepted first between given reader_before writer_before →
+    serves S g before after reader_before reader_after writer_before writer_after ended →
+    IsClosed given writer_after.bytes between last →
     TakesTurn g serves before after first last well
-served_turn g serves before after first between last asked reader_before reader_after writer_before writer_after answer well is accepted served closes = record {
-  visit = Some (record { reader_before = reader_before; reader_after = reader_after; writer_before = writer_before; writer_after = writer_after; answer = answer });
+served_turn g serves before after first between last given reader_before reader_after writer_before writer_after ended well is accepted served closes = record {
+  visit = Some (record { reader_before = reader_before; reader_after = reader_after; writer_before = writer_before; writer_after = writer_after; ended = ended });
   does = (accepted.fresh, served);
   is_next = subst (IsNext (Some reader_before.bytes) first.waiting) (sym closes.waiting) accepted.is_next;
   taken = record {
     counted = closes.counts.counted ∙ ap (λ n. n + 1) accepted.counted;
-    told = closes.counts.told ∙ (ap (λ told. with_turn told (closed asked writer_after.bytes)) accepted.told ∙ ap (λ bytes. with_turn first.told (closed bytes writer_after.bytes)) accepted.is_asked);
+    told = closes.counts.told ∙ (ap (λ told. with_turn told (closed given writer_after.bytes)) accepted.told ∙ ap (λ bytes. with_turn first.told (closed bytes writer_after.bytes)) accepted.is_given);
   };
-  answer = is;
+  served_well = is;
 }
 
 -- no connection could be accepted, which is a turn
 pub failed_turn : {S : Type 0} (g : Ghosts S) (serves : Serving) (desk : Desk S) (before after : Tally) → IsUnaccepted before after → TakesTurn g serves desk desk before after false
 failed_turn g serves desk before after turn =
-    record { visit = None; does = refl; is_next = turn.is_next; taken = turn.counts; answer = refl }
+    record { visit = None; does = refl; is_next = turn.is_next; taken = turn.counts; served_well = refl }

@@ -11,7 +11,7 @@ in_order [] waiting after all place bytes within is = absurd (omega (arith, with
 in_order (visit ∷ visits) [] after all place bytes within is = absurd (none_there bytes is)
 in_order (None ∷ visits) (next ∷ waiting) after all place bytes within is = absurd all.1
 in_order (Some visit ∷ visits) (next ∷ waiting) after all zero bytes within is =
-    record { visit = visit; is = refl; asked = all.1.0 ∙ is }
+    record { visit = visit; is = refl; given = all.1.0 ∙ is }
 in_order (Some visit ∷ visits) (next ∷ waiting) after all (suc place) bytes within is =
     let rest = in_order visits waiting after (subst (λ between. InOrder visits between after) all.1.1 all.2) place bytes (omega (arith, within)) is in
-    record { visit = rest.visit; is = rest.is; asked = rest.asked }
+    record { visit = rest.visit; is = rest.is; given = rest.given }

@@ -6,7 +6,7 @@ use Rattle.sqlite.specs.Held.{state}
 use Rattle.sqlite.specs.State.{HasCleanDisk}
 use Rattle.rr_io.specs.Told.{Told}
 use Rattle.rr_auth.specs.Sources.{IsRegistryOf}
-use Rattle.rr_submission.specs.Submissions.{Submits, sides}
+use Rattle.rr_submission.specs.Submissions.{SubmitsText}
 use Rattle.rr_submission.specs.declared.submission.DeskFault.{DeskFault}
 use Rattle.rr_submission.specs.declared.submission.Done.{Done}
 use Rattle.rr_answer.specs.declared.fault.QueryFault.{QueryFault}
@@ -25,8 +25,7 @@ abbrev pub SubmitsTo : {S : Type 0} → Ghosts S → Desk S → Desk S → Told 
     → Told
     → Result Done DeskFault → Type 0
 SubmitsTo g old new reader_old reader_new writer_old writer_new result =
-    Submits (stock_ledger g) old.settings.source
-    (sides reader_old reader_new writer_old writer_new old.stored.registry new.stored.registry)
+    SubmitsText (stock_ledger g) old.settings.source reader_old reader_new writer_old writer_new
     old.stored new.stored result
 
 -- the answer of a desk to the text of a query

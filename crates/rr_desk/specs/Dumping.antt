@@ -1,5 +1,5 @@
 -- What a dump of a desk writes.
-use Rattle.std.specs.Prelude.{ℕ, List, Result, Ok, Err}
+use Rattle.std.specs.Prelude.{◌≡◌, ℕ, List, Result, Ok, Err}
 use Rattle.rr_io.specs.Sending.{Takes, TakesPrefix}
 use Rattle.rr_io.specs.Told.{Told}
 use Rattle.rr_answer.specs.declared.dumping.DumpFault.{DumpFault as Cut}
@@ -24,3 +24,7 @@ IsCutShort bytes before after Stopped = ⊥
 abbrev pub Dumps : List ℕ → Told → Told → Result ℕ DeskDumpFault → Type 0
 Dumps bytes before after (Ok count) = Takes before after bytes
 Dumps bytes before after (Err fault) = IsCutShort bytes before after fault
+
+-- a desk that is stopped gives no dump, and writes nothing
+abbrev pub RefusesDump : {W : Type 0} → W → W → Result ℕ DeskDumpFault → Type 0
+RefusesDump writer_old writer_new result = (result ≡ Err Stopped) × (writer_new ≡ writer_old)

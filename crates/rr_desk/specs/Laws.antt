@@ -24,7 +24,7 @@ use Rattle.rr_desk.specs.declared.loading.DeskLoadFault.TheVariants.{Object, Dup
 use Rattle.rr_desk.specs.declared.loading.DeskLoadFault.TheVariants.{Unnamed, Store, Memory}
 use Rattle.rr_desk.specs.Answering.{IsAnswered}
 use Rattle.rr_desk.specs.Loaded.{FailsToLoad, IsLoaded}
-use Rattle.rr_desk.specs.Turns.{InOrder, IsAskedAt, Visit}
+use Rattle.rr_desk.specs.Turns.{InOrder, IsGivenAt, Visit}
 
 -- a fault is of the reader, of the tables or of memory, and not of the text (profile)
 abbrev pub IsNotOfText : DeskLoadFault → Type 0
@@ -39,13 +39,13 @@ IsNotOfText (Unnamed n) = ⊥
 IsNotOfText (Store error) = Unit {0}
 IsNotOfText Memory = Unit {0}
 
--- a reader has the full dump of a registry: what is loaded from it is that registry, and where
--- nothing is, it is for no fault of the dump (profile)
+-- what is loaded from a reader is this registry, and where nothing is, it is for no fault of the
+-- text (profile)
 pub record LoadsItself (source : List ℕ) (registry : Reg) (start now : Told) : Type 0 where
   pub loaded : (other : Reg) → IsLoaded source start now other → other ≡ registry
   pub fails : (fault : DeskLoadFault) → FailsToLoad source start now fault → IsNotOfText fault
 
--- this is so of each registry of the source that can be read again from its dump
+-- where a reader has the full dump of a registry that can be read again, that loads itself
 abbrev pub FullDumpsAreLoaded : Type 0
 FullDumpsAreLoaded =
     (source : List ℕ) (registry : Reg) (start now : Told)
@@ -91,4 +91,4 @@ TurnsAreInOrder =
     → InOrder visits (Some waiting) after
     → (place : ℕ) (bytes : List ℕ) → place < length visits
     → slice_get waiting place ≡ Some bytes
-    → IsAskedAt visits place bytes
+    → IsGivenAt visits place bytes

@@ -10,7 +10,7 @@ use Rattle.rr_desk.specs.declared.loading.DeskLoadFault.TheVariants.{NotEmpty, R
 use Rattle.rr_desk.specs.declared.loading.DeskLoadFault.TheVariants.{Object, Duplicate, Overlap}
 use Rattle.rr_desk.specs.declared.loading.DeskLoadFault.TheVariants.{Unnamed, Store, Memory}
 
--- the fault is of the dump, and not of the store
+-- the fault is not of the store
 abbrev pub IsOfDump : DeskLoadFault → Type 0
 IsOfDump NotEmpty = ⊥
 IsOfDump (Store error) = ⊥

@@ -7,22 +7,22 @@ use Rattle.sqlite.specs.declared.error.Error.TheVariants.{SqliteFailure}
 use Rattle.sqlite.specs.declared.error.ErrorCode.TheVariants as code
 use Rattle.rr_auth.specs.Registries.{Reg}
 use Rattle.rr_store.specs.declared.fault.StoreFault.{StoreFault}
-use Rattle.rr_store.specs.declared.fault.StoreFault.TheVariants as unread
+use Rattle.rr_store.specs.declared.fault.StoreFault.TheVariants as store_fault
 use Rattle.rr_answer.specs.declared.fault.QueryFault.{QueryFault}
 use Rattle.rr_answer.specs.declared.fault.QueryFault.TheVariants.{Bad, TooLong, TooMany, Memory}
 use Rattle.rr_answer.specs.declared.fault.QueryFault.TheVariants.{Store, Stopped}
 use Rattle.rr_desk.specs.Answering.{IsNamingFound}
 
 -- the error with which the database refused, if it did
-abbrev pub refusal : {X : Type 0} → Result X StoreFault → Option Error
-refusal (Ok x) = None
-refusal (Err (unread.Store error)) = Some error
-refusal (Err unread.Memory) = None
+abbrev pub database_error : {X : Type 0} → Result X StoreFault → Option Error
+database_error (Ok x) = None
+database_error (Err (store_fault.Store error)) = Some error
+database_error (Err store_fault.Memory) = None
 
 -- the error of the database that a fault of its store is; out of memory is one of its own
 abbrev pub error_of : StoreFault → Error
-error_of (unread.Store error) = error
-error_of unread.Memory = SqliteFailure code.OutOfMemory
+error_of (store_fault.Store error) = error
+error_of store_fault.Memory = SqliteFailure code.OutOfMemory
 
 -- nothing was found, which stops the desk where the store failed
 abbrev pub IsUnfound : QueryFault → Bool → Type 0

@@ -7,11 +7,11 @@ use Rattle.rr_desk.specs.MemoryTurns.{memory_turn}
 use Rattle.rr_desk.specs.Turns.{Turn, unaccepted}
 
 -- the connections that are closed, and the accepts that found none, are the turns (profile)
-pub told_in_all : (kept : List MemoryTurn) (past : ℕ) (turns : List Turn) →
-    Some (map memory_turn kept ++ replicate past unaccepted) ≡ Some turns
-    → length turns ≡ length kept + past
-told_in_all kept past turns is =
-    let same : turns ≡ map memory_turn kept ++ replicate past unaccepted = cc in
-    ap length same ∙ (length-append (map memory_turn kept) (replicate past unaccepted)
-    ∙ (ap (λ n. n + length (replicate past unaccepted)) (length-map kept memory_turn)
-    ∙ ap (λ n. length kept + n) (length-replicate past unaccepted)))
+pub told_in_all : (kept : List MemoryTurn) (failed : ℕ) (turns : List Turn) →
+    Some (map memory_turn kept ++ replicate failed unaccepted) ≡ Some turns
+    → length turns ≡ length kept + failed
+told_in_all kept failed turns is =
+    let same : turns ≡ map memory_turn kept ++ replicate failed unaccepted = cc in
+    ap length same ∙ (length-append (map memory_turn kept) (replicate failed unaccepted)
+    ∙ (ap (λ n. n + length (replicate failed unaccepted)) (length-map kept memory_turn)
+    ∙ ap (λ n. length kept + n) (length-replicate failed unaccepted)))

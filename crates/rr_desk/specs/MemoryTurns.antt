@@ -44,28 +44,28 @@ turns_closed peers = peers.turns.items
 
 -- how many accepts found no connection
 abbrev pub failed_accepts : MemoryPeers → ℕ
-failed_accepts peers = peers.past
+failed_accepts peers = peers.failed_accepts
 
 -- a connection is open
 abbrev pub is_open : MemoryPeers → Bool
-is_open peers = is_some peers.asked
+is_open peers = is_some peers.given
 
 -- the bytes that it gives
 abbrev pub open_bytes : MemoryPeers → Option (List ℕ)
-open_bytes peers = option_map (λ asked. asked.now) peers.asked
+open_bytes peers = option_map (λ given. given.now) peers.given
 
--- a connection that is closed, with the bytes that it was asked and those that it was answered
+-- a connection that is closed, with the bytes that it gave and those that it was answered
 abbrev pub memory_turn : MemoryTurn → Turn
-memory_turn turn = closed (Some turn.asked.now) (Some turn.answered.items)
+memory_turn turn = closed (Some turn.given.now) (Some turn.answered.items)
 
 -- its turns: the connections that are closed, and after them the accepts that found none
 abbrev pub memory_told : MemoryPeers → Option (List Turn)
 memory_told peers =
-    Some (map memory_turn peers.turns.items ++ replicate peers.past unaccepted)
+    Some (map memory_turn peers.turns.items ++ replicate peers.failed_accepts unaccepted)
 
 -- how many turns there were
 abbrev pub turns_counted : MemoryPeers → ℕ
-turns_counted peers = length peers.turns.items + peers.past
+turns_counted peers = length peers.turns.items + peers.failed_accepts
 
 -- what they count and tell
 abbrev pub memory_tally : MemoryPeers → Tally

@@ -15,12 +15,11 @@ use Rattle.rr_rows.specs.Entries.{TreesOf}
 use Rattle.rr_rows.specs.Maps.{AreOldStored}
 use Rattle.rr_rows.specs.Tables.{HasTables}
 use Rattle.rr_store.specs.Calls.{OnCleanDisk, database}
-use Rattle.rr_store.specs.Migrating.{FailsToRead, IsMigrated, IsOfOldRows, has_mntner}
+use Rattle.rr_store.specs.Migrating.{FailsToRead, IsMigrated, IsOfOldRows, has_mntner, upper_block}
 use Rattle.rr_store.specs.Opening.{IsNotOld, IsOfNoneButOld}
 use Rattle.rr_store.specs.declared.fault.MigrateFault.{MigrateFault}
 use Rattle.rr_store.specs.declared.fault.MigrateFault.TheVariants.{BadRow, NoRoot, Store}
 use Rattle.rr_store.specs.declared.fault.MigrateFault.TheVariants.{WrongVersion}
-use Rattle.rr_desk.specs.Opening.{four_octets_fields}
 use Rattle.rr_desk.specs.Settings.{SettingsParts}
 use Rattle.rr_desk.specs.Stocks.{Stock}
 
@@ -30,20 +29,20 @@ pub record AreRegistry (objects : List Obj) : Type 0 where
   pub taken : IsTaken objects registry
   pub sound : Sound registry
 
--- a registry has these objects and the block of the other AS numbers, which the root maintains, and
--- no others (RFC 6793; profile)
-pub record HasBlock (settings : SettingsParts) (objects : List Obj) (registry : Reg) : Type 0 where
-  pub block : Obj
-  pub read : ReadsAs settings.source (four_octets_fields settings) block
-  pub taken : IsTaken (objects ++ block ∷ []) registry
+-- a registry has these objects and the block of the AS numbers of more than 16 bits, which the root
+-- maintains, and no others (RFC 6793; profile)
+pub record HasUpper (settings : SettingsParts) (objects : List Obj) (registry : Reg) : Type 0 where
+  pub upper : Obj
+  pub read : ReadsAs settings.source (upper_block settings.root settings.source) upper
+  pub taken : IsTaken (objects ++ upper ∷ []) registry
 
 -- the objects of tables of version 1 are a sound registry, and this one has them and the block of
--- the other AS numbers (profile)
+-- the AS numbers of more than 16 bits (profile)
 pub record IsGrown (settings : SettingsParts) (old : Database) (registry : Reg) : Type 0 where
   pub objects : List Obj
   pub before : AreOldStored settings.source objects old
   pub sound : AreRegistry objects
-  pub grown : HasBlock settings objects registry
+  pub grown : HasUpper settings objects registry
 
 -- tables of version 1 hold the rows of no registry of the source (profile)
 abbrev pub HasNoOldRegistry : List ℕ → Database → Type 0

@@ -6,9 +6,9 @@ use Rattle.rr_registry.specs.declared.load.LoadFault.{LoadFault}
 use Rattle.rr_registry.specs.declared.load.LoadFault.TheVariants.{Duplicate, Overlap, Unnamed}
 use Rattle.rr_registry.specs.declared.load.LoadFault.TheVariants.{Memory}
 use Rattle.rr_registry.specs.Loading.{load_fault}
+use Rattle.rr_store.specs.Migrating.{upper_block}
 use Rattle.rr_store.specs.declared.fault.MigrateFault.{MigrateFault}
 use Rattle.rr_store.specs.declared.fault.MigrateFault.TheVariants as migrate
-use Rattle.rr_desk.specs.Opening.{four_octets_fields}
 use Rattle.rr_desk.specs.Settings.{SettingsParts}
 use Rattle.rr_desk.specs.Migrating.{AreRegistry}
 
@@ -17,11 +17,12 @@ pub record HasLoadFault (objects : List Obj) : Type 0 where
   pub fault : LoadFault
   pub is_fault : load_fault objects ≡ Some fault
 
--- something is the matter with the objects and the block of the other AS numbers (profile)
-pub record HasBlockFault (settings : SettingsParts) (objects : List Obj) : Type 0 where
-  pub block : Obj
-  pub read : ReadsAs settings.source (four_octets_fields settings) block
-  pub fault : HasLoadFault (objects ++ block ∷ [])
+-- something is the matter with the objects and the block of the AS numbers of more than 16 bits
+-- (profile)
+pub record HasUpperFault (settings : SettingsParts) (objects : List Obj) : Type 0 where
+  pub upper : Obj
+  pub read : ReadsAs settings.source (upper_block settings.root settings.source) upper
+  pub fault : HasLoadFault (objects ++ upper ∷ [])
 
 -- that memory ran out is told as such, and what else is the matter with objects as this fault
 -- (profile)
@@ -36,6 +37,6 @@ abbrev pub IsGrowthFault : SettingsParts → List Obj → MigrateFault → Type 
 IsGrowthFault settings objects (migrate.WrongVersion number) = ⊥
 IsGrowthFault settings objects migrate.BadRow = HasLoadFault objects
 IsGrowthFault settings objects migrate.NoRoot =
-    AreRegistry objects × HasBlockFault settings objects
+    AreRegistry objects × HasUpperFault settings objects
 IsGrowthFault settings objects (migrate.Store error) = ⊥
 IsGrowthFault settings objects migrate.Memory = Unit {0}

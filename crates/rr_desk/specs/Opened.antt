@@ -9,7 +9,7 @@ use Rattle.sqlite.specs.State.{Survives}
 use Rattle.rr_auth.specs.Registries.{Reg}
 use Rattle.rr_auth.specs.Sources.{IsRegistryOf}
 use Rattle.rr_rows.specs.Entries.{TreesOf}
-use Rattle.rr_rows.specs.Made.{HasItsTables, HasRow, IsVacant}
+use Rattle.rr_rows.specs.Made.{HasItsTables, HasSomeRow, IsVacant}
 use Rattle.rr_rows.specs.Maps.{HasRows}
 use Rattle.rr_rows.specs.Tables.{HasTables}
 use Rattle.rr_store.specs.Calls.{FailsOverTidy, OnCleanDisk, WhileOpen, database}
@@ -20,7 +20,7 @@ use Rattle.rr_store.specs.declared.fault.CreateFault.TheVariants.{Store}
 use Rattle.rr_store.specs.declared.fault.OpenFault.{OpenFault}
 use Rattle.rr_store.specs.declared.fault.OpenFault.TheVariants.{BadRow, WrongVersion}
 use Rattle.rr_desk.specs.declared.desk.Desk.{Desk}
-use Rattle.rr_desk.specs.Opening.{IsOpened}
+use Rattle.rr_desk.specs.Opening.{IsOpeningRegistry}
 use Rattle.rr_desk.specs.Rows.{OnlyLooks}
 use Rattle.rr_desk.specs.Settings.{SettingsParts}
 use Rattle.rr_desk.specs.Stocks.{Stock, StoresRows}
@@ -33,12 +33,12 @@ HasNoRegistry source db =
 -- the tables hold the rows of the registry that opens with these settings (profile)
 pub record HasOpeningRows (settings : SettingsParts) (db : Database) : Type 0 where
   pub registry : Reg
-  pub is_opened : IsOpened settings registry
+  pub is_opening : IsOpeningRegistry settings registry
   pub rows : HasRows registry db
 
 -- the three tables are there, and one has a row (profile)
 abbrev pub IsOccupied : Database → Type 0
-IsOccupied db = HasTables db.schema × HasRow db
+IsOccupied db = HasTables db.schema × HasSomeRow db
 
 -- a desk by these settings runs: its registry is of their source, and its tables hold the rows of
 -- it (profile)

@@ -30,23 +30,18 @@ root_fields settings =
 abbrev pub numbers_fields : SettingsParts → List Field
 numbers_fields settings = one_line (codes "as-block") (codes "AS0 - AS65535") ∷ owned settings
 
--- the block of the other 32-bit AS numbers, which is also the one that migration adds (RFC 6793;
--- profile)
-abbrev pub four_octets_fields : SettingsParts → List Field
-four_octets_fields settings = upper_block settings.root settings.source
-
 -- the span of all addresses (profile)
 abbrev pub addresses_fields : SettingsParts → List Field
 addresses_fields settings =
     one_line (codes "inetnum") (codes "0.0.0.0 - 255.255.255.255") ∷ owned settings
 
--- the paragraphs of the opening objects: the root maintainer, the two blocks of AS numbers, and the
--- span of all addresses (profile)
+-- the paragraphs of the opening objects: the root maintainer, the two blocks of AS numbers, the
+-- second of which migration adds too (RFC 6793), and the span of all addresses (profile)
 abbrev pub opening_paragraphs : SettingsParts → List (List Field)
 opening_paragraphs settings =
     root_fields settings
     ∷ (numbers_fields settings
-    ∷ (four_octets_fields settings ∷ (addresses_fields settings ∷ [])))
+    ∷ (upper_block settings.root settings.source ∷ (addresses_fields settings ∷ [])))
 
 -- the objects that these paragraphs are in the registry of the settings' source, in this order
 -- (profile)
@@ -55,7 +50,7 @@ pub record AreOpening (settings : SettingsParts) (objects : List Obj) : Type 0 w
       ≡ map Ok objects
 
 -- a registry has the opening objects, and no others (profile)
-pub record IsOpened (settings : SettingsParts) (registry : Reg) : Type 0 where
+pub record IsOpeningRegistry (settings : SettingsParts) (registry : Reg) : Type 0 where
   pub objects : List Obj
   pub are_opening : AreOpening settings objects
   pub taken : IsTaken objects registry

@@ -1,5 +1,5 @@
 -- What private functions of the desk promise each other. No public clause cites these.
-use Rattle.std.specs.Prelude.{◌≡◌, None, Some, ℕ, Bool, true, false, IsTrue, List}
+use Rattle.std.specs.Prelude.{◌≡◌, None, ℕ, Bool, true, false, IsTrue, List}
 use Rattle.std.specs.Prelude.{Ok, OnErr, OnOk, Result}
 use Rattle.std.specs.FinMap.{get, insert, remove}
 use Rattle.sqlite.specs.Effect.{Database}
@@ -14,9 +14,8 @@ use Rattle.rr_registry.specs.declared.outcome.Outcome.TheVariants.{Added, Change
 use Rattle.rr_registry.specs.declared.outcome.Outcome.TheVariants.{Unchanged, Deleted}
 use Rattle.rr_registry.specs.declared.outcome.Outcome.TheVariants.{Refused}
 use Rattle.rr_rows.specs.Entries.{TreesOf}
-use Rattle.rr_rows.specs.Maps.{AreStored, HasRows}
+use Rattle.rr_rows.specs.Maps.{HasRows}
 use Rattle.rr_store.specs.Calls.{IsSettled, OnCleanDisk, WhileOpen, database}
-use Rattle.rr_registry.specs.Loading.{load_fault}
 use Rattle.rr_registry.specs.declared.load.LoadFault.{LoadFault}
 use Rattle.rr_registry.specs.declared.load.LoadFault.TheVariants.{Duplicate, Overlap, Unnamed}
 use Rattle.rr_registry.specs.declared.load.LoadFault.TheVariants.{Memory}
@@ -97,11 +96,3 @@ pub record IsParagraphOf (source : List ℕ) (fields : List Field) (object : Obj
 pub record HasObject (source : List ℕ) (fields : List Field) : Type 0 where
   pub object : Obj
   pub read : object_of fields source ≡ Ok object
-
--- the tables hold the rows of objects of the source which are not a sound registry: one crosses
--- another, or names a maintainer who is not among them (profile)
-pub record IsUnsound (source : List ℕ) (db : Database) : Type 0 where
-  pub objects : List Obj
-  pub stored : AreStored source objects db
-  pub fault : LoadFault
-  pub is_fault : load_fault objects ≡ Some fault

@@ -34,8 +34,8 @@ pub record IsDigest (auth : AuthParts) : Type 0 where
   pub sized : length auth.digest ≡ DIGEST_BYTES
   pub bytes : IsBytes auth.digest
 
--- settings are good: the source is a name and the root a maintainer's, both in upper case, and the
--- limit is 1 to the greatest (profile)
+-- settings are good: the source is a name and the root a maintainer's, both in upper case, the
+-- digest is one of SHA-256 with a salt, and the limit is 1 to the greatest (profile)
 pub record IsSettings (settings : SettingsParts) : Type 0 where
   pub source : IsUpperName settings.source
   pub root : IsUpperName settings.root

@@ -11,7 +11,7 @@ use Rattle.rr_object.specs.contracts.object.Object as object
 use Rattle.rr_auth.specs.Registries.{Reg}
 use Rattle.rr_submission.specs.declared.ledger.Ledger as ledger
 use Rattle.rr_store.specs.Calls.{OnCleanDisk}
-use Rattle.rr_desk.specs.Stops.{IsStopped}
+use Rattle.rr_desk.specs.Stops.{LeavesStopped}
 use Rattle.rr_desk.specs.Rows.{Holds}
 
 -- a registry, the connection that keeps its rows, and whether a fault of the store stopped it, with
@@ -43,15 +43,14 @@ StoresRows g s = OnCleanDisk g s.store (Holds s.registry (state g s.store))
 
 -- until a stock is stopped its store holds the rows of its registry, where the disk gives back what
 -- was written
-abbrev pub IsStocked : {S : Type 0} → store.Ghosts S → Stock S → Type 0
-IsStocked g s = s.stopped ≡ false → StoresRows g s
+abbrev pub StoresUntilStopped : {S : Type 0} → store.Ghosts S → Stock S → Type 0
+StoresUntilStopped g s = s.stopped ≡ false → StoresRows g s
 
--- it keeps its registry, is ready until it is stopped, and stops by a fault of the store
--- alone
+-- it keeps its registry, and stops by a fault of the store alone
 abbrev pub stock_ledger : {S : Type 0} → store.Ghosts S → ledger.Ghosts (Stock S)
 stock_ledger g = record {
   registry = λ s. s.registry;
-  Ready = λ s. s.stopped ≡ false;
-  Stops = λ old secrets item new. IsStopped old.registry secrets item new.registry
+  is_stopped = λ s. s.stopped;
+  Stops = λ old secrets item new. LeavesStopped old.registry secrets item new.registry
       new.stopped (state g old.store) (state g new.store);
 }

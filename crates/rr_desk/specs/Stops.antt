@@ -26,7 +26,7 @@ changes (Refused code) = false
 -- the item whole; no fault of the disk is forgotten, and nothing but such a fault shuts the
 -- connection, which was open. What the holders of a prefix hold stays as it was where none of the
 -- secrets is theirs (profile)
-pub record IsStopped (before : Reg) (secrets : List (List ℕ)) (item : Item) (after : Reg)
+pub record LeavesStopped (before : Reg) (secrets : List (List ℕ)) (item : Item) (after : Reg)
     (stopped : Bool) (old now : State) : Type 0 where
   pub outcome : Outcome
   pub step : IsStep before secrets item outcome after

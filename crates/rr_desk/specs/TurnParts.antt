@@ -4,7 +4,7 @@ use Rattle.std.specs.Prelude.{◌≡◌, Bool, Option}
 use Rattle.sqlite_trees.specs.declared.store.Store.{Ghosts}
 use Rattle.rr_desk.specs.declared.desk.Desk.{Desk}
 use Rattle.rr_desk.specs.Turns.{CountsTurn, Does, IsNext, Serving, Tally, Visit}
-use Rattle.rr_desk.specs.Turns.{asked_in, is_served, turn_of}
+use Rattle.rr_desk.specs.Turns.{given_in, is_served, turn_of}
 
 -- a turn was taken: what it did, that it was of the next connection, that it is counted and, where
 -- turns are told, told, and whether it was served
@@ -12,6 +12,6 @@ pub record TakesTurn {S : Type 0} (g : Ghosts S) (serves : Serving) (before afte
     (tally_before tally_after : Tally) (served : Bool) : Type 0 where
   pub visit : Option Visit
   pub does : Does S g serves visit before after
-  pub is_next : IsNext (asked_in visit) tally_before.waiting tally_after.waiting
+  pub is_next : IsNext (given_in visit) tally_before.waiting tally_after.waiting
   pub taken : CountsTurn (turn_of visit) tally_before tally_after
-  pub answer : served ≡ is_served visit
+  pub served_well : served ≡ is_served visit

@@ -44,10 +44,10 @@ IsNext (Some told) (Some []) after = ⊥
 IsNext (Some told) (Some (bytes ∷ rest)) after = (told ≡ Some bytes) × (after ≡ Some rest)
 
 -- a connection was accepted: it is fresh, the next one, and a turn once it is closed
-pub record IsAccepted (before after : Tally) (asked : Option (List ℕ)) (reader writer : Told)
+pub record IsAccepted (before after : Tally) (given : Option (List ℕ)) (reader writer : Told)
     : Type 0 where
   pub fresh : IsFresh reader writer
-  pub is_asked : asked ≡ reader.bytes
+  pub is_given : given ≡ reader.bytes
   pub counted : after.turns ≡ before.turns
   pub told : after.told ≡ before.told
   pub is_next : IsNext (Some reader.bytes) before.waiting after.waiting
@@ -63,29 +63,29 @@ pub record IsUnaccepted (before after : Tally) : Type 0 where
   pub is_next : IsNext None before.waiting after.waiting
 
 -- a connection was closed, which is a turn
-pub record IsClosed (asked answered : Option (List ℕ)) (before after : Tally) : Type 0 where
-  pub counts : CountsTurn (closed asked answered) before after
+pub record IsClosed (given answered : Option (List ℕ)) (before after : Tally) : Type 0 where
+  pub counts : CountsTurn (closed given answered) before after
   pub waiting : after.waiting ≡ before.waiting
 
 -- how serving a connection ended: well, or by a read or a write of it that failed
-abbrev pub Answer : Type 0
-Answer = Result (Unit {0}) ConnFault
+abbrev pub ConnEnd : Type 0
+ConnEnd = Result (Unit {0}) ConnFault
 
 -- what serving a connection does, as a relation of the desk before and after, of what the reader of
--- the connection told before and after and what its writer did, and of the answer; for desks over
+-- the connection told before and after and what its writer did, and of how it ended; for desks over
 -- tables of any kind
 abbrev pub Serving : Type 1
 Serving = (S : Type 0) → Ghosts S → Desk S → Desk S → Told → Told → Told → Told
-    → Answer → Type 0
+    → ConnEnd → Type 0
 
 -- a connection while it was served: what its reader and its writer told when it was accepted and
--- when it was closed, and the answer
+-- when it was closed, and how it ended
 pub record Visit : Type 0 where
   pub reader_before : Told
   pub reader_after : Told
   pub writer_before : Told
   pub writer_after : Told
-  pub answer : Answer
+  pub ended : ConnEnd
 
 -- the turn that a visit is; without one no connection could be accepted
 abbrev pub turn_of : Option Visit → Turn
@@ -95,7 +95,7 @@ turn_of (Some visit) = closed visit.reader_before.bytes visit.writer_after.bytes
 -- a turn in which a connection was accepted and served well
 abbrev pub is_served : Option Visit → Bool
 is_served None = false
-is_served (Some visit) = is_ok visit.answer
+is_served (Some visit) = is_ok visit.ended
 
 -- what a turn did: nothing where no connection could be accepted, otherwise what serving it does,
 -- from when it was accepted
@@ -105,7 +105,7 @@ Does S g serves None before after = after ≡ before
 Does S g serves (Some visit) before after =
     IsFresh visit.reader_before visit.writer_before
     × serves S g before after visit.reader_before visit.reader_after
-    visit.writer_before visit.writer_after visit.answer
+    visit.writer_before visit.writer_after visit.ended
 
 -- the turns were taken one after the other, in this order
 abbrev pub DoesAll : (S : Type 0) → Ghosts S → Serving → List (Option Visit) → Desk S
@@ -116,24 +116,24 @@ DoesAll S g serves (visit ∷ visits) before after =
     (between : Desk S) × Does S g serves visit before between
     × DoesAll S g serves visits between after
 
--- what a turn was asked, where a connection was accepted
-abbrev pub asked_in : Option Visit → Option (Option (List ℕ))
-asked_in = option_map (λ visit. visit.reader_before.bytes)
+-- what a turn gave, where a connection was accepted
+abbrev pub given_in : Option Visit → Option (Option (List ℕ))
+given_in = option_map (λ visit. visit.reader_before.bytes)
 
 -- the connections to come were accepted in their order
 abbrev pub InOrder : List (Option Visit) → Option (List (List ℕ)) → Option (List (List ℕ))
     → Type 0
 InOrder [] before after = after ≡ before
 InOrder (visit ∷ visits) before after =
-    (between : Option (List (List ℕ))) × IsNext (asked_in visit) before between
+    (between : Option (List (List ℕ))) × IsNext (given_in visit) before between
     × InOrder visits between after
 
 -- the turn at this place was that of a connection whose reader told these bytes when it was
 -- accepted
-pub record IsAskedAt (visits : List (Option Visit)) (place : ℕ) (bytes : List ℕ) : Type 0 where
+pub record IsGivenAt (visits : List (Option Visit)) (place : ℕ) (bytes : List ℕ) : Type 0 where
   pub visit : Visit
   pub is : slice_get visits place ≡ Some (Some visit)
-  pub asked : visit.reader_before.bytes ≡ Some bytes
+  pub given : visit.reader_before.bytes ≡ Some bytes
 
 -- so many turns were taken, in order: what each did, and that it was of the next connection; that
 -- each is counted and, where turns are told, told; and how many were served and how many not

@@ -12,7 +12,7 @@ ghost use Rattle.rr_answer.specs.Texts as texts;
 ghost use Rattle.rr_desk.specs.Desks.{HasAnswer, WritesAnswer};
 ghost use Rattle.rr_desk.specs.LookupParts.{LooksUp};
 ghost use Rattle.rr_desk.specs.Rows.{KeepsRows, OnlyLooks};
-ghost use Rattle.rr_desk.specs.Stocks.{IsStocked};
+ghost use Rattle.rr_desk.specs.Stocks.{StoresUntilStopped};
 
 use crate::desk::Desk;
 use rr_answer::{Query, QueryFault, answer, is_too_long, objects_text, read_query};
@@ -27,7 +27,7 @@ use thiserror::Error;
 /// What was answered to a query.
 #[derive(Clone, Copy, Debug, PartialEq, Eq)]
 pub struct Answered {
-    /// The number of the error that was written, 1 to 6, or 0 where the answer is none.
+    /// The number of the error that was written, 1 to 6, or 0 where the answer is no error.
     pub error: u8,
 }
 
@@ -55,7 +55,7 @@ impl<S: Alter> Desk<S> {
         ensures registry { self.new.stored.registry ≡ self.old.stored.registry }
         ensures settings { self.new.settings ≡ self.old.settings }
         ensures stopped { self.old.stored.stopped ≡ true → self.new ≡ self.old }
-        ensures rows { IsStocked S.Store self.new.stored }
+        ensures rows { StoresUntilStopped S.Store self.new.stored }
         ensures keeps { self.old.stored.stopped ≡ false
             → KeepsRows self.old.stored.registry (state S.Store self.new.stored.store) }
         ensures only_looks { OnlyLooks
@@ -64,7 +64,7 @@ impl<S: Alter> Desk<S> {
     {
         let made = self.answer_to(alloc, query);
         // Says that the rows are those of the registry.
-        let _ = self.stored.is_stopped();
+        let _ = self.stored.stopped();
         match made {
             Ok(text) => write_answer(writer, &text, 0),
             Err(fault) => write_answer(writer, fault.line(), fault.number()),
@@ -82,7 +82,7 @@ impl<S: Alter> Desk<S> {
         ensures only_looks { OnlyLooks
             (state S.Store self.old.stored.store) (state S.Store self.new.stored.store) }
     {
-        let stopped = self.stored.is_stopped();
+        let stopped = self.stored.stopped();
         if is_too_long(text) {
             return Err(QueryFault::TooLong);
         }

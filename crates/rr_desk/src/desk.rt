@@ -1,16 +1,15 @@
 //! Desks: a registry with its tables, to which submissions are made.
 
-ghost use Rattle.std.specs.Prelude.{◌≡◌, Err, false, true, IfErr, IfOk, is_some};
-ghost use Rattle.rr_submission.specs.Submissions.{UnlessStoreFault};
-ghost use Rattle.rr_submission.specs.declared.submission.DeskFault.TheVariants.{Stopped};
+ghost use Rattle.std.specs.Prelude.{◌≡◌, false, true, IfErr, IfOk, is_some};
+ghost use Rattle.rr_submission.specs.Submissions.{RefusesSubmission, UnlessStoreFault};
 ghost use Rattle.rr_store.specs.declared.fault.CreateFault.TheVariants.{NotEmpty};
 ghost use Rattle.rr_store.specs.Calls.{OnCleanDisk, database};
 ghost use Rattle.rr_desk.specs.Desks.{IsOfItsSource, SubmitsTo};
 ghost use Rattle.rr_desk.specs.Opened.{FailsMaking, FailsOpening, HasOpeningRows, IsOccupied};
 ghost use Rattle.rr_desk.specs.Opened.{MakesNone, MakesTables, OpensNone, OpensTables};
 ghost use Rattle.rr_desk.specs.Opened.{RefusesRegistry, Runs};
-ghost use Rattle.rr_desk.specs.Opening.{IsOpened};
-ghost use Rattle.rr_desk.specs.Stocks.{IsStocked};
+ghost use Rattle.rr_desk.specs.Opening.{IsOpeningRegistry};
+ghost use Rattle.rr_desk.specs.Stocks.{StoresUntilStopped};
 
 use crate::opened::{create_stored, open_stored};
 use crate::opening::opening_registry;
@@ -44,7 +43,7 @@ impl<S: Alter> Desk<S> {
     ) -> Result<Desk<S>, (CreateFault, Connection<S>)>
         requires autocommit { conn.in_transaction ≡ false }
         ensures runs { IfOk result (Runs S.Store settings) }
-        ensures opened { IfOk result (λ desk. IsOpened settings desk.stored.registry) }
+        ensures opening { IfOk result (λ desk. IsOpeningRegistry settings desk.stored.registry) }
         ensures makes { IfOk result (λ desk.
             MakesTables S.Store (HasOpeningRows settings) conn desk.stored.store) }
         ensures fails { IfErr result (λ e. MakesNone S.Store (HasOpeningRows settings) conn e.1) }
@@ -100,35 +99,31 @@ impl<S: Alter> Desk<S> {
 
     /// Submits what the reader gives, and writes the report. The items are decided one by one, in
     /// order, each with its rows in one transaction before its line is written. If a read fails, or
-    /// there are too many, the items that came whole are decided. If a line cannot be written, its
-    /// item and those before it stand, and those after it are not read. If memory runs out before
-    /// the first item, nothing is read; at an item it refuses this one, or is a fault of the store.
-    /// Only such a fault stops the desk: the items before it stand, and a stop of the process or
-    /// machine leaves their rows, or these with that item whole. A stopped desk reads and writes
-    /// nothing; until then the rows are those of the registry, which stays one of its source. What
-    /// the holders of a prefix hold is changed by nobody else.
+    /// there are more reads than 16,777,216, the items that came whole are decided. If a line
+    /// cannot be written, its item and those before it stand, and those after it are not read. If
+    /// memory runs out before the first item, nothing is read; at an item it refuses this one, or
+    /// is a fault of the store. Only such a fault stops the desk: the items before it stand, and a
+    /// stop of the process or machine leaves their rows, or these with that item whole. A stopped
+    /// desk reads and writes nothing; until then the rows are those of the registry, which stays
+    /// one of its source. What the holders of a prefix hold is changed by nobody else.
     pub fn submit<R: Source, W: Sink>(
         &mut self,
         alloc: Global,
         reader: &mut R,
         writer: &mut W,
     ) -> Result<Done, DeskFault>
-        ensures stopped { self.old.stored.stopped ≡ true → (result ≡ Err Stopped)
-            × (self.new ≡ self.old) × (reader.new ≡ reader.old)
-            × (writer.new ≡ writer.old) }
+        ensures stopped { self.old.stored.stopped ≡ true → RefusesSubmission
+            self.old self.new reader.old reader.new writer.old writer.new result }
         ensures submits { self.old.stored.stopped ≡ false → SubmitsTo S.Store self.old self.new
             (R.told reader.old) (R.told reader.new) (W.told writer.old) (W.told writer.new) result }
-        ensures runs { self.old.stored.stopped ≡ false
+        ensures running { self.old.stored.stopped ≡ false
             → UnlessStoreFault result (self.new.stored.stopped ≡ false) }
-        ensures rows { IsStocked S.Store self.new.stored }
+        ensures rows { StoresUntilStopped S.Store self.new.stored }
         ensures settings { self.new.settings ≡ self.old.settings }
         ensures of_source { IsOfItsSource self.old → IsOfItsSource self.new }
         ensures reader_aside { R.aside reader.new ≡ R.aside reader.old }
         ensures writer_aside { W.aside writer.new ≡ W.aside writer.old }
     {
-        if self.stored.is_stopped() {
-            return Err(DeskFault::Stopped);
-        }
         let submitted = rr_submission::submit(
             alloc,
             &mut self.stored,
@@ -137,7 +132,7 @@ impl<S: Alter> Desk<S> {
             writer,
         );
         // Says that the rows are those of the registry.
-        let _ = self.stored.is_stopped();
+        let _ = self.stored.stopped();
         submitted
     }
 
@@ -152,7 +147,7 @@ impl<S: Alter> Desk<S> {
     pub fn stopped(&self) -> bool
         ensures { result ≡ self.now.stored.stopped }
     {
-        self.stored.is_stopped()
+        self.stored.stopped()
     }
 
     /// The error of the database that stopped the desk; none until it is stopped.

@@ -1,10 +1,9 @@
 //! Dumps of a desk.
 
-ghost use Rattle.std.specs.Prelude.{◌≡◌, false, true, length, Err, IfOk};
+ghost use Rattle.std.specs.Prelude.{◌≡◌, false, true, length, IfOk};
 ghost use Rattle.std.specs.FinMap.{values};
 ghost use Rattle.rr_answer.specs.Dumps as dumps;
-ghost use Rattle.rr_desk.specs.Dumping.{Dumps};
-ghost use Rattle.rr_desk.specs.declared.dumping.DeskDumpFault.TheVariants.{Stopped};
+ghost use Rattle.rr_desk.specs.Dumping.{Dumps, RefusesDump};
 
 use crate::desk::Desk;
 use rr_io::Sink;
@@ -41,9 +40,9 @@ impl From<rr_answer::DumpFault> for DeskDumpFault {
 }
 
 impl<S: Alter> Desk<S> {
-    /// Writes a dump of the registry, and answers the number of its objects: each by class and key
-    /// with an empty line, and a last line that counts them; `full` says whether with all their
-    /// text, or as they are answered (profile). After `Write` or `Memory` the writer has taken its
+    /// Writes a dump of the registry, its objects by class and key, each with an empty line, and a
+    /// last line that counts them; `full` says whether with all their text, or as they are answered
+    /// (profile). It answers their number. After `Write` or `Memory` the writer has taken its
     /// beginning, and not all of it. A stopped desk answers `Stopped` and writes nothing.
     pub fn dump<W: Sink>(
         &self,
@@ -52,14 +51,14 @@ impl<S: Alter> Desk<S> {
         full: bool,
     ) -> Result<usize, DeskDumpFault>
         ensures stopped { self.now.stored.stopped ≡ true
-            → (result ≡ Err Stopped) × (writer.new ≡ writer.old) }
+            → RefusesDump writer.old writer.new result }
         ensures dumps { self.now.stored.stopped ≡ false
             → Dumps (dumps.dump full self.now.stored.registry)
             (W.told writer.old) (W.told writer.new) result }
         ensures count { IfOk result (λ count. count ≡ length (values self.now.stored.registry)) }
         ensures aside { W.aside writer.new ≡ W.aside writer.old }
     {
-        if self.stored.is_stopped() {
+        if self.stored.stopped() {
             return Err(DeskDumpFault::Stopped);
         }
         Ok(rr_answer::dump(alloc, self.stored.registry(), writer, full)?)

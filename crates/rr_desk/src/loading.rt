@@ -22,10 +22,10 @@ use sqlite::{Alter, Connection, Error as DatabaseError};
 use std::alloc::Global;
 use thiserror::Error;
 
-/// Why no desk was made from a dump. Entries and objects are counted from 1. A failed read and too
-/// many of them come first, then the first entry that is not an object of the source, then the
-/// first key that stands twice or span that crosses, then the first name of a maintainer who is not
-/// there; the store is asked last. No row was changed.
+/// Why no desk was made from a dump. Entries and objects are counted from 1. A failed read and more
+/// reads than 16,777,216 come first, then the first entry that is not an object of the source, then
+/// the first key that stands twice or span that crosses, then the first name of a maintainer who is
+/// not there; the store is asked last. No row was changed.
 #[derive(Clone, Copy, Debug, PartialEq, Eq, Error)]
 pub enum DeskLoadFault {
     /// One of the three tables has a row.

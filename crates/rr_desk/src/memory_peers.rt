@@ -14,7 +14,7 @@ use std::alloc::{AllocError, Global};
 pub struct MemoryInput<'a> {
     /// The bytes that it gives.
     pub bytes: &'a [u8],
-    /// How many bytes pass in a call at most; none stands for one.
+    /// How many bytes pass in a call at most; 0 stands for 1.
     pub step: usize,
     /// After how many bytes each read fails.
     pub reads: usize,
@@ -25,8 +25,7 @@ pub struct MemoryInput<'a> {
 impl<'a> MemoryInput<'a> {
     ghost use Rattle.rr_desk.specs.MemoryTurns.{IsOfInput};
 
-    /// A connection that gives these bytes, and of which no call fails because no more bytes may
-    /// pass.
+    /// A connection that gives these bytes, and of which no call is made to fail.
     pub fn whole(bytes: &'a [u8]) -> MemoryInput<'a>
         ensures bytes { result.bytes.now ≡ bytes.now }
         ensures step { result.step ≡ usize.MAX }
@@ -58,30 +57,30 @@ impl<'a> MemoryInput<'a> {
 /// A connection over memory.
 pub type MemoryConnection<'a> = Joined<Cut<Counted<&'a [u8]>>, Cut<Counted<Vec<u8>>>>;
 
-/// A connection over memory that is closed: the bytes that it was asked, and those that it was
-/// answered.
+/// A connection over memory that is closed: the bytes that it gave, and those that it was answered.
 #[derive(Drop)]
 pub struct MemoryTurn<'a> {
     /// The bytes that it gave, if they were read.
-    pub asked: &'a [u8],
+    pub given: &'a [u8],
     /// The bytes that were written to it.
     pub answered: Vec<u8>,
 }
 
-/// Connections over memory, in order. Once they are all accepted each accept fails; such turns are
-/// counted alone.
+/// Connections over memory, in order. Once they are all accepted each accept fails; of such turns
+/// only the number is kept.
 #[derive(Drop)]
 pub struct MemoryPeers<'a> {
     inputs: &'a [MemoryInput<'a>],
     next: usize,
-    asked: Option<&'a [u8]>,
+    given: Option<&'a [u8]>,
     turns: Vec<MemoryTurn<'a>>,
-    past: u64,
+    failed_accepts: u64,
     ghost within: { next ≤ length inputs.now },
     ghost room: { vec_len turns + ((length inputs.now - next)
-        + (if is_some asked then 1 else 0)) ≤ vec_capacity turns },
-    ghost counts: { vec_len turns + past < 2 ^ 64 },
-    ghost past_all: { 0 < past → (next ≡ length inputs.now) × (is_some asked ≡ false) },
+        + (if is_some given then 1 else 0)) ≤ vec_capacity turns },
+    ghost counts: { vec_len turns + failed_accepts < 2 ^ 64 },
+    ghost failed_last: { 0 < failed_accepts
+        → (next ≡ length inputs.now) × (is_some given ≡ false) },
 }
 
 impl<'a> MemoryPeers<'a> {
@@ -100,9 +99,9 @@ impl<'a> MemoryPeers<'a> {
         Ok(MemoryPeers {
             inputs,
             next: 0,
-            asked: None,
+            given: None,
             turns,
-            past: 0,
+            failed_accepts: 0,
         })
     }
 
@@ -126,7 +125,7 @@ impl<'a> Peers for MemoryPeers<'a> {
 
     ghost IsOpen = { λ peers. is_open peers ≡ true };
 
-    ghost asked = { open_bytes };
+    ghost given = { open_bytes };
 
     /// The connection that the next input is; an error once there is none.
     #[tactic(auto, using(crate::proofs::MemoryLemmas::failed_told))]
@@ -142,32 +141,33 @@ impl<'a> Peers for MemoryPeers<'a> {
         ensures next { IfOk result (λ conn. AcceptsNext
             (inputs_left self.old) (inputs_left self.new) conn
             (⟦<MemoryConnection<'static> as Source>⟧.told conn)) }
-        ensures past { OnErr result
+        ensures none_left { OnErr result
             ((inputs_left self.old ≡ []) × (inputs_left self.new ≡ [])) }
     {
         if self.next < self.inputs.len() {
             let input = self.inputs[self.next];
             self.next += 1;
-            self.asked = Some(input.bytes);
+            self.given = Some(input.bytes);
             return Ok(input.connection(alloc));
         }
-        self.asked = None;
-        self.past += 1;
+        self.given = None;
+        self.failed_accepts += 1;
         Err(AcceptFault)
     }
 
     fn close(&mut self, conn: MemoryConnection<'a>) {
         let (_, writer) = conn.into_parts();
         let answered = writer.into_inner().into_inner();
-        match self.asked.take() {
-            Some(asked) => self.turns.push_reserved(MemoryTurn { asked, answered }),
+        match self.given.take() {
+            Some(given) => self.turns.push_reserved(MemoryTurn { given, answered }),
             None => unreachable!(),
         }
     }
 
     fn turns(&self) -> u64 {
-        self.turns.len() as u64 + self.past
+        self.turns.len() as u64 + self.failed_accepts
     }
 
-    ghost all_told = { λ peers turns is. told_in_all peers.turns.items peers.past turns is };
+    ghost all_told = { λ peers turns is.
+        told_in_all peers.turns.items peers.failed_accepts turns is };
 }

@@ -5,14 +5,14 @@ ghost use Rattle.rr_auth.specs.Registries.{Sound};
 ghost use Rattle.rr_auth.specs.Sources.{IsRegistryOf};
 ghost use Rattle.rr_store.specs.Calls.{Looks, OnCleanDisk, database};
 ghost use Rattle.rr_store.specs.declared.fault.MigrateFault.TheVariants.{BadRow, Memory, NoRoot};
-ghost use Rattle.rr_desk.specs.Migrating.{AreRegistry, FailsMigrating, HasBlock, IsGrown};
+ghost use Rattle.rr_desk.specs.Migrating.{AreRegistry, FailsMigrating, HasUpper, IsGrown};
 ghost use Rattle.rr_desk.specs.Migrating.{IsMigratedBy, MigratesTables, RefusesOldRegistry};
-ghost use Rattle.rr_desk.specs.MigratingParts.{HasBlockFault, HasLoadFault, IsGrowthFault, told_as};
+ghost use Rattle.rr_desk.specs.MigratingParts.{HasLoadFault, HasUpperFault, IsGrowthFault, told_as};
 ghost use Rattle.rr_desk.specs.Opened.{MakesNone, Runs};
 ghost use Rattle.rr_desk.specs.Stocks.{StoresRows};
 
 use crate::desk::Desk;
-use crate::opening::{four_octets_object, with_object};
+use crate::opening::{upper_object, with_object};
 use crate::settings::Settings;
 use crate::stored::Stored;
 use rr_index::IndexedBook;
@@ -24,7 +24,7 @@ use std::alloc::{AllocError, Global};
 
 impl<S: Alter> Desk<S> {
     /// The desk of the registry whose rows tables of version 1 hold, written anew as those of
-    /// version 2, and of the block of the AS numbers of more than two octets, which the root
+    /// version 2, and of the block of the AS numbers of more than 16 bits, which the root
     /// maintains (RFC 6793). The settings say the source and the root. The connection is in no
     /// transaction. After a fault it is given back, with the rows as they were: that the tables are
     /// of another version comes first, then that their rows are those of no registry, then that the
@@ -119,19 +119,20 @@ fn migrated_registry<S: Alter>(
     grow(alloc, objects, settings)
 }
 
-/// The registry of the objects, which are to be one, and of the block of the other AS numbers.
+/// The registry of the objects, which are to be one, and of the block of the AS numbers of more
+/// than 16 bits.
 fn grow(
     alloc: Global,
     objects: Vec<Object>,
     settings: &Settings,
 ) -> Result<Registry<IndexedBook>, MigrateFault>
     ensures ok { OnOk result (AreRegistry objects.items) }
-    ensures grown { IfOk result (HasBlock settings.now objects.items) }
+    ensures grown { IfOk result (HasUpper settings.now objects.items) }
     ensures sound { IfOk result Sound }
     ensures fault { IfErr result (IsGrowthFault settings.now objects.items) }
 {
     check_registry(alloc, &objects)?;
-    with_block(alloc, objects, settings)
+    with_upper(alloc, objects, settings)
 }
 
 /// Checks that the objects are a registry. The fault is that they are not, or that memory ran out.
@@ -162,18 +163,18 @@ fn copies(alloc: Global, objects: &[Object]) -> Result<Vec<Object>, AllocError>
 /// The registry of the objects of a registry of version 1 and of the block, which has a key that
 /// none of them has, and crosses none: so what can be the matter is that its maintainer, the root,
 /// is not among them.
-fn with_block(
+fn with_upper(
     alloc: Global,
     objects: Vec<Object>,
     settings: &Settings,
 ) -> Result<Registry<IndexedBook>, MigrateFault>
-    ensures ok { IfOk result (HasBlock settings.now objects.items) }
+    ensures ok { IfOk result (HasUpper settings.now objects.items) }
     ensures sound { IfOk result Sound }
     ensures fault { IfErr result (λ fault.
-        (fault ≡ Memory) ⊎ ((fault ≡ NoRoot) × HasBlockFault settings.now objects.items)) }
+        (fault ≡ Memory) ⊎ ((fault ≡ NoRoot) × HasUpperFault settings.now objects.items)) }
 {
-    let block = four_octets_object(alloc, settings)?;
-    let objects = with_object(objects, block)?;
+    let upper = upper_object(alloc, settings)?;
+    let objects = with_object(objects, upper)?;
     match Registry::from_objects(alloc, objects) {
         Ok(registry) => Ok(registry),
         Err(fault) => Err(told_as(fault, MigrateFault::NoRoot)),

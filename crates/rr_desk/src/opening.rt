@@ -3,8 +3,9 @@
 ghost use Rattle.std.specs.Prelude.{◌≡◌, [], ◌∷◌, ◌++◌, IfOk};
 ghost use Rattle.rr_text.specs.Fields.{AreFields, IsField, one_line};
 ghost use Rattle.rr_auth.specs.Sources.{IsRegistryOf};
-ghost use Rattle.rr_desk.specs.Opening.{AreOpening, IsOpened, addresses_fields, auth_line};
-ghost use Rattle.rr_desk.specs.Opening.{four_octets_fields, numbers_fields, owned, root_fields};
+ghost use Rattle.rr_store.specs.Migrating.{upper_block};
+ghost use Rattle.rr_desk.specs.Opening.{AreOpening, IsOpeningRegistry, addresses_fields, auth_line};
+ghost use Rattle.rr_desk.specs.Opening.{numbers_fields, owned, root_fields};
 ghost use Rattle.rr_desk.specs.Private.{IsParagraphOf, HasObject};
 
 use crate::settings::Settings;
@@ -12,14 +13,13 @@ use rr_index::IndexedBook;
 use rr_number::Name;
 use rr_object::{Auth, Object, ObjectFault};
 use rr_registry::{LoadFault, Registry};
-use rr_store::{StoreFault, upper_object};
 use rr_text::{LineAttribute, Paragraph};
 use std::alloc::{AllocError, Global};
 
 /// The objects that a registry of these settings opens with: the root maintainer, the blocks of AS
 /// numbers of 16 and of 32 bits, and the span of all addresses, each maintained by the root
 /// (profile). The error is that memory ran out.
-pub fn opening_objects(alloc: Global, settings: &Settings) -> Result<Vec<Object>, AllocError>
+fn opening_objects(alloc: Global, settings: &Settings) -> Result<Vec<Object>, AllocError>
     ensures { IfOk result (λ objects. AreOpening settings.now objects.items) }
 {
     let objects = Vec::with_capacity(alloc, 4)?;
@@ -27,8 +27,8 @@ pub fn opening_objects(alloc: Global, settings: &Settings) -> Result<Vec<Object>
     let objects = with_object(objects, root)?;
     let numbers = numbers_object(alloc, settings)?;
     let objects = with_object(objects, numbers)?;
-    let four_octets = four_octets_object(alloc, settings)?;
-    let objects = with_object(objects, four_octets)?;
+    let upper = upper_object(alloc, settings)?;
+    let objects = with_object(objects, upper)?;
     let addresses = addresses_object(alloc, settings)?;
     let objects = with_object(objects, addresses)?;
     Ok(objects)
@@ -48,11 +48,11 @@ pub(crate) fn with_object(
 /// The registry that opens with these settings: of the opening objects, and of no others. The error
 /// is that memory ran out.
 #[tactic(auto, using(crate::proofs::OpeningRegistry::opening_faultless))]
-pub fn opening_registry(
+pub(crate) fn opening_registry(
     alloc: Global,
     settings: &Settings,
 ) -> Result<Registry<IndexedBook>, AllocError>
-    ensures opened { IfOk result (IsOpened settings.now) }
+    ensures opening { IfOk result (IsOpeningRegistry settings.now) }
     ensures of_source { IfOk result (IsRegistryOf settings.now.source) }
 {
     // Says that the settings are good, so that the objects have no fault.
@@ -84,13 +84,13 @@ fn numbers_object(alloc: Global, settings: &Settings) -> Result<Object, AllocErr
 }
 
 /// The block of the other 32-bit AS numbers, which migration adds too (RFC 6793).
-pub(crate) fn four_octets_object(alloc: Global, settings: &Settings) -> Result<Object, AllocError>
-    ensures { IfOk result (IsParagraphOf settings.now.source (four_octets_fields settings.now)) }
+pub(crate) fn upper_object(alloc: Global, settings: &Settings) -> Result<Object, AllocError>
+    ensures { IfOk result (IsParagraphOf settings.now.source
+        (upper_block settings.now.root settings.now.source)) }
 {
-    match upper_object(alloc, settings.root(), settings.source()) {
-        Ok(object) => Ok(object),
-        Err(StoreFault::Memory) => Err(AllocError),
-        Err(StoreFault::Store(_)) => unreachable!(),
+    match rr_store::upper_object(alloc, settings.root(), settings.source())? {
+        Some(object) => Ok(object),
+        None => unreachable!(),
     }
 }
 

@@ -33,14 +33,14 @@ pub trait Peers {
     ghost IsOpen: { Self → Type 0 };
 
     // The bytes that the reader of that connection told when it was accepted, where it tells them.
-    ghost asked: { Self → Option (List ℕ) };
+    ghost given: { Self → Option (List ℕ) };
 
     /// The next connection, of which no call has failed and to which nothing was written. The
     /// allocator is for what keeps the connection. An error is a turn.
     fn accept(&mut self, alloc: Global) -> Result<Self::Conn, AcceptFault>
         requires { (tally self.old).turns + 1 < 2 ^ 64 }
         ensures accepted { IfOk result (λ conn. IsAccepted (tally self.old) (tally self.new)
-            (asked self.new) (Self.Conn.Source.told conn) (Self.Conn.Sink.told conn)) }
+            (given self.new) (Self.Conn.Source.told conn) (Self.Conn.Sink.told conn)) }
         ensures open { IfOk result (λ conn. IsOpen self.new) }
         ensures refused { OnErr result (IsUnaccepted (tally self.old) (tally self.new)) };
 
@@ -48,7 +48,7 @@ pub trait Peers {
     fn close(&mut self, conn: Self::Conn)
         requires open { IsOpen self.old }
         requires room { (tally self.old).turns + 1 < 2 ^ 64 }
-        ensures { IsClosed (asked self.old) (Self.Conn.Sink.told conn).bytes
+        ensures { IsClosed (given self.old) (Self.Conn.Sink.told conn).bytes
             (tally self.old) (tally self.new) };
 
     /// How many turns there were.

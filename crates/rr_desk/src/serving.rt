@@ -1,7 +1,7 @@
 //! Serving the connections of a listener, one after the other.
 
 ghost use Rattle.std.specs.Prelude.{◌≡◌, ◌+◌, ◌<◌, ◌^◌, false};
-ghost use Rattle.rr_desk.specs.Stocks.{IsStocked};
+ghost use Rattle.rr_desk.specs.Stocks.{StoresUntilStopped};
 ghost use Rattle.rr_desk.specs.TurnParts.{TakesTurn};
 ghost use Rattle.rr_desk.specs.Turns.{TakesTurns};
 
@@ -35,7 +35,7 @@ pub fn serve_all<S: Alter, P: Peers, V: Service>(
     ensures turns { TakesTurns S.Store V.serves count desk.old desk.new
         (P.tally peers.old) (P.tally peers.new) result.served result.failed }
     ensures settings { desk.new.settings ≡ desk.old.settings }
-    ensures rows { IsStocked S.Store desk.new.stored }
+    ensures rows { StoresUntilStopped S.Store desk.new.stored }
 {
     let mut served = 0;
     'turns: for turn in 0..count {
@@ -44,7 +44,7 @@ pub fn serve_all<S: Alter, P: Peers, V: Service>(
         }
     }
     // Says that the rows are those of the registry.
-    let _ = desk.stored.is_stopped();
+    let _ = desk.stored.stopped();
     Served {
         served,
         failed: count - served,
@@ -65,9 +65,9 @@ fn take_turn<S: Alter, P: Peers, V: Service>(
 {
     match peers.accept(alloc) {
         Ok(mut conn) => {
-            let answer = service.serve(alloc, desk, &mut conn);
+            let ended = service.serve(alloc, desk, &mut conn);
             peers.close(conn);
-            answer.is_ok()
+            ended.is_ok()
         }
         Err(AcceptFault) => false,
     }

@@ -9,12 +9,12 @@ ghost use Rattle.rr_answer.specs.Selections.{asked};
 ghost use Rattle.rr_auth.specs.Laws.{key_about};
 ghost use Rattle.rr_registry.specs.Runs.{IsStep};
 ghost use Rattle.rr_rows.specs.Maps.{HasRows, IsObjectOf};
-ghost use Rattle.rr_store.specs.Calls.{IsSettled, OnCleanDisk, Writes, database};
-ghost use Rattle.rr_desk.specs.Stops.{IsStopped, changes};
-ghost use Rattle.rr_desk.specs.LookupParts.{error_of, refusal};
+ghost use Rattle.rr_store.specs.Calls.{IsSettled, OnCleanDisk, Transacts, database};
+ghost use Rattle.rr_desk.specs.Stops.{LeavesStopped, changes};
+ghost use Rattle.rr_desk.specs.LookupParts.{database_error, error_of};
 ghost use Rattle.rr_desk.specs.Private.{Follows, FollowsGain, FollowsIn, FollowsNew, puts_one};
 ghost use Rattle.rr_desk.specs.Rows.{KeepsRows, OnlyLooks};
-ghost use Rattle.rr_desk.specs.Stocks.{IsStocked, StoresRows};
+ghost use Rattle.rr_desk.specs.Stocks.{StoresUntilStopped, StoresRows};
 
 use rr_auth::{Book, Item, Secrets};
 use rr_index::IndexedBook;
@@ -37,7 +37,7 @@ pub struct Stored<S: Alter> {
 }
 
 impl<S: Alter> Model for Stored<S> {
-    ghost use Rattle.rr_desk.specs.Stocks.{Stock, stock_code, stock_of, IsStocked};
+    ghost use Rattle.rr_desk.specs.Stocks.{Stock, stock_code, stock_of, StoresUntilStopped};
 
     ghost Value = { Stock S };
 
@@ -45,7 +45,7 @@ impl<S: Alter> Model for Stored<S> {
 
     ghost view = { λ s. stock_of s.registry s.store s.cause };
 
-    ghost invariant = { λ s. IsStocked S.Store (stock_of s.registry s.store s.cause) };
+    ghost invariant = { λ s. StoresUntilStopped S.Store (stock_of s.registry s.store s.cause) };
 }
 
 impl<S: Alter> Stored<S> {
@@ -68,9 +68,9 @@ impl<S: Alter> Stored<S> {
 
     /// Whether a fault of the store stopped it; until then the store holds the rows of the
     /// registry.
-    pub fn is_stopped(&self) -> bool
+    pub fn stopped(&self) -> bool
         ensures told { result ≡ self.now.stopped }
-        ensures held { IsStocked S.Store self.now }
+        ensures held { StoresUntilStopped S.Store self.now }
         ensures keeps { self.now.stopped ≡ false
             → KeepsRows self.now.registry (state S.Store self.now.store) }
     {
@@ -105,15 +105,15 @@ impl<S: Alter> Stored<S> {
             objects.items ≡ asked (Naming name.now) self.old.registry)) }
         ensures of_source { IfOk result (λ objects.
             AllByRecursion (IsObjectOf source.now) objects.items) }
-        ensures cause { self.new.cause ≡ refusal result }
-        ensures stops { self.new.stopped ≡ is_some (refusal result) }
+        ensures cause { self.new.cause ≡ database_error result }
+        ensures stops { self.new.stopped ≡ is_some (database_error result) }
         ensures registry { self.new.registry ≡ self.old.registry }
         ensures keeps { KeepsRows self.old.registry (state S.Store self.new.store) }
         ensures only_looks { OnlyLooks
             (state S.Store self.old.store) (state S.Store self.new.store) }
     {
         let found = self.store.naming(alloc, source, name);
-        self.cause = refusal(&found);
+        self.cause = database_error(&found);
         found
     }
 
@@ -130,8 +130,9 @@ impl<S: Alter> Stored<S> {
         ensures decides { IfOk result (λ outcome.
             IsStep self.old.registry secrets.old item outcome self.new.registry) }
         ensures running { OnOk result (self.new.stopped ≡ false) }
-        ensures stops { OnErr result (IsStopped self.old.registry secrets.old item self.new.registry
-            self.new.stopped (state S.Store self.old.store) (state S.Store self.new.store)) }
+        ensures stops { OnErr result (LeavesStopped self.old.registry secrets.old item
+            self.new.registry self.new.stopped
+            (state S.Store self.old.store) (state S.Store self.new.store)) }
         ensures same_secrets { secrets.new ≡ secrets.old }
     {
         let outcome = self.registry.apply(alloc, secrets, item);
@@ -159,14 +160,15 @@ impl<S: Alter> Stored<S> {
 impl<S: Alter> Ledger for Stored<S> {
     ghost registry = { λ s. s.registry };
 
-    ghost Ready = { λ s. s.stopped ≡ false };
+    ghost is_stopped = { λ s. s.stopped };
 
-    ghost Stops = { λ old secrets item new. IsStopped old.registry secrets item new.registry
+    ghost Stops = { λ old secrets item new. LeavesStopped old.registry secrets item new.registry
         new.stopped (state S.Store old.store) (state S.Store new.store) };
 
-    fn sound(&self) {
+    fn stopped(&self) -> bool {
         // Says that the registry is sound.
         let _ = self.registry.book();
+        self.cause.is_some()
     }
 
     fn decide(
@@ -183,8 +185,8 @@ impl<S: Alter> Ledger for Stored<S> {
 }
 
 /// The error with which the database refused, if it did.
-fn refusal(found: &Result<Vec<Object>, StoreFault>) -> Option<Error>
-    ensures { result ≡ refusal found.now }
+fn database_error(found: &Result<Vec<Object>, StoreFault>) -> Option<Error>
+    ensures { result ≡ database_error found.now }
 {
     match found {
         Err(StoreFault::Store(error)) => Some(*error),
@@ -242,7 +244,7 @@ fn add_stored<S: Alter>(
     key: &Key,
 ) -> Result<(), StoreFault>
     requires { is_some (get registry.now key.now) ≡ true }
-    ensures rows { Writes S.Store (FollowsNew key.now registry.now) store.old store.new result }
+    ensures rows { Transacts S.Store (FollowsNew key.now registry.now) store.old store.new result }
     ensures settled { IsSettled S.Store store.new }
 {
     match registry.book().get(key) {
@@ -259,7 +261,7 @@ fn put_stored<S: Alter>(
     key: &Key,
 ) -> Result<(), StoreFault>
     requires { is_some (get registry.now key.now) ≡ true }
-    ensures rows { Writes S.Store (FollowsGain key.now registry.now) store.old store.new result }
+    ensures rows { Transacts S.Store (FollowsGain key.now registry.now) store.old store.new result }
     ensures settled { IsSettled S.Store store.new }
 {
     match registry.book().get(key) {

@@ -14,7 +14,7 @@ use Rattle.std.proofs.lemmas.List.Elements.{All-get_or, All-contains, All-contai
 use Rattle.std.proofs.lemmas.Map.Keys.{sorted_head, sorted_tail}
 use Rattle.std.proofs.lemmas.Map.Lookups.{CmpEqualImpliesEq, exact_pairs}
 use Rattle.std.proofs.lemmas.Map.Views.{tells_apart}
-use Rattle.rr_graph.specs.Carried.{IsFound, IsFoundPair, IsLabelledChain, IsNamed, put_through}
+use Rattle.rr_graph.specs.Carried.{IsFound, IsFoundPair, IsLabelledChain, IsReachedFrom, put_through}
 use Rattle.rr_graph.specs.Chain.{HasNoRepeats, MoreThan}
 use Rattle.rr_graph.specs.SettledParts.{HasEdges, IsAmong, IsFoundAmong, IsHeld, IsHeldOr, IsPassed, HoldsAllValues, IsTallied}
 use Rattle.rr_graph.specs.declared.labels.Edge.{Edge}
@@ -144,12 +144,12 @@ module _ {N V : Type 0} (at : N → Option (List V)) (node : N) (values : List V
 
 module _ {N L V : Type 0} (passed : L → V → Option V) (at : N → Option (List V)) where
   -- no edges pass nothing
-  pub IsPassed-none : (begun : List V) (v : V) → Contains begun v ↔ (Contains begun v ⊎ IsPassed passed at [] v)
-  IsPassed-none begun v = (λ has. inl has, λ both. elim both [ inl has ↦ has | inr r ↦ absurd (Contains-nil r.0 r.1) ])
+  pub IsPassed-none : (starts : List V) (v : V) → Contains starts v ↔ (Contains starts v ⊎ IsPassed passed at [] v)
+  IsPassed-none starts v = (λ has. inl has, λ both. elim both [ inl has ↦ has | inr r ↦ absurd (Contains-nil r.0 r.1) ])
 
   -- one more edge
-  pub IsPassed-more : (begun old new : List V) (edges : List (Edge N L)) (i : ℕ) (e : Edge N L) → i < length edges → e ≡ get_or edges i e → ((v : V) → Contains old v ↔ (Contains begun v ⊎ IsPassed passed at (take i edges) v)) → ((v : V) → Contains new v ↔ (Contains old v ⊎ ((w : V) × IsHeld at (e.to, w) × (passed e.label w ≡ Some v)))) → (v : V) → Contains new v ↔ (Contains begun v ⊎ IsPassed passed at (take (i + 1) edges) v)
-  IsPassed-more begun old new edges i e inside is before added v = (
+  pub IsPassed-more : (starts old new : List V) (edges : List (Edge N L)) (i : ℕ) (e : Edge N L) → i < length edges → e ≡ get_or edges i e → ((v : V) → Contains old v ↔ (Contains starts v ⊎ IsPassed passed at (take i edges) v)) → ((v : V) → Contains new v ↔ (Contains old v ⊎ ((w : V) × IsHeld at (e.to, w) × (passed e.label w ≡ Some v)))) → (v : V) → Contains new v ↔ (Contains starts v ⊎ IsPassed passed at (take (i + 1) edges) v)
+  IsPassed-more starts old new edges i e inside is before added v = (
     λ has. elim ((added v).0 has) [
       | inl there ↦ elim ((before v).0 there) [
         | inl first ↦ inl first
@@ -189,33 +189,33 @@ module _ {N L V : Type 0} (passed : L → V → Option V) (at : N → Option (Li
 module _ {N L V : Type 0} (edge : N → N → L → Type 0) (own : N → V → Type 0) (passed : L → V → Option V) (cmp : V → V → Ordering) (at : N → Option (List V)) (settled : HoldsAllValues edge own passed cmp at) where
   -- what is found at a node whose edges all lead to known ones
   pub IsFound-settled : (node : N) (edges : List (Edge N L)) → HasEdges edge node edges → ((e : Edge N L) → Contains edges e → is_some (at e.to) ≡ true) → (v : V) → (own node v ⊎ IsPassed passed at edges v) ↔ IsFound edge own passed node v
-  IsFound-settled node edges leave known v = (on, λ (chain, b, begun, leads, owned, through). from chain b begun leads owned through) where
+  IsFound-settled node edges leave known v = (on, λ (chain, b, start, leads, owned, through). from chain b start leads owned through) where
     on : own node v ⊎ IsPassed passed at edges v → IsFound edge own passed node v
     on (inl owned) = ([], node, v, refl, owned, refl)
     on (inr (e, among, (w, (held, is, has), through))) =
-        let (chain, b, begun, leads, owned, put) = ((settled e.to held is).0 w).0 has in
-        (e ∷ chain, b, begun, ((leave e.to e.label).0 among, leads), owned, ap (option_and_then (passed e.label)) put ∙ through)
+        let (chain, b, start, leads, owned, put) = ((settled e.to held is).0 w).0 has in
+        (e ∷ chain, b, start, ((leave e.to e.label).0 among, leads), owned, ap (option_and_then (passed e.label)) put ∙ through)
 
-    from : (chain : List (Edge N L)) (b : N) (begun : V) → IsLabelledChain edge node chain b → own b begun → put_through passed chain begun ≡ Some v → own node v ⊎ IsPassed passed at edges v
-    from [] b begun is owned through = inl (subst (own node) (cc through) (subst (λ (n : N). own n begun) (sym is) owned))
-    from (e ∷ chain) b begun is owned through = go (put_through passed chain begun) refl where
+    from : (chain : List (Edge N L)) (b : N) (start : V) → IsLabelledChain edge node chain b → own b start → put_through passed chain start ≡ Some v → own node v ⊎ IsPassed passed at edges v
+    from [] b start is owned through = inl (subst (own node) (cc through) (subst (λ (n : N). own n start) (sym is) owned))
+    from (e ∷ chain) b start is owned through = go (put_through passed chain start) refl where
       among : Contains edges e
       among = (leave e.to e.label).1 is.0
 
-      go : (o : Option V) → put_through passed chain begun ≡ o → own node v ⊎ IsPassed passed at edges v
+      go : (o : Option V) → put_through passed chain start ≡ o → own node v ⊎ IsPassed passed at edges v
       go None none =
           let wrong : option_and_then (passed e.label) None ≡ Some v = subst (λ (x : Option V). option_and_then (passed e.label) x ≡ Some v) none through in
           cc
       go (Some w) some =
           let held = some_of (at e.to) (known e among) in
           let last : passed e.label w ≡ Some v = subst (λ (x : Option V). option_and_then (passed e.label) x ≡ Some v) some through in
-          inr (e, among, (w, (held.0, held.1, ((settled e.to held.0 held.1).0 w).1 (chain, b, begun, is.1, owned, some)), last))
+          inr (e, among, (w, (held.0, held.1, ((settled e.to held.0 held.1).0 w).1 (chain, b, start, is.1, owned, some)), last))
 
   -- what is listed of a node's own values and of those that are passed to it
-  pub listed_at : (node : N) (edges asked : List (Edge N L)) (begun all listed : List V) → HasEdges edge node edges → asked ≡ edges → ((e : Edge N L) → Contains asked e → is_some (at e.to) ≡ true) → ((v : V) → Contains begun v ↔ own node v) → ((v : V) → Contains all v ↔ (Contains begun v ⊎ IsPassed passed at asked v)) → ((v : V) → Contains listed v ↔ Contains all v) → (v : V) → Contains listed v ↔ IsFound edge own passed node v
-  listed_at node edges asked begun all listed leave same known has_own has_all as_listed v =
+  pub listed_at : (node : N) (edges asked : List (Edge N L)) (starts all listed : List V) → HasEdges edge node edges → asked ≡ edges → ((e : Edge N L) → Contains asked e → is_some (at e.to) ≡ true) → ((v : V) → Contains starts v ↔ own node v) → ((v : V) → Contains all v ↔ (Contains starts v ⊎ IsPassed passed at asked v)) → ((v : V) → Contains listed v ↔ Contains all v) → (v : V) → Contains listed v ↔ IsFound edge own passed node v
+  listed_at node edges asked starts all listed leave same known has_own has_all as_listed v =
       let known' : (e : Edge N L) → Contains edges e → is_some (at e.to) ≡ true = subst (λ (l : List (Edge N L)). (e : Edge N L) → Contains l e → is_some (at e.to) ≡ true) same known in
-      let has_all' : Contains all v ↔ (Contains begun v ⊎ IsPassed passed at edges v) = subst (λ (l : List (Edge N L)). Contains all v ↔ (Contains begun v ⊎ IsPassed passed at l v)) same (has_all v) in
+      let has_all' : Contains all v ↔ (Contains starts v ⊎ IsPassed passed at edges v) = subst (λ (l : List (Edge N L)). Contains all v ↔ (Contains starts v ⊎ IsPassed passed at l v)) same (has_all v) in
       let found : (own node v ⊎ IsPassed passed at edges v) ↔ IsFound edge own passed node v = IsFound-settled node edges leave known' v in (
         λ has. elim (has_all'.0 ((as_listed v).0 has)) [ inl first ↦ found.0 (inl ((has_own v).0 first)) | inr passed_on ↦ found.0 (inr passed_on) ],
         λ is. (as_listed v).1 (has_all'.1 (elim (found.1 is) [ inl owned ↦ inl ((has_own v).1 owned) | inr passed_on ↦ inr passed_on ])),
@@ -256,7 +256,7 @@ among_only nodes node at new there among only other held is = elim (only other (
 ]
 
 -- where all nodes that are reached are known, the pairs held are all that are found
-pub few_settled : {N L V : Type 0} {cmp : N → N → Ordering} (order : IsTotalOrder cmp) (exact : CmpEqualImpliesEq cmp) {value_cmp : V → V → Ordering} (value_order : IsTotalOrder value_cmp) (value_exact : CmpEqualImpliesEq value_cmp) (edge : N → N → L → Type 0) (own : N → V → Type 0) (passed : L → V → Option V) (at : N → Option (List V)) (start : N) (limit count : ℕ) → HoldsAllValues edge own passed value_cmp at → IsTallied at limit count → ((node : N) → IsNamed edge start node → is_some (at node) ≡ true) → MoreThan limit (IsFoundPair edge own passed start) → ⊥
+pub few_settled : {N L V : Type 0} {cmp : N → N → Ordering} (order : IsTotalOrder cmp) (exact : CmpEqualImpliesEq cmp) {value_cmp : V → V → Ordering} (value_order : IsTotalOrder value_cmp) (value_exact : CmpEqualImpliesEq value_cmp) (edge : N → N → L → Type 0) (own : N → V → Type 0) (passed : L → V → Option V) (at : N → Option (List V)) (start : N) (limit count : ℕ) → HoldsAllValues edge own passed value_cmp at → IsTallied at limit count → ((node : N) → IsReachedFrom edge start node → is_some (at node) ≡ true) → MoreThan limit (IsFoundPair edge own passed start) → ⊥
 few_settled {N} {L} {V} {cmp} order exact {value_cmp} value_order value_exact edge own passed at start limit count settled tallied known =
     MoreThan-listed (then_total (on_total (λ (p : N × V). p.0) order) (on_total (λ (p : N × V). p.1) value_order)) (exact_pairs cmp value_cmp exact value_exact) limit tallied.pairs (IsFoundPair edge own passed start) (rw tallied.long tallied.few)
     (λ p (name, found).

@@ -37,9 +37,9 @@ Contains-map {X} {Y} f xs y = (back xs, on xs) where
 -- an element that a partial map gives comes from one of the list
 pub Contains-filter_map : {X Y : Type 0} (h : X → Option Y) (xs : List X) (y : Y) → Contains (filter_map h xs) y ↔ ((x : X) × Contains xs x × (h x ≡ Some y))
 Contains-filter_map {X} {Y} h xs y = (back xs, on xs) where
-  begun : (o : Option Y) (rest : List Y) → Contains (cons_option o rest) y → (o ≡ Some y) ⊎ Contains rest y
-  begun None rest has = inr has
-  begun (Some z) rest has = elim (Contains-cons_cases z rest y has) [ inl first ↦ inl (ap Some first) | inr later ↦ inr later ]
+  first_or_later : (o : Option Y) (rest : List Y) → Contains (cons_option o rest) y → (o ≡ Some y) ⊎ Contains rest y
+  first_or_later None rest has = inr has
+  first_or_later (Some z) rest has = elim (Contains-cons_cases z rest y has) [ inl first ↦ inl (ap Some first) | inr later ↦ inr later ]
 
   kept : (o : Option Y) (rest : List Y) → (o ≡ Some y) ⊎ Contains rest y → Contains (cons_option o rest) y
   kept None rest (inl is) = cc
@@ -49,7 +49,7 @@ Contains-filter_map {X} {Y} h xs y = (back xs, on xs) where
 
   back : (xs : List X) → Contains (filter_map h xs) y → (x : X) × Contains xs x × (h x ≡ Some y)
   back [] has = absurd (Contains-nil y has)
-  back (x ∷ xs) has = elim (begun (h x) (filter_map h xs) has) [
+  back (x ∷ xs) has = elim (first_or_later (h x) (filter_map h xs) has) [
     | inl first ↦ (x, Contains-head x xs, first)
     | inr later ↦ let r = back xs later in (r.0, Contains-later x xs r.0 r.1, r.2)
   ]

@@ -4,7 +4,7 @@ use Rattle.std.proofs.Common.{option_and_then}
 use Rattle.std.proofs.lemmas.Bool.{cases_lt}
 use Rattle.std.proofs.lemmas.List.{get_or_default, length_push}
 use Rattle.std.proofs.lemmas.List.Elements.{All-contains, All-contains_itself, All-weaker, Contains-append_left, Contains-push, Contains-push_cases}
-use Rattle.rr_graph.specs.Carried.{IsFound, IsFoundPair, IsLabelledChain, IsNamed, Leads, put_through}
+use Rattle.rr_graph.specs.Carried.{IsFound, IsFoundPair, IsLabelledChain, IsReachedFrom, Leads, put_through}
 use Rattle.rr_graph.specs.Chain.{HasNoRepeats, IsReached, MoreThan}
 use Rattle.rr_graph.specs.NumberedParts.{IsAt}
 use Rattle.rr_graph.specs.declared.labels.Edge.{Edge}
@@ -73,58 +73,58 @@ module _ {N : Type 0} (nodes : List N) where
       | inr ge ↦ elim (cases_lt j i) [ inl more ↦ inr (inr more) | inr le ↦ inr (inl (omega arith)) ]
     ]
 
-module _ {N L V : Type 0} (edge : N → N → L → Type 0) (own : N → V → Type 0) (passed : L → V → Option V) (nodes : List N) (once : HasNoRepeats nodes) (numbered : ℕ → ℕ → L → Type 0) (same : (from to : ℕ) (label : L) → numbered from to label ↔ ((tail head : N) × IsAt nodes from tail × IsAt nodes to head × edge tail head label)) (start : N) (first : ℕ) (begins : IsAt nodes first start) (named : (node : N) → Contains nodes node ↔ IsNamed edge start node) where
+module _ {N L V : Type 0} (edge : N → N → L → Type 0) (own : N → V → Type 0) (passed : L → V → Option V) (nodes : List N) (once : HasNoRepeats nodes) (numbered : ℕ → ℕ → L → Type 0) (same : (from to : ℕ) (label : L) → numbered from to label ↔ ((tail head : N) × IsAt nodes from tail × IsAt nodes to head × edge tail head label)) (start : N) (first : ℕ) (begins : IsAt nodes first start) (reached_from : (node : N) → Contains nodes node ↔ IsReachedFrom edge start node) where
   -- what a place has by itself
   abbrev owned : ℕ → V → Type 0
   owned place value = (node : N) × IsAt nodes place node × own node value
 
   -- all places are reached, and no others
-  pub IsNamed-numbered : (place : ℕ) → (place < length nodes) ↔ IsNamed numbered first place
-  IsNamed-numbered place = (on, from) where
-    reached : (node : N) → IsNamed edge start node → IsNamed edge start node × ((i : ℕ) → IsAt nodes i node → IsNamed numbered first i)
-    reached node is = IsReached-within (Leads edge) (start ∷ []) (λ n. IsNamed edge start n × ((i : ℕ) → IsAt nodes i n → IsNamed numbered first i))
+  pub IsReachedFrom-numbered : (place : ℕ) → (place < length nodes) ↔ IsReachedFrom numbered first place
+  IsReachedFrom-numbered place = (on, from) where
+    reached : (node : N) → IsReachedFrom edge start node → IsReachedFrom edge start node × ((i : ℕ) → IsAt nodes i node → IsReachedFrom numbered first i)
+    reached node is = IsReached-within (Leads edge) (start ∷ []) (λ n. IsReachedFrom edge start n × ((i : ℕ) → IsAt nodes i n → IsReachedFrom numbered first i))
         (λ a has. (
           IsReached-start (Leads edge) (start ∷ []) a has,
-          λ i at. subst (λ (k : ℕ). IsNamed numbered first k) (IsAt-alone nodes once first i start begins (subst (IsAt nodes i) (sym (Contains-single start a has)) at)) (IsReached-start (Leads numbered) (first ∷ []) first (Contains-head first [])),
+          λ i at. subst (λ (k : ℕ). IsReachedFrom numbered first k) (IsAt-alone nodes once first i start begins (subst (IsAt nodes i) (sym (Contains-single start a has)) at)) (IsReached-start (Leads numbered) (first ∷ []) first (Contains-head first [])),
         ))
         (λ b c was step. (
           IsReached-edge (Leads edge) (start ∷ []) b c was.0 step,
-          λ i at. let (k, at_b) = IsAt-some nodes b ((named b).1 was.0) in
+          λ i at. let (k, at_b) = IsAt-some nodes b ((reached_from b).1 was.0) in
               IsReached-edge (Leads numbered) (first ∷ []) k i (was.1 k at_b) (step.0, (same k i step.0).1 (b, c, at_b, at, step.1)),
         ))
         node is
 
-    on : place < length nodes → IsNamed numbered first place
+    on : place < length nodes → IsReachedFrom numbered first place
     on inside =
         let node : N = get_or nodes place start in
         let at : IsAt nodes place node = (inside, get_or_default nodes place start node inside) in
-        (reached node ((named node).0 (Contains-at nodes place node at))).1 place at
+        (reached node ((reached_from node).0 (Contains-at nodes place node at))).1 place at
 
-    from : IsNamed numbered first place → place < length nodes
+    from : IsReachedFrom numbered first place → place < length nodes
     from is = IsReached-within (Leads numbered) (first ∷ []) (λ i. i < length nodes) (λ a has. subst (λ (i : ℕ). i < length nodes) (Contains-single first a has) begins.0) (λ b c was step. ((same b c step.0).0 step.1).3.0) place is
 
   -- a chain of places is one of nodes
-  up : (place : ℕ) (node : N) → IsAt nodes place node → (chain : List (Edge ℕ L)) (b : ℕ) (begun : V) → IsLabelledChain numbered place chain b → owned b begun → (nodes_ : List (Edge N L)) × (c : N) × IsLabelledChain edge node nodes_ c × own c begun × (put_through passed nodes_ begun ≡ put_through passed chain begun)
-  up place node at [] b begun is (m, at_m, has) =
-      ([], node, refl, subst (λ (n : N). own n begun) (IsAt-one nodes place m node (subst (λ (i : ℕ). IsAt nodes i m) (sym is) at_m) at) has, refl)
-  up place node at (e ∷ chain) b begun is has =
+  up : (place : ℕ) (node : N) → IsAt nodes place node → (chain : List (Edge ℕ L)) (b : ℕ) (first_value : V) → IsLabelledChain numbered place chain b → owned b first_value → (nodes_ : List (Edge N L)) × (c : N) × IsLabelledChain edge node nodes_ c × own c first_value × (put_through passed nodes_ first_value ≡ put_through passed chain first_value)
+  up place node at [] b first_value is (m, at_m, has) =
+      ([], node, refl, subst (λ (n : N). own n first_value) (IsAt-one nodes place m node (subst (λ (i : ℕ). IsAt nodes i m) (sym is) at_m) at) has, refl)
+  up place node at (e ∷ chain) b first_value is has =
       let (tail, head, at_tail, at_head, step) = (same place e.to e.label).0 is.0 in
-      let (rest, c, leads, owns, put) = up e.to head at_head chain b begun is.1 has in
+      let (rest, c, leads, owns, put) = up e.to head at_head chain b first_value is.1 has in
       (record { to = head; label = e.label } ∷ rest, c, (subst (λ (n : N). edge n head e.label) (IsAt-one nodes place tail node at_tail at) step, leads), owns, ap (option_and_then (passed e.label)) put)
 
   -- a chain of nodes is one of places
-  down : (place : ℕ) (node : N) → IsAt nodes place node → (chain : List (Edge N L)) (c : N) (begun : V) → IsLabelledChain edge node chain c → own c begun → (places : List (Edge ℕ L)) × (b : ℕ) × IsLabelledChain numbered place places b × owned b begun × (put_through passed places begun ≡ put_through passed chain begun)
-  down place node at [] c begun is has = ([], place, refl, (node, at, subst (λ (n : N). own n begun) (sym is) has), refl)
-  down place node at (e ∷ chain) c begun is has =
-      let (i, at_to) = IsAt-some nodes e.to ((named e.to).1 (IsReached-edge (Leads edge) (start ∷ []) node e.to ((named node).0 (Contains-at nodes place node at)) (e.label, is.0))) in
-      let (rest, b, leads, owns, put) = down i e.to at_to chain c begun is.1 has in
+  down : (place : ℕ) (node : N) → IsAt nodes place node → (chain : List (Edge N L)) (c : N) (first_value : V) → IsLabelledChain edge node chain c → own c first_value → (places : List (Edge ℕ L)) × (b : ℕ) × IsLabelledChain numbered place places b × owned b first_value × (put_through passed places first_value ≡ put_through passed chain first_value)
+  down place node at [] c first_value is has = ([], place, refl, (node, at, subst (λ (n : N). own n first_value) (sym is) has), refl)
+  down place node at (e ∷ chain) c first_value is has =
+      let (i, at_to) = IsAt-some nodes e.to ((reached_from e.to).1 (IsReached-edge (Leads edge) (start ∷ []) node e.to ((reached_from node).0 (Contains-at nodes place node at)) (e.label, is.0))) in
+      let (rest, b, leads, owns, put) = down i e.to at_to chain c first_value is.1 has in
       (record { to = i; label = e.label } ∷ rest, b, ((same place i e.label).1 (node, e.to, at, at_to, is.0), leads), owns, ap (option_and_then (passed e.label)) put)
 
   -- what is found at a place is found at its node
   pub IsFound-numbered : (place : ℕ) (node : N) → IsAt nodes place node → (value : V) → IsFound numbered owned passed place value ↔ IsFound edge own passed node value
   IsFound-numbered place node at value = (
-    λ (chain, b, begun, leads, has, put). let (nodes_, c, leads_, owns, same_) = up place node at chain b begun leads has in (nodes_, c, begun, leads_, owns, same_ ∙ put),
-    λ (chain, c, begun, leads, has, put). let (places, b, leads_, owns, same_) = down place node at chain c begun leads has in (places, b, begun, leads_, owns, same_ ∙ put),
+    λ (chain, b, first_value, leads, has, put). let (nodes_, c, leads_, owns, same_) = up place node at chain b first_value leads has in (nodes_, c, first_value, leads_, owns, same_ ∙ put),
+    λ (chain, c, first_value, leads, has, put). let (places, b, leads_, owns, same_) = down place node at chain c first_value leads has in (places, b, first_value, leads_, owns, same_ ∙ put),
   )
 
   -- a pair of a place, and that of its node
@@ -136,16 +136,16 @@ module _ {N L V : Type 0} (edge : N → N → L → Type 0) (own : N → V → T
   MoreThan-numbered limit = (
     MoreThan-related Stands (IsFoundPair numbered owned passed first) (IsFoundPair edge own passed start)
         (λ (i, v) (name, found).
-        let inside : i < length nodes = (IsNamed-numbered i).1 name in
+        let inside : i < length nodes = (IsReachedFrom-numbered i).1 name in
         let node : N = get_or nodes i start in
         let at : IsAt nodes i node = (inside, get_or_default nodes i start node inside) in
-        ((node, v), (at, refl), ((named node).0 (Contains-at nodes i node at), (IsFound-numbered i node at v).0 found)))
+        ((node, v), (at, refl), ((reached_from node).0 (Contains-at nodes i node at), (IsFound-numbered i node at v).0 found)))
         (λ p r q is also. λ j. (IsAt-alone nodes once p.0 r.0 q.0 is.0 also.0 j, (is.1 ∙ sym also.1) j))
         limit,
     MoreThan-related (λ q p. Stands p q) (IsFoundPair edge own passed start) (IsFoundPair numbered owned passed first)
         (λ (n, v) (name, found).
-        let (i, at) = IsAt-some nodes n ((named n).1 name) in
-        ((i, v), (at, refl), ((IsNamed-numbered i).0 at.0, (IsFound-numbered i n at v).1 found)))
+        let (i, at) = IsAt-some nodes n ((reached_from n).1 name) in
+        ((i, v), (at, refl), ((IsReachedFrom-numbered i).0 at.0, (IsFound-numbered i n at v).1 found)))
         (λ q r p is also. λ j. (IsAt-one nodes p.0 q.0 r.0 is.0 also.0 j, (sym is.1 ∙ also.1) j))
         limit,
   )

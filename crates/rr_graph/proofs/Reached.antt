@@ -29,13 +29,13 @@ module _ {N : Type 0} (edge : N → N → Type 0) where
 
   -- what has the starts and is closed under edges has all that is reached
   pub IsReached-within : (starts : List N) (P : N → Type 0) → ((a : N) → Contains starts a → P a) → ((b c : N) → P b → edge b c → P c) → (b : N) → IsReached edge starts b → P b
-  IsReached-within starts P begun closed b (a, chain, is, leads) = IsChain-within P closed a chain b (begun a is) leads
+  IsReached-within starts P has_starts closed b (a, chain, is, leads) = IsChain-within P closed a chain b (has_starts a is) leads
 
 -- A search over a graph: all that it found is reached, and it found the starts and all successors of those looked at.
 pub record IsSearching {N : Type 0} (cmp : N → N → Ordering) (edge : N → N → Type 0) (starts : List N) (limit done : ℕ) (list : List N) (index : BTreeSet N) : Type 0 where
   pub listing : IsListing cmp limit list index
   pub inside : done ≤ length list
-  pub begun : (a : N) → Contains starts a → Contains list a
+  pub has_starts : (a : N) → Contains starts a → Contains list a
   pub sound : (b : N) → Contains list b → IsReached edge starts b
   pub closed : (k : ℕ) (d : N) → k < done → (c : N) → edge (get_or list k d) c → Contains list c
 
@@ -45,7 +45,7 @@ module _ {N : Type 0} (cmp : N → N → Ordering) (edge : N → N → Type 0) (
   IsSearching-none list index listing added = record {
     listing = listing;
     inside = omega arith;
-    begun = added.all;
+    has_starts = added.all;
     sound = λ b has. elim (added.only b has) [ inl (k, before, _) ↦ absurd (omega arith) | inr start ↦ IsReached-start edge starts b start ];
     closed = λ k d before. absurd (omega arith);
   }
@@ -55,7 +55,7 @@ module _ {N : Type 0} (cmp : N → N → Ordering) (edge : N → N → Type 0) (
   IsSearching-more done list new old index nodes node search_ before is succ listing added = record {
     listing = listing;
     inside = rw (added.after, length-append) (omega arith);
-    begun = λ a start. Contains-Lists list nodes new a added (search_.begun a start);
+    has_starts = λ a start. Contains-Lists list nodes new a added (search_.has_starts a start);
     sound = λ b has. elim (added.only b has) [
       | inl there ↦ search_.sound b there
       | inr next ↦ IsReached-edge edge starts node b (search_.sound node there) ((succ b).0 next)
@@ -76,6 +76,6 @@ module _ {N : Type 0} (cmp : N → N → Ordering) (edge : N → N → Type 0) (
 
   -- a finished search found exactly what is reached
   pub IsSearching-all : (done : ℕ) (list : List N) (index : BTreeSet N) → IsSearching cmp edge starts limit done list index → length list ≤ done → (b : N) → Contains list b ↔ IsReached edge starts b
-  IsSearching-all done list index search_ whole b = (search_.sound b, IsReached-within edge starts (Contains list) search_.begun closed b) where
+  IsSearching-all done list index search_ whole b = (search_.sound b, IsReached-within edge starts (Contains list) search_.has_starts closed b) where
     closed : (x c : N) → Contains list x → edge x c → Contains list c
     closed x c (k, inside, is) step = search_.closed k x (omega arith) c (subst (λ (y : N). edge y c) (sym is) step)

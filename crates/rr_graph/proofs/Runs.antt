@@ -14,8 +14,8 @@ use Rattle.rr_graph.proofs.Lists.{Contains-filter_map, Contains-nil}
 module _ {N L V : Type 0} (passed : L → V → Option V) where
   module _ (at : N → Option (List V)) where
     -- a run after other edges
-    pub IsPassed-run : (begun old new : List V) (edges run : List (Edge N L)) (n m : ℕ) → run ≡ take m (drop n edges) → ((v : V) → Contains old v ↔ (Contains begun v ⊎ IsPassed passed at (take n edges) v)) → ((v : V) → Contains new v ↔ (Contains old v ⊎ IsPassed passed at run v)) → (v : V) → Contains new v ↔ (Contains begun v ⊎ IsPassed passed at (take (n + m) edges) v)
-    IsPassed-run begun old new edges run n m is before added v = (
+    pub IsPassed-run : (starts old new : List V) (edges run : List (Edge N L)) (n m : ℕ) → run ≡ take m (drop n edges) → ((v : V) → Contains old v ↔ (Contains starts v ⊎ IsPassed passed at (take n edges) v)) → ((v : V) → Contains new v ↔ (Contains old v ⊎ IsPassed passed at run v)) → (v : V) → Contains new v ↔ (Contains starts v ⊎ IsPassed passed at (take (n + m) edges) v)
+    IsPassed-run starts old new edges run n m is before added v = (
       λ has. elim ((added v).0 has) [
         | inl earlier ↦ elim ((before v).0 earlier) [
           | inl first ↦ inl first
@@ -39,7 +39,7 @@ module _ {N L V : Type 0} (passed : L → V → Option V) where
     IsPassed-made old new node run held one known added v = (
       λ has. elim ((added v).0 has) [
         | inl there ↦ inl there
-        | inr (w, begun, (e, among, to, is)) ↦ inr (e, among, (w, (held, ap at to ∙ known, begun), is))
+        | inr (w, in_held, (e, among, to, is)) ↦ inr (e, among, (w, (held, ap at to ∙ known, in_held), is))
       ],
       λ both. (added v).1 (elim both [
         | inl there ↦ inl there
@@ -61,17 +61,17 @@ module _ {N L V : Type 0} (passed : L → V → Option V) where
     )
 
   -- one edge
-  pub IsMade-one : (old new begun : List V) (node : N) (edge : Edge N L) → IsRun node (edge ∷ []) → new ≡ old ++ filter_map (passed edge.label) begun → (v : V) → Contains new v ↔ (Contains old v ⊎ IsMade passed node (edge ∷ []) begun v)
-  IsMade-one old new begun node edge one is v = (
-    λ has. elim (Contains-append_cases old (filter_map (passed edge.label) begun) v (subst (λ (l : List V). Contains l v) is has)) [
+  pub IsMade-one : (old new starts : List V) (node : N) (edge : Edge N L) → IsRun node (edge ∷ []) → new ≡ old ++ filter_map (passed edge.label) starts → (v : V) → Contains new v ↔ (Contains old v ⊎ IsMade passed node (edge ∷ []) starts v)
+  IsMade-one old new starts node edge one is v = (
+    λ has. elim (Contains-append_cases old (filter_map (passed edge.label) starts) v (subst (λ (l : List V). Contains l v) is has)) [
       | inl there ↦ inl there
       | inr mapped ↦
-          let r = (Contains-filter_map (passed edge.label) begun v).0 mapped in
+          let r = (Contains-filter_map (passed edge.label) starts v).0 mapped in
           inr (r.0, r.1, (edge, Contains-push [] edge, one edge (Contains-push [] edge), r.2))
     ],
     λ both. rw is (elim both [
-      | inl there ↦ Contains-append_left old (filter_map (passed edge.label) begun) v there
-      | inr (w, has, (e, among, to, makes)) ↦ Contains-append_right old (filter_map (passed edge.label) begun) v ((Contains-filter_map (passed edge.label) begun v).1 (
+      | inl there ↦ Contains-append_left old (filter_map (passed edge.label) starts) v there
+      | inr (w, has, (e, among, to, makes)) ↦ Contains-append_right old (filter_map (passed edge.label) starts) v ((Contains-filter_map (passed edge.label) starts v).1 (
         w,
         has,
         elim (Contains-cons_cases edge [] e among) [
@@ -87,20 +87,20 @@ module _ {N L V : Type 0} (passed : L → V → Option V) where
   IsMade-none old node run v = (λ has. inl has, λ both. elim both [ inl there ↦ there | inr r ↦ absurd (Contains-nil r.0 r.1) ])
 
   -- one more value
-  pub IsMade-more : (first old now new begun : List V) (i : ℕ) (w : V) (node : N) (run kept : List (Edge N L)) → i < length begun → w ≡ get_or begun i w → IsRun node run → IsEnough passed run w kept → ((v : V) → Contains old v ↔ (Contains first v ⊎ IsMade passed node run (take i begun) v)) → now ≡ old ++ filter_map (λ edge. passed edge.label w) kept → ((v : V) → Contains new v ↔ Contains now v) → (v : V) → Contains new v ↔ (Contains first v ⊎ IsMade passed node run (take (i + 1) begun) v)
-  IsMade-more first old now new begun i w node run kept inside is one enough before pushed same v = (
+  pub IsMade-more : (first old now new starts : List V) (i : ℕ) (w : V) (node : N) (run kept : List (Edge N L)) → i < length starts → w ≡ get_or starts i w → IsRun node run → IsEnough passed run w kept → ((v : V) → Contains old v ↔ (Contains first v ⊎ IsMade passed node run (take i starts) v)) → now ≡ old ++ filter_map (λ edge. passed edge.label w) kept → ((v : V) → Contains new v ↔ Contains now v) → (v : V) → Contains new v ↔ (Contains first v ⊎ IsMade passed node run (take (i + 1) starts) v)
+  IsMade-more first old now new starts i w node run kept inside is one enough before pushed same v = (
     λ has. elim (Contains-append_cases old (filter_map by kept) v (subst (λ (l : List V). Contains l v) pushed ((same v).0 has))) [
       | inl earlier ↦ elim ((before v).0 earlier) [
         | inl at_first ↦ inl at_first
-        | inr (u, among, makes) ↦ inr (u, Contains-take begun i w u inside is (inl among), makes)
+        | inr (u, among, makes) ↦ inr (u, Contains-take starts i w u inside is (inl among), makes)
       ]
       | inr mapped ↦
           let r = (Contains-filter_map by kept v).0 mapped in
-          inr (w, Contains-take begun i w w inside is (inr refl), (r.0, enough.among r.0 r.1, one r.0 (enough.among r.0 r.1), r.2))
+          inr (w, Contains-take starts i w w inside is (inr refl), (r.0, enough.among r.0 r.1, one r.0 (enough.among r.0 r.1), r.2))
     ],
     λ both. (same v).1 (rw pushed (elim both [
       | inl at_first ↦ Contains-append_left old (filter_map by kept) v ((before v).1 (inl at_first))
-      | inr (u, among, makes) ↦ elim (Contains-take_cases begun i w u inside is among) [
+      | inr (u, among, makes) ↦ elim (Contains-take_cases starts i w u inside is among) [
         | inl earlier ↦ Contains-append_left old (filter_map by kept) v ((before v).1 (inr (u, earlier, makes)))
         | inr it ↦
             let (f, has, to, is_) = enough.whole node v (subst (λ (x : V). Makes passed x run node v) (sym it) makes) in

@@ -17,12 +17,12 @@ module _ {N L : Type 0} (edge : N → N → L → Type 0) where
   Leads a b = (label : L) × edge a b label
 
   -- Edges lead to the node from the start, whatever their labels.
-  abbrev pub IsNamed : N → N → Type 0
-  IsNamed start node = IsReached Leads (start ∷ []) node
+  abbrev pub IsReachedFrom : N → N → Type 0
+  IsReachedFrom start node = IsReached Leads (start ∷ []) node
 
   -- The nodes are those to which edges lead from the start.
-  abbrev pub AreNamed : N → List N → Type 0
-  AreNamed start nodes = (node : N) → Contains nodes node ↔ IsNamed start node
+  abbrev pub AreReachedFrom : N → List N → Type 0
+  AreReachedFrom start nodes = (node : N) → Contains nodes node ↔ IsReachedFrom start node
 
 -- What becomes of a value that is put through the labels of a chain, the last first, unless a label
 -- drops it. (profile)
@@ -37,8 +37,8 @@ module _ {N L V : Type 0} (edge : N → N → L → Type 0) (own : N → V → T
   -- this value. (profile)
   abbrev pub IsFound : N → V → Type 0
   IsFound a value =
-      (chain : List (Edge N L)) × (b : N) × (begun : V) × IsLabelledChain edge a chain b
-      × own b begun × (put_through passed chain begun ≡ Some value)
+      (chain : List (Edge N L)) × (b : N) × (start : V) × IsLabelledChain edge a chain b
+      × own b start × (put_through passed chain start ≡ Some value)
 
   -- The values are those that are found at the node.
   abbrev pub AreFound : N → List V → Type 0
@@ -46,7 +46,7 @@ module _ {N L V : Type 0} (edge : N → N → L → Type 0) (own : N → V → T
 
   -- A node that is reached from the start, with a value that is found at it.
   abbrev pub IsFoundPair : N → N × V → Type 0
-  IsFoundPair start p = IsNamed edge start p.0 × IsFound p.0 p.1
+  IsFoundPair start p = IsReachedFrom edge start p.0 × IsFound p.0 p.1
 
   -- There are more than `limit` such pairs.
   abbrev pub HasManyPairs : ℕ → N → Type 0
@@ -55,4 +55,4 @@ module _ {N L V : Type 0} (edge : N → N → L → Type 0) (own : N → V → T
   -- More than `limit` nodes are reached, or more than `limit` pairs of a reached node and a value
   -- found at it. (profile)
   abbrev pub IsTooMany : ℕ → N → Type 0
-  IsTooMany limit start = MoreThan limit (IsNamed edge start) ⊎ HasManyPairs limit start
+  IsTooMany limit start = MoreThan limit (IsReachedFrom edge start) ⊎ HasManyPairs limit start

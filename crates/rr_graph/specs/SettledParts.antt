@@ -64,8 +64,8 @@ IsRun {N} {L} node edges = (e : Edge N L) → Contains edges e → e.to ≡ node
 -- Some of the edges lead to the node and make the value of one of these.
 abbrev pub IsMade : {N L V : Type 0} → (L → V → Option V) → N → List (Edge N L) → List V
     → V → Type 0
-IsMade {V = V} passed node edges begun v =
-    (w : V) × Contains begun w × Makes passed w edges node v
+IsMade {V = V} passed node edges starts v =
+    (w : V) × Contains starts w × Makes passed w edges node v
 
 -- Only nodes of the list are known.
 abbrev pub IsAmong : {N V : Type 0} → List N → (N → Option (List V)) → Type 0

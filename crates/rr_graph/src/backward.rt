@@ -12,13 +12,13 @@ use std::collections::BTreeMap;
 /// Each edge under the node to which it leads, as that node sees it: `to` is the node that it
 /// leaves.
 #[derive(Drop)]
-pub struct Backward<N: Ord + Drop, L: Copy + Drop> {
+pub(crate) struct Backward<N: Ord + Drop, L: Copy + Drop> {
     map: BTreeMap<N, Vec<Edge<N, L>>>,
 }
 
 impl<N: Ord + Drop, L: Copy + Drop> Backward<N, L> {
     /// No edges.
-    pub fn new(alloc: Global) -> Self
+    pub(crate) fn new(alloc: Global) -> Self
         ensures { (node : N) → edges_at N.cmp result.map node ≡ [] }
     {
         Backward {
@@ -27,7 +27,7 @@ impl<N: Ord + Drop, L: Copy + Drop> Backward<N, L> {
     }
 
     /// The edges that lead to the node.
-    pub fn at(&self, node: &N) -> &[Edge<N, L>]
+    pub(crate) fn at(&self, node: &N) -> &[Edge<N, L>]
         ensures { result.now ≡ edges_at N.cmp self.now.map node.now }
     {
         match self.map.get(node) {
@@ -70,7 +70,7 @@ impl<N: Ord + Drop, L: Copy + Drop> Backward<N, L> {
 }
 
 /// The edges that leave one of the nodes.
-pub fn reversed<G: Labelled>(
+pub(crate) fn reversed<G: Labelled>(
     alloc: Global,
     graph: &G,
     nodes: &[G::Node],

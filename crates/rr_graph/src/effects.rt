@@ -14,13 +14,13 @@ use std::collections::{BTreeMap, BTreeSet};
 /// kind. Many references between two sets do the same to most values: 35 operators make one range
 /// of a /32. So a value is put through each effect once, however many edges have it.
 #[derive(Drop)]
-pub struct Effects<G: Labelled> {
+pub(crate) struct Effects<G: Labelled> {
     map: BTreeMap<(G::Node, G::Kind), Vec<Edge<G::Node, G::Label>>>,
 }
 
 impl<G: Labelled> Effects<G> {
     /// None yet.
-    pub fn new(alloc: Global) -> Self
+    pub(crate) fn new(alloc: Global) -> Self
         ensures { (key : G.Node × G.Kind)
             → values_at ⟦<(G::Node, G::Kind) as Ord>⟧.cmp result.map key ≡ None }
     {
@@ -31,7 +31,7 @@ impl<G: Labelled> Effects<G> {
 
     /// Finds which of the edges are enough for values of this one's kind, unless that is known of
     /// the node.
-    pub fn note(
+    pub(crate) fn note(
         &mut self,
         alloc: Global,
         graph: &G,
@@ -53,7 +53,7 @@ impl<G: Labelled> Effects<G> {
     }
 
     /// Those of the edges that are enough for the value.
-    pub fn at<'a>(
+    pub(crate) fn at<'a>(
         &'a self,
         alloc: Global,
         graph: &G,

@@ -3,7 +3,8 @@
 ghost use Rattle.std.specs.Prelude.{◌≡◌, ◌↔◌, Contains, IfOk, OnOk, map};
 ghost use Rattle.rr_graph.specs.Chain.{HasNoRepeats, MoreThan};
 ghost use Rattle.std.specs.List.Sorted.{IsStrictlySortedBy};
-ghost use Rattle.rr_graph.specs.Carried.{AreFound, AreNamed, HasManyPairs, IsNamed, IsTooMany};
+ghost use Rattle.rr_graph.specs.Carried.{AreFound, AreReachedFrom, HasManyPairs, IsReachedFrom};
+ghost use Rattle.rr_graph.specs.Carried.{IsTooMany};
 ghost use Rattle.rr_graph.specs.Carried.{Leads};
 ghost use Rattle.rr_graph.specs.ReversedParts.{IsCarriedPair};
 
@@ -47,18 +48,18 @@ fn ends<N: Drop, L: Drop>(alloc: Global, edges: Vec<Edge<N, L>>) -> Result<Vec<N
 }
 
 /// The nodes that are reached from the start.
-fn named<G: Labelled>(
+fn reached_from<G: Labelled>(
     alloc: Global,
     graph: &G,
     start: &G::Node,
     limit: usize,
 ) -> Result<Vec<G::Node>, ReachFault>
     ensures found { IfOk result
-        (λ nodes. AreNamed (G.edge graph.now) start.now nodes.items) }
+        (λ nodes. AreReachedFrom (G.edge graph.now) start.now nodes.items) }
     ensures once { IfOk result (λ nodes. HasNoRepeats nodes.items) }
-    ensures few { OnOk result (¬ MoreThan limit (IsNamed (G.edge graph.now) start.now)) }
+    ensures few { OnOk result (¬ MoreThan limit (IsReachedFrom (G.edge graph.now) start.now)) }
     ensures many { result ≡ Err ReachFault.TooMany
-        → MoreThan limit (IsNamed (G.edge graph.now) start.now) }
+        → MoreThan limit (IsReachedFrom (G.edge graph.now) start.now) }
 {
     let mut starts = Vec::new(alloc);
     starts.push(graph.copy(alloc, start)?)?;
@@ -92,7 +93,7 @@ pub fn gather<G: Labelled>(
     limit: usize,
 ) -> Result<Gathered<G::Node, G::Value>, ReachFault>
     ensures nodes { IfOk result
-        (λ gathered. AreNamed (G.edge graph.now) start.now gathered.nodes.items) }
+        (λ gathered. AreReachedFrom (G.edge graph.now) start.now gathered.nodes.items) }
     ensures once { IfOk result (λ gathered. HasNoRepeats gathered.nodes.items) }
     ensures values { IfOk result (λ gathered. AreFound
         (G.edge graph.now) (G.own graph.now) G.passed start.now gathered.values.items) }
@@ -103,7 +104,7 @@ pub fn gather<G: Labelled>(
     ensures many { result ≡ Err ReachFault.TooMany
         → IsTooMany (G.edge graph.now) (G.own graph.now) G.passed limit start.now }
 {
-    let nodes = named(alloc, graph, start, limit)?;
+    let nodes = reached_from(alloc, graph, start, limit)?;
     let values = found_among(alloc, graph, &nodes, start, limit)?;
     Ok(Gathered { nodes, values })
 }
@@ -117,7 +118,7 @@ fn found_among<G: Labelled>(
     start: &G::Node,
     limit: usize,
 ) -> Result<Vec<G::Value>, ReachFault>
-    requires named { AreNamed (G.edge graph.now) start.now nodes.now }
+    requires reached_from { AreReachedFrom (G.edge graph.now) start.now nodes.now }
     requires once { HasNoRepeats nodes.now }
     ensures found { IfOk result (λ values. AreFound
         (G.edge graph.now) (G.own graph.now) G.passed start.now values.items) }
@@ -144,7 +145,7 @@ fn found_at<G: Labelled>(
     start: &G::Node,
     limit: usize,
 ) -> Result<Vec<G::Value>, ReachFault>
-    requires { AreNamed (G.edge graph.now) start.now nodes.now }
+    requires { AreReachedFrom (G.edge graph.now) start.now nodes.now }
     ensures found { IfOk result (λ values. AreFound
         (G.edge graph.now) (G.own graph.now) G.passed start.now values.items) }
     ensures sorted { IfOk result (λ values. IsStrictlySortedBy G.Value.cmp values.items) }
@@ -168,7 +169,7 @@ fn walked<G: Labelled>(
     start: &G::Node,
     limit: usize,
 ) -> Result<Vec<G::Value>, ReachFault>
-    requires { AreNamed (G.edge graph.now) start.now nodes.now }
+    requires { AreReachedFrom (G.edge graph.now) start.now nodes.now }
     ensures found { IfOk result (λ values. AreFound
         (G.edge graph.now) (G.own graph.now) G.passed start.now values.items) }
     ensures sorted { IfOk result (λ values. IsStrictlySortedBy G.Value.cmp values.items) }

@@ -16,7 +16,7 @@ use std::collections::BTreeMap;
 /// and from then on nodes are compared and copied as numbers, which is what most of a walk consists
 /// of.
 #[derive(Drop)]
-pub struct Numbered<'a, G: Labelled> {
+pub(crate) struct Numbered<'a, G: Labelled> {
     graph: &'a G,
     nodes: &'a [G::Node],
     places: BTreeMap<G::Node, usize>,
@@ -91,7 +91,7 @@ impl<G: Labelled> Labelled for Numbered<'_, G> {
 
 impl<'a, G: Labelled> Numbered<'a, G> {
     /// The graph by the places of the nodes, without edges to other nodes.
-    pub fn new(alloc: Global, graph: &'a G, nodes: &'a [G::Node]) -> Result<Self, AllocError>
+    pub(crate) fn new(alloc: Global, graph: &'a G, nodes: &'a [G::Node]) -> Result<Self, AllocError>
         requires { HasNoRepeats nodes.now }
         ensures graph { IfOk result (λ numbered. numbered.graph.now ≡ graph.now) }
         ensures nodes { IfOk result (λ numbered. numbered.nodes.now ≡ nodes.now) }
@@ -111,14 +111,14 @@ impl<'a, G: Labelled> Numbered<'a, G> {
     }
 
     /// The place of the node.
-    pub fn place(&self, node: &G::Node) -> Option<usize>
+    pub(crate) fn place(&self, node: &G::Node) -> Option<usize>
         ensures { result ≡ get G.Node.cmp self.now.places node.now }
     {
         self.places.get(node).copied()
     }
 
     /// All places.
-    pub fn all(&self, alloc: Global) -> Result<Vec<usize>, AllocError>
+    pub(crate) fn all(&self, alloc: Global) -> Result<Vec<usize>, AllocError>
         ensures { IfOk result (λ places. (place : ℕ)
             → Contains places.items place ↔ (place < length self.now.nodes.now)) }
     {

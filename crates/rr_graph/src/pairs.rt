@@ -19,9 +19,9 @@ use std::alloc::{AllocError, Global};
 /// The pairs of a node and a value. An edge leads from a pair to that of a node from which the
 /// value is carried back.
 #[derive(Drop)]
-pub struct Pairs<'a, G: Labelled> {
-    pub graph: &'a G,
-    pub backward: &'a Backward<G::Node, G::Label>,
+pub(crate) struct Pairs<'a, G: Labelled> {
+    pub(crate) graph: &'a G,
+    pub(crate) backward: &'a Backward<G::Node, G::Label>,
 }
 
 impl<G: Labelled> Graph for Pairs<'_, G> {
@@ -78,7 +78,7 @@ fn carried_back<G: Labelled>(
 
 /// Lists what `reach` does: each pair to which values are carried back from one of `starts`, each
 /// effect once.
-pub fn reach_back<G: Labelled>(
+pub(crate) fn reach_back<G: Labelled>(
     alloc: Global,
     pairs: &Pairs<'_, G>,
     starts: Vec<(G::Node, G::Value)>,
@@ -123,7 +123,7 @@ fn carried<G: Labelled>(
 }
 
 /// The pairs of one of the nodes and a value that it has by itself.
-pub fn own_pairs<G: Labelled>(
+pub(crate) fn own_pairs<G: Labelled>(
     alloc: Global,
     graph: &G,
     nodes: &[G::Node],

@@ -16,14 +16,14 @@ use std::collections::BTreeMap;
 /// Nodes, each with the values that are found at it, in ascending order, and how many pairs of both
 /// there are.
 #[derive(Drop)]
-pub struct Settled<G: Labelled> {
+pub(crate) struct Settled<G: Labelled> {
     values: BTreeMap<G::Node, Vec<G::Value>>,
     pairs: usize,
 }
 
 impl<G: Labelled> Settled<G> {
     /// No nodes.
-    pub fn new(alloc: Global) -> Self
+    pub(crate) fn new(alloc: Global) -> Self
         ensures none { (node : G.Node) → values_at G.Node.cmp result.values node ≡ None }
         ensures count { result.pairs ≡ 0 }
     {
@@ -34,7 +34,7 @@ impl<G: Labelled> Settled<G> {
     }
 
     /// The values of the node, if they are known.
-    pub fn at(&self, node: &G::Node) -> Option<&[G::Value]>
+    pub(crate) fn at(&self, node: &G::Node) -> Option<&[G::Value]>
         ensures { option_copied result ≡ values_at G.Node.cmp self.now.values node.now }
     {
         match self.values.get(node) {
@@ -45,7 +45,7 @@ impl<G: Labelled> Settled<G> {
 
     /// Enters the values under the node, which has none yet. After a refusal of memory nodes may be
     /// gone.
-    pub fn enter(
+    pub(crate) fn enter(
         &mut self,
         node: G::Node,
         values: Vec<G::Value>,
@@ -72,7 +72,7 @@ impl<G: Labelled> Settled<G> {
     }
 
     /// The values of the node, where those of all nodes of the list are known.
-    pub fn into_values(self, nodes: &[G::Node], node: &G::Node) -> Option<Vec<G::Value>>
+    pub(crate) fn into_values(self, nodes: &[G::Node], node: &G::Node) -> Option<Vec<G::Value>>
         ensures at { IfSome result
             (λ values. values_at G.Node.cmp self.values node.now ≡ Some values.items) }
         ensures all { IfSome result (λ _. (other : G.Node) → Contains nodes.now other

@@ -23,7 +23,7 @@ use std::alloc::{AllocError, Global};
 
 /// Those of the nodes that no ring of edges is reached from, each with the values that are found at
 /// it.
-pub fn settled<G: Labelled>(
+pub(crate) fn settled<G: Labelled>(
     alloc: Global,
     graph: &G,
     nodes: &[G::Node],
@@ -179,7 +179,7 @@ fn add_run<G: Labelled>(
         ⊎ IsPassed G.passed (values_at G.Node.cmp settled.now.values) run.now v)) }
 {
     match settled.at(node) {
-        Some(begun) => pass_run(alloc, graph, node, run, begun, values, last),
+        Some(starts) => pass_run(alloc, graph, node, run, starts, values, last),
         None => Ok(last),
     }
 }
@@ -190,19 +190,19 @@ fn pass_run<G: Labelled>(
     graph: &G,
     node: &G::Node,
     run: &[Edge<G::Node, G::Label>],
-    begun: &[G::Value],
+    starts: &[G::Value],
     values: &mut Vec<G::Value>,
     last: usize,
 ) -> Result<usize, AllocError>
     requires { IsRun node.now run.now }
     ensures { OnOk result ((v : G.Value) → Contains values.new.items v
-        ↔ (Contains values.old.items v ⊎ IsMade G.passed node.now run.now begun.now v)) }
+        ↔ (Contains values.old.items v ⊎ IsMade G.passed node.now run.now starts.now v)) }
 {
     if let [edge] = run {
-        pass_all(graph, edge.label, begun, values)?;
+        pass_all(graph, edge.label, starts, values)?;
         return Ok(dedup_if_doubled(values, last));
     }
-    pass_effects(alloc, graph, node, run, begun, values, last)
+    pass_effects(alloc, graph, node, run, starts, values, last)
 }
 
 /// The same, where there may be many edges.
@@ -211,17 +211,17 @@ fn pass_effects<G: Labelled>(
     graph: &G,
     node: &G::Node,
     run: &[Edge<G::Node, G::Label>],
-    begun: &[G::Value],
+    starts: &[G::Value],
     values: &mut Vec<G::Value>,
     last: usize,
 ) -> Result<usize, AllocError>
     requires { IsRun node.now run.now }
     ensures { OnOk result ((v : G.Value) → Contains values.new.items v
-        ↔ (Contains values.old.items v ⊎ IsMade G.passed node.now run.now begun.now v)) }
+        ↔ (Contains values.old.items v ⊎ IsMade G.passed node.now run.now starts.now v)) }
 {
     let mut effects = Effects::<G>::new(alloc);
     let mut last = last;
-    for value in begun {
+    for value in starts {
         effects.note(alloc, graph, node, run, *value)?;
         let kept = effects.at(alloc, graph, node, run, *value)?;
         pass_each(graph, kept, *value, values)?;
@@ -252,13 +252,13 @@ fn pass_each<G: Labelled>(
 fn pass_all<G: Labelled>(
     graph: &G,
     label: G::Label,
-    begun: &[G::Value],
+    starts: &[G::Value],
     values: &mut Vec<G::Value>,
 ) -> Result<(), AllocError>
     ensures { OnOk result
-        (values.new.items ≡ values.old.items ++ filter_map (G.passed label) begun.now) }
+        (values.new.items ≡ values.old.items ++ filter_map (G.passed label) starts.now) }
 {
-    for value in begun {
+    for value in starts {
         if let Some(passed) = graph.pass(label, *value) {
             values.push(passed)?;
         }

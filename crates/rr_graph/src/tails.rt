@@ -8,13 +8,13 @@ use std::alloc::{AllocError, Global};
 
 /// A node with the edges that leave it.
 #[derive(Drop)]
-pub struct Tail<'a, N, L> {
-    pub node: &'a N,
-    pub edges: Vec<Edge<N, L>>,
+pub(crate) struct Tail<'a, N, L> {
+    pub(crate) node: &'a N,
+    pub(crate) edges: Vec<Edge<N, L>>,
 }
 
 /// Each of the nodes with the edges that leave it, in their order.
-pub fn tails<'a, G: Labelled>(
+pub(crate) fn tails<'a, G: Labelled>(
     alloc: Global,
     graph: &G,
     nodes: &'a [G::Node],

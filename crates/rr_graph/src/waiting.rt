@@ -9,7 +9,7 @@ use std::collections::BTreeMap;
 /// Nodes by their places in a list, each waiting for those to which its edges lead. Each is given
 /// out at most once, and one that no ring of edges is reached from after those that it waits for.
 #[derive(Drop)]
-pub struct Waiting {
+pub(crate) struct Waiting {
     /// How many edges of each node lead to nodes that are not done.
     edges: Vec<usize>,
     /// The nodes that wait for each node, once for each edge.
@@ -20,7 +20,7 @@ pub struct Waiting {
 
 impl Waiting {
     /// All nodes wait.
-    pub fn new<G: Labelled>(
+    pub(crate) fn new<G: Labelled>(
         alloc: Global,
         graph: &G,
         tails: &[Tail<'_, G::Node, G::Label>],
@@ -46,7 +46,7 @@ impl Waiting {
     }
 
     /// Gives out a node that waits for none, and lets those go on that wait for it.
-    pub fn next(&mut self) -> Result<Option<usize>, AllocError> {
+    pub(crate) fn next(&mut self) -> Result<Option<usize>, AllocError> {
         let next = self.ready.pop();
         if let Some(place) = next {
             self.pass(place)?;

@@ -10,14 +10,14 @@ use std::collections::BTreeSet;
 
 /// The nodes found, in the order in which they were, and an index that tells which they are.
 #[derive(Drop)]
-pub struct Found<N: Ord + Drop> {
-    pub list: Vec<N>,
-    pub index: BTreeSet<N>,
+pub(crate) struct Found<N: Ord + Drop> {
+    pub(crate) list: Vec<N>,
+    pub(crate) index: BTreeSet<N>,
 }
 
 impl<N: Ord + Drop> Found<N> {
     /// No nodes.
-    pub fn new(alloc: Global) -> Self
+    pub(crate) fn new(alloc: Global) -> Self
         ensures list { result.list.items ≡ [] }
         ensures index { result.index.keys ≡ [] }
     {
@@ -28,7 +28,7 @@ impl<N: Ord + Drop> Found<N> {
     }
 
     /// Adds each of the nodes that is not there yet. On a fault some of them are added.
-    pub fn add_all<G: Graph<Node = N>>(
+    pub(crate) fn add_all<G: Graph<Node = N>>(
         &mut self,
         alloc: Global,
         graph: &G,
@@ -74,7 +74,7 @@ impl<N: Ord + Drop> Found<N> {
     }
 
     /// The nodes in the order in which they were found.
-    pub fn into_list(self) -> Vec<N>
+    pub(crate) fn into_list(self) -> Vec<N>
         ensures { result ≡ self.list }
     {
         let Found { list, index: _ } = self;

@@ -16,7 +16,7 @@ use Rattle.httparse.specs.declared.spans.RequestSpans.{RequestSpans}
 use Rattle.rr_http.specs.declared.heads.Goal.TheVariants.{Line, EmptyLine}
 use Rattle.rr_http.specs.declared.heads.Head.{Head}
 use Rattle.rr_http.specs.declared.heads.Head.TheVariants.{Whois}
-use Rattle.rr_http.specs.Asked.{parts_of}
+use Rattle.rr_http.specs.Asked.{fields_of}
 use Rattle.rr_http.specs.Heads.{has_line_feed, head_length}
 use Rattle.rr_http.specs.HeadParts.{BreaksOn, ReadsOn, request_head}
 use Rattle.rr_http.specs.Lines.{line_of, line_speaks_http, speaks_http, whois_query, without_return}
@@ -89,7 +89,7 @@ lone_whois text h speaks =
 
 -- what was read is settled by what it says, or because it is full or the input ended
 head_settled : (old new : Told) (bytes : List ℕ) → Gives old new bytes → length bytes ≤ 8192 → (says_wants bytes ≡ true) ⊎ ((length bytes ≡ 8192) ⊎ IsSpent new) →
-    (ended : Bool) × ReadsHead old new bytes ended
+    (at_end : Bool) × ReadsHead old new bytes at_end
 head_settled old new bytes gives short (inl says) =
     (false, record { gives = gives; short = short; settled = inl says; spent = λ over. let none : false ≡ true = over in cc })
 head_settled old new bytes gives short (inr (inl full)) =
@@ -206,13 +206,13 @@ head_broken old middle new room wide first few end line e f is reads speaks brok
 -- what was parsed is what is asked
 pub parsed_asks : (head : List ℕ) (headers : List HeaderSpan) (spans : RequestSpans) (h : RequestHead) (method target : List ℕ) (asks : Asks) →
     IsRequestAt head headers spans h → length headers ≡ 64 → method ≡ span_bytes head spans.method → target ≡ span_bytes head spans.path →
-    asks ≡ asks_of method target (parts_of head (take spans.headers headers)) → RequestAsks head asks
+    asks ≡ asks_of method target (fields_of head (take spans.headers headers)) → RequestAsks head asks
 parsed_asks head headers spans h method target asks at room m t is =
     let fields : map (header_bytes head) (take spans.headers headers) ≡ map name_and_value h.fields = at.fields in
     let count : length (take spans.headers headers) ≡ length h.fields = sym (length-map (take spans.headers headers) (header_bytes head)) ∙ (ap (λ parts. length parts) fields ∙ length-map h.fields name_and_value) in
     let few : length (take spans.headers headers) ≤ 64 = omega (arith, length-take spans.headers headers) in (
       Some h,
       (drop spans.len head, at.reads, subst (λ n. n ≤ 64) count few),
-      is ∙ (ap (λ xs. asks_of xs target (parts_of head (take spans.headers headers))) (m ∙ at.method)
-          ∙ (ap (λ xs. asks_of h.method xs (parts_of head (take spans.headers headers))) (t ∙ at.path) ∙ ap (asks_of h.method h.target) fields)),
+      is ∙ (ap (λ xs. asks_of xs target (fields_of head (take spans.headers headers))) (m ∙ at.method)
+          ∙ (ap (λ xs. asks_of h.method xs (fields_of head (take spans.headers headers))) (t ∙ at.path) ∙ ap (asks_of h.method h.target) fields)),
     )

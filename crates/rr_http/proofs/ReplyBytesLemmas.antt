@@ -10,11 +10,11 @@ use Rattle.rr_desk.specs.declared.dumping.DeskDumpFault.{DeskDumpFault}
 use Rattle.rr_desk.specs.declared.dumping.DeskDumpFault.TheVariants as dump_fault
 use Rattle.rr_desk.specs.declared.peers.ConnFault.TheVariants.{Read, Write}
 use Rattle.rr_desk.specs.Dumping.{Dumps}
-use Rattle.rr_desk.specs.Turns.{Answer}
+use Rattle.rr_desk.specs.Turns.{ConnEnd}
 use Rattle.rr_http.specs.declared.registrar.Registrar.{Ghosts}
 use Rattle.rr_text.specs.Entries.{entries}
 use Rattle.rr_submission.specs.SubmissionItems.{AreItems}
-use Rattle.rr_http.specs.Answering.{Tells, TellsAnswer, dump_answer}
+use Rattle.rr_http.specs.Answering.{RepliesWithAnswer, WritesReply, dump_end}
 use Rattle.rr_http.specs.Lines.{speaks_http}
 use Rattle.rr_http.specs.Heads.{head_length}
 use Rattle.rr_http.specs.Replies.{ok_head}
@@ -50,18 +50,18 @@ module _ (old new : Told) (answered : List ℕ) (fresh : old.bytes ≡ Some []) 
       let same : cut.prefix ≡ answered = cc in
       (cut.rest, cut.whole ∙ ap (λ xs. xs ++ cut.rest) same, cut.some_left)
 
-  sent : (text : List ℕ) (result : Answer) → Tells text old new result → IsSent text result answered
-  sent text (Ok done) tells = taken text tells.writes
-  sent text (Err Read) tells = absurd (tells.cause refl)
-  sent text (Err Write) tells = cut_short text tells.writes
+  sent : (text : List ℕ) (result : ConnEnd) → WritesReply text old new result → IsSent text result answered
+  sent text (Ok done) replies = taken text replies.writes
+  sent text (Err Read) replies = absurd (replies.cause refl)
+  sent text (Err Write) replies = cut_short text replies.writes
 
-  answer_sent : {D : Type 0} (desk : Ghosts D) (head text : List ℕ) (before after : D) (result : Answer) → TellsAnswer desk.Answers head text before after old new result →
-      IsAnswerSent desk head text before after result answered
-  answer_sent desk head text before after result given =
-      record { answer = given.text; answers = given.answers; sent = sent (head ++ given.text) result given.tells }
+  answer_sent : {D : Type 0} (registrar : Ghosts D) (head text : List ℕ) (before after : D) (result : ConnEnd) → RepliesWithAnswer registrar.Answers head text before after old new result →
+      IsAnswerSent registrar head text before after result answered
+  answer_sent registrar head text before after result given =
+      record { answer = given.text; answers = given.answers; sent = sent (head ++ given.text) result given.replies }
 
-  dumped : (text : List ℕ) (between : Told) (ended : Result ℕ DeskDumpFault) → Takes old between ok_head → Dumps text between new ended →
-      IsDumpSent text (dump_answer ended) answered
+  dumped : (text : List ℕ) (between : Told) (dump_result : Result ℕ DeskDumpFault) → Takes old between ok_head → Dumps text between new dump_result →
+      IsDumpSent text (dump_end dump_result) answered
   dumped text between (Ok count) head dumps =
       let all : new.bytes ≡ Some (ok_head ++ text) = dumps.appended ok_head (head.appended [] fresh) in
       (text, [], sym (append-nil text), (let same : answered ≡ ok_head ++ text = cc in same))
@@ -71,64 +71,64 @@ module _ (old new : Told) (answered : List ℕ) (fresh : old.bytes ≡ Some []) 
       (dumps.prefix, dumps.rest, dumps.whole, (let same : answered ≡ ok_head ++ dumps.prefix = cc in same))
   dumped text between (Err dump_fault.Stopped) head dumps = absurd dumps
 
-  module _ {D : Type 0} (desk : Ghosts D) (before after : D) (from_old from_new : Told) (result : Answer) where
+  module _ {D : Type 0} (registrar : Ghosts D) (before after : D) (reader_old reader_new : Told) (result : ConnEnd) where
     -- what a request asks, with what is given after its head
-    to_asks : (from_first : Told) (bytes prefix : List ℕ) (place : ℕ) (asks : Asks) → from_first.bytes ≡ Some bytes → Gives from_first from_old prefix → place ≤ length prefix →
-        ServesAsks desk (drop place prefix) asks before after (visit_of from_old from_new old new result) → RepliesTo desk (drop place bytes) asks before after result answered
-    to_asks from_first bytes prefix place (refused refusal) is gives within serves = (sent _ result serves.1, serves.0.same)
-    to_asks from_first bytes prefix place (submission size) is gives within (inl (inl stopped)) =
-        inl (sent _ result stopped.unavailable.tells, stopped.unavailable.same)
-    to_asks from_first bytes prefix place (submission size) is gives within (inl (inr no_memory)) =
-        inl (sent _ result no_memory.unavailable.tells, no_memory.unavailable.same)
-    to_asks from_first bytes prefix place (submission size) is gives within (inr taken_in) = inr (record {
+    to_asks : (reader_first : Told) (bytes prefix : List ℕ) (place : ℕ) (asks : Asks) → reader_first.bytes ≡ Some bytes → Gives reader_first reader_old prefix → place ≤ length prefix →
+        ServesAsks registrar (drop place prefix) asks before after (visit_of reader_old reader_new old new result) → RepliesTo registrar (drop place bytes) asks before after result answered
+    to_asks reader_first bytes prefix place (refused refusal) is gives within serves = (sent _ result serves.1, serves.0.same)
+    to_asks reader_first bytes prefix place (submission size) is gives within (inl (inl stopped)) =
+        inl (sent _ result stopped.unavailable.replies, stopped.unavailable.same)
+    to_asks reader_first bytes prefix place (submission size) is gives within (inl (inr no_memory)) =
+        inl (sent _ result no_memory.unavailable.replies, no_memory.unavailable.same)
+    to_asks reader_first bytes prefix place (submission size) is gives within (inr taken_in) = inr (record {
       running = taken_in.running;
       body = taken_in.body;
       end = taken_in.end;
-      is_body = body_after from_first from_old from_new bytes prefix taken_in.body place size taken_in.end is gives within taken_in.reads;
+      is_body = body_after reader_first reader_old reader_new bytes prefix taken_in.body place size taken_in.end is gives within taken_in.reads;
       old = old;
       new = new;
       unwritten = fresh;
       written = told;
       submits = taken_in.submits;
     })
-    to_asks from_first bytes prefix place (query escaped) is gives within (same, inl turned) = inl (sent _ result turned.tells, turned.same)
-    to_asks from_first bytes prefix place (query escaped) is gives within (same, inr (running, inl cut)) =
+    to_asks reader_first bytes prefix place (query escaped) is gives within (same, inl turned) = inl (sent _ result turned.replies, turned.same)
+    to_asks reader_first bytes prefix place (query escaped) is gives within (same, inr (running, inl cut)) =
         inr (running, inl (record { cut = cut_short ok_head cut.0.cut; failed = cut.0.failed; same = cut.1 }))
-    to_asks from_first bytes prefix place (query escaped) is gives within (same, inr (running, inr given)) =
-        inr (running, inr (answer_sent desk ok_head _ before after result given))
-    to_asks from_first bytes prefix place dump is gives within (left, inl turned) = inl (sent _ result turned, left.same)
-    to_asks from_first bytes prefix place dump is gives within (left, inr (running, inl cut)) =
-        inr (running, subst (λ ended. IsDumpSent (desk.dumped before) ended answered) (sym cut.failed) (cut_short _ (TakesPrefix-more ok_head (desk.dumped before) cut.cut)), left.same)
-    to_asks from_first bytes prefix place dump is gives within (left, inr (running, inr given)) =
-        inr (running, subst (λ ended. IsDumpSent (desk.dumped before) ended answered) (sym given.answer) (dumped (desk.dumped before) given.between given.ended given.head given.dumps), left.same)
+    to_asks reader_first bytes prefix place (query escaped) is gives within (same, inr (running, inr given)) =
+        inr (running, inr (answer_sent registrar ok_head _ before after result given))
+    to_asks reader_first bytes prefix place dump is gives within (left, inl (stopped, turned)) = inl (stopped, (sent _ result turned, left.same))
+    to_asks reader_first bytes prefix place dump is gives within (left, inr (running, inl cut)) =
+        inr (running, subst (λ ended. IsDumpSent (registrar.dumped before) ended answered) (sym cut.failed) (cut_short _ (TakesPrefix-more ok_head (registrar.dumped before) cut.cut)), left.same)
+    to_asks reader_first bytes prefix place dump is gives within (left, inr (running, inr given)) =
+        inr (running, subst (λ ended. IsDumpSent (registrar.dumped before) ended answered) (sym given.ends) (dumped (registrar.dumped before) given.between given.dump_result given.head given.dumps), left.same)
 
-    to_wants : (from_first : Told) (bytes prefix : List ℕ) (wants : Wants) → from_first.bytes ≡ Some bytes → Gives from_first from_old prefix → IsWanted (prefix ++ []) wants →
-        ServesWants desk prefix wants before after (visit_of from_old from_new old new result) → RepliesToWants desk bytes wants before after result answered
-    to_wants from_first bytes prefix (whois text) is gives wanted serves = answer_sent desk [] text before after result serves.1
-    to_wants from_first bytes prefix (http place asks) is gives wanted serves = to_asks from_first bytes prefix place asks is gives (placed prefix place asks wanted) serves
+    to_wants : (reader_first : Told) (bytes prefix : List ℕ) (wants : Wants) → reader_first.bytes ≡ Some bytes → Gives reader_first reader_old prefix → IsWanted (prefix ++ []) wants →
+        ServesWants registrar prefix wants before after (visit_of reader_old reader_new old new result) → RepliesToWants registrar bytes wants before after result answered
+    to_wants reader_first bytes prefix (whois text) is gives wanted serves = answer_sent registrar [] text before after result serves.1
+    to_wants reader_first bytes prefix (http place asks) is gives wanted serves = to_asks reader_first bytes prefix place asks is gives (placed prefix place asks wanted) serves
 
-pub answers_with_its_reply : {D : Type 0} (desk : Ghosts D) → AnswersWithItsReply desk
-answers_with_its_reply desk before after visit asked answered is fresh told (inl broken) =
-    let given = broken.breaks.gives.consumed asked is in
+pub answers_with_its_reply : {D : Type 0} (registrar : Ghosts D) → AnswersWithItsReply registrar
+answers_with_its_reply registrar before after visit given answered is fresh told (inl broken) =
+    let consumed = broken.breaks.gives.consumed given is in
     inl (record {
-      given = broken.bytes;
-      rest = given.0;
-      is = given.2;
+      read = broken.bytes;
+      rest = consumed.0;
+      is = consumed.2;
       undecided = broken.undecided;
       none = (let same : visit.writer_after ≡ visit.writer_before = broken.unwritten in
           let bytes : visit.writer_after.bytes ≡ visit.writer_before.bytes = ap (λ (told : Told). told.bytes) same in cc);
       same = broken.same;
       failed = broken.failed;
     })
-answers_with_its_reply desk before after visit asked answered is fresh told (inr served) = inr (record {
+answers_with_its_reply registrar before after visit given answered is fresh told (inr served) = inr (record {
   wants = served.wants;
-  is_wanted = wants_by_all visit.reader_before served.between asked served.head served.ended served.wants is served.reads served.is_wanted;
-  replies = to_wants visit.writer_before visit.writer_after answered fresh told desk before after served.between visit.reader_after visit.answer
-      visit.reader_before asked served.head served.wants is served.reads.gives (served.is_wanted [] (λ over. refl)) served.serves;
+  is_wanted = wants_by_all visit.reader_before served.between given served.head served.at_end served.wants is served.reads served.is_wanted;
+  replies = to_wants visit.writer_before visit.writer_after answered fresh told registrar before after served.between visit.reader_after visit.ended
+      visit.reader_before given served.head served.wants is served.reads.gives (served.is_wanted [] (λ over. refl)) served.serves;
 })
 
-pub answers_with_its_report : {D : Type 0} (desk : Ghosts D) → AnswersWithItsReport desk
-answers_with_its_report desk before after old between new body answered missing done fresh told head submits =
+pub answers_with_its_report : {D : Type 0} (registrar : Ghosts D) → AnswersWithItsReport registrar
+answers_with_its_report registrar before after old between new body answered missing done fresh told head submits =
     let whole = submits.submits in
     let given = whole.reads.0.consumed body refl in
     let none : given.0 ≡ [] = whole.reads.1.none_left given.0 given.1 in
@@ -138,7 +138,7 @@ answers_with_its_report desk before after old between new body answered missing 
       record {
         items = whole.items;
         outcomes = whole.outcomes;
-        are_items = subst (λ text. AreItems (desk.settings before).source [] (entries text) whole.items) same whole.are_items;
+        are_items = subst (λ text. AreItems (registrar.settings before).source [] (entries text) whole.items) same whole.are_items;
         runs = whole.runs;
         is = cc;
       },

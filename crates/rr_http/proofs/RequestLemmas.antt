@@ -8,13 +8,13 @@ use Rattle.std.proofs.lemmas.Slice.Eq.{starts_is}
 use Rattle.std.proofs.lemmas.List.Elements.{All-tail}
 use Rattle.httparse.specs.Spans.{IsHeaderWithin, header_bytes}
 use Rattle.httparse.specs.declared.spans.HeaderSpan.{HeaderSpan}
-use Rattle.rr_http.specs.Asked.{parts_of}
+use Rattle.rr_http.specs.Asked.{fields_of}
 use Rattle.rr_http.specs.declared.asking.Page.TheVariants as page
 use Rattle.rr_http.specs.Requests.{page_of, is_field_of, values_of}
 
 -- a field of another name has no value of this one
 pub values_passed : (name head : List ℕ) (rest after : List HeaderSpan) (field : HeaderSpan) → rest ≡ field ∷ after →
-    is_field_of name (header_bytes head field) ≡ false → values_of name (parts_of head rest) ≡ values_of name (parts_of head after)
+    is_field_of name (header_bytes head field) ≡ false → values_of name (fields_of head rest) ≡ values_of name (fields_of head after)
 values_passed name head rest after field cut other = rw cut (rw other refl)
 
 -- what holds of the spans holds of those after the first

@@ -6,7 +6,7 @@ use Rattle.rr_http.specs.ToldBytes.{BodyFollowsItsHead, WantsByItsBytes}
 use Rattle.rr_http.specs.Wants.{IsWanted}
 
 pub wants_by_all : WantsByItsBytes
-wants_by_all old between bytes prefix ended wants told reads wanted =
+wants_by_all old between bytes prefix at_end wants told reads wanted =
     let given = reads.gives.consumed bytes told in
     subst (λ all. IsWanted all wants) (sym given.2) (wanted given.0 (λ over. (reads.spent over).none_left given.0 given.1))
 

@@ -165,14 +165,14 @@ full_prefix : (prefix more : List ℕ) → length prefix ≡ 8192 → prefix ≡
 full_prefix prefix more full = sym (prefix_of_all prefix more (omega arith) ∙ (ap (λ n. prefix ++ take n more) (let none : 8192 - length prefix ≡ 0 = omega arith in none) ∙ append-nil prefix))
 
 pub wants_kept : WantsByItsHead
-wants_kept prefix more ended wants short (inl reached) done asked =
+wants_kept prefix more at_end wants short (inl reached) done asked =
     subst (λ xs. HeadWants (speaks_http xs) xs (is_full (prefix ++ more)) wants) (sym (prefix_of_all prefix more short))
     (reached_on prefix (take (8192 - length prefix) more) (speaks_http prefix) (is_full prefix) (is_full (prefix ++ more)) wants refl reached asked)
-wants_kept prefix more ended wants short (inr (inl full)) done asked =
+wants_kept prefix more at_end wants short (inr (inl full)) done asked =
     let at_prefix : is_full prefix ≡ true = le-leb 8192 (length prefix) (omega arith) in
     let at_all : is_full (prefix ++ more) ≡ true = le-leb 8192 (length (prefix ++ more)) (omega (arith, length-append prefix more)) in
     same_wants prefix _ _ _ wants (full_prefix prefix more full) (at_prefix ∙ sym at_all) asked
-wants_kept prefix more ended wants short (inr (inr over)) done asked =
+wants_kept prefix more at_end wants short (inr (inr over)) done asked =
     let whole : prefix ++ more ≡ prefix = ap (λ xs. prefix ++ xs) (done over) ∙ append-nil prefix in
     let cut : take 8192 (prefix ++ more) ≡ prefix = ap (take 8192) whole ∙ take_all 8192 prefix short in
     same_wants prefix _ _ _ wants (sym cut) (ap (λ xs. nat_le 8192 (length {A = ℕ} xs)) (sym whole)) asked

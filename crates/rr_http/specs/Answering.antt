@@ -1,5 +1,5 @@
 -- What a connection is answered, and what of it is written.
-use Rattle.std.specs.Prelude.{◌≡◌, ◌≢◌, ℕ, Bool, false, ◌⊎◌, List, [], ◌++◌}
+use Rattle.std.specs.Prelude.{◌≡◌, ◌≢◌, ℕ, Bool, true, false, ◌⊎◌, List, [], ◌++◌}
 use Rattle.std.specs.Prelude.{Result, Ok, Err, Some}
 use Rattle.std.proofs.Common.{inl, inr}
 use Rattle.rr_io.specs.Told.{Told}
@@ -15,72 +15,73 @@ use Rattle.rr_desk.specs.declared.dumping.DeskDumpFault.{DeskDumpFault}
 use Rattle.rr_desk.specs.declared.dumping.DeskDumpFault.TheVariants as dump_fault
 use Rattle.rr_desk.specs.declared.peers.ConnFault.TheVariants as conn_fault
 use Rattle.rr_desk.specs.Dumping.{Dumps}
-use Rattle.rr_desk.specs.Turns.{Answer}
+use Rattle.rr_desk.specs.Turns.{ConnEnd}
 use Rattle.rr_http.specs.declared.asking.Refusal.TheVariants.{Unavailable}
 use Rattle.rr_http.specs.declared.registrar.Registrar.{Ghosts}
 use Rattle.rr_http.specs.Replies.{ok_head, refusal_reply}
 
 -- this text is the whole reply: a write failed where not all of it was taken
-pub record Tells (text : List ℕ) (old new : Told) (result : Answer) : Type 0 where
+pub record WritesReply (text : List ℕ) (old new : Told) (result : ConnEnd) : Type 0 where
   pub writes : Writes old new text result
   pub cause : result ≢ Err conn_fault.Read
 
 -- the reply is that the request cannot be served now, and the desk was not asked
-pub record IsUnavailable {D : Type 0} (before after : D) (old new : Told) (result : Answer)
+pub record IsUnavailable {D : Type 0} (before after : D) (old new : Told) (result : ConnEnd)
     : Type 0 where
-  pub tells : Tells (refusal_reply Unavailable) old new result
+  pub replies : WritesReply (refusal_reply Unavailable) old new result
   pub same : after ≡ before
 
 -- the head of a reply could not be written
-pub record IsHeadCut (old new : Told) (result : Answer) : Type 0 where
+pub record IsHeadCut (old new : Told) (result : ConnEnd) : Type 0 where
   pub cut : TakesPrefix old new ok_head
   pub failed : result ≡ Err conn_fault.Write
 
 -- the reply has the text in which the desk answers
-pub record TellsAnswer {D : Type 0} (Answers : D → List ℕ → List ℕ → D → Type 0)
-    (head query : List ℕ) (before after : D) (old new : Told) (result : Answer) : Type 0 where
+pub record RepliesWithAnswer {D : Type 0} (Answers : D → List ℕ → List ℕ → D → Type 0)
+    (head query : List ℕ) (before after : D) (old new : Told) (result : ConnEnd) : Type 0 where
   pub text : List ℕ
   pub answers : Answers before query text after
-  pub tells : Tells (head ++ text) old new result
+  pub replies : WritesReply (head ++ text) old new result
 
 -- a desk that runs is asked a query by HTTP: the head of the reply cannot be written and the desk
 -- is not asked, or its answer follows the head
 abbrev pub AnswersRunning : {D : Type 0} → (D → List ℕ → List ℕ → D → Type 0)
     → List ℕ → D → D
-    → Told → Told → Answer → Type 0
+    → Told → Told → ConnEnd → Type 0
 AnswersRunning Answers query before after old new result =
     (IsHeadCut old new result × (after ≡ before))
-    ⊎ TellsAnswer Answers ok_head query before after old new result
+    ⊎ RepliesWithAnswer Answers ok_head query before after old new result
 
 -- the answer to a query by HTTP: of a desk that is stopped, or where memory runs out, that it is
 -- not served now
 abbrev pub AnswersQuery : {D : Type 0} → (D → List ℕ → List ℕ → D → Type 0) → Bool
     → List ℕ → D → D
-    → Told → Told → Answer → Type 0
+    → Told → Told → ConnEnd → Type 0
 AnswersQuery Answers stopped query before after old new result =
     IsUnavailable before after old new result
     ⊎ ((stopped ≡ false) × AnswersRunning Answers query before after old new result)
 
 -- where memory runs out the body of a dump ends early; the connection is served all the same
 -- (profile)
-abbrev pub dump_answer : Result ℕ DeskDumpFault → Answer
-dump_answer (Ok count) = Ok tt
-dump_answer (Err dump_fault.Write) = Err conn_fault.Write
-dump_answer (Err dump_fault.Memory) = Ok tt
-dump_answer (Err dump_fault.Stopped) = Ok tt
+abbrev pub dump_end : Result ℕ DeskDumpFault → ConnEnd
+dump_end (Ok count) = Ok tt
+dump_end (Err dump_fault.Write) = Err conn_fault.Write
+dump_end (Err dump_fault.Memory) = Ok tt
+dump_end (Err dump_fault.Stopped) = Ok tt
 
 -- a dump after its head
-pub record IsDumped (text : List ℕ) (old new : Told) (result : Answer) : Type 0 where
+pub record IsDumped (text : List ℕ) (old new : Told) (result : ConnEnd) : Type 0 where
   pub between : Told
   pub head : Takes old between ok_head
-  pub ended : Result ℕ DeskDumpFault
-  pub dumps : Dumps text between new ended
-  pub answer : result ≡ dump_answer ended
+  pub dump_result : Result ℕ DeskDumpFault
+  pub dumps : Dumps text between new dump_result
+  pub ends : result ≡ dump_end dump_result
 
--- the dump by HTTP
-abbrev pub AnswersDump : List ℕ → Bool → Told → Told → Answer → Type 0
+-- the dump by HTTP: of a desk that is stopped, that it is not given now; of one that runs, it
+-- follows the head of a reply, or not even that could be written (profile)
+abbrev pub AnswersDump : List ℕ → Bool → Told → Told → ConnEnd → Type 0
 AnswersDump text stopped old new result =
-    Tells (refusal_reply Unavailable) old new result
+    ((stopped ≡ true) × WritesReply (refusal_reply Unavailable) old new result)
     ⊎ ((stopped ≡ false) × (IsHeadCut old new result ⊎ IsDumped text old new result))
 
 -- a reader of bytes in memory, with these left
@@ -132,9 +133,9 @@ pub record SubmitsBody {D : Type 0} (g : ledger.Ghosts D) (source body : List �
 
 -- what a submission leaves of the desk: only a fault of the store stops it, and after any other end
 -- the rows are those of its registry; a registry of its source stays one
-pub record KeepsDesk {D : Type 0} (desk : Ghosts D) (before after : D)
+pub record KeepsDesk {D : Type 0} (registrar : Ghosts D) (before after : D)
     (result : Result Done DeskFault) : Type 0 where
-  pub runs : UnlessStoreFault result (desk.is_stopped after ≡ false)
-  pub kept : UnlessStoreFault result (desk.Kept after)
-  pub of_source : IsRegistryOf (desk.settings before).source (desk.ledger.registry before)
-      → IsRegistryOf (desk.settings after).source (desk.ledger.registry after)
+  pub running : UnlessStoreFault result (registrar.ledger.is_stopped after ≡ false)
+  pub kept : UnlessStoreFault result (registrar.Kept after)
+  pub of_source : IsRegistryOf (registrar.settings before).source (registrar.ledger.registry before)
+      → IsRegistryOf (registrar.settings after).source (registrar.ledger.registry after)

@@ -28,6 +28,6 @@ body_told body = record {
   reads = body_reads body;
 }
 
--- how many bytes never came stays the same
+-- what no read changes: how many bytes never came, where a count of faults stands
 abbrev pub body_aside : Body → Told
 body_aside body = record { bytes = Some []; faults = body_missing body; reads = 0 }

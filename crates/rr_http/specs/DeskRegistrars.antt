@@ -1,4 +1,4 @@
--- A desk over tables as what connections ask.
+-- A desk over tables as a registrar.
 use Rattle.std.specs.Prelude.{◌≡◌, ℕ, true, false, List, Result}
 use Rattle.sqlite.specs.Held.{state}
 use Rattle.sqlite.specs.State.{HasCleanDisk}
@@ -10,16 +10,16 @@ use Rattle.rr_submission.specs.declared.ledger.Ledger as ledger
 use Rattle.rr_desk.specs.declared.desk.Desk.{Desk}
 use Rattle.rr_desk.specs.Answering as desk_answering
 use Rattle.rr_desk.specs.Rows.{KeepsRows}
-use Rattle.rr_desk.specs.Stocks.{IsStocked, stock_ledger}
+use Rattle.rr_desk.specs.Stocks.{StoresUntilStopped, stock_ledger}
 use Rattle.rr_desk.specs.Turns.{Serving}
 use Rattle.rr_http.specs.declared.registrar.Registrar as registrar
 use Rattle.rr_http.specs.Serving.{Serves, visit_of}
 
--- a desk decides items as the registry does that it keeps with its store
+-- a desk as a ledger: its registry and its store
 abbrev pub desk_ledger : {S : Type 0} → store.Ghosts S → ledger.Ghosts (Desk S)
 desk_ledger g = record {
   registry = λ desk. desk.stored.registry;
-  Ready = λ desk. desk.stored.stopped ≡ false;
+  is_stopped = λ desk. desk.stored.stopped;
   Stops = λ old secrets item new. (stock_ledger g).Stops old.stored secrets item new.stored;
 }
 
@@ -44,13 +44,13 @@ abbrev pub desk_registrar : {S : Type 0} → store.Ghosts S → registrar.Ghosts
 desk_registrar g = record {
   ledger = desk_ledger g;
   settings = λ desk. desk.settings;
-  is_stopped = λ desk. desk.stored.stopped;
   Answers = λ before query text after. IsDeskAnswer g before query text after;
   dumped = λ desk. dump false desk.stored.registry;
-  Kept = λ desk. IsStocked g desk.stored;
+  Kept = λ desk. StoresUntilStopped g desk.stored;
 }
 
 -- what serving a connection of a desk does
 abbrev pub serves_desk : Serving
-serves_desk S g before after from_old from_new old new result =
-    Serves (desk_registrar g) before after (visit_of from_old from_new old new result)
+serves_desk S g before after reader_old reader_new writer_old writer_new result =
+    Serves (desk_registrar g) before after
+    (visit_of reader_old reader_new writer_old writer_new result)

@@ -19,7 +19,7 @@ status_of LengthRequired = 411
 status_of PayloadTooLarge = 413
 status_of Unavailable = 503
 
--- its reason words (RFC 9110, 15; for 413 those of RFC 7231, 6.5.11)
+-- its reason words (RFC 9110, 15; for 431 RFC 6585, 5; for 413 those of RFC 7231, 6.5.11)
 abbrev pub reason_of : Refusal → List ℕ
 reason_of HeadTooLarge = codes "Request Header Fields Too Large"
 reason_of BadRequest = codes "Bad Request"

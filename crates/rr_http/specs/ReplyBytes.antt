@@ -1,5 +1,5 @@
 -- What a connection that tells its bytes is answered, by the bytes that it gives.
-use Rattle.std.specs.Prelude.{◌≡◌, ℕ, ◌<◌, false, ◌⊎◌, List, [], ◌++◌, length}
+use Rattle.std.specs.Prelude.{◌≡◌, ℕ, ◌<◌, true, false, ◌⊎◌, List, [], ◌++◌, length}
 use Rattle.std.specs.Prelude.{map, drop, Ok, Err}
 use Rattle.std.specs.Prelude.{Some}
 use Rattle.percent_encoding.specs.Percent.{percent_decode}
@@ -11,9 +11,9 @@ use Rattle.rr_registry.specs.Runs.{Run}
 use Rattle.rr_submission.specs.declared.ending.Ending.TheVariants.{Complete}
 use Rattle.rr_submission.specs.declared.submission.Done.{Done}
 use Rattle.rr_submission.specs.Reports.{report}
-use Rattle.rr_submission.specs.SubmissionItems.{AreItems, Asked, submitted}
+use Rattle.rr_submission.specs.SubmissionItems.{AreItems, ItemRequest, submitted}
 use Rattle.rr_desk.specs.declared.peers.ConnFault.TheVariants.{Read, Write}
-use Rattle.rr_desk.specs.Turns.{Answer, Visit}
+use Rattle.rr_desk.specs.Turns.{ConnEnd, Visit}
 use Rattle.rr_http.specs.declared.asking.Refusal.TheVariants.{Unavailable}
 use Rattle.rr_http.specs.declared.body_reading.BodyEnd.{BodyEnd}
 use Rattle.rr_http.specs.declared.registrar.Registrar.{Ghosts}
@@ -29,14 +29,14 @@ abbrev pub IsCutOff : List ℕ → List ℕ → Type 0
 IsCutOff text answered = (rest : List ℕ) × (text ≡ answered ++ rest) × (0 < length rest)
 
 -- the text is answered, or not all of it where a write failed
-abbrev pub IsSent : List ℕ → Answer → List ℕ → Type 0
+abbrev pub IsSent : List ℕ → ConnEnd → List ℕ → Type 0
 IsSent text (Ok done) answered = answered ≡ text
 IsSent text (Err Read) answered = ⊥
 IsSent text (Err Write) answered = IsCutOff text answered
 
 -- the dump is answered after the head of a reply: whole, or a part of it where memory ran out; or a
 -- part of both where a write failed (profile)
-abbrev pub IsDumpSent : List ℕ → Answer → List ℕ → Type 0
+abbrev pub IsDumpSent : List ℕ → ConnEnd → List ℕ → Type 0
 IsDumpSent text (Ok done) answered =
     (part : List ℕ) × (rest : List ℕ) × (text ≡ part ++ rest)
     × (answered ≡ ok_head ++ part)
@@ -44,29 +44,29 @@ IsDumpSent text (Err Read) answered = ⊥
 IsDumpSent text (Err Write) answered = IsCutOff (ok_head ++ text) answered
 
 -- that the request cannot be served now is answered, and the desk was not asked
-abbrev pub IsRefusalSent : {D : Type 0} → D → D → Answer → List ℕ → Type 0
+abbrev pub IsRefusalSent : {D : Type 0} → D → D → ConnEnd → List ℕ → Type 0
 IsRefusalSent before after result answered =
     IsSent (refusal_reply Unavailable) result answered × (after ≡ before)
 
 -- not even the head of a reply is answered, and the desk was not asked
-pub record IsHeadCutOff {D : Type 0} (before after : D) (result : Answer) (answered : List ℕ)
+pub record IsHeadCutOff {D : Type 0} (before after : D) (result : ConnEnd) (answered : List ℕ)
     : Type 0 where
   pub cut : IsCutOff ok_head answered
   pub failed : result ≡ Err Write
   pub same : after ≡ before
 
 -- the answer of the desk to a query is answered after these bytes
-pub record IsAnswerSent {D : Type 0} (desk : Ghosts D) (head text : List ℕ) (before after : D)
-    (result : Answer) (answered : List ℕ) : Type 0 where
+pub record IsAnswerSent {D : Type 0} (registrar : Ghosts D) (head text : List ℕ) (before after : D)
+    (result : ConnEnd) (answered : List ℕ) : Type 0 where
   pub answer : List ℕ
-  pub answers : desk.Answers before text answer after
+  pub answers : registrar.Answers before text answer after
   pub sent : IsSent (head ++ answer) result answered
 
 -- a body of so many bytes was submitted, which is that of what stands after the head, and its
 -- report is answered after the head of a reply, as far as it could be written
-pub record IsReportSent {D : Type 0} (desk : Ghosts D) (given : List ℕ) (size : ℕ)
-    (before after : D) (result : Answer) (answered : List ℕ) : Type 0 where
-  pub running : desk.is_stopped before ≡ false
+pub record IsReportSent {D : Type 0} (registrar : Ghosts D) (given : List ℕ) (size : ℕ)
+    (before after : D) (result : ConnEnd) (answered : List ℕ) : Type 0 where
+  pub running : registrar.ledger.is_stopped before ≡ false
   pub body : List ℕ
   pub end : BodyEnd
   pub is_body : IsBodyOf end size given body
@@ -74,89 +74,89 @@ pub record IsReportSent {D : Type 0} (desk : Ghosts D) (given : List ℕ) (size 
   pub new : Told
   pub unwritten : old.bytes ≡ Some []
   pub written : new.bytes ≡ Some answered
-  pub submits : SubmitsRead desk body size end before after old new result
+  pub submits : SubmitsRead registrar body size end before after old new result
 
 -- what a request is answered, by what it asks and what stands after its head
-abbrev pub RepliesTo : {D : Type 0} → Ghosts D → List ℕ → Asks → D → D → Answer
+abbrev pub RepliesTo : {D : Type 0} → Ghosts D → List ℕ → Asks → D → D → ConnEnd
     → List ℕ → Type 0
-RepliesTo desk given (refused refusal) before after result answered =
+RepliesTo registrar given (refused refusal) before after result answered =
     IsSent (refusal_reply refusal) result answered × (after ≡ before)
-RepliesTo desk given (submission size) before after result answered =
+RepliesTo registrar given (submission size) before after result answered =
     IsRefusalSent before after result answered
-    ⊎ IsReportSent desk given size before after result answered
-RepliesTo desk given (query escaped) before after result answered =
+    ⊎ IsReportSent registrar given size before after result answered
+RepliesTo registrar given (query escaped) before after result answered =
     IsRefusalSent before after result answered
-    ⊎ ((desk.is_stopped before ≡ false)
+    ⊎ ((registrar.ledger.is_stopped before ≡ false)
     × (IsHeadCutOff before after result answered
-    ⊎ IsAnswerSent desk ok_head (percent_decode escaped) before after result answered))
-RepliesTo desk given dump before after result answered =
-    IsRefusalSent before after result answered
-    ⊎ ((desk.is_stopped before ≡ false) × IsDumpSent (desk.dumped before) result answered
-    × (after ≡ before))
+    ⊎ IsAnswerSent registrar ok_head (percent_decode escaped) before after result answered))
+RepliesTo registrar given dump before after result answered =
+    ((registrar.ledger.is_stopped before ≡ true) × IsRefusalSent before after result answered)
+    ⊎ ((registrar.ledger.is_stopped before ≡ false)
+    × IsDumpSent (registrar.dumped before) result answered × (after ≡ before))
 
 -- what a connection is answered that gives these bytes in all, by what it wants
-abbrev pub RepliesToWants : {D : Type 0} → Ghosts D → List ℕ → Wants → D → D → Answer
+abbrev pub RepliesToWants : {D : Type 0} → Ghosts D → List ℕ → Wants → D → D → ConnEnd
     → List ℕ
     → Type 0
-RepliesToWants desk asked (whois text) before after result answered =
-    IsAnswerSent desk [] text before after result answered
-RepliesToWants desk asked (http place asks) before after result answered =
-    RepliesTo desk (drop place asked) asks before after result answered
+RepliesToWants registrar given (whois text) before after result answered =
+    IsAnswerSent registrar [] text before after result answered
+RepliesToWants registrar given (http place asks) before after result answered =
+    RepliesTo registrar (drop place given) asks before after result answered
 
 -- what a connection wants that gives these bytes in all is answered
-pub record IsReplied {D : Type 0} (desk : Ghosts D) (before : D) (asked : List ℕ)
-    (result : Answer)
+pub record IsReplied {D : Type 0} (registrar : Ghosts D) (before : D) (given : List ℕ)
+    (result : ConnEnd)
     (answered : List ℕ) (after : D) : Type 0 where
   pub wants : Wants
-  pub is_wanted : IsWanted asked wants
-  pub replies : RepliesToWants desk asked wants before after result answered
+  pub is_wanted : IsWanted given wants
+  pub replies : RepliesToWants registrar given wants before after result answered
 
 -- a read failed before it was known what the connection wants, and nothing is answered
-pub record IsUnanswered {D : Type 0} (before : D) (asked : List ℕ) (result : Answer)
+pub record IsUnanswered {D : Type 0} (before : D) (given : List ℕ) (result : ConnEnd)
     (answered : List ℕ) (after : D) : Type 0 where
-  pub given : List ℕ
+  pub read : List ℕ
   pub rest : List ℕ
-  pub is : asked ≡ given ++ rest
-  pub undecided : IsUndecided given
+  pub is : given ≡ read ++ rest
+  pub undecided : IsUndecided read
   pub none : answered ≡ []
   pub same : after ≡ before
   pub failed : result ≡ Err Read
 
 -- the reply to a connection: by the desk, the bytes that it gives in all, and how serving it ended,
 -- the bytes that it is answered, and what that leaves of the desk (RFC 3912, RFC 9112; profile)
-abbrev pub IsReply : {D : Type 0} → Ghosts D → D → List ℕ → Answer → List ℕ → D
+abbrev pub IsReply : {D : Type 0} → Ghosts D → D → List ℕ → ConnEnd → List ℕ → D
     → Type 0
-IsReply desk before asked result answered after =
-    IsUnanswered before asked result answered after
-    ⊎ IsReplied desk before asked result answered after
+IsReply registrar before given result answered after =
+    IsUnanswered before given result answered after
+    ⊎ IsReplied registrar before given result answered after
 
 -- each item of a body was decided, in order, and the whole report is answered after the head of a
 -- reply: a line for each item, and the last line (profile)
-pub record IsWholeReport {D : Type 0} (desk : Ghosts D) (body : List ℕ) (before after : D)
+pub record IsWholeReport {D : Type 0} (registrar : Ghosts D) (body : List ℕ) (before after : D)
     (answered : List ℕ) : Type 0 where
-  pub items : List Asked
+  pub items : List ItemRequest
   pub outcomes : List Outcome
-  pub are_items : AreItems (desk.settings before).source [] (entries body) items
-  pub runs : Run (desk.ledger.registry before) (map submitted items) outcomes
-      (desk.ledger.registry after)
+  pub are_items : AreItems (registrar.settings before).source [] (entries body) items
+  pub runs : Run (registrar.ledger.registry before) (map submitted items) outcomes
+      (registrar.ledger.registry after)
   pub is : answered ≡ ok_head ++ report Complete items outcomes
 
 -- a submission that ended well misses no byte of its body, and is answered with the whole report on
 -- it
 abbrev pub AnswersWithItsReport : {D : Type 0} → Ghosts D → Type 0
-AnswersWithItsReport {D} desk =
+AnswersWithItsReport {D} registrar =
     (before after : D) (old between new : Told) (body answered : List ℕ) (missing : ℕ)
     (done : Done)
     → old.bytes ≡ Some [] → new.bytes ≡ Some answered → Takes old between ok_head
-    → SubmitsBody desk.ledger (desk.settings before).source body missing before after between new
-    (Ok done)
-    → (missing ≡ 0) × IsWholeReport desk body before after answered
+    → SubmitsBody registrar.ledger (registrar.settings before).source body missing before after
+    between new (Ok done)
+    → (missing ≡ 0) × IsWholeReport registrar body before after answered
 
 -- serving a connection that tells its bytes, to which nothing was written, answers it with its
 -- reply
 abbrev pub AnswersWithItsReply : {D : Type 0} → Ghosts D → Type 0
-AnswersWithItsReply {D} desk =
-    (before after : D) (visit : Visit) (asked answered : List ℕ)
-    → visit.reader_before.bytes ≡ Some asked → visit.writer_before.bytes ≡ Some []
-    → visit.writer_after.bytes ≡ Some answered → Serves desk before after visit
-    → IsReply desk before asked visit.answer answered after
+AnswersWithItsReply {D} registrar =
+    (before after : D) (visit : Visit) (given answered : List ℕ)
+    → visit.reader_before.bytes ≡ Some given → visit.writer_before.bytes ≡ Some []
+    → visit.writer_after.bytes ≡ Some answered → Serves registrar before after visit
+    → IsReply registrar before given visit.ended answered after

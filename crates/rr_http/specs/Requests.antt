@@ -18,8 +18,8 @@ use Rattle.rr_http.specs.declared.asking.Refusal.TheVariants.{PayloadTooLarge}
 use Rattle.rr_http.specs.declared.asking.TheConstants.{BODY_SIZE}
 
 -- a field of a head: its name, and its value less the white space around it (RFC 9110, 5)
-abbrev pub Part : Type 0
-Part = List ℕ × List ℕ
+abbrev pub HeadField : Type 0
+HeadField = List ℕ × List ℕ
 
 -- what a request asks: to be refused, the report on a body of so many bytes, the answer to a query
 -- with these escapes, or the dump
@@ -54,23 +54,24 @@ page_of path =
     else (if is_query_path path then Some page.Query else None))
 
 -- a field has this name, in any case of letters (RFC 9110, 5.1)
-abbrev pub is_field_of : List ℕ → Part → Bool
-is_field_of name part = is_keyword name part.0
+abbrev pub is_field_of : List ℕ → HeadField → Bool
+is_field_of name field = is_keyword name field.0
 
 -- the values of the fields of this name
-abbrev pub values_of : List ℕ → List Part → List (List ℕ)
-values_of name parts = map (λ (part : Part). part.1) (filter (is_field_of name) parts)
+abbrev pub values_of : List ℕ → List HeadField → List (List ℕ)
+values_of name fields = map (λ (field : HeadField). field.1) (filter (is_field_of name) fields)
 
 -- there is a field of this name
-abbrev pub has_field : List ℕ → List Part → Bool
-has_field name parts = nat_lt 0 (length (values_of name parts))
+abbrev pub has_field : List ℕ → List HeadField → Bool
+has_field name fields = nat_lt 0 (length (values_of name fields))
 
 -- a length is spelled in decimal digits alone (RFC 9110, 8.6)
 abbrev pub is_length : List ℕ → Bool
 is_length [] = false
 is_length (b ∷ bs) = list_all is_ascii_digit (b ∷ bs)
 
--- the number of bytes that a length spells, at most 1,048,576 (profile)
+-- the number of bytes that a length spells; what is no length is a bad request, and more than
+-- 1,048,576 bytes are too many (profile)
 unfoldable pub size_of : List ℕ → Result ℕ Refusal
 size_of value =
     if is_length value
@@ -96,28 +97,28 @@ method_of page.Query = codes "GET"
 method_of page.Dump = codes "GET"
 
 -- what is asked of a page by its own method; a query is what stands after `/query/`
-abbrev pub asks_page : List ℕ → List Part → Page → Asks
-asks_page path parts page.Submissions =
-    submits (sized (values_of (codes "Content-Length") parts))
-asks_page path parts page.Query = query (after_query path)
-asks_page path parts page.Dump = dump
+abbrev pub asks_page : List ℕ → List HeadField → Page → Asks
+asks_page path fields page.Submissions =
+    submits (sized (values_of (codes "Content-Length") fields))
+asks_page path fields page.Query = query (after_query path)
+asks_page path fields page.Dump = dump
 
 -- what is asked at a path
-abbrev pub asks_at : List ℕ → List ℕ → List Part → Option Page → Asks
-asks_at method path parts None = refused NotFound
-asks_at method path parts (Some found) =
-    if bytes_eq method (method_of found) then asks_page path parts found
+abbrev pub asks_at : List ℕ → List ℕ → List HeadField → Option Page → Asks
+asks_at method path fields None = refused NotFound
+asks_at method path fields (Some found) =
+    if bytes_eq method (method_of found) then asks_page path fields found
     else refused (MethodNotAllowed found)
 
 -- what a request asks. The first refusal of these is given: a transfer coding, no such page,
 -- another method, and for a body no length, a bad length or more than one, a length that is too
 -- large (RFC 9110, 15; profile)
-unfoldable pub asks_of : List ℕ → List ℕ → List Part → Asks
-asks_of method target parts =
-    if has_field (codes "Transfer-Encoding") parts then refused NotImplemented
-    else asks_at method (path_of target) parts (page_of (path_of target))
+unfoldable pub asks_of : List ℕ → List ℕ → List HeadField → Asks
+asks_of method target fields =
+    if has_field (codes "Transfer-Encoding") fields then refused NotImplemented
+    else asks_at method (path_of target) fields (page_of (path_of target))
 
--- a body that is asked for has at most 1,048,576 bytes (profile)
+-- a submission has a body of at most 1,048,576 bytes (profile)
 abbrev pub HasSmallSize : Asks → Type 0
 HasSmallSize (refused refusal) = Unit {0}
 HasSmallSize (submission size) = size ≤ BODY_SIZE

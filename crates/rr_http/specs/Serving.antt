@@ -12,12 +12,12 @@ use Rattle.rr_io.specs.Sending.{Takes, TakesPrefix}
 use Rattle.rr_submission.specs.declared.submission.Done.{Done}
 use Rattle.rr_submission.specs.declared.submission.DeskFault.{DeskFault}
 use Rattle.rr_desk.specs.declared.peers.ConnFault.TheVariants as conn_fault
-use Rattle.rr_desk.specs.Turns.{Answer, Visit}
+use Rattle.rr_desk.specs.Turns.{ConnEnd, Visit}
 use Rattle.rr_http.specs.declared.body_reading.BodyEnd.{BodyEnd}
 use Rattle.rr_http.specs.declared.body_reading.BodyEnd.TheVariants.{Whole, Short, Broken}
 use Rattle.rr_http.specs.declared.registrar.Registrar.{Ghosts}
 use Rattle.rr_http.specs.Answering.{AnswersDump, AnswersQuery, IsUnavailable, KeepsDesk}
-use Rattle.rr_http.specs.Answering.{SubmitsBody, Tells, TellsAnswer}
+use Rattle.rr_http.specs.Answering.{RepliesWithAnswer, SubmitsBody, WritesReply}
 use Rattle.rr_http.specs.Bodies.{GivesWithin, ReadsBody}
 use Rattle.rr_http.specs.Replies.{ok_head, refusal_reply}
 use Rattle.rr_http.specs.Requests.{Asks, refused, submission, query, dump}
@@ -27,54 +27,54 @@ use Rattle.rr_http.specs.Wants.{whois, http}
 
 -- a connection failed where a read of it failed, or a write; an end of input before the body's is
 -- not a failed read (profile)
-abbrev pub answer_by : BodyEnd → Bool → Answer
-answer_by Broken write_failed = Err conn_fault.Read
-answer_by Whole true = Err conn_fault.Write
-answer_by Short true = Err conn_fault.Write
-answer_by Whole false = Ok tt
-answer_by Short false = Ok tt
+abbrev pub end_by : BodyEnd → Bool → ConnEnd
+end_by Broken write_failed = Err conn_fault.Read
+end_by Whole true = Err conn_fault.Write
+end_by Short true = Err conn_fault.Write
+end_by Whole false = Ok tt
+end_by Short false = Ok tt
 
 -- the head of the reply was written, and the body submitted: its report follows
-pub record IsSubmitted {D : Type 0} (desk : Ghosts D) (body : List ℕ) (size : ℕ) (end : BodyEnd)
-    (before after : D) (old new : Told) (result : Answer) : Type 0 where
+pub record IsSubmitted {D : Type 0} (registrar : Ghosts D) (body : List ℕ) (size : ℕ)
+    (end : BodyEnd) (before after : D) (old new : Told) (result : ConnEnd) : Type 0 where
   pub between : Told
   pub done : Result Done DeskFault
   pub head : Takes old between ok_head
-  pub submits : SubmitsBody desk.ledger (desk.settings before).source body (size - length body)
-      before after between new done
-  pub keeps : KeepsDesk desk before after done
-  pub answer : result ≡ answer_by end (nat_lt old.faults new.faults)
+  pub submits : SubmitsBody registrar.ledger (registrar.settings before).source body
+      (size - length body) before after between new done
+  pub keeps : KeepsDesk registrar before after done
+  pub ends : result ≡ end_by end (nat_lt old.faults new.faults)
 
 -- the head of the reply could not be written, and nothing is submitted
 pub record IsUnsubmitted {D : Type 0} (end : BodyEnd) (before after : D) (old new : Told)
-    (result : Answer) : Type 0 where
+    (result : ConnEnd) : Type 0 where
   pub cut : TakesPrefix old new ok_head
-  pub failed : result ≡ answer_by end true
+  pub failed : result ≡ end_by end true
   pub same : after ≡ before
 
 -- a body that was read is submitted, unless the head of the reply could not be written
 abbrev pub SubmitsRead : {D : Type 0} → Ghosts D → List ℕ → ℕ → BodyEnd → D → D
     → Told → Told
-    → Answer → Type 0
-SubmitsRead desk body size end before after old new result =
+    → ConnEnd → Type 0
+SubmitsRead registrar body size end before after old new result =
     IsUnsubmitted end before after old new result
-    ⊎ IsSubmitted desk body size end before after old new result
+    ⊎ IsSubmitted registrar body size end before after old new result
 
 -- a connection while it was served, by what its reader and its writer told before and after
-abbrev pub visit_of : Told → Told → Told → Told → Answer → Visit
-visit_of from_old from_new old new answer = record {
-  reader_before = from_old;
-  reader_after = from_new;
-  writer_before = old;
-  writer_after = new;
-  answer = answer;
+abbrev pub visit_of : Told → Told → Told → Told → ConnEnd → Visit
+visit_of reader_old reader_new writer_old writer_new ended = record {
+  reader_before = reader_old;
+  reader_after = reader_new;
+  writer_before = writer_old;
+  writer_after = writer_new;
+  ended = ended;
 }
 
 -- a connection while it was served, by what it told as a reader and as a writer, before and after
-abbrev pub visit : {C : Type 0} → source.Ghosts C → sink.Ghosts C → C → C → Answer
+abbrev pub visit : {C : Type 0} → source.Ghosts C → sink.Ghosts C → C → C → ConnEnd
     → Visit
-visit reader writer old new answer =
-    visit_of (reader.told old) (reader.told new) (writer.told old) (writer.told new) answer
+visit reader writer old new ended =
+    visit_of (reader.told old) (reader.told new) (writer.told old) (writer.told new) ended
 
 -- nothing was read of a connection, and the desk is as it was
 pub record IsUntouched {D : Type 0} (before after : D) (visit : Visit) : Type 0 where
@@ -83,101 +83,102 @@ pub record IsUntouched {D : Type 0} (before after : D) (visit : Visit) : Type 0 
 
 -- this text is the whole reply to a connection
 abbrev pub Replies : List ℕ → Visit → Type 0
-Replies text visit = Tells text visit.writer_before visit.writer_after visit.answer
+Replies text visit = WritesReply text visit.writer_before visit.writer_after visit.ended
 
--- the reply is that the request cannot be served now, and the desk was not asked
+-- the same, of a connection while it was served
 abbrev pub IsRefusedNow : {D : Type 0} → D → D → Visit → Type 0
 IsRefusedNow before after visit =
-    IsUnavailable before after visit.writer_before visit.writer_after visit.answer
+    IsUnavailable before after visit.writer_before visit.writer_after visit.ended
 
 -- the body was read and submitted
-pub record IsTakenIn {D : Type 0} (desk : Ghosts D) (buffered : List ℕ) (size : ℕ)
+pub record IsTakenIn {D : Type 0} (registrar : Ghosts D) (buffered : List ℕ) (size : ℕ)
     (before after : D) (visit : Visit) : Type 0 where
-  pub running : desk.is_stopped before ≡ false
+  pub running : registrar.ledger.is_stopped before ≡ false
   pub body : List ℕ
   pub end : BodyEnd
   pub reads : ReadsBody visit.reader_before visit.reader_after buffered size body end
-  pub submits : SubmitsRead desk body size end before after visit.writer_before visit.writer_after
-      visit.answer
+  pub submits : SubmitsRead registrar body size end before after visit.writer_before
+      visit.writer_after visit.ended
 
 -- the desk is stopped: it takes no submission, and none of the body is read
-pub record MeetsStoppedDesk {D : Type 0} (desk : Ghosts D) (before after : D) (visit : Visit)
+pub record MeetsStoppedDesk {D : Type 0} (registrar : Ghosts D) (before after : D) (visit : Visit)
     : Type 0 where
-  pub stopped : desk.is_stopped before ≡ true
+  pub stopped : registrar.ledger.is_stopped before ≡ true
   pub unread : visit.reader_after ≡ visit.reader_before
   pub unavailable : IsRefusedNow before after visit
 
 -- memory ran out for the body, which is read no further than its size; these of its bytes came
 -- with the head
-pub record MeetsNoMemory {D : Type 0} (desk : Ghosts D) (buffered : List ℕ) (size : ℕ)
+pub record MeetsNoMemory {D : Type 0} (registrar : Ghosts D) (buffered : List ℕ) (size : ℕ)
     (before after : D) (visit : Visit) : Type 0 where
-  pub running : desk.is_stopped before ≡ false
+  pub running : registrar.ledger.is_stopped before ≡ false
   pub reads : GivesWithin visit.reader_before visit.reader_after (size - length buffered)
   pub unavailable : IsRefusedNow before after visit
 
 -- a submission that is not taken in
 abbrev pub IsTurnedAway : {D : Type 0} → Ghosts D → List ℕ → ℕ → D → D → Visit
     → Type 0
-IsTurnedAway desk buffered size before after visit =
-    MeetsStoppedDesk desk before after visit
-    ⊎ MeetsNoMemory desk buffered size before after visit
+IsTurnedAway registrar buffered size before after visit =
+    MeetsStoppedDesk registrar before after visit
+    ⊎ MeetsNoMemory registrar buffered size before after visit
 
 -- a submission is turned away or taken in
 abbrev pub ServesBody : {D : Type 0} → Ghosts D → List ℕ → ℕ → D → D → Visit
     → Type 0
-ServesBody desk buffered size before after visit =
-    IsTurnedAway desk buffered size before after visit
-    ⊎ IsTakenIn desk buffered size before after visit
+ServesBody registrar buffered size before after visit =
+    IsTurnedAway registrar buffered size before after visit
+    ⊎ IsTakenIn registrar buffered size before after visit
 
 -- what is done of what a request asks; these bytes came with its head
 abbrev pub ServesAsks : {D : Type 0} → Ghosts D → List ℕ → Asks → D → D → Visit
     → Type 0
-ServesAsks desk buffered (refused refusal) before after visit =
+ServesAsks registrar buffered (refused refusal) before after visit =
     IsUntouched before after visit × Replies (refusal_reply refusal) visit
-ServesAsks desk buffered (submission size) before after visit =
-    ServesBody desk buffered size before after visit
-ServesAsks desk buffered (query escaped) before after visit =
+ServesAsks registrar buffered (submission size) before after visit =
+    ServesBody registrar buffered size before after visit
+ServesAsks registrar buffered (query escaped) before after visit =
     (visit.reader_after ≡ visit.reader_before)
-    × AnswersQuery desk.Answers (desk.is_stopped before) (percent_decode escaped) before after
-    visit.writer_before visit.writer_after visit.answer
-ServesAsks desk buffered dump before after visit =
+    × AnswersQuery registrar.Answers (registrar.ledger.is_stopped before) (percent_decode escaped)
+    before after visit.writer_before visit.writer_after visit.ended
+ServesAsks registrar buffered dump before after visit =
     IsUntouched before after visit
-    × AnswersDump (desk.dumped before) (desk.is_stopped before)
-    visit.writer_before visit.writer_after visit.answer
+    × AnswersDump (registrar.dumped before) (registrar.ledger.is_stopped before)
+    visit.writer_before visit.writer_after visit.ended
 
 -- what is done of what a connection wants at whose head these bytes were read
 abbrev pub ServesWants : {D : Type 0} → Ghosts D → List ℕ → Wants → D → D → Visit
     → Type 0
-ServesWants desk head (whois asked) before after visit =
+ServesWants registrar head (whois asked) before after visit =
     (visit.reader_after ≡ visit.reader_before)
-    × TellsAnswer desk.Answers [] asked before after
-    visit.writer_before visit.writer_after visit.answer
-ServesWants desk head (http place asks) before after visit =
-    ServesAsks desk (drop place head) asks before after visit
+    × RepliesWithAnswer registrar.Answers [] asked before after
+    visit.writer_before visit.writer_after visit.ended
+ServesWants registrar head (http place asks) before after visit =
+    ServesAsks registrar (drop place head) asks before after visit
 
 -- what is wanted by the bytes that were read of a connection is done
-pub record ServesHead {D : Type 0} (desk : Ghosts D) (read : List ℕ) (before after : D)
+pub record ServesHead {D : Type 0} (registrar : Ghosts D) (read : List ℕ) (before after : D)
     (visit : Visit) : Type 0 where
   pub wants : Wants
   pub are_wanted : HeadWants (speaks_http read) read (is_full read) wants
-  pub serves : ServesWants desk read wants before after visit
+  pub serves : ServesWants registrar read wants before after visit
 
 -- a connection while it was served, from when its reader told this
 abbrev pub visit_from : Told → Visit → Visit
 visit_from between visit =
-    visit_of between visit.reader_after visit.writer_before visit.writer_after visit.answer
+    visit_of between visit.reader_after visit.writer_before visit.writer_after visit.ended
 
 -- the head of the connection was read, it wants this, whatever may follow its head, and that was
 -- done
-pub record IsServed {D : Type 0} (desk : Ghosts D) (before after : D) (visit : Visit) : Type 0 where
+pub record IsServed {D : Type 0} (registrar : Ghosts D) (before after : D) (visit : Visit)
+    : Type 0 where
   pub head : List ℕ
-  pub ended : Bool
+  pub at_end : Bool
   pub between : Told
   pub wants : Wants
-  pub reads : ReadsHead visit.reader_before between head ended
-  pub is_wanted : (more : List ℕ) → (IsTrue ended → more ≡ [])
+  pub reads : ReadsHead visit.reader_before between head at_end
+  pub is_wanted : (more : List ℕ) → (IsTrue at_end → more ≡ [])
       → IsWanted (head ++ more) wants
-  pub serves : ServesWants desk head wants before after (visit_from between visit)
+  pub serves : ServesWants registrar head wants before after (visit_from between visit)
 
 -- a read failed before it was known what the connection wants: nothing is written
 pub record IsBroken {D : Type 0} (before after : D) (visit : Visit) : Type 0 where
@@ -186,8 +187,9 @@ pub record IsBroken {D : Type 0} (before after : D) (visit : Visit) : Type 0 whe
   pub undecided : IsUndecided bytes
   pub unwritten : visit.writer_after ≡ visit.writer_before
   pub same : after ≡ before
-  pub failed : visit.answer ≡ Err conn_fault.Read
+  pub failed : visit.ended ≡ Err conn_fault.Read
 
 -- a connection broke off, or it was served
 abbrev pub Serves : {D : Type 0} → Ghosts D → D → D → Visit → Type 0
-Serves desk before after visit = IsBroken before after visit ⊎ IsServed desk before after visit
+Serves registrar before after visit =
+    IsBroken before after visit ⊎ IsServed registrar before after visit

@@ -12,9 +12,9 @@ use Rattle.rr_http.specs.Wants.{IsWanted, ReadsHead, Wants}
 -- what a connection wants whose head was read is what all of its bytes want
 abbrev pub WantsByItsBytes : Type 0
 WantsByItsBytes =
-    (old between : Told) (bytes head : List ℕ) (ended : Bool) (wants : Wants)
-    → old.bytes ≡ Some bytes → ReadsHead old between head ended
-    → ((more : List ℕ) → (IsTrue ended → more ≡ []) → IsWanted (head ++ more) wants)
+    (old between : Told) (bytes head : List ℕ) (at_end : Bool) (wants : Wants)
+    → old.bytes ≡ Some bytes → ReadsHead old between head at_end
+    → ((more : List ℕ) → (IsTrue at_end → more ≡ []) → IsWanted (head ++ more) wants)
     → IsWanted bytes wants
 
 -- a body of so many bytes, by what is given after the head: the first of these bytes, all of them

@@ -81,16 +81,16 @@ says_wants bytes = says_by (speaks_http bytes) bytes
 -- enough of a connection was read to know what it wants: what says it, or all that is read, or all
 -- that the connection has
 abbrev pub IsDecided : List ℕ → Bool → Type 0
-IsDecided bytes ended =
-    IsTrue (says_wants bytes) ⊎ ((length bytes ≡ HEAD_SIZE) ⊎ IsTrue ended)
+IsDecided bytes at_end =
+    IsTrue (says_wants bytes) ⊎ ((length bytes ≡ HEAD_SIZE) ⊎ IsTrue at_end)
 
 -- the head of a connection was read, so far that it is known what it wants; the input may have
 -- ended there
-pub record ReadsHead (old new : Told) (head : List ℕ) (ended : Bool) : Type 0 where
+pub record ReadsHead (old new : Told) (head : List ℕ) (at_end : Bool) : Type 0 where
   pub gives : Gives old new head
   pub short : length head ≤ HEAD_SIZE
-  pub settled : IsDecided head ended
-  pub spent : IsTrue ended → IsSpent new
+  pub settled : IsDecided head at_end
+  pub spent : IsTrue at_end → IsSpent new
 
 -- bytes do not say yet what the connection wants
 pub record IsUndecided (bytes : List ℕ) : Type 0 where
@@ -114,11 +114,11 @@ IsHead bytes (Refused refusal) =
 
 -- the head of a connection was read, and this stands there
 abbrev pub FindsHead : Told → Told → List ℕ → Head → Type 0
-FindsHead old new bytes head = (ended : Bool) × ReadsHead old new bytes ended × IsHead bytes head
+FindsHead old new bytes head = (at_end : Bool) × ReadsHead old new bytes at_end × IsHead bytes head
 
 -- what is wanted by the head of a connection is wanted by all that it gives, whatever may follow
 abbrev pub WantsByItsHead : Type 0
 WantsByItsHead =
-    (head more : List ℕ) (ended : Bool) (wants : Wants) → length head ≤ HEAD_SIZE
-    → IsDecided head ended → (IsTrue ended → more ≡ [])
+    (head more : List ℕ) (at_end : Bool) (wants : Wants) → length head ≤ HEAD_SIZE
+    → IsDecided head at_end → (IsTrue at_end → more ≡ [])
     → HeadWants (speaks_http head) head (is_full head) wants → IsWanted (head ++ more) wants

@@ -3,7 +3,7 @@
 ghost use Rattle.std.specs.Prelude.{◌≡◌, ◌≤◌, [], Err, IfOk, false, length};
 ghost use Rattle.percent_encoding.specs.Percent.{percent_decode};
 ghost use Rattle.rr_http.specs.Answering.{AnswersDump, AnswersQuery, AnswersRunning, KeepsDesk};
-ghost use Rattle.rr_http.specs.Answering.{SubmitsBody, Tells, TellsAnswer, dump_answer};
+ghost use Rattle.rr_http.specs.Answering.{RepliesWithAnswer, SubmitsBody, WritesReply, dump_end};
 ghost use Rattle.rr_http.specs.Replies.{refusal_reply};
 
 use crate::asking::{BODY_SIZE, Refusal};
@@ -17,7 +17,8 @@ use std::alloc::{AllocError, Global};
 
 /// Refuses a request. The error is that a write failed: the writer has taken a part of the reply.
 pub(crate) fn refuse<W: Sink>(writer: &mut W, refusal: Refusal) -> Result<(), ConnFault>
-    ensures tells { Tells (refusal_reply refusal) (W.told writer.old) (W.told writer.new) result }
+    ensures replies { WritesReply (refusal_reply refusal)
+        (W.told writer.old) (W.told writer.new) result }
     ensures aside { W.aside writer.new ≡ W.aside writer.old }
 {
     match write_refusal(writer, refusal) {
@@ -34,7 +35,7 @@ pub(crate) fn answer_whois<D: Registrar, W: Sink>(
     query: &[u8],
     writer: &mut W,
 ) -> Result<(), ConnFault>
-    ensures answers { TellsAnswer D.Answers [] query.now desk.old desk.new
+    ensures answers { RepliesWithAnswer D.Answers [] query.now desk.old desk.new
         (W.told writer.old) (W.told writer.new) result }
     ensures settings { D.settings desk.new ≡ D.settings desk.old }
     ensures aside { W.aside writer.new ≡ W.aside writer.old }
@@ -54,8 +55,9 @@ pub(crate) fn answer_query<D: Registrar, W: Sink>(
     escaped: &[u8],
     writer: &mut W,
 ) -> Result<(), ConnFault>
-    ensures answers { AnswersQuery D.Answers (D.is_stopped desk.old) (percent_decode escaped.now)
-        desk.old desk.new (W.told writer.old) (W.told writer.new) result }
+    ensures answers { AnswersQuery D.Answers (D.ledger.is_stopped desk.old)
+        (percent_decode escaped.now) desk.old desk.new
+        (W.told writer.old) (W.told writer.new) result }
     ensures settings { D.settings desk.new ≡ D.settings desk.old }
     ensures aside { W.aside writer.new ≡ W.aside writer.old }
 {
@@ -104,7 +106,7 @@ pub(crate) fn give_dump<D: Registrar, W: Sink>(
     desk: &D,
     writer: &mut W,
 ) -> Result<(), ConnFault>
-    ensures dumps { AnswersDump (D.dumped desk.now) (D.is_stopped desk.now)
+    ensures dumps { AnswersDump (D.dumped desk.now) (D.ledger.is_stopped desk.now)
         (W.told writer.old) (W.told writer.new) result }
     ensures aside { W.aside writer.new ≡ W.aside writer.old }
 {
@@ -114,15 +116,15 @@ pub(crate) fn give_dump<D: Registrar, W: Sink>(
     match write_ok_head(writer) {
         Ok(()) => match desk.dump(alloc, writer) {
             Ok(_) => Ok(()),
-            Err(fault) => dump_answer(fault),
+            Err(fault) => dump_end(fault),
         },
         Err(_) => Err(ConnFault::Write),
     }
 }
 
-/// What a connection is answered whose dump was cut short.
-fn dump_answer(fault: DeskDumpFault) -> Result<(), ConnFault>
-    ensures { result ≡ dump_answer (Err fault) }
+/// How serving a connection ends whose dump was cut short.
+fn dump_end(fault: DeskDumpFault) -> Result<(), ConnFault>
+    ensures { result ≡ dump_end (Err fault) }
 {
     match fault {
         DeskDumpFault::Write => Err(ConnFault::Write),
@@ -143,7 +145,7 @@ pub(crate) fn submit_body<D: Registrar, W: Sink>(
     writer: &mut W,
 ) -> Result<Done, DeskFault>
     requires small { length bytes.now ≤ BODY_SIZE }
-    requires running { D.is_stopped desk.old ≡ false }
+    requires running { D.ledger.is_stopped desk.old ≡ false }
     ensures submits { SubmitsBody D.ledger (D.settings desk.old).source bytes.now missing
         desk.old desk.new (W.told writer.old) (W.told writer.new) result }
     ensures keeps { KeepsDesk D.Registrar desk.old desk.new result }

@@ -5,7 +5,7 @@ ghost use Rattle.std.specs.Prelude.{All, IfSome};
 ghost use Rattle.std.specs.Prelude.{MatchOption};
 ghost use Rattle.std.specs.Str.{bytes_eq};
 ghost use Rattle.httparse.specs.Spans.{IsHeaderWithin, header_bytes};
-ghost use Rattle.rr_http.specs.Asked.{parts_of, seen};
+ghost use Rattle.rr_http.specs.Asked.{fields_of, seen};
 ghost use Rattle.rr_http.specs.Requests.{HasSmallSize, asks_of, asks_page, is_length, is_field_of};
 ghost use Rattle.rr_http.specs.Requests.{is_query_path, is_segment, method_of, page_of};
 ghost use Rattle.rr_http.specs.Requests.{size_of, sized, values_of};
@@ -138,7 +138,7 @@ pub fn read_request(head: &[u8]) -> Asked<'_>
 #[tactic(auto, unfolding(crate::specs::Requests::asks_of))]
 fn asked_of<'a>(method: &[u8], target: &'a [u8], head: &[u8], fields: &[HeaderSpan]) -> Asked<'a>
     requires { All (IsHeaderWithin (length head.now)) fields.now }
-    ensures asks { seen result ≡ asks_of method.now target.now (parts_of head.now fields.now) }
+    ensures asks { seen result ≡ asks_of method.now target.now (fields_of head.now fields.now) }
     ensures small { HasSmallSize (seen result) }
 {
     if find_value(head, fields, b"Transfer-Encoding").is_some() {
@@ -162,7 +162,7 @@ fn asked_of<'a>(method: &[u8], target: &'a [u8], head: &[u8], fields: &[HeaderSp
 fn asked_at<'a>(path: &'a [u8], page: Page, head: &[u8], fields: &[HeaderSpan]) -> Asked<'a>
     requires at_page { page_of path.now ≡ Some page }
     requires within { All (IsHeaderWithin (length head.now)) fields.now }
-    ensures asks { seen result ≡ asks_page path.now (parts_of head.now fields.now) page }
+    ensures asks { seen result ≡ asks_page path.now (fields_of head.now fields.now) page }
     ensures small { HasSmallSize (seen result) }
 {
     match page {
@@ -179,7 +179,7 @@ fn asked_at<'a>(path: &'a [u8], page: Page, head: &[u8], fields: &[HeaderSpan]) 
 fn read_size(head: &[u8], fields: &[HeaderSpan]) -> Result<usize, Refusal>
     requires { All (IsHeaderWithin (length head.now)) fields.now }
     ensures sized { result
-        ≡ sized (values_of (codes "Content-Length") (parts_of head.now fields.now)) }
+        ≡ sized (values_of (codes "Content-Length") (fields_of head.now fields.now)) }
     ensures small { IfOk result (λ size. size ≤ BODY_SIZE) }
 {
     match find_value(head, fields, b"Content-Length") {
@@ -198,9 +198,9 @@ fn find_value<'a, 'f>(
     name: &[u8],
 ) -> Option<(&'a [u8], &'f [HeaderSpan])>
     requires { All (IsHeaderWithin (length head.now)) fields.now }
-    ensures value { MatchOption result (values_of name.now (parts_of head.now fields.now) ≡ [])
-        (λ found. values_of name.now (parts_of head.now fields.now)
-        ≡ found.0.now ∷ values_of name.now (parts_of head.now found.1.now)) }
+    ensures value { MatchOption result (values_of name.now (fields_of head.now fields.now) ≡ [])
+        (λ found. values_of name.now (fields_of head.now fields.now)
+        ≡ found.0.now ∷ values_of name.now (fields_of head.now found.1.now)) }
     ensures within { IfSome result (λ found. All (IsHeaderWithin (length head.now)) found.1.now) }
 {
     let mut rest = fields;

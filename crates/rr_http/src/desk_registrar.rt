@@ -1,8 +1,8 @@
-//! A desk over tables as what connections ask.
+//! A desk over tables as a registrar.
 
 ghost use Rattle.std.specs.Prelude.{false};
 ghost use Rattle.rr_answer.specs.Dumps.{dump};
-ghost use Rattle.rr_desk.specs.Stocks.{IsStocked};
+ghost use Rattle.rr_desk.specs.Stocks.{StoresUntilStopped};
 ghost use Rattle.rr_http.specs.DeskRegistrars.{IsDeskAnswer, desk_ledger};
 
 use crate::registrar::Registrar;
@@ -16,13 +16,11 @@ impl<S: Alter> Registrar for Desk<S> {
 
     ghost settings = { λ desk. desk.settings };
 
-    ghost is_stopped = { λ desk. desk.stored.stopped };
-
     ghost Answers = { λ before query text after. IsDeskAnswer S.Store before query text after };
 
     ghost dumped = { λ desk. dump false desk.stored.registry };
 
-    ghost Kept = { λ desk. IsStocked S.Store desk.stored };
+    ghost Kept = { λ desk. StoresUntilStopped S.Store desk.stored };
 
     fn stopped(&self) -> bool {
         Desk::stopped(self)

@@ -1,7 +1,7 @@
 //! Laws of connections, for readers and for the proofs of other crates. Nothing calls these
 //! functions.
 
-ghost use Rattle.rr_http.specs.Faults.{AnswersTellFailedCalls};
+ghost use Rattle.rr_http.specs.Faults.{EndsTellFailedCalls};
 ghost use Rattle.rr_http.specs.ReplyBytes.{AnswersWithItsReply, AnswersWithItsReport};
 ghost use Rattle.rr_http.specs.ToldBytes.{BodyFollowsItsHead, WantsByItsBytes};
 ghost use Rattle.rr_http.specs.Wants.{WantsByItsHead};
@@ -38,6 +38,6 @@ pub fn answers_with_its_report<D: Registrar>()
 
 /// A connection is served well exactly where no read and no write of it failed, and else its fault
 /// says which; so of those that a listener accepts, which of its turns failed.
-pub fn answers_tell_failed_calls<D: Registrar>()
-    ensures { AnswersTellFailedCalls D.Registrar }
+pub fn ends_tell_failed_calls<D: Registrar>()
+    ensures { EndsTellFailedCalls D.Registrar }
 {}

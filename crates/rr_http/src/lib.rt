@@ -14,7 +14,7 @@ mod registrar;
 mod replying;
 mod serving;
 
-pub use asking::{Asked, BODY_SIZE, Page, Refusal, read_request};
+pub use asking::{Asked, Page, Refusal, read_request};
 pub use body_reading::{BodyEnd, read_body};
 pub use both::Both;
 pub use heads::{HEAD_SIZE, Head, read_head};

@@ -1,11 +1,12 @@
-//! What a connection asks of a desk.
+//! What connections ask: a desk, or what does as one.
 
-ghost use Rattle.std.specs.Prelude.{◌≡◌, false, Bool, ℕ, List};
+ghost use Rattle.std.specs.Prelude.{◌≡◌, true, false, ℕ, List};
 ghost use Rattle.rr_io.specs.Sending.{Writes};
 ghost use Rattle.rr_submission.specs.declared.ledger.Ledger.{Ghosts};
 ghost use Rattle.rr_auth.specs.Sources.{IsRegistryOf};
-ghost use Rattle.rr_submission.specs.Submissions.{Submits, UnlessStoreFault, sides};
-ghost use Rattle.rr_desk.specs.Dumping.{Dumps};
+ghost use Rattle.rr_submission.specs.Submissions.{RefusesSubmission, SubmitsText};
+ghost use Rattle.rr_submission.specs.Submissions.{UnlessStoreFault};
+ghost use Rattle.rr_desk.specs.Dumping.{Dumps, RefusesDump};
 ghost use Rattle.rr_desk.specs.Settings.{SettingsParts};
 
 use rr_desk::{Answered, DeskDumpFault, DeskFault, Done, WriteFault};
@@ -14,14 +15,12 @@ use std::alloc::Global;
 
 /// What answers queries, gives the public dump, and takes submissions, as a desk does.
 pub trait Registrar {
-    // How it decides items, and the registry that it keeps.
+    // How it decides items, the registry that it keeps, and whether it is stopped: then it takes no
+    // submission and gives no dump.
     ghost ledger: { Ghosts Self };
 
     // Its settings.
     ghost settings: { Self → SettingsParts };
-
-    // It is stopped: it takes no submission and gives no dump.
-    ghost is_stopped: { Self → Bool };
 
     // What it answers to a query, and what that leaves.
     ghost Answers: { Self → List ℕ → List ℕ → Self → Type 0 };
@@ -34,7 +33,7 @@ pub trait Registrar {
 
     /// Whether it is stopped.
     fn stopped(&self) -> bool
-        ensures { result ≡ is_stopped self.now };
+        ensures { result ≡ ledger.is_stopped self.now };
 
     /// Answers a query. After a failed write the writer has taken a part of the answer.
     fn answer<W: Sink>(
@@ -48,9 +47,11 @@ pub trait Registrar {
         ensures settings { settings self.new ≡ settings self.old }
         ensures aside { W.aside writer.new ≡ W.aside writer.old };
 
-    /// Writes the public dump.
+    /// Writes the public dump, if it is not stopped.
     fn dump<W: Sink>(&self, alloc: Global, writer: &mut W) -> Result<usize, DeskDumpFault>
-        ensures dumps { is_stopped self.now ≡ false
+        ensures stopped { ledger.is_stopped self.now ≡ true
+            → RefusesDump writer.old writer.new result }
+        ensures dumps { ledger.is_stopped self.now ≡ false
             → Dumps (dumped self.now) (W.told writer.old) (W.told writer.new) result }
         ensures aside { W.aside writer.new ≡ W.aside writer.old };
 
@@ -63,14 +64,15 @@ pub trait Registrar {
         reader: &mut R,
         writer: &mut W,
     ) -> Result<Done, DeskFault>
-        ensures submits { is_stopped self.old ≡ false
-            → Submits ledger (settings self.old).source
-            (sides (R.told reader.old) (R.told reader.new) (W.told writer.old)
-            (W.told writer.new) (ledger.registry self.old) (ledger.registry self.new))
-            self.old self.new result }
-        ensures runs { is_stopped self.old ≡ false
-            → UnlessStoreFault result (is_stopped self.new ≡ false) }
-        ensures kept { is_stopped self.old ≡ false → UnlessStoreFault result (Kept self.new) }
+        ensures stopped { ledger.is_stopped self.old ≡ true → RefusesSubmission
+            self.old self.new reader.old reader.new writer.old writer.new result }
+        ensures submits { ledger.is_stopped self.old ≡ false
+            → SubmitsText ledger (settings self.old).source (R.told reader.old) (R.told reader.new)
+            (W.told writer.old) (W.told writer.new) self.old self.new result }
+        ensures running { ledger.is_stopped self.old ≡ false
+            → UnlessStoreFault result (ledger.is_stopped self.new ≡ false) }
+        ensures kept { ledger.is_stopped self.old ≡ false
+            → UnlessStoreFault result (Kept self.new) }
         ensures of_source { IsRegistryOf (settings self.old).source (ledger.registry self.old)
             → IsRegistryOf (settings self.new).source (ledger.registry self.new) }
         ensures settings { settings self.new ≡ settings self.old }

@@ -5,7 +5,7 @@ ghost use Rattle.rr_http.specs.Asked.{seen};
 ghost use Rattle.rr_http.specs.Faults.{TellsFaults};
 ghost use Rattle.rr_http.specs.Requests.{HasSmallSize};
 ghost use Rattle.rr_http.specs.Serving.{Serves, ServesAsks, ServesBody, ServesHead, SubmitsRead};
-ghost use Rattle.rr_http.specs.Serving.{answer_by, visit};
+ghost use Rattle.rr_http.specs.Serving.{end_by, visit};
 ghost use Rattle.rr_http.specs.Wants.{IsHead};
 
 use crate::answering::{answer_query, answer_whois, give_dump, refuse, submit_body};
@@ -122,7 +122,7 @@ fn submit_read<D: Registrar, W: Sink>(
 ) -> Result<(), ConnFault>
     requires within { length body.now ≤ size }
     requires small { size ≤ BODY_SIZE }
-    requires running { D.is_stopped desk.old ≡ false }
+    requires running { D.ledger.is_stopped desk.old ≡ false }
     ensures submits { SubmitsRead D.Registrar body.now size end desk.old desk.new
         (W.told writer.old) (W.told writer.new) result }
     ensures settings { D.settings desk.new ≡ D.settings desk.old }
@@ -133,15 +133,15 @@ fn submit_read<D: Registrar, W: Sink>(
         Ok(()) => {
             // The report tells what became of it.
             let _ = submit_body(alloc, desk, body, size - body.len(), writer);
-            answer_by(end, failed < writer.failed_writes())
+            end_by(end, failed < writer.failed_writes())
         }
-        Err(_) => answer_by(end, true),
+        Err(_) => end_by(end, true),
     }
 }
 
-/// What a connection is answered whose body ended so, and where a write failed or none did.
-fn answer_by(end: BodyEnd, write_failed: bool) -> Result<(), ConnFault>
-    ensures { result ≡ answer_by end write_failed }
+/// How serving a connection ends whose body ended so, where a write failed or none did.
+fn end_by(end: BodyEnd, write_failed: bool) -> Result<(), ConnFault>
+    ensures { result ≡ end_by end write_failed }
 {
     match end {
         BodyEnd::Broken => Err(ConnFault::Read),

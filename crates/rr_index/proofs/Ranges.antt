@@ -18,7 +18,8 @@ use Rattle.rr_object.specs.declared.key.Key.{Key}
 use Rattle.rr_object.specs.declared.key.Key.TheVariants.{AsBlock, AsSet, AutNum, Inetnum, Mntner, Route, RouteSet}
 use Rattle.rr_object.specs.KeyOrders.{IsKeyValue, IsRoute, key_cmp}
 use Rattle.rr_object.specs.Objects.{Obj}
-use Rattle.rr_auth.proofs.Members.{IsIn, stands_at}
+use Rattle.rr_auth.specs.Elements.{IsIn}
+use Rattle.rr_auth.proofs.Members.{stands_at}
 use Rattle.rr_auth.specs.Closest.{origin_at, origins_among}
 use Rattle.rr_auth.specs.Registries.{Reg, Sound}
 use Rattle.rr_book.specs.Books.{entry}

@@ -2,6 +2,7 @@
 use Rattle.std.specs.Prelude.{◌≡◌, ℕ, Bool, true, false, not, ◌&&◌, Some}
 use Rattle.std.specs.FinMap.{contains_key, get, remove}
 use Rattle.std.specs.Ordering.{is_le, is_lt}
+use Rattle.rr_number.specs.Addresses.{greatest_address}
 use Rattle.rr_number.specs.Prefixes.{PrefixParts, masked}
 use Rattle.rr_object.specs.declared.key.Key.{Key}
 use Rattle.rr_object.specs.declared.key.Key.TheVariants.{AsBlock, Inetnum, Route}
@@ -17,7 +18,7 @@ pub record IsApart (r : Reg) (k : Key) : Type 0 where
 -- The route lies from the least prefix of the origin to its greatest (profile).
 abbrev pub is_from : ℕ → ℕ × PrefixParts → Bool
 is_from origin route = is_le (origin_cmp (origin, masked 0 0) route)
-    && not (is_lt (origin_cmp (origin, masked 4294967295 32) route))
+    && not (is_lt (origin_cmp (origin, masked greatest_address 32) route))
 
 -- The key's span crosses one that is held of its class.
 abbrev pub is_crossed : SpanMap (Unit {0}) → SpanMap (Unit {0}) → Key → Bool

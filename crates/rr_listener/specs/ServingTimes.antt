@@ -6,6 +6,8 @@ use Rattle.std.specs.Prelude.{if◌then◌else◌}
 use Rattle.std.specs.Duration.{as_nanos}
 use Rattle.std.specs.Option.{option_map}
 use Rattle.std.specs.declared.time.Duration.{Duration}
+use Rattle.rr_listener.specs.declared.deadline.TheConstants.{LONGEST_WAIT}
+use Rattle.rr_listener.specs.declared.peer_writer.TheConstants.{BYTES_A_SECOND, REPLY_TIME}
 
 -- a second, in nanoseconds
 abbrev pub second : ℕ
@@ -14,7 +16,7 @@ second = 1_000_000_000
 -- what a call waits for a peer that has so much time left, in nanoseconds: 10 seconds at most, and
 -- not past the end (profile)
 abbrev pub wait_of : ℕ → Option ℕ
-wait_of left = if left == 0 then None else Some (min left (10 * second))
+wait_of left = if left == 0 then None else Some (min left (LONGEST_WAIT * second))
 
 -- what the next call waits, in nanoseconds, if the peer is given so many seconds in all and has
 -- taken so many nanoseconds
@@ -37,4 +39,4 @@ SetsTimeout wait before after set =
 -- how many seconds a peer is given to take a reply of which so many bytes went out: 60, and one
 -- more for each 16 KiB (profile)
 abbrev pub reply_time : ℕ → ℕ
-reply_time written = 60 + written / 16_384
+reply_time written = REPLY_TIME + written / BYTES_A_SECOND

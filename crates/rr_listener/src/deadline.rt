@@ -10,7 +10,7 @@ use std::io::ErrorKind;
 use std::time::Duration;
 
 /// How many seconds a call waits for a peer at most (profile).
-const LONGEST_WAIT: u64 = 10;
+pub const LONGEST_WAIT: u64 = 10;
 
 /// How much of its time a peer has taken. Time passes while a call waits for the peer, and not
 /// while the desk works, because one peer is served at a time and the others wait in the system's

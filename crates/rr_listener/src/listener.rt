@@ -8,14 +8,14 @@ use std::alloc::Global;
 use std::io;
 use std::net::{Ipv4Addr, TcpListener};
 
-/// What listens on a port of 127.0.0.1, over TCP. It counts its turns, and contracts see neither
-/// these nor their bytes. It keeps why the last accept failed, for people.
+/// What listens on a port of 127.0.0.1, over TCP. Contracts see how many turns there were, and
+/// neither what these were nor their bytes. It keeps why the last accept failed, for people.
 #[derive(Drop)]
 pub struct Listener<'a> {
     rt: &'a HostRuntime,
     socket: TcpListener,
     turns: u64,
-    refusal: Option<io::Error>,
+    accept_error: Option<io::Error>,
 }
 
 impl<'a> Listener<'a> {
@@ -28,7 +28,7 @@ impl<'a> Listener<'a> {
             rt,
             socket,
             turns: 0,
-            refusal: None,
+            accept_error: None,
         })
     }
 
@@ -39,8 +39,8 @@ impl<'a> Listener<'a> {
 
     /// Why no connection could be accepted in the last turn, if that is how it failed. The error is
     /// the system's.
-    pub fn refusal(&self) -> Option<&io::Error> {
-        self.refusal.as_ref()
+    pub fn accept_error(&self) -> Option<&io::Error> {
+        self.accept_error.as_ref()
     }
 }
 
@@ -54,16 +54,16 @@ impl<'a> Peers for Listener<'a> {
 
     ghost IsOpen = { λ _. Unit {0} };
 
-    ghost asked = { λ _. None };
+    ghost given = { λ _. None };
 
     fn accept(&mut self, _alloc: Global) -> Result<Stream<'a>, AcceptFault> {
         match accept_stream(self.rt, &self.socket) {
             Ok(stream) => {
-                self.refusal = None;
+                self.accept_error = None;
                 Ok(stream)
             }
             Err(error) => {
-                self.refusal = Some(error);
+                self.accept_error = Some(error);
                 self.turns += 1;
                 Err(AcceptFault)
             }

@@ -16,14 +16,14 @@ const REQUEST_TIME: u64 = 60;
 /// does when the process is held still and goes on (profile).
 const MOST_CALLS: u32 = 9;
 
-/// How many seconds what it sends after that is taken in, at most (profile).
+/// For how many seconds, at most, what a peer sends after its reply is taken in (profile).
 const DRAIN_TIME: u64 = 1;
 
-/// How many reads of that there are, at most (profile).
+/// How many reads of it there are, at most (profile).
 const DRAIN_READS: u32 = 512;
 
-/// The bytes that a peer sends. All that it asks has to come within 60 seconds, and a read waits
-/// for 10 at most (profile).
+/// The bytes that a peer sends. All that it asks has to come within 60 seconds, and a call waits
+/// for 10 at most, and is made again if the system interrupts it (profile).
 #[derive(Drop)]
 pub struct PeerReader<'a> {
     rt: &'a HostRuntime,

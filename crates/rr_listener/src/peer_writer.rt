@@ -14,10 +14,10 @@ use std::time::Instant;
 const MOST_CALLS: u32 = 9;
 
 /// How many seconds a peer is given to take a reply (profile).
-const REPLY_TIME: u64 = 60;
+pub const REPLY_TIME: u64 = 60;
 
 /// For how many bytes that went out it is given one more (profile).
-const BYTES_A_SECOND: u64 = 16_384;
+pub const BYTES_A_SECOND: u64 = 16_384;
 
 /// The bytes that a peer is sent. It has to take them within 60 seconds and one more for each 16
 /// KiB that went out. A call waits for 10 seconds at most, and is made again if its time is over

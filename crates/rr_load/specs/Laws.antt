@@ -26,6 +26,7 @@ pub record IsReadAgain (source : List ℕ) (registry : Reg) : Type 0 where
   pub same : IsDumpOf source (dump true registry) registry
   pub alone : (other : Reg) → IsDumpOf source (dump true registry) other → other ≡ registry
 
+-- the full dump of each such registry is read again as that registry (profile)
 abbrev pub FullDumpsAreRead : Type 0
 FullDumpsAreRead = (source : List ℕ) (registry : Reg) → IsDumpable source registry
     → IsReadAgain source registry

@@ -18,9 +18,10 @@ use rr_text::{Paragraph, Paragraphs, TextFault};
 use std::alloc::Global;
 
 /// The objects of the dump that this reader gives, in its order, as those of a registry of this
-/// source. The dump is any RPSL text, and is read to its end in any case, one paragraph at a time:
-/// a failed read and too many of them come before the first entry that is not an object. Where
-/// memory runs out, that may come in place of an entry's fault.
+/// source. The dump is any RPSL text, read one paragraph at a time, and to its end even after an
+/// entry that is not an object: so a failed read, and too many reads, are told in place of such an
+/// entry. If memory runs out, that may be told in place of an entry's fault, after the whole dump
+/// was read or before any of it was.
 pub fn read_dump<R: Source>(
     alloc: Global,
     reader: &mut R,

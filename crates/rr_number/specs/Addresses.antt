@@ -10,6 +10,10 @@ use Rattle.rr_number.specs.Numerals.{IsNumber, number_of}
 abbrev pub dot : ℕ
 dot = 46
 
+-- The greatest address: one of four octets (RFC 791, 3).
+abbrev pub greatest_address : ℕ
+greatest_address = 4294967295
+
 -- An octet is below 256 (RFC 2622, 2), and spelled in one to three digits (profile).
 abbrev pub IsOctet : List ℕ → ℕ → Type 0
 IsOctet text n = IsNumber 3 256 text n

@@ -9,6 +9,10 @@ use Rattle.rr_number.specs.Numerals.{IsNumber, number_of}
 abbrev pub greatest_as_number : ℕ
 greatest_as_number = 4294967295
 
+-- The greatest AS number of two octets (RFC 6793, 1).
+abbrev pub greatest_16_bit_as_number : ℕ
+greatest_16_bit_as_number = 65535
+
 -- An AS number is spelled as `AS`, in any letter case, and one to ten (profile) digits
 -- (RFC 2622, 2).
 pub record IsAsNumber (text : List ℕ) (n : ℕ) : Type 0 where

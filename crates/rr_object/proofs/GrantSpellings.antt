@@ -16,8 +16,8 @@ use Rattle.rr_bytes.specs.NameBytes.{is_name}
 use Rattle.rr_number.specs.Names.{is_maintainer_name, is_reserved, maintainer_name_of, name_of}
 use Rattle.rr_number.specs.Prefixes.{prefix_of}
 use Rattle.rr_number.specs.Ranges.{RangeParts}
-use Rattle.rr_object.specs.declared.grants.Begun.{Begun}
-use Rattle.rr_object.specs.declared.grants.Begun.TheVariants.{Nothing, Named, Braced}
+use Rattle.rr_object.specs.declared.grants.OpenGrant.{OpenGrant}
+use Rattle.rr_object.specs.declared.grants.OpenGrant.TheVariants.{Nothing, Named, Braced}
 use Rattle.rr_object.specs.Grants.{grants_after, for_each_prefix, for_no_prefix, is_any, is_closing, is_opening, last_grant, next_grant, range_item, with_range}
 use Rattle.rr_object.specs.GrantTexts.{AreGrants, IsGrant, ReadGrantsAreSpelled, SpelledGrantsAreRead}
 use Rattle.rr_bytes.specs.LetterCase.{is_keyword, lowered}
@@ -38,8 +38,8 @@ record IsName (items : List (List ℕ)) (name : List ℕ) : Type 0 where
   pub spelled : items ≡ item ∷ []
   pub named : maintainer_name_of item ≡ Some name
 
--- items that spell what was begun
-abbrev Begins : Begun → List (List ℕ) → Type 0
+-- items that spell what is open
+abbrev Begins : OpenGrant → List (List ℕ) → Type 0
 Begins Nothing items = items ≡ []
 Begins (Named name) items = IsName items name
 Begins (Braced grant) items = IsOpened items grant
@@ -49,69 +49,69 @@ abbrev Ends : Option GrantParts → List (List ℕ) → Type 0
 Ends None items = items ≡ []
 Ends (Some grant) items = IsGrant items grant
 
--- items cut in those of the entry that was ended and of what is begun
-record IsTurn (items : List (List ℕ)) (next : Option GrantParts × Begun) : Type 0 where
+-- items cut in those of the entry that was ended and of what is open
+record IsTurn (items : List (List ℕ)) (next : Option GrantParts × OpenGrant) : Type 0 where
   pub done : List (List ℕ)
   pub left : List (List ℕ)
   pub cut : items ≡ done ++ left
   pub ended : Ends next.0 done
-  pub begun : Begins next.1 left
+  pub begins : Begins next.1 left
 
-abbrev named_next : List ℕ → Option GrantParts × Begun
+abbrev named_next : List ℕ → Option GrantParts × OpenGrant
 named_next name = (None, Named name)
 
-nothing_turn : (item : List ℕ) (next : Option GrantParts × Begun) (r : Option (List ℕ)) → maintainer_name_of item ≡ r
+nothing_turn : (item : List ℕ) (next : Option GrantParts × OpenGrant) (r : Option (List ℕ)) → maintainer_name_of item ≡ r
     → option_map named_next r ≡ Some next → IsTurn (item ∷ []) next
 nothing_turn item next None at e = cc
 nothing_turn item next (Some name) at e =
     let same : named_next name ≡ next = cc in
-    rw (← same) (record { done = []; left = item ∷ []; cut = refl; ended = refl; begun = record { item = item; spelled = refl; named = at } })
+    rw (← same) (record { done = []; left = item ∷ []; cut = refl; ended = refl; begins = record { item = item; spelled = refl; named = at } })
 
-abbrev also_named : List ℕ → List ℕ → Option GrantParts × Begun
+abbrev also_named : List ℕ → List ℕ → Option GrantParts × OpenGrant
 also_named name next = (Some (for_each_prefix name), Named next)
 
-abbrev ended_next : GrantParts → Option GrantParts × Begun
+abbrev ended_next : GrantParts → Option GrantParts × OpenGrant
 ended_next grant = (Some grant, Nothing)
 
-abbrev opened_next : List ℕ → Option GrantParts × Begun
+abbrev opened_next : List ℕ → Option GrantParts × OpenGrant
 opened_next name = (None, Braced (for_no_prefix name))
 
-named_turn : (name item : List ℕ) (items : List (List ℕ)) (next : Option GrantParts × Begun) (b c : Bool) (r : Option (List ℕ))
+named_turn : (name item : List ℕ) (items : List (List ℕ)) (next : Option GrantParts × OpenGrant) (b c : Bool) (r : Option (List ℕ))
     → IsName items name → is_any item ≡ b → is_opening item ≡ c → maintainer_name_of item ≡ r
     → (if b then Some (ended_next (for_each_prefix name)) else if c then Some (opened_next name) else option_map (also_named name) r) ≡ Some next
     → IsTurn (items ++ (item ∷ [])) next
-named_turn name item items next true c r begun any opening at e =
+named_turn name item items next true c r begins any opening at e =
     let same : ended_next (for_each_prefix name) ≡ next = cc in
     let entry : IsGrant (items ++ (item ∷ [])) (for_each_prefix name) =
     inr (inl (record {
-      item = begun.item;
+      item = begins.item;
       keyword = item;
-      spelled = ap (λ xs. xs ++ (item ∷ [])) begun.spelled;
-      named = begun.named;
+      spelled = ap (λ xs. xs ++ (item ∷ [])) begins.spelled;
+      named = begins.named;
       any = any;
       value = refl;
     })) in
-    rw (← same) (record { done = items ++ (item ∷ []); left = []; cut = sym (append-nil (items ++ (item ∷ []))); ended = entry; begun = refl })
-named_turn name item items next false true r begun any opening at e =
+    rw (← same) (record { done = items ++ (item ∷ []); left = []; cut = sym (append-nil (items ++ (item ∷ []))); ended = entry; begins = refl })
+named_turn name item items next false true r begins any opening at e =
     let same : opened_next name ≡ next = cc in
     let brace : item ≡ codes "{" = (bytes_eq-Decides item (codes "{")).0 opening in
     let opened : IsOpened (items ++ (item ∷ [])) (for_no_prefix name) =
     record {
-      item = begun.item;
+      item = begins.item;
       listed = [];
-      spelled = ap (λ xs. xs ++ (item ∷ [])) begun.spelled ∙ ap (λ i. begun.item ∷ (i ∷ [])) brace;
-      named = begun.named;
+      spelled = ap (λ xs. xs ++ (item ∷ [])) begins.spelled ∙ ap (λ i. begins.item ∷ (i ∷ [])) brace;
+      named = begins.named;
       good = refl;
       value = refl;
     } in
-    rw (← same) (record { done = []; left = items ++ (item ∷ []); cut = refl; ended = refl; begun = opened })
-named_turn name item items next false false None begun any opening at e = cc
-named_turn name item items next false false (Some n) begun any opening at e =
+    rw (← same) (record { done = []; left = items ++ (item ∷ []); cut = refl; ended = refl; begins = opened })
+named_turn name item items next false false None begins any opening at e = cc
+named_turn name item items next false false (Some n) begins any opening at e =
     let same : also_named name n ≡ next = cc in
     let entry : IsGrant items (for_each_prefix name) =
-    inl (record { item = begun.item; spelled = begun.spelled; named = begun.named; value = refl }) in
+    inl (record { item = begins.item; spelled = begins.spelled; named = begins.named; value = refl }) in
     rw (← same)
-    (record { done = items; left = item ∷ []; cut = refl; ended = entry; begun = record { item = item; spelled = refl; named = at } })
+    (record { done = items; left = item ∷ []; cut = refl; ended = entry; begins = record { item = item; spelled = refl; named = at } })
 
 -- one range more is well spelled, and stands for what it is
 good_more : (listed : List (List ℕ)) (item : List ℕ) (range : Option RangeParts) → range_item item ≡ Some range
@@ -128,7 +128,7 @@ meant_more listed item range at =
     meant_one item None at = rw at refl
     meant_one item (Some r) at = rw at refl
 
-abbrev in_braces : GrantParts → Option RangeParts → Option GrantParts × Begun
+abbrev in_braces : GrantParts → Option RangeParts → Option GrantParts × OpenGrant
 in_braces grant range = (None, Braced (with_range grant range))
 
 ranges_more : (grant : GrantParts) (ranges : List RangeParts) (range : Option RangeParts)
@@ -143,42 +143,42 @@ name_kept grant (Some range) = refl
 
 opened_more : (grant : GrantParts) (item : List ℕ) (items : List (List ℕ)) (range : Option RangeParts) → IsOpened items grant
     → range_item item ≡ Some range → IsOpened (items ++ (item ∷ [])) (with_range grant range)
-opened_more grant item items range begun at =
+opened_more grant item items range begins at =
     record {
-      item = begun.item;
-      listed = begun.listed ++ (item ∷ []);
-      spelled = ap (λ xs. xs ++ (item ∷ [])) begun.spelled;
-      named = begun.named ∙ ap Some (sym (name_kept grant range));
-      good = good_more begun.listed item range at begun.good;
+      item = begins.item;
+      listed = begins.listed ++ (item ∷ []);
+      spelled = ap (λ xs. xs ++ (item ∷ [])) begins.spelled;
+      named = begins.named ∙ ap Some (sym (name_kept grant range));
+      good = good_more begins.listed item range at begins.good;
       value =
-          ranges_more grant (meant range_item begun.listed) range begun.value
-          ∙ (λ i. record { name = sym (name_kept grant range) i; any = false; ranges = sym (meant_more begun.listed item range at) i });
+          ranges_more grant (meant range_item begins.listed) range begins.value
+          ∙ (λ i. record { name = sym (name_kept grant range) i; any = false; ranges = sym (meant_more begins.listed item range at) i });
     }
 
-braced_turn : (grant : GrantParts) (item : List ℕ) (items : List (List ℕ)) (next : Option GrantParts × Begun) (b : Bool)
+braced_turn : (grant : GrantParts) (item : List ℕ) (items : List (List ℕ)) (next : Option GrantParts × OpenGrant) (b : Bool)
     (r : Option (Option RangeParts)) → IsOpened items grant → is_closing item ≡ b → range_item item ≡ r
     → (if b then Some (ended_next grant) else option_map (in_braces grant) r) ≡ Some next → IsTurn (items ++ (item ∷ [])) next
-braced_turn grant item items next true r begun closing at e =
+braced_turn grant item items next true r begins closing at e =
     let same : ended_next grant ≡ next = cc in
     let brace : item ≡ codes "}" = (bytes_eq-Decides item (codes "}")).0 closing in
     let entry : IsGrant (items ++ (item ∷ [])) grant =
     inr (inr (record {
-      item = begun.item;
-      listed = begun.listed;
-      spelled = ap (λ xs. xs ++ (item ∷ [])) begun.spelled ∙ ap (λ i. begun.item ∷ (codes "{" ∷ (begun.listed ++ (i ∷ [])))) brace;
-      named = begun.named;
-      good = begun.good;
-      value = begun.value;
+      item = begins.item;
+      listed = begins.listed;
+      spelled = ap (λ xs. xs ++ (item ∷ [])) begins.spelled ∙ ap (λ i. begins.item ∷ (codes "{" ∷ (begins.listed ++ (i ∷ [])))) brace;
+      named = begins.named;
+      good = begins.good;
+      value = begins.value;
     })) in
-    rw (← same) (record { done = items ++ (item ∷ []); left = []; cut = sym (append-nil (items ++ (item ∷ []))); ended = entry; begun = refl })
-braced_turn grant item items next false None begun closing at e = cc
-braced_turn grant item items next false (Some range) begun closing at e =
+    rw (← same) (record { done = items ++ (item ∷ []); left = []; cut = sym (append-nil (items ++ (item ∷ []))); ended = entry; begins = refl })
+braced_turn grant item items next false None begins closing at e = cc
+braced_turn grant item items next false (Some range) begins closing at e =
     let same : in_braces grant range ≡ next = cc in
     rw (← same)
-    (record { done = []; left = items ++ (item ∷ []); cut = refl; ended = refl; begun = opened_more grant item items range begun at })
+    (record { done = []; left = items ++ (item ∷ []); cut = refl; ended = refl; begins = opened_more grant item items range begins at })
 
-turned : (begun : Begun) (item : List ℕ) (items : List (List ℕ)) (next : Option GrantParts × Begun) → Begins begun items
-    → next_grant begun item ≡ Some next → IsTurn (items ++ (item ∷ [])) next
+turned : (open_grant : OpenGrant) (item : List ℕ) (items : List (List ℕ)) (next : Option GrantParts × OpenGrant) → Begins open_grant items
+    → next_grant open_grant item ≡ Some next → IsTurn (items ++ (item ∷ [])) next
 unfolding next_grant
 turned Nothing item items next begins e = rw begins (nothing_turn item next (maintainer_name_of item) refl e)
 turned (Named name) item items next begins e =
@@ -187,35 +187,35 @@ turned (Braced grant) item items next begins e =
     braced_turn grant item items next (is_closing item) (range_item item) begins refl refl e
 
 -- a list of entries is read as its first item's step and what is read after it
-record IsStep (begun : Begun) (item : List ℕ) (others : List (List ℕ)) (grants : List GrantParts) : Type 0 where
-  pub next : Option GrantParts × Begun
+record IsStep (open_grant : OpenGrant) (item : List ℕ) (others : List (List ℕ)) (grants : List GrantParts) : Type 0 where
+  pub next : Option GrantParts × OpenGrant
   pub entries : List GrantParts
-  pub is : next_grant begun item ≡ Some next
+  pub is : next_grant open_grant item ≡ Some next
   pub after : grants_after next.1 others ≡ Some entries
   pub whole : option_to_list next.0 ++ entries ≡ grants
 
-step_after : (begun : Begun) (item : List ℕ) (others : List (List ℕ)) (grants : List GrantParts) (next : Option GrantParts × Begun)
-    (read : Option (List GrantParts)) → next_grant begun item ≡ Some next → grants_after next.1 others ≡ read
-    → option_map (λ entries. option_to_list next.0 ++ entries) read ≡ Some grants → IsStep begun item others grants
-step_after begun item others grants next None is at e = cc
-step_after begun item others grants next (Some entries) is at e =
+step_after : (open_grant : OpenGrant) (item : List ℕ) (others : List (List ℕ)) (grants : List GrantParts) (next : Option GrantParts × OpenGrant)
+    (read : Option (List GrantParts)) → next_grant open_grant item ≡ Some next → grants_after next.1 others ≡ read
+    → option_map (λ entries. option_to_list next.0 ++ entries) read ≡ Some grants → IsStep open_grant item others grants
+step_after open_grant item others grants next None is at e = cc
+step_after open_grant item others grants next (Some entries) is at e =
     record { next = next; entries = entries; is = is; after = at; whole = cc }
 
-step_next : (begun : Begun) (item : List ℕ) (others : List (List ℕ)) (grants : List GrantParts)
-    (found : Option (Option GrantParts × Begun)) → next_grant begun item ≡ found
+step_next : (open_grant : OpenGrant) (item : List ℕ) (others : List (List ℕ)) (grants : List GrantParts)
+    (found : Option (Option GrantParts × OpenGrant)) → next_grant open_grant item ≡ found
     → option_and_then (λ next. option_map (λ entries. option_to_list next.0 ++ entries) (grants_after next.1 others)) found ≡ Some grants
-    → IsStep begun item others grants
-step_next begun item others grants None is e = cc
-step_next begun item others grants (Some next) is e =
-    step_after begun item others grants next (grants_after next.1 others) is refl e
+    → IsStep open_grant item others grants
+step_next open_grant item others grants None is e = cc
+step_next open_grant item others grants (Some next) is e =
+    step_after open_grant item others grants next (grants_after next.1 others) is refl e
 
-stepped : (begun : Begun) (item : List ℕ) (others : List (List ℕ)) (grants : List GrantParts)
-    → grants_after begun (item ∷ others) ≡ Some grants → IsStep begun item others grants
+stepped : (open_grant : OpenGrant) (item : List ℕ) (others : List (List ℕ)) (grants : List GrantParts)
+    → grants_after open_grant (item ∷ others) ≡ Some grants → IsStep open_grant item others grants
 unfolding grants_after
-stepped begun item others grants e = step_next begun item others grants (next_grant begun item) refl e
+stepped open_grant item others grants e = step_next open_grant item others grants (next_grant open_grant item) refl e
 
 -- at the end of the items
-ended : (begun : Begun) (items : List (List ℕ)) (grants : List GrantParts) → Begins begun items → last_grant begun ≡ Some grants
+ended : (open_grant : OpenGrant) (items : List (List ℕ)) (grants : List GrantParts) → Begins open_grant items → last_grant open_grant ≡ Some grants
     → AreGrants grants items
 ended Nothing items grants begins e = let same : [] ≡ grants = cc in rw (← same) begins
 ended (Named name) items grants begins e =
@@ -237,14 +237,14 @@ all_after : (whole done left rest : List (List ℕ)) (over : Option GrantParts) 
     → AreGrants (option_to_list over ++ entries) (done ++ (left ++ rest)) → AreGrants grants whole
 all_after whole done left rest over entries grants cut same all = rw (cut, ← same) all
 
-read_after : (left : List (List ℕ)) (begun : Begun) (items : List (List ℕ)) (grants : List GrantParts) → Begins begun items
-    → grants_after begun left ≡ Some grants → AreGrants grants (items ++ left)
+read_after : (left : List (List ℕ)) (open_grant : OpenGrant) (items : List (List ℕ)) (grants : List GrantParts) → Begins open_grant items
+    → grants_after open_grant left ≡ Some grants → AreGrants grants (items ++ left)
 unfolding grants_after
-read_after [] begun items grants begins e = rw (append-nil items) (ended begun items grants begins e)
-read_after (item ∷ left) begun items grants begins e =
-    let step = stepped begun item left grants e in
-    let turn = turned begun item items step.next begins step.is in
-    let after = read_after left step.next.1 turn.left step.entries turn.begun step.after in
+read_after [] open_grant items grants begins e = rw (append-nil items) (ended open_grant items grants begins e)
+read_after (item ∷ left) open_grant items grants begins e =
+    let step = stepped open_grant item left grants e in
+    let turn = turned open_grant item items step.next begins step.is in
+    let after = read_after left step.next.1 turn.left step.entries turn.begins step.after in
     let all = put_before step.next.0 turn.done (turn.left ++ left) step.entries turn.ended after in
     let cut : items ++ (item ∷ left) ≡ turn.done ++ (turn.left ++ left) =
     sym (append_assoc items (item ∷ []) left) ∙ ap (λ xs. xs ++ left) turn.cut ∙ append_assoc turn.done turn.left left in
@@ -314,7 +314,7 @@ closing_no_range item range true at read =
     absurd (cc (none, read))
 
 -- what is read after an item's step
-abbrev after_next : List (List ℕ) → Option (Option GrantParts × Begun) → Option (List GrantParts)
+abbrev after_next : List (List ℕ) → Option (Option GrantParts × OpenGrant) → Option (List GrantParts)
 after_next others found =
     option_and_then (λ next. option_map (λ entries. option_to_list next.0 ++ entries) (grants_after next.1 others)) found
 

@@ -6,8 +6,8 @@ use Rattle.std.specs.Str.{bytes_eq}
 use Rattle.rr_number.specs.Names.{maintainer_name_of}
 use Rattle.rr_number.specs.Ranges.{RangeParts, bare}
 use Rattle.rr_number.specs.Applied.{applied, ranged_of}
-use Rattle.rr_object.specs.declared.grants.Begun.{Begun}
-use Rattle.rr_object.specs.declared.grants.Begun.TheVariants.{Nothing, Named, Braced}
+use Rattle.rr_object.specs.declared.grants.OpenGrant.{OpenGrant}
+use Rattle.rr_object.specs.declared.grants.OpenGrant.TheVariants.{Nothing, Named, Braced}
 use Rattle.rr_bytes.specs.LetterCase.{is_keyword}
 use Rattle.rr_object.specs.Parts.{GrantParts}
 
@@ -42,10 +42,10 @@ with_range grant None = grant
 with_range grant (Some range) =
     record { name = grant.name; any = grant.any; ranges = grant.ranges ++ range ∷ [] }
 
--- what an item adds to the entry that was begun: the entry that it ends, if it ends one, and what
--- is begun then. An entry is a maintainer's name, then `ANY`, ranges in braces, or nothing, which
+-- what an item adds to the entry that is open: the entry that it ends, if it ends one, and what
+-- is open then. An entry is a maintainer's name, then `ANY`, ranges in braces, or nothing, which
 -- means `ANY` (RFC 2725, 10; profile)
-unfoldable pub next_grant : Begun → List ℕ → Option (Option GrantParts × Begun)
+unfoldable pub next_grant : OpenGrant → List ℕ → Option (Option GrantParts × OpenGrant)
 next_grant Nothing item = option_map (λ name. (None, Named name)) (maintainer_name_of item)
 next_grant (Named name) item =
     if is_any item then Some (Some (for_each_prefix name), Nothing)
@@ -56,18 +56,18 @@ next_grant (Braced grant) item =
     else option_map (λ range. (None, Braced (with_range grant range))) (range_item item)
 
 -- the entry that the end of the list ends; braces have to be closed (RFC 2725, 10)
-abbrev pub last_grant : Begun → Option (List GrantParts)
+abbrev pub last_grant : OpenGrant → Option (List GrantParts)
 last_grant Nothing = Some []
 last_grant (Named name) = Some (for_each_prefix name ∷ [])
 last_grant (Braced grant) = None
 
--- the entries of a list of items after what was begun; nothing where one is badly spelled
+-- the entries of a list of items after what is open; nothing where one is badly spelled
 -- (RFC 2725, 10)
-unfoldable pub grants_after : Begun → List (List ℕ) → Option (List GrantParts)
-grants_after begun [] = last_grant begun
-grants_after begun (item ∷ others) =
+unfoldable pub grants_after : OpenGrant → List (List ℕ) → Option (List GrantParts)
+grants_after open_grant [] = last_grant open_grant
+grants_after open_grant (item ∷ others) =
     option_and_then (λ next. option_map (λ grants. option_to_list next.0 ++ grants)
-    (grants_after next.1 others)) (next_grant begun item)
+    (grants_after next.1 others)) (next_grant open_grant item)
 
 -- the entries of a list of items (RFC 2725, 10)
 abbrev pub grants_of : List (List ℕ) → Option (List GrantParts)

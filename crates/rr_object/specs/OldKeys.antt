@@ -6,7 +6,7 @@ use Rattle.std.specs.Ordering.{ordering_then, nat_cmp}
 use Rattle.std.specs.Cmp.Lexicographic.{slice_cmp}
 use Rattle.std.specs.Int.{to_be_bytes, w16}
 use Rattle.hex.specs.Hex.{encode_lower}
-use Rattle.rr_number.specs.AsNumbers.{as_number_of}
+use Rattle.rr_number.specs.AsNumbers.{as_number_of, greatest_16_bit_as_number}
 use Rattle.rr_number.specs.SetNames.{components}
 use Rattle.rr_object.specs.declared.key.Key.{Key}
 use Rattle.rr_object.specs.declared.key.Key.TheVariants.{Mntner, AsBlock, AutNum, Inetnum, Route}
@@ -18,7 +18,7 @@ use Rattle.rr_object.specs.KeyTexts.{bytes_with}
 
 -- a 16-bit AS number (RFC 6793, 1)
 abbrev pub has_two_octets : ℕ → Bool
-has_two_octets number = nat_le number 65535
+has_two_octets number = nat_le number greatest_16_bit_as_number
 
 -- such a number as four hexadecimal digits in lower case (profile)
 abbrev pub four_digits : ℕ → List ℕ

@@ -6,7 +6,7 @@ ghost use Rattle.std.specs.Option.{option_to_list};
 ghost use Rattle.rr_number.specs.Names.{maintainer_name_of};
 ghost use Rattle.rr_object.specs.Grants.{grants_of, is_any, last_grant, next_grant, range_item};
 ghost use Rattle.rr_object.specs.declared.fault.ObjectFault.TheVariants.{BadValue, Memory};
-ghost use Rattle.rr_object.specs.declared.grants.Begun.TheVariants.{Braced, Named};
+ghost use Rattle.rr_object.specs.declared.grants.OpenGrant.TheVariants.{Braced, Named};
 
 use crate::fault::ObjectFault;
 use crate::grant::Grant;
@@ -16,7 +16,7 @@ use std::alloc::{AllocError, Global};
 
 /// What was read of an entry.
 #[derive(Debug, Drop)]
-pub(crate) enum Begun {
+pub(crate) enum OpenGrant {
     /// Nothing.
     Nothing,
     /// Its maintainer.
@@ -34,13 +34,13 @@ pub(crate) fn read_grants(alloc: Global, listed: &[&[u8]]) -> Result<Vec<Grant>,
         → (fault ≡ BadValue) × (grants_of (map (λ item. item.now) listed.now) ≡ None)) }
 {
     let mut read = Vec::new(alloc);
-    let mut begun = Begun::Nothing;
+    let mut open_grant = OpenGrant::Nothing;
     'items: for item in listed {
-        let (ended, next) = next_grant(alloc, begun, item)?;
+        let (ended, next) = next_grant(alloc, open_grant, item)?;
         push_ended(&mut read, ended)?;
-        begun = next;
+        open_grant = next;
     }
-    let ended = last_grant(alloc, begun)?;
+    let ended = last_grant(alloc, open_grant)?;
     push_ended(&mut read, ended)?;
     Ok(read)
 }
@@ -56,37 +56,41 @@ fn push_ended(read: &mut Vec<Grant>, ended: Option<Grant>) -> Result<(), AllocEr
 }
 
 /// The entry that the end of the items ends, if it ends one.
-fn last_grant(alloc: Global, begun: Begun) -> Result<Option<Grant>, ObjectFault>
-    ensures good { IfOk result (λ ended. last_grant begun ≡ Some (option_to_list ended)) }
-    ensures bad { IfErr result (λ fault. (fault ≡ BadValue) × (last_grant begun ≡ None)) }
+fn last_grant(alloc: Global, open_grant: OpenGrant) -> Result<Option<Grant>, ObjectFault>
+    ensures good { IfOk result (λ ended. last_grant open_grant ≡ Some (option_to_list ended)) }
+    ensures bad { IfErr result (λ fault. (fault ≡ BadValue) × (last_grant open_grant ≡ None)) }
 {
-    match begun {
-        Begun::Nothing => Ok(None),
-        Begun::Named(name) => Ok(Some(Grant::new(name, true, Vec::new(alloc)))),
-        Begun::Braced(_) => Err(ObjectFault::BadValue),
+    match open_grant {
+        OpenGrant::Nothing => Ok(None),
+        OpenGrant::Named(name) => Ok(Some(Grant::new(name, true, Vec::new(alloc)))),
+        OpenGrant::Braced(_) => Err(ObjectFault::BadValue),
     }
 }
 
-/// The entry that an item ends, if it ends one, and what is begun then.
+/// The entry that an item ends, if it ends one, and what is open then.
 #[tactic(auto, unfolding(crate::specs::Grants::next_grant))]
 fn next_grant(
     alloc: Global,
-    begun: Begun,
+    open_grant: OpenGrant,
     item: &[u8],
-) -> Result<(Option<Grant>, Begun), ObjectFault>
-    ensures good { IfOk result (λ next. next_grant begun item.now ≡ Some next) }
+) -> Result<(Option<Grant>, OpenGrant), ObjectFault>
+    ensures good { IfOk result (λ next. next_grant open_grant item.now ≡ Some next) }
     ensures bad { IfErr result (λ fault. fault ≢ Memory
-        → (fault ≡ BadValue) × (next_grant begun item.now ≡ None)) }
+        → (fault ≡ BadValue) × (next_grant open_grant item.now ≡ None)) }
 {
-    match begun {
-        Begun::Nothing => Ok((None, Begun::Named(read_maintainer(alloc, item)?))),
-        Begun::Named(name) => after_name(alloc, name, item),
-        Begun::Braced(grant) => in_braces(grant, item),
+    match open_grant {
+        OpenGrant::Nothing => Ok((None, OpenGrant::Named(read_maintainer(alloc, item)?))),
+        OpenGrant::Named(name) => after_name(alloc, name, item),
+        OpenGrant::Braced(grant) => in_braces(grant, item),
     }
 }
 
 #[tactic(auto, unfolding(crate::specs::Grants::next_grant))]
-fn after_name(alloc: Global, name: Name, item: &[u8]) -> Result<(Option<Grant>, Begun), ObjectFault>
+fn after_name(
+    alloc: Global,
+    name: Name,
+    item: &[u8],
+) -> Result<(Option<Grant>, OpenGrant), ObjectFault>
     ensures good { IfOk result (λ next. next_grant (Named name) item.now ≡ Some next) }
     ensures bad { IfErr result (λ fault. fault ≢ Memory
         → (fault ≡ BadValue) × (next_grant (Named name) item.now ≡ None)) }
@@ -94,33 +98,33 @@ fn after_name(alloc: Global, name: Name, item: &[u8]) -> Result<(Option<Grant>, 
     if is_any(item) {
         Ok((
             Some(Grant::new(name, true, Vec::new(alloc))),
-            Begun::Nothing,
+            OpenGrant::Nothing,
         ))
     } else if item == b"{".as_slice() {
         Ok((
             None,
-            Begun::Braced(Grant::new(name, false, Vec::new(alloc))),
+            OpenGrant::Braced(Grant::new(name, false, Vec::new(alloc))),
         ))
     } else {
         let next = read_maintainer(alloc, item)?;
         Ok((
             Some(Grant::new(name, true, Vec::new(alloc))),
-            Begun::Named(next),
+            OpenGrant::Named(next),
         ))
     }
 }
 
 #[tactic(auto, unfolding(crate::specs::Grants::next_grant))]
-fn in_braces(grant: Grant, item: &[u8]) -> Result<(Option<Grant>, Begun), ObjectFault>
+fn in_braces(grant: Grant, item: &[u8]) -> Result<(Option<Grant>, OpenGrant), ObjectFault>
     ensures good { IfOk result (λ next. next_grant (Braced grant) item.now ≡ Some next) }
     ensures bad { IfErr result (λ fault. fault ≢ Memory
         → (fault ≡ BadValue) × (next_grant (Braced grant) item.now ≡ None)) }
 {
     if item == b"}".as_slice() {
-        Ok((Some(grant), Begun::Nothing))
+        Ok((Some(grant), OpenGrant::Nothing))
     } else {
         let range = read_range(item)?;
-        Ok((None, Begun::Braced(grant.with_range(range)?)))
+        Ok((None, OpenGrant::Braced(grant.with_range(range)?)))
     }
 }
 

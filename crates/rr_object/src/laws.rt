@@ -68,6 +68,7 @@ pub fn keys_compare_as_their_bytes()
 pub fn a_key_has_its_parts(key: &Key)
     ensures { HasKeyParts key.now }
 {
+    // Here and below: a call says what the type of a part promises. What it gives is not needed.
     match key {
         Key::Mntner(name) => {
             let _bytes = name.as_bytes();

@@ -7,11 +7,11 @@ use Rattle.std.proofs.lemmas.Bool.{both_ways, ltb-true}
 use Rattle.std.proofs.lemmas.Bool.Decides.{nat_tests}
 use Rattle.std.proofs.lemmas.List.{append-nil, reverse-append}
 use Rattle.rr_number.specs.Spans.{Ends, crosses}
-use Rattle.rr_auth.proofs.Members.{IsIn}
-use Rattle.rr_registry.specs.OpenSpanParts.{IsBegun, IsFalling, IsJoined, IsKept, IsRising, IsShortened, Rises, ends_below}
+use Rattle.rr_auth.specs.Elements.{IsIn}
+use Rattle.rr_registry.specs.OpenSpanParts.{IsFalling, IsWithinFirsts, IsJoined, IsKept, IsRising, IsShortened, Rises, ends_below}
 
 -- before any span
-pub none_kept : (gone : Ends → Bool) (first : ℕ) (outer level : List ℕ) → first ≡ 0 → outer ≡ [] → level ≡ [] → ((t : Ends) → gone t ≡ false) → IsKept gone first outer level × IsBegun gone first
+pub none_kept : (gone : Ends → Bool) (first : ℕ) (outer level : List ℕ) → first ≡ 0 → outer ≡ [] → level ≡ [] → ((t : Ends) → gone t ≡ false) → IsKept gone first outer level × IsWithinFirsts gone first
 none_kept gone first outer level begins no_outer no_level none = (
   subst (λ (xs : List ℕ). IsKept gone first xs level) (sym no_outer) (subst (λ (xs : List ℕ). IsKept gone first [] xs) (sym no_level) (record {
     falling = tt;
@@ -120,7 +120,7 @@ covered_free t s same low = grind (arith, nat_tests, same, low)
 pub record IsPassing (gone : Ends → Bool) (s : Ends) (more : Ends → Bool) (first : ℕ) (outer level : List ℕ) : Type 0 where
   pub free : (t : Ends) → gone t ≡ true → crosses t s ≡ false
   pub kept : IsKept more first outer level
-  pub begun : IsBegun more first
+  pub within : IsWithinFirsts more first
 
 -- a span after spans of its first number that the outer ones all reach
 pub passed : (gone more : Ends → Bool) (s : Ends) (first : ℕ) (outer level : List ℕ) → s.first ≡ first → IsKept gone first outer level → Rises gone s → IsJoined gone s more
@@ -148,7 +148,7 @@ passed gone more s first outer level here held rises joined reached = record {
       | inr k ↦ (s, (joined.own, (here, sym (only y s.last k))))
     ];
   };
-  begun = λ n below. rw (sym here) (below s joined.own);
+  within = λ n below. rw (sym here) (below s joined.own);
 }
 
 -- a list from whose end a number below one was taken

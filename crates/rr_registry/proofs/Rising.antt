@@ -18,7 +18,8 @@ use Rattle.rr_object.specs.declared.key.Key.{Key}
 use Rattle.rr_object.specs.declared.key.Key.TheVariants.{AsBlock, AsSet, AutNum, Inetnum, Mntner, Route, RouteSet}
 use Rattle.rr_object.specs.KeyOrders.{IsKeyValue, key_cmp}
 use Rattle.rr_object.specs.Objects.{Obj}
-use Rattle.rr_auth.proofs.Members.{IsIn, all_fail, passing_one, some_passes}
+use Rattle.rr_auth.specs.Elements.{IsIn}
+use Rattle.rr_auth.proofs.Members.{all_fail, passing_one, some_passes}
 use Rattle.rr_auth.specs.Registries.{keys_cross}
 use Rattle.rr_book.proofs.Crossing.{none_crosses}
 use Rattle.rr_book.proofs.Order.{empty_book}

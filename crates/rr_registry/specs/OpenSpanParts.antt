@@ -6,7 +6,7 @@ use Rattle.std.specs.Option.{option_map_or}
 use Rattle.rr_number.specs.Spans.{Ends, crosses}
 use Rattle.rr_object.specs.declared.key.Key.TheVariants.{AsBlock, Inetnum}
 use Rattle.rr_object.specs.Objects.{Obj}
-use Rattle.rr_auth.proofs.Members.{IsIn}
+use Rattle.rr_auth.specs.Elements.{IsIn}
 use Rattle.rr_registry.specs.declared.open_spans.OpenSpans.{OpenSpans}
 use Rattle.rr_registry.specs.Loading.{is_crossed_by_some, is_key_of_some}
 
@@ -42,9 +42,10 @@ pub record IsKept (gone : Ends → Bool) (first : ℕ) (outer level : List ℕ) 
   pub own : (y : ℕ) → IsIn y level
       → (t : Ends) × ((gone t ≡ true) × ((t.first ≡ first) × (t.last ≡ y)))
 
--- No span after those that are gone over begins below a number.
-abbrev pub IsBegun : (Ends → Bool) → ℕ → Type 0
-IsBegun gone first =
+-- A number is not above the greatest at which a span that was gone over begins, and is 0 if none
+-- was.
+abbrev pub IsWithinFirsts : (Ends → Bool) → ℕ → Type 0
+IsWithinFirsts gone first =
     (n : ℕ) → ((t : Ends) → gone t ≡ true → t.first ≤ n) → first ≤ n
 
 -- A span comes after those that are gone over.
@@ -61,7 +62,7 @@ pub record IsJoined (gone : Ends → Bool) (s : Ends) (more : Ends → Bool) : T
 -- Spans were gone over.
 pub record HasPassed (gone : Ends → Bool) (open_spans : OpenSpans) : Type 0 where
   pub kept : IsKept gone open_spans.first open_spans.outer.items open_spans.level.items
-  pub begun : IsBegun gone open_spans.first
+  pub within : IsWithinFirsts gone open_spans.first
 
 -- A span crosses none of those that were gone over, and was gone over after them.
 pub record Passes (gone : Ends → Bool) (s : Ends) (more : Ends → Bool)

@@ -2,7 +2,7 @@
 
 ghost use Rattle.std.specs.Prelude.{◌≡◌, ◌≤◌, ℕ, Bool, false, IfOk, IsTrue, OnOk};
 ghost use Rattle.rr_number.specs.Spans.{Ends};
-ghost use Rattle.rr_auth.proofs.Members.{IsIn};
+ghost use Rattle.rr_auth.specs.Elements.{IsIn};
 ghost use Rattle.rr_registry.specs.OpenSpanParts.{HasPassed, IsFalling, IsJoined, IsKept};
 ghost use Rattle.rr_registry.specs.OpenSpanParts.{IsShortened, Passes, Rises, ends_below};
 

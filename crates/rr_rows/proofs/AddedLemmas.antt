@@ -7,7 +7,7 @@ use Rattle.sqlite_value.specs.Order.{column}
 use Rattle.sqlite_trees.proofs.ListLemmas.{map-map}
 use Rattle.sqlite.specs.Effect.{Database}
 use Rattle.sqlite.proofs.Callers.{one_permutation}
-use Rattle.rr_rows.specs.Contents.{IsTidy, columns, contents, meta_values, setting, settings}
+use Rattle.rr_rows.specs.Contents.{IsTidy, columns, contents, meta_row, meta_rows, meta_values}
 use Rattle.rr_rows.specs.Entries.{Entry, object_row, named_rows, AreRowsOf, IsAdded}
 use Rattle.rr_rows.specs.Maps.{IsFilled, this_version}
 use Rattle.rr_rows.proofs.OtherLemmas.{others_itself, others_then}
@@ -56,9 +56,9 @@ added_renamed entry names old new same added = record {
   others = added.others;
 }
 
--- a setting that is added where there is none is the one that is read
-pub first_setting : (name value : List ℕ) (old new : Database) → old.trees 0 ≡ [] → IsPermutation (meta_values name value ∷ contents (old.trees 0)) (contents (new.trees 0)) → settings (new.trees 0) ≡ setting name value ∷ []
-first_setting name value old new none same =
+-- a row of `meta` that is added where there is none is the one that is read
+pub first_meta_row : (name value : List ℕ) (old new : Database) → old.trees 0 ≡ [] → IsPermutation (meta_values name value ∷ contents (old.trees 0)) (contents (new.trees 0)) → meta_rows (new.trees 0) ≡ meta_row name value ∷ []
+first_meta_row name value old new none same =
     let one : contents (new.trees 0) ≡ meta_values name value ∷ [] =
     one_permutation (meta_values name value) _ (subst (λ rows. IsPermutation (meta_values name value ∷ contents rows) (contents (new.trees 0))) none same) in
     sym (map-map (λ r. column r 0 ∷ column r 1 ∷ []) columns (new.trees 0)) ∙ ap (map (λ r. column r 0 ∷ column r 1 ∷ [])) one
@@ -68,5 +68,5 @@ pub filled_by : (entries : List Entry) (old mid new : Database) → old.trees 0 
     → IsPermutation (meta_values (codes "version") this_version ∷ contents (old.trees 0)) (contents (mid.trees 0)) → IsAdded entries mid new → IsFilled entries new
 filled_by entries old mid new meta objects named same_objects same_named version added = record {
   rows = rows_added entries mid new (same_objects ∙ objects) (same_named ∙ named) added;
-  version = ap settings added.meta ∙ first_setting (codes "version") this_version old mid meta version;
+  version = ap meta_rows added.meta ∙ first_meta_row (codes "version") this_version old mid meta version;
 }

@@ -13,7 +13,7 @@ use Rattle.sqlite.specs.State.{State, Writes, Executes}
 use Rattle.sqlite.proofs.Callers.{IsPlain, command_of, statement_of, runs_as}
 use Rattle.sqlite_tied.specs.Compute.{everything}
 use Rattle.rr_rows.specs.Tables.{rules_of, HasTables}
-use Rattle.rr_rows.specs.Contents.{AreKeyed}
+use Rattle.rr_rows.specs.Contents.{AreNumbered}
 use Rattle.rr_rows.specs.Texts.{create_meta, create_object, create_named}
 use Rattle.rr_rows.specs.Made.{no_schema, meta_table, object_table, named_table, with_meta, with_object, with_named, Creates, IsBare}
 use Rattle.rr_rows.proofs.ChangeLemmas.{went}
@@ -73,7 +73,7 @@ has_named : HasTables with_named
 unfolding everything
 has_named = record { layout = record { meta = rules_of meta_table; object = rules_of object_table; named = rules_of named_table; others = []; indexes = with_named.indexes; views = [] }; is = refl; apart = refl }
 
-no_row_keyed : AreKeyed []
+no_row_keyed : AreNumbered []
 no_row_keyed = record { apart = tt; numbered = tt }
 
 -- the three tables that are made have no row
@@ -86,9 +86,9 @@ bare a b c d first second third =
     record {
       tidy = record {
         has = subst HasTables (sym third.schema_is) has_named;
-        meta = subst AreKeyed (sym meta_is) no_row_keyed;
-        object = subst AreKeyed (sym object_is) no_row_keyed;
-        named = subst AreKeyed (sym named_is) no_row_keyed;
+        meta = subst AreNumbered (sym meta_is) no_row_keyed;
+        object = subst AreNumbered (sym object_is) no_row_keyed;
+        named = subst AreNumbered (sym named_is) no_row_keyed;
       };
       meta = meta_is;
       object = object_is;

@@ -15,7 +15,7 @@ use Rattle.rr_object.specs.KeyTexts.{key_bytes}
 use Rattle.rr_object.specs.Objects.{Obj}
 use Rattle.rr_object.proofs.KeyBounds.{has_parts}
 use Rattle.rr_object.proofs.KeyLaws.{keys_exact, keys_total, same_key}
-use Rattle.rr_rows.specs.Contents.{settings}
+use Rattle.rr_rows.specs.Contents.{meta_rows}
 use Rattle.rr_rows.specs.Entries.{Entry, AreRowsOf, IsPut, IsTakenOut, entry_of, object_row, named_rows}
 use Rattle.rr_rows.specs.Maps.{HasVersion, IsKeyed, IsObject, Puts, TakesOut}
 use Rattle.rr_rows.proofs.EntryLemmas.{is_at, put_rows, taken_rows, without_key}
@@ -100,7 +100,7 @@ put_keyed objects new formed read keyed = record {
 }
 
 same_version : (version : List ℕ) (old new : Database) → new.trees 0 ≡ old.trees 0 → HasVersion version old → HasVersion version new
-same_version version old new same is = ap settings same ∙ is
+same_version version old new same is = ap meta_rows same ∙ is
 
 -- the rows without those of a key are the rows of the map without it
 pub takes : (key : Key) → HasKeyParts key → (old new : Database) → IsTakenOut (class_number (class_of key)) (key_bytes key) old new → TakesOut key old new

@@ -14,7 +14,7 @@ use Rattle.sqlite_trees.proofs.ListLemmas.{along_permutation, all-permutation, a
 use Rattle.sqlite_schema.specs.declared.schema.Schema.{Schema}
 use Rattle.sqlite_schema.specs.declared.schema.Table.{Table}
 use Rattle.rr_rows.specs.Tables.{HasTables, meta, object, named, rules_of, stands_apart}
-use Rattle.rr_rows.specs.Contents.{AreKeyed, IsPast, number, numbered}
+use Rattle.rr_rows.specs.Contents.{AreNumbered, IsPast, number, numbered}
 
 abbrev Differ : Row → Row → Type 0
 Differ a b = rowid a ≢ rowid b
@@ -30,7 +30,7 @@ apart_permutes = along_permutation StaysApart
     (λ x y xs. (IsPermutation-middle (x ∷ []) y xs, λ up. ((λ same. up.0.0 (sym same), up.1.0), (up.0.1, up.1.1))))
     (λ xs ys zs h k. (IsPermutation-trans xs ys zs h.0 k.0, λ up. k.1 (h.1 up)))
 
-module _ (f : Row → Row) (rows answer : List Row) (same : IsPermutation (map f rows) answer) (keyed : AreKeyed answer) where
+module _ (f : Row → Row) (rows answer : List Row) (same : IsPermutation (map f rows) answer) (keyed : AreNumbered answer) where
   back : IsPermutation answer (map f rows)
   back = IsPermutation-sym _ _ same
 
@@ -41,11 +41,11 @@ module _ (f : Row → Row) (rows answer : List Row) (same : IsPermutation (map f
   numbered_by = all_from_map (λ r. is_int (rowid r) ≡ true) f rows (all-permutation _ answer (map f rows) back keyed.numbered)
 
 -- rows have numbers of their own where the list of these has
-pub keyed_by : (rows answer : List Row) → IsPermutation (map number rows) answer → AreKeyed answer → AreKeyed rows
+pub keyed_by : (rows answer : List Row) → IsPermutation (map number rows) answer → AreNumbered answer → AreNumbered rows
 keyed_by rows answer same keyed = record { apart = apart_by number rows answer same keyed; numbered = numbered_by number rows answer same keyed }
 
 -- and where the list of the rows with their numbers has
-pub keyed_with : (rows answer : List Row) → IsPermutation (map numbered rows) answer → AreKeyed answer → AreKeyed rows
+pub keyed_with : (rows answer : List Row) → IsPermutation (map numbered rows) answer → AreNumbered answer → AreNumbered rows
 keyed_with rows answer same keyed = record { apart = apart_by numbered rows answer same keyed; numbered = numbered_by numbered rows answer same keyed }
 
 -- a number that is not above another
@@ -55,7 +55,7 @@ IsUpTo most v = (n : ℤ) × (v ≡ Int n) × (n ≤ℤ most)
 -- rows whose numbers rise up to the last
 abbrev pub IsRun : Option ℤ → List Row → Type 0
 IsRun None rows = rows ≡ []
-IsRun (Some last) rows = AreKeyed rows × AllByRecursion (λ r. IsUpTo last (rowid r)) rows
+IsRun (Some last) rows = AreNumbered rows × AllByRecursion (λ r. IsUpTo last (rowid r)) rows
 
 not_same : (a n : ℤ) → a <ℤ n → Int a ≢ Int n
 not_same a n less same = let both : a ≡ n = cc in absurd (omega (arith, ints))
@@ -82,8 +82,8 @@ run_more (Some last) rows row n run is past =
     weaker [] h = tt
     weaker (x ∷ xs) h = ((h.0.0, h.0.1, omega (arith, ints, h.0.2)), weaker xs h.1)
 
-pub run_keyed : (last : Option ℤ) (rows : List Row) → IsRun last rows → AreKeyed rows
-run_keyed None rows none = subst AreKeyed (sym none) (record { apart = tt; numbered = tt })
+pub run_keyed : (last : Option ℤ) (rows : List Row) → IsRun last rows → AreNumbered rows
+run_keyed None rows none = subst AreNumbered (sym none) (record { apart = tt; numbered = tt })
 run_keyed (Some last) rows run = run.0
 
 -- the three tables come first

@@ -13,7 +13,7 @@ use Rattle.sqlite_trees.specs.Tree.{rowid, put_row, has_rowid, without_rowid, Is
 use Rattle.sqlite_trees.specs.View.{is_int}
 use Rattle.sqlite_trees.proofs.ListLemmas.{all-permutation, all-filter, ascending-filter, along_permutation, filter_same}
 use Rattle.sqlite_rules.specs.Edit.{id_in, is_taken, without_all}
-use Rattle.rr_rows.specs.Contents.{AreKeyed}
+use Rattle.rr_rows.specs.Contents.{AreNumbered}
 
 -- ---- equal numbers
 
@@ -91,7 +91,7 @@ module _ (new : Row) where
       fore [] h = tt
       fore (x ∷ rest) h = (h.0.0, fore rest h.1)
 
-  pub put_keyed : (rows : List Row) → is_taken rows new ≡ false → is_int (rowid new) ≡ true → AreKeyed rows → AreKeyed (put_row new rows)
+  pub put_keyed : (rows : List Row) → is_taken rows new ≡ false → is_int (rowid new) ≡ true → AreNumbered rows → AreNumbered (put_row new rows)
   put_keyed rows free number keyed = record {
     apart = put_ascends rows free keyed.apart;
     numbered = all-permutation _ (new ∷ rows) _ (put_permutes rows free) (number, keyed.numbered);
@@ -137,10 +137,10 @@ none_has p row (r ∷ rows) number numbers apart =
     [ true ↦ or_from _ _ (other_id row r number numbers.0 apart.0) later | false ↦ later ]
 
 -- a row has one of the numbers of those that pass exactly where it passes
-are_those : (p : Row → Bool) (rows : List Row) → AreKeyed rows → AllByRecursion (λ r. list_any (λ id. has_rowid id r) (ids_that p rows) ≡ p r) rows
+are_those : (p : Row → Bool) (rows : List Row) → AreNumbered rows → AllByRecursion (λ r. list_any (λ id. has_rowid id r) (ids_that p rows) ≡ p r) rows
 are_those p [] keyed = tt
 are_those p (x ∷ rows) keyed =
-    let rest : AreKeyed rows = record { apart = keyed.apart.1; numbered = keyed.numbered.1 } in
+    let rest : AreNumbered rows = record { apart = keyed.apart.1; numbered = keyed.numbered.1 } in
     let later = are_those p rows rest in
     let none = none_has p x rows keyed.numbered.0 keyed.numbered.1 keyed.apart.0 in
     elim (p x) as (λ b. (list_any (λ id. has_rowid id x) (map (λ y. id_in (rowid y)) (cond b (x ∷ filter p rows) (filter p rows))) ≡ b)
@@ -155,7 +155,7 @@ are_those p (x ∷ rows) keyed =
     others (r ∷ rest) apart numbers h = (rw (other_id r x numbers.0 keyed.numbered.0 (λ same. apart.0 (sym same))) h.0, others rest apart.1 numbers.1 h.1)
 
 -- the rows with the numbers of those that pass are those that pass
-pub without_those : (p : Row → Bool) (rows : List Row) (ids : List ℤ) → AreKeyed rows → IsPermutation (map (λ r. id_in (rowid r)) (filter p rows)) ids
+pub without_those : (p : Row → Bool) (rows : List Row) (ids : List ℤ) → AreNumbered rows → IsPermutation (map (λ r. id_in (rowid r)) (filter p rows)) ids
     → without_all rows ids ≡ filter (λ r. not (p r)) rows
 without_those p rows ids keyed same =
     without_each ids rows ∙ filter_same _ (λ r. not (p r)) rows (each rows (are_those p rows keyed))
@@ -164,5 +164,5 @@ without_those p rows ids keyed same =
     each [] h = tt
     each (r ∷ rest) h = (ap not (sym (any_permutes (λ id. has_rowid id r) _ ids same) ∙ h.0), each rest h.1)
 
-pub filter_keyed : (p : Row → Bool) (rows : List Row) → AreKeyed rows → AreKeyed (filter p rows)
+pub filter_keyed : (p : Row → Bool) (rows : List Row) → AreNumbered rows → AreNumbered (filter p rows)
 filter_keyed p rows keyed = record { apart = ascending-filter _ p rows keyed.apart; numbered = all-filter _ p rows keyed.numbered }

@@ -26,9 +26,9 @@ use Rattle.sqlite.specs.Rows.{stamped}
 use Rattle.sqlite.specs.State.{State, Executes, Shown}
 use Rattle.sqlite.proofs.Callers.{reads_as}
 use Rattle.rr_rows.specs.Tables.{Layout, Rules, laid, table_with, stands_apart, HasTables}
-use Rattle.rr_rows.specs.Texts.{insert_meta, insert_object, insert_named, delete_object, delete_name, clear_meta, clear_object, clear_named, select_meta, select_object, select_of_key, select_named, select_sorted_named, select_naming, meta_numbers, object_numbers, named_numbers}
+use Rattle.rr_rows.specs.Texts.{clear_meta, clear_named, clear_object, delete_name, delete_object, insert_meta, insert_named, insert_object, meta_numbers, named_numbers, object_numbers, select_meta, select_named, select_naming, select_object, select_of_key, select_sorted_named}
 use Rattle.rr_rows.specs.Queries.{Means, alone, rowids_of, rows_of, object_tests, name_tests, naming_tests}
-use Rattle.rr_rows.specs.Contents.{AreKeyed, IsTidy, IsOfOther, Alters, Adds, Removes, IsInRank, columns, contents, number, numbered, meta_values, object_values, named_values, meets_tests, is_object_of, is_name_of, are_joined, pointed, by_one, by_two, by_three}
+use Rattle.rr_rows.specs.Contents.{AreNumbered, IsTidy, IsOfOther, Alters, Adds, Removes, IsInRank, columns, contents, number, numbered, meta_values, object_values, named_values, meets_tests, is_object_of, is_name_of, are_joined, pointed, by_one, by_two, by_three}
 use Rattle.rr_rows.proofs.TextLemmas.{insert_meta_is, insert_object_is, insert_named_is, delete_object_is, delete_name_is, clear_meta_is, clear_object_is, clear_named_is, select_meta_is, select_object_is, select_of_key_is, select_named_is, select_sorted_named_is, select_naming_is, meta_numbers_is, object_numbers_is, named_numbers_is}
 use Rattle.rr_rows.proofs.RowLemmas.{put_permutes, put_keyed, without_those, filter_keyed}
 use Rattle.rr_rows.proofs.ChangeLemmas.{Sets, inserted, deleted}
@@ -42,10 +42,10 @@ low tree (inl h) = omega arith
 low tree (inr (inl h)) = omega arith
 low tree (inr (inr h)) = omega arith
 
-keyed_at : (tree : ℕ) (db : Database) → IsOurs tree → IsTidy db → AreKeyed (db.trees tree)
-keyed_at tree db (inl h) tidy = subst (λ t. AreKeyed (db.trees t)) (sym h) tidy.meta
-keyed_at tree db (inr (inl h)) tidy = subst (λ t. AreKeyed (db.trees t)) (sym h) tidy.object
-keyed_at tree db (inr (inr h)) tidy = subst (λ t. AreKeyed (db.trees t)) (sym h) tidy.named
+keyed_at : (tree : ℕ) (db : Database) → IsOurs tree → IsTidy db → AreNumbered (db.trees tree)
+keyed_at tree db (inl h) tidy = subst (λ t. AreNumbered (db.trees t)) (sym h) tidy.meta
+keyed_at tree db (inr (inl h)) tidy = subst (λ t. AreNumbered (db.trees t)) (sym h) tidy.object
+keyed_at tree db (inr (inr h)) tidy = subst (λ t. AreNumbered (db.trees t)) (sym h) tidy.named
 
 apart_from : (tree : ℕ) → IsOurs tree → (t : ℕ) → IsOfOther t → t ≢ tree
 apart_from tree (inl h) t other = subst (λ u. t ≢ u) (sym h) other.meta
@@ -54,7 +54,7 @@ apart_from tree (inr (inr h)) t other = subst (λ u. t ≢ u) (sym h) other.name
 
 -- the tables are there still, and one of them has changed
 altered : (l : Layout) → list_all stands_apart l.others ≡ true → (tree : ℕ) → IsOurs tree → (rows : List Row) (old new : Database) (Change : List Row → List Row → Type 0)
-    → IsTidy old → old.schema ≡ laid l → Sets l tree rows old new → AreKeyed rows → Change (contents (old.trees tree)) (contents rows) → Alters old new tree Change
+    → IsTidy old → old.schema ≡ laid l → Sets l tree rows old new → AreNumbered rows → Change (contents (old.trees tree)) (contents rows) → Alters old new tree Change
 altered l apart tree ours rows old new Change tidy is sets keyed change = record {
   tidy = record {
     has = record { layout = l; is = sets.schema; apart = apart };
@@ -74,10 +74,10 @@ altered l apart tree ours rows old new Change tidy is sets keyed change = record
   };
 }
   where
-    at : (t : ℕ) → AreKeyed (old.trees t) → (t ≢ tree → new.trees t ≡ old.trees t) → AreKeyed (new.trees t)
+    at : (t : ℕ) → AreNumbered (old.trees t) → (t ≢ tree → new.trees t ≡ old.trees t) → AreNumbered (new.trees t)
     at t was same = elim (cases_eq t tree) [
-      | inl is ↦ subst (λ u. AreKeyed (new.trees u)) (sym is) (subst AreKeyed (sym sets.rows_are) keyed)
-      | inr other ↦ subst AreKeyed (sym (same other)) was
+      | inl is ↦ subst (λ u. AreNumbered (new.trees u)) (sym is) (subst AreNumbered (sym sets.rows_are) keyed)
+      | inr other ↦ subst AreNumbered (sym (same other)) was
     ]
 
 module _ (at tree : ℕ) (ours : IsOurs tree) (name : List ℕ) (cols : List Column) (r : Layout → Rules) (found : (l : Layout) → slice_get (laid l).tables at ≡ Some (table_with name tree cols (r l)))
@@ -111,7 +111,7 @@ module _ (at tree : ℕ) (ours : IsOurs tree) (name : List ℕ) (cols : List Col
         subst (λ xs. IsPermutation xs (ids_of did.0)) (ap ids_of are ∙ map-map _ number (filter p rows)) (IsPermutation-map (λ row. id_in (rowid row)) _ _ shown.same) in
         let keyed = keyed_at tree old.now ours tidy in
         let left : without_all rows (ids_of did.0) ≡ filter (λ row. not (p row)) rows = without_those p rows (ids_of did.0) keyed ids in
-        altered l tidy.has.apart tree ours _ old.now new.now (Removes (meets_tests tests params)) tidy tidy.has.is did.2 (subst AreKeyed (sym left) (filter_keyed (λ row. not (p row)) rows keyed))
+        altered l tidy.has.apart tree ours _ old.now new.now (Removes (meets_tests tests params)) tidy tidy.has.is did.2 (subst AreNumbered (sym left) (filter_keyed (λ row. not (p row)) rows keyed))
         (ap contents left ∙ ap (λ (q : Row → Bool). contents (filter (λ row. not (q row)) rows)) (λ i row. same row i) ∙ sym (filter-map (λ row. not (meets_tests tests params row)) columns rows))
 
   -- every row goes

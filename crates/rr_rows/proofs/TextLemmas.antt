@@ -4,7 +4,7 @@ use Rattle.sqlite_schema.specs.declared.command.Command.TheVariants.{Delete, Sel
 use Rattle.sqlite.specs.Listing.{understood}
 use Rattle.sqlite_tied.specs.Compute.{everything}
 use Rattle.rr_rows.specs.Tables.{Layout}
-use Rattle.rr_rows.specs.Texts.{insert_meta, insert_object, insert_named, delete_object, delete_name, clear_meta, clear_object, clear_named, select_meta, select_object, select_of_key, select_named, select_sorted_named, select_naming, meta_numbers, object_numbers, named_numbers}
+use Rattle.rr_rows.specs.Texts.{clear_meta, clear_named, clear_object, delete_name, delete_object, insert_meta, insert_named, insert_object, meta_numbers, named_numbers, object_numbers, select_meta, select_named, select_naming, select_object, select_of_key, select_sorted_named}
 use Rattle.rr_rows.specs.Queries.{Means, insert_into, alone, rowids_of, numbers_of, numbered_of, object_tests, name_tests, meta_query, of_key_query, sorted_named_query, naming_query}
 
 pub insert_meta_is : (l : Layout) → Means l insert_meta (insert_into 0 2)

@@ -15,15 +15,15 @@ use Rattle.sqlite_trees.specs.View.{is_int}
 use Rattle.sqlite_rules.specs.Edit.{IsNoIndex}
 use Rattle.sqlite.specs.Effect.{Database}
 use Rattle.sqlite.specs.State.{State}
-use Rattle.rr_rows.specs.Tables.{HasTables}
+use Rattle.rr_rows.specs.Tables.{HasTables, meta_tree, named_tree, object_tree}
 use Rattle.rr_rows.specs.Queries.{object_tests, name_tests, named_tests, naming_tests}
 
 -- each row has a number, and no two the same
-pub record AreKeyed (rows : List Row) : Type 0 where
+pub record AreNumbered (rows : List Row) : Type 0 where
   pub apart : IsAscending (λ a b. rowid a ≢ rowid b) rows
   pub numbered : AllByRecursion (λ r. is_int (rowid r) ≡ true) rows
 
--- the columns of a row, which is NULL where there is none
+-- the three columns of a row, each NULL where there is none
 abbrev pub columns : Row → Row
 columns r = column r 1 ∷ column r 2 ∷ column r 3 ∷ []
 
@@ -34,15 +34,15 @@ contents = map columns
 -- a database with the three tables, whose rows have numbers of their own
 pub record IsTidy (db : Database) : Type 0 where
   pub has : HasTables db.schema
-  pub meta : AreKeyed (db.trees 0)
-  pub object : AreKeyed (db.trees 2)
-  pub named : AreKeyed (db.trees 4)
+  pub meta : AreNumbered (db.trees meta_tree)
+  pub object : AreNumbered (db.trees object_tree)
+  pub named : AreNumbered (db.trees named_tree)
 
 -- a tree is of none of the three tables
 pub record IsOfOther (tree : ℕ) : Type 0 where
-  pub meta : tree ≢ 0
-  pub object : tree ≢ 2
-  pub named : tree ≢ 4
+  pub meta : tree ≢ meta_tree
+  pub object : tree ≢ object_tree
+  pub named : tree ≢ named_tree
 
 -- beside the rows of the three tables all stays: the schema, the rows of each other table, and what
 -- each other tree has that is of no index, as the one that lists the schema
@@ -58,9 +58,9 @@ pub record Alters (old new : Database) (tree : ℕ)
     (Change : List Row → List Row → Type 0) : Type 0 where
   pub tidy : IsTidy new
   pub change : Change (contents (old.trees tree)) (contents (new.trees tree))
-  pub meta : 0 ≢ tree → new.trees 0 ≡ old.trees 0
-  pub object : 2 ≢ tree → new.trees 2 ≡ old.trees 2
-  pub named : 4 ≢ tree → new.trees 4 ≡ old.trees 4
+  pub meta : meta_tree ≢ tree → new.trees meta_tree ≡ old.trees meta_tree
+  pub object : object_tree ≢ tree → new.trees object_tree ≡ old.trees object_tree
+  pub named : named_tree ≢ tree → new.trees named_tree ≡ old.trees named_tree
   pub others : KeepsOthers old new
 
 -- these rows are added
@@ -77,22 +77,22 @@ pub record RunsOn (old new : State) : Type 0 where
   pub mode : new.in_transaction ≡ old.in_transaction
   pub committed : new.committed ≡ old.committed
 
--- these rows, in an order
+-- the answer has these rows, in the order of this rank
 pub record IsInRank (rank : Row → Row → Ordering) (rows answer : List Row) : Type 0 where
   pub same : IsPermutation rows answer
   pub sorted : IsSorted rank answer
 
--- a setting and its value, as a row of `meta`, which has no third column
+-- a name and a value, as a row of `meta`, which has no third column
 abbrev pub meta_values : List ℕ → List ℕ → Row
 meta_values name value = Text name ∷ Text value ∷ Null ∷ []
 
--- the names and values of settings, which are all that is read of a row of `meta`
-abbrev pub settings : List Row → List Row
-settings = map (λ r. column r 1 ∷ column r 2 ∷ [])
+-- the names and values of rows of `meta`, which are all that is read of them
+abbrev pub meta_rows : List Row → List Row
+meta_rows = map (λ r. column r 1 ∷ column r 2 ∷ [])
 
--- a setting and its value, as they are read
-abbrev pub setting : List ℕ → List ℕ → Row
-setting name value = Text name ∷ Text value ∷ []
+-- a name and a value, as they are read of a row of `meta`
+abbrev pub meta_row : List ℕ → List ℕ → Row
+meta_row name value = Text name ∷ Text value ∷ []
 
 -- a class, a key and a text, as a row of `object`
 abbrev pub object_values : ℕ → List ℕ → List ℕ → Row
@@ -102,7 +102,7 @@ object_values class key body = Int (pos class) ∷ Text key ∷ Blob body ∷ []
 abbrev pub named_values : List ℕ → ℕ → List ℕ → Row
 named_values name class key = Text name ∷ Int (pos class) ∷ Text key ∷ []
 
--- what a row passes the tests of WHERE under these parameters
+-- a row passes the tests of WHERE under these parameters
 abbrev pub meets_tests : List Term → Row → Row → Bool
 meets_tests tests params row = list_all (holds (params ∷ (Null ∷ row) ∷ [])) tests
 
@@ -136,9 +136,11 @@ pointed name named object = flat_map (λ first. filter (are_joined name first) o
 abbrev pub by_one : Row → Row → Ordering
 by_one = key_cmp 0 (ascending Binary ∷ [])
 
+-- and in that of their first two
 abbrev pub by_two : Row → Row → Ordering
 by_two = key_cmp 0 (ascending Binary ∷ ascending Binary ∷ [])
 
+-- and in that of their first three
 abbrev pub by_three : Row → Row → Ordering
 by_three = key_cmp 0 (ascending Binary ∷ ascending Binary ∷ ascending Binary ∷ [])
 

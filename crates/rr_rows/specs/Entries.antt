@@ -12,6 +12,7 @@ use Rattle.rr_object.specs.KeyTexts.{key_bytes}
 use Rattle.rr_object.specs.Objects.{Obj, names_of}
 use Rattle.rr_rows.specs.Contents.{IsTidy, KeepsOthers, contents, object_values, named_values}
 use Rattle.rr_rows.specs.Contents.{is_named_of, is_object_of}
+use Rattle.rr_rows.specs.Tables.{meta_tree, named_tree, object_tree}
 
 -- what the tables keep of an object: its class, its key, its text and the maintainers that it names
 pub record Entry : Type 0 where
@@ -36,48 +37,53 @@ entry_of object = record {
   names = once (names_of object);
 }
 
+-- the row of `object` that is kept of an object
 abbrev pub object_row : Entry → Row
 object_row entry = object_values entry.class entry.key entry.body
 
+-- the rows of `named` that are kept of an object: one for each maintainer that it names
 abbrev pub named_rows : Entry → List Row
 named_rows entry = map (λ name. named_values name entry.class entry.key) entry.names
 
--- `object` has a row for each of them, and `named` one for each maintainer that it names (profile)
+-- the tables have the rows of these entries and no others: `object` one of each, `named` one for
+-- each maintainer that an entry names (profile)
 pub record AreRowsOf (entries : List Entry) (db : Database) : Type 0 where
   pub tidy : IsTidy db
-  pub objects : IsPermutation (map object_row entries) (contents (db.trees 2))
-  pub named : IsPermutation (flat_map named_rows entries) (contents (db.trees 4))
+  pub objects : IsPermutation (map object_row entries) (contents (db.trees object_tree))
+  pub named : IsPermutation (flat_map named_rows entries) (contents (db.trees named_tree))
 
 -- the rows of these are added, and all else stays
 pub record IsAdded (entries : List Entry) (old new : Database) : Type 0 where
   pub tidy : IsTidy new
-  pub objects : IsPermutation (map object_row entries ++ contents (old.trees 2))
-      (contents (new.trees 2))
-  pub named : IsPermutation (flat_map named_rows entries ++ contents (old.trees 4))
-      (contents (new.trees 4))
-  pub meta : new.trees 0 ≡ old.trees 0
+  pub objects : IsPermutation (map object_row entries ++ contents (old.trees object_tree))
+      (contents (new.trees object_tree))
+  pub named : IsPermutation (flat_map named_rows entries ++ contents (old.trees named_tree))
+      (contents (new.trees named_tree))
+  pub meta : new.trees meta_tree ≡ old.trees meta_tree
   pub others : KeepsOthers old new
 
 -- one takes the place of those with its class and key, and all else stays
 pub record IsPut (entry : Entry) (old new : Database) : Type 0 where
   pub tidy : IsTidy new
   pub objects : IsPermutation (object_row entry
-      ∷ filter (λ row. not (is_object_of entry.class entry.key row)) (contents (old.trees 2)))
-      (contents (new.trees 2))
+      ∷ filter (λ row. not (is_object_of entry.class entry.key row))
+      (contents (old.trees object_tree)))
+      (contents (new.trees object_tree))
   pub named : IsPermutation (named_rows entry
-      ++ filter (λ row. not (is_named_of entry.class entry.key row)) (contents (old.trees 4)))
-      (contents (new.trees 4))
-  pub meta : new.trees 0 ≡ old.trees 0
+      ++ filter (λ row. not (is_named_of entry.class entry.key row))
+      (contents (old.trees named_tree)))
+      (contents (new.trees named_tree))
+  pub meta : new.trees meta_tree ≡ old.trees meta_tree
   pub others : KeepsOthers old new
 
 -- those with a class and a key are taken out, and all else stays
 pub record IsTakenOut (class : ℕ) (key : List ℕ) (old new : Database) : Type 0 where
   pub tidy : IsTidy new
-  pub objects : contents (new.trees 2)
-      ≡ filter (λ row. not (is_object_of class key row)) (contents (old.trees 2))
-  pub named : contents (new.trees 4)
-      ≡ filter (λ row. not (is_named_of class key row)) (contents (old.trees 4))
-  pub meta : new.trees 0 ≡ old.trees 0
+  pub objects : contents (new.trees object_tree)
+      ≡ filter (λ row. not (is_object_of class key row)) (contents (old.trees object_tree))
+  pub named : contents (new.trees named_tree)
+      ≡ filter (λ row. not (is_named_of class key row)) (contents (old.trees named_tree))
+  pub meta : new.trees meta_tree ≡ old.trees meta_tree
   pub others : KeepsOthers old new
 
 -- trees of a database of which this is true, which a stop may leave

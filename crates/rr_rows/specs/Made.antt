@@ -12,13 +12,13 @@ use Rattle.sqlite_schema.specs.declared.schema.Schema.{Schema}
 use Rattle.sqlite_catalog.specs.Change.{created, next_tree}
 use Rattle.sqlite.specs.Effect.{Database}
 use Rattle.rr_rows.specs.Contents.{IsTidy, KeepsOthers}
-use Rattle.rr_rows.specs.Tables.{Rules, meta, object, named}
+use Rattle.rr_rows.specs.Tables.{Rules, meta, meta_tree, named, named_tree, object, object_tree}
 
 -- no table, no index and no view
 abbrev pub no_schema : Schema
 no_schema = record { tables = []; indexes = []; views = [] }
 
--- the primary key is the columns at these places, and nothing else is asked
+-- the primary key is the columns at these places, and a row is to pass these checks
 abbrev pub keyed_at : List ℕ → List Term → Rules
 keyed_at places checks =
     record { primary = places; uniques = places ∷ []; orders = plain ∷ []; checks = checks }
@@ -28,22 +28,27 @@ abbrev pub is_a_class : Term
 is_a_class = op2 And (op2 (Compare Ge Binary) (col 1 1) (lit (Int (pos 1))))
     (op2 (Compare Le Binary) (col 1 1) (lit (Int (pos 7))))
 
--- the tables as their texts define them, before they have trees
+-- `meta` as its text defines it, before it has a tree: it is given the first one
 abbrev pub meta_table : Table
 meta_table = meta (keyed_at (1 ∷ []) [])
 
+-- `object` as its text defines it, before it has a tree
 abbrev pub object_table : Table
 object_table = record (object (keyed_at (1 ∷ 2 ∷ []) (is_a_class ∷ []))) { tree = 0 }
 
+-- and `named`
 abbrev pub named_table : Table
 named_table = record (named (keyed_at (1 ∷ 2 ∷ 3 ∷ []) [])) { tree = 0 }
 
+-- the schema of `meta` alone, once it is made
 abbrev pub with_meta : Schema
 with_meta = created no_schema meta_table
 
+-- that of `meta` and `object`
 abbrev pub with_object : Schema
 with_object = created with_meta object_table
 
+-- and that of the three tables, made in their order
 abbrev pub with_named : Schema
 with_named = created with_object named_table
 
@@ -56,13 +61,13 @@ pub record Creates (before : Schema) (table : Table) (old new : Database) : Type
 -- a database with the three tables, which have no row
 pub record IsBare (db : Database) : Type 0 where
   pub tidy : IsTidy db
-  pub meta : db.trees 0 ≡ []
-  pub object : db.trees 2 ≡ []
-  pub named : db.trees 4 ≡ []
+  pub meta : db.trees meta_tree ≡ []
+  pub object : db.trees object_tree ≡ []
+  pub named : db.trees named_tree ≡ []
 
 -- one of the three tables has a row
-abbrev pub HasRow : Database → Type 0
-HasRow db = db.trees 0 ≡ [] → db.trees 2 ≡ [] → db.trees 4 ≡ [] → ⊥
+abbrev pub HasSomeRow : Database → Type 0
+HasSomeRow db = db.trees meta_tree ≡ [] → db.trees object_tree ≡ [] → db.trees named_tree ≡ [] → ⊥
 
 -- a new store has room here: nothing at all stands in the database, or the three tables without a
 -- row (profile)

@@ -15,12 +15,13 @@ use Rattle.rr_object.specs.KeyTexts.{key_bytes}
 use Rattle.rr_object.specs.Objects.{Obj}
 use Rattle.rr_object.specs.OldKeys.{old_key_bytes}
 use Rattle.rr_object.specs.Readings.{ReadsAs, obj_of}
-use Rattle.rr_rows.specs.Contents.{setting, settings}
+use Rattle.rr_rows.specs.Contents.{meta_row, meta_rows}
 use Rattle.rr_rows.specs.Entries.{Entry, AreRowsOf, entry_of, object_row}
+use Rattle.rr_rows.specs.Tables.{meta_tree}
 
 -- `meta` has one row, `version` and this value (profile)
 abbrev pub HasVersion : List ℕ → Database → Type 0
-HasVersion version db = settings (db.trees 0) ≡ setting (codes "version") version ∷ []
+HasVersion version db = meta_rows (db.trees meta_tree) ≡ meta_row (codes "version") version ∷ []
 
 -- the version of tables whose keys have AS numbers of four octets, in eight hexadecimal digits
 -- (profile)

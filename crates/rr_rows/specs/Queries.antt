@@ -15,7 +15,7 @@ use Rattle.sqlite_schema.specs.declared.command.Command.{Command}
 use Rattle.sqlite_schema.specs.declared.command.Command.TheVariants.{Insert}
 use Rattle.sqlite.specs.Listing.{understood, reads_listing}
 use Rattle.sqlite.proofs.Callers.{IsPlain, command_of}
-use Rattle.rr_rows.specs.Tables.{Layout, laid}
+use Rattle.rr_rows.specs.Tables.{Layout, laid, meta_tree, named_tree, object_tree}
 
 -- a value of a row is that of another row, or a parameter
 abbrev pub equals : Term → Term → Term
@@ -39,6 +39,7 @@ select_from from tests shown order = record {
 abbrev pub rows_of : ℕ → List Term → List Term → List Term → Query
 rows_of tree = select_from (inner tree end)
 
+-- a program that is the query alone
 abbrev pub alone : Query → Program
 alone query = record { lets = []; body = query }
 
@@ -74,19 +75,23 @@ abbrev pub naming_tests : List Term
 naming_tests =
     equals (col 2 1) (col 1 2) ∷ equals (col 2 2) (col 1 3) ∷ equals (col 1 1) (col 0 0) ∷ []
 
+-- the names and values of `meta`, in order of the names, then of the values
 abbrev pub meta_query : Query
-meta_query = rows_of 0 [] (col 1 1 ∷ col 1 2 ∷ []) (col 1 1 ∷ col 1 2 ∷ [])
+meta_query = rows_of meta_tree [] (col 1 1 ∷ col 1 2 ∷ []) (col 1 1 ∷ col 1 2 ∷ [])
 
 -- the objects of a class and a key
 abbrev pub of_key_query : Query
-of_key_query = rows_of 2 object_tests (col 1 1 ∷ col 1 2 ∷ col 1 3 ∷ []) []
+of_key_query = rows_of object_tree object_tests (col 1 1 ∷ col 1 2 ∷ col 1 3 ∷ []) []
 
+-- the rows of `named` without their rowids, by maintainer, class and key
 abbrev pub sorted_named_query : Query
 sorted_named_query =
-    rows_of 4 [] (col 1 1 ∷ col 1 2 ∷ col 1 3 ∷ []) (col 1 1 ∷ col 1 2 ∷ col 1 3 ∷ [])
+    rows_of named_tree [] (col 1 1 ∷ col 1 2 ∷ col 1 3 ∷ []) (col 1 1 ∷ col 1 2 ∷ col 1 3 ∷ [])
 
+-- the rows of `object`, with their rowids, to which those of `named` point that are of the
+-- maintainer that is given, by class and key
 abbrev pub naming_query : Query
-naming_query = select_from (inner 4 (inner 2 end)) naming_tests
+naming_query = select_from (inner named_tree (inner object_tree end)) naming_tests
     (col 2 0 ∷ col 2 1 ∷ col 2 2 ∷ col 2 3 ∷ []) (col 2 1 ∷ col 2 2 ∷ [])
 
 -- the parameters become a row of so many columns, whose rowid SQLite chooses

@@ -35,7 +35,8 @@ pub record Rules : Type 0 where
   pub orders : List Order
   pub checks : List Term
 
--- a table of these columns, with no foreign key, no rowid of its own and no default
+-- a table of these columns, with no foreign key, no INTEGER PRIMARY KEY, no AUTOINCREMENT and no
+-- default
 abbrev pub table_with : List ℕ → ℕ → List Column → Rules → Table
 table_with name tree columns rules = record {
   name = name;
@@ -52,8 +53,8 @@ table_with name tree columns rules = record {
   is_counted = false;
 }
 
--- a table has no foreign key, no rowid of its own and no default
-pub record IsPlain (table : Table) : Type 0 where
+-- a table has no foreign key, no INTEGER PRIMARY KEY, no AUTOINCREMENT and no default
+pub record IsPlainTable (table : Table) : Type 0 where
   pub key : table.key ≡ None
   pub references : table.references ≡ []
   pub computed : table.computed ≡ []
@@ -62,6 +63,7 @@ pub record IsPlain (table : Table) : Type 0 where
   pub formats : table.stamps.formats ≡ []
   pub counted : table.is_counted ≡ false
 
+-- the keys and the checks that a table has
 abbrev pub rules_of : Table → Rules
 rules_of table = record {
   primary = table.primary;
@@ -71,22 +73,35 @@ rules_of table = record {
   checks = table.checks;
 }
 
--- the settings of the store: the version of its tables (profile)
+-- the tree of `meta`, the first of a file; the next one is that of its primary key (profile)
+abbrev pub meta_tree : ℕ
+meta_tree = 0
+
+-- the tree of `object`; the next one is that of its primary key (profile)
+abbrev pub object_tree : ℕ
+object_tree = 2
+
+-- the tree of `named`; the next one is that of its primary key (profile)
+abbrev pub named_tree : ℕ
+named_tree = 4
+
+-- what is said of the tables, by name: their version (profile)
 abbrev pub meta : Rules → Table
-meta = table_with (codes "meta") 0
+meta = table_with (codes "meta") meta_tree
     (required (codes "name") kind.Text ∷ required (codes "value") kind.Text ∷ [])
 
 -- the objects, by class and key, with their canonical texts (profile)
 abbrev pub object : Rules → Table
-object = table_with (codes "object") 2 (required (codes "class") kind.Integer
+object = table_with (codes "object") object_tree (required (codes "class") kind.Integer
     ∷ required (codes "okey") kind.Text ∷ required (codes "body") kind.Blob ∷ [])
 
 -- which objects name which maintainers (profile)
 abbrev pub named : Rules → Table
-named = table_with (codes "named") 4 (required (codes "maintainer") kind.Text
+named = table_with (codes "named") named_tree (required (codes "maintainer") kind.Text
     ∷ required (codes "class") kind.Integer ∷ required (codes "okey") kind.Text ∷ [])
 
--- what a file may have beside the three tables
+-- what schemas that have the three tables differ in: the keys and checks of the three, and what
+-- stands beside these
 pub record Layout : Type 0 where
   pub meta : Rules
   pub object : Rules
@@ -109,9 +124,9 @@ abbrev pub refers_elsewhere : Reference → Bool
 refers_elsewhere reference = not (same_name (codes "meta") reference.parent
     || same_name (codes "object") reference.parent || same_name (codes "named") reference.parent)
 
--- another table has a tree of its own, and no foreign key to the three
+-- another table has a later tree than `named`, and no foreign key to the three
 abbrev pub stands_apart : Table → Bool
-stands_apart table = nat_lt 4 table.tree && list_all refers_elsewhere table.references
+stands_apart table = nat_lt named_tree table.tree && list_all refers_elsewhere table.references
 
 -- a schema has the three tables first, and others that stand apart from them (profile)
 pub record HasTables (schema : Schema) : Type 0 where

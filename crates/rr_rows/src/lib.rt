@@ -4,4 +4,4 @@
 
 mod schema;
 
-pub use schema::has_tables;
+pub use schema::{META_TREE, NAMED_TREE, OBJECT_TREE, has_tables};

@@ -3,13 +3,22 @@
 ghost use Rattle.std.specs.Prelude.{◌≡◌, [], ◌∷◌, true, false, codes, IsTrue};
 ghost use Rattle.std.specs.List.{list_all};
 ghost use Rattle.sqlite_schema.specs.declared.schema.Kind.TheVariants as kind;
-ghost use Rattle.rr_rows.specs.Tables.{HasTables, IsPlain, meta, named, object, refers_elsewhere};
-ghost use Rattle.rr_rows.specs.Tables.{required, rules_of, stands_apart};
+ghost use Rattle.rr_rows.specs.Tables.{HasTables, IsPlainTable, meta, named, object};
+ghost use Rattle.rr_rows.specs.Tables.{refers_elsewhere, required, rules_of, stands_apart};
 
 use sqlite_schema::names::same_name;
 use sqlite_schema::schema::{Column, Kind, Reference, Schema, Table};
 use sqlite_value::keys::Collation;
 use sqlite_value::value::Value;
+
+/// The tree of `meta`, the first of a file; the next one is that of its primary key.
+pub const META_TREE: u32 = 0;
+
+/// The tree of `object`; the next one is that of its primary key.
+pub const OBJECT_TREE: u32 = 2;
+
+/// The tree of `named`; the next one is that of its primary key.
+pub const NAMED_TREE: u32 = 4;
 
 fn is_required(column: &Column, name: &[u8], kind: Kind) -> bool
     ensures is { IsTrue result → column.now ≡ required name.now kind }
@@ -23,10 +32,10 @@ fn is_required(column: &Column, name: &[u8], kind: Kind) -> bool
         && column.collation == Collation::Binary
 }
 
-/// Whether a table has no foreign key, no rowid of its own and no default.
+/// Whether a table has no foreign key, no INTEGER PRIMARY KEY, no AUTOINCREMENT and no default.
 fn is_plain(table: &Table) -> bool
-    ensures is { IsTrue result → IsPlain table.now }
-    ensures only { IsPlain table.now → IsTrue result }
+    ensures is { IsTrue result → IsPlainTable table.now }
+    ensures only { IsPlainTable table.now → IsTrue result }
 {
     table.key.is_none()
         && table.references.is_empty()
@@ -37,7 +46,7 @@ fn is_plain(table: &Table) -> bool
         && !table.is_counted
 }
 
-fn are_settings(columns: &[Column]) -> bool
+fn are_meta_columns(columns: &[Column]) -> bool
     ensures is { IsTrue result → columns.now
         ≡ required (codes "name") kind.Text ∷ required (codes "value") kind.Text ∷ [] }
     ensures only { columns.now ≡ required (codes "name") kind.Text
@@ -50,7 +59,7 @@ fn are_settings(columns: &[Column]) -> bool
     }
 }
 
-fn are_objects(columns: &[Column]) -> bool
+fn are_object_columns(columns: &[Column]) -> bool
     ensures is { IsTrue result → columns.now ≡ required (codes "class") kind.Integer
         ∷ required (codes "okey") kind.Text ∷ required (codes "body") kind.Blob ∷ [] }
     ensures only { columns.now ≡ required (codes "class") kind.Integer ∷ required
@@ -64,7 +73,7 @@ fn are_objects(columns: &[Column]) -> bool
     }
 }
 
-fn are_names(columns: &[Column]) -> bool
+fn are_named_columns(columns: &[Column]) -> bool
     ensures is { IsTrue result → columns.now ≡ required (codes "maintainer") kind.Text
         ∷ required (codes "class") kind.Integer ∷ required (codes "okey") kind.Text ∷ [] }
     ensures only { columns.now ≡ required (codes "maintainer") kind.Text ∷ required (codes
@@ -83,8 +92,8 @@ fn is_meta(table: &Table) -> bool
     ensures only { table.now ≡ meta (rules_of table.now) → IsTrue result }
 {
     table.name.as_slice() == b"meta".as_slice()
-        && table.tree == 0
-        && are_settings(table.columns.as_slice())
+        && table.tree == META_TREE
+        && are_meta_columns(table.columns.as_slice())
         && is_plain(table)
 }
 
@@ -93,8 +102,8 @@ fn is_object(table: &Table) -> bool
     ensures only { table.now ≡ object (rules_of table.now) → IsTrue result }
 {
     table.name.as_slice() == b"object".as_slice()
-        && table.tree == 2
-        && are_objects(table.columns.as_slice())
+        && table.tree == OBJECT_TREE
+        && are_object_columns(table.columns.as_slice())
         && is_plain(table)
 }
 
@@ -103,8 +112,8 @@ fn is_named(table: &Table) -> bool
     ensures only { table.now ≡ named (rules_of table.now) → IsTrue result }
 {
     table.name.as_slice() == b"named".as_slice()
-        && table.tree == 4
-        && are_names(table.columns.as_slice())
+        && table.tree == NAMED_TREE
+        && are_named_columns(table.columns.as_slice())
         && is_plain(table)
 }
 
@@ -126,7 +135,7 @@ fn refer_elsewhere(references: &[Reference]) -> bool
 fn stands_apart(table: &Table) -> bool
     ensures { result ≡ stands_apart table.now }
 {
-    4 < table.tree && refer_elsewhere(table.references.as_slice())
+    NAMED_TREE < table.tree && refer_elsewhere(table.references.as_slice())
 }
 
 fn stand_apart(tables: &[Table]) -> bool

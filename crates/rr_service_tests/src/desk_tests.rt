@@ -38,7 +38,7 @@ fn expect_submitted<D: Office, R: Abort + AllocGlobal>(
 ) -> Result<(), Fail> {
     let (answer, report, added) = wanted;
     expect_report(rt, desk, (THREE, given), answer, report)?;
-    assert!(rt; !desk.is_stopped());
+    assert!(rt; !desk.stopped());
     expect_kept(rt, desk, added)
 }
 
@@ -167,7 +167,7 @@ fn expect_begun_again<D: Office + Drop, R: Abort + AllocGlobal>(
     desk: D,
 ) -> Result<(), Fail> {
     let mut desk = desk.begun_again(rt.alloc())?;
-    assert!(rt; !desk.is_stopped());
+    assert!(rt; !desk.stopped());
     expect_kept(rt, &desk, 1)?;
     expect_submitted(rt, &mut desk, usize::MAX, (ALL, BEGUN_AGAIN, 3))
 }

@@ -47,7 +47,7 @@ pub trait Office: Sized {
     ) -> Result<(Served, MemoryPeers<'a>), AllocError>;
 
     /// Whether a fault of the store stopped it.
-    fn is_stopped(&self) -> bool;
+    fn stopped(&self) -> bool;
 
     /// The error of the database that stopped it.
     fn cause(&self) -> Option<Error>;
@@ -113,8 +113,8 @@ impl<S: Alter + Drop> Office for Desk<S> {
         Ok((served, peers))
     }
 
-    fn is_stopped(&self) -> bool {
-        self.stopped()
+    fn stopped(&self) -> bool {
+        Desk::stopped(self)
     }
 
     fn cause(&self) -> Option<Error> {
@@ -174,9 +174,9 @@ fn connected<D: Registrar>(
     let reader = Cut::new(Counted::new(input.bytes), step, input.reads);
     let writer = Cut::new(Counted::new(Vec::new(alloc)), step, input.writes);
     let mut connection = Joined::new(reader, writer);
-    let answer = serve(alloc, desk, &mut connection);
+    let end = serve(alloc, desk, &mut connection);
     let (_, writer) = connection.into_parts();
-    (answer, writer.into_inner().into_inner())
+    (end, writer.into_inner().into_inner())
 }
 
 /// The desk, or why there is none.

@@ -11,7 +11,7 @@ use std::alloc::Global;
 use std::process::Abort;
 use std::test::Fail;
 
-/// The block of the other AS numbers, which migration adds.
+/// The block of the AS numbers of more than 16 bits, which migration adds.
 const UPPER: &str = "\
 as-block:       AS65536 - AS4294967295
 mnt-by:         ROOT-MNT

@@ -40,7 +40,7 @@ const PASSING: &str =
 /// Submits to a desk until a fault stops it.
 pub fn stop<D: Office>(alloc: Global, desk: &mut D) -> Result<(), Fail> {
     for _ in 0..100 {
-        if desk.is_stopped() {
+        if desk.stopped() {
             return Ok(());
         }
         let _found = desk.submitted(alloc, PASSING, usize::MAX, usize::MAX);
@@ -50,7 +50,7 @@ pub fn stop<D: Office>(alloc: Global, desk: &mut D) -> Result<(), Fail> {
 
 /// Asserts that a desk is stopped, and that it reads and writes nothing of a submission.
 fn expect_unread<D: Office, R: Abort + AllocGlobal>(rt: &R, desk: &mut D) {
-    assert!(rt; desk.is_stopped());
+    assert!(rt; desk.stopped());
     let found = desk.submitted(rt.alloc(), THREE, usize::MAX, usize::MAX);
     assert_eq!(rt; found.answer, Err(DeskFault::Stopped));
     assert_eq!(rt; (found.report.len(), found.reads), (0, 0));

@@ -19,7 +19,7 @@ source:         TEST
 
 ";
 
-/// The other AS numbers.
+/// The AS numbers of more than 16 bits.
 const FOUR_OCTETS: &str = "\
 as-block:       AS65536 - AS4294967295
 mnt-by:         ROOT-MNT

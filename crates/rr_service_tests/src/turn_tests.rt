@@ -1,4 +1,4 @@
-//! Connections in turn: what each was asked and answered, and how many are served and fail.
+//! Connections in turn: what each gave and was answered, and how many are served and fail.
 use crate::connections::{Reply, ending};
 use crate::desks::{Office, Trial, expect_text, try_new};
 use crate::texts::{EXACT, POSTED, POSTED_REPORT, TEN};
@@ -6,32 +6,32 @@ use rr_desk::{MemoryInput, MemoryTurn, Peers, Served};
 use std::process::Abort;
 use std::test::Fail;
 
-/// Asserts what a connection that is closed was asked and answered.
+/// Asserts what a connection that is closed gave and was answered.
 fn expect_closed<R: Abort>(
     rt: &R,
     turn: &MemoryTurn<'_>,
-    asked: &str,
+    given: &str,
     answered: &str,
 ) -> Result<(), Fail> {
-    expect_text(rt, turn.asked, asked)?;
+    expect_text(rt, turn.given, given)?;
     expect_text(rt, &turn.answered, answered)
 }
 
-/// Asserts what one of the connections that are closed was asked and answered.
+/// Asserts what one of the connections that are closed gave and was answered.
 fn expect_turn<R: Abort>(
     rt: &R,
     turns: &[MemoryTurn<'_>],
     at: usize,
-    asked: &str,
+    given: &str,
     answered: &str,
 ) -> Result<(), Fail> {
     match turns.get(at) {
-        Some(turn) => expect_closed(rt, turn, asked, answered),
+        Some(turn) => expect_closed(rt, turn, given, answered),
         None => Err("no such turn".into()),
     }
 }
 
-/// Asserts what three connections were asked and answered: a submission, a query that could not be
+/// Asserts what three connections gave and were answered: a submission, a query that could not be
 /// read, and a query.
 fn expect_turns<R: Abort + AllocGlobal>(rt: &R, turns: &[MemoryTurn<'_>]) -> Result<(), Fail> {
     assert_eq!(rt; turns.len(), 3);

@@ -4,7 +4,8 @@ use Rattle.std.specs.Prelude.{◌==◌}
 use Rattle.std.specs.FinMap.{get, values}
 use Rattle.std.specs.List.{filter_map}
 use Rattle.std.proofs.lemmas.Bool.{eq-eqb, eqb-true}
-use Rattle.rr_auth.proofs.Members.{IsIn, found_in, stands_at}
+use Rattle.rr_auth.specs.Elements.{IsIn}
+use Rattle.rr_auth.proofs.Members.{found_in, stands_at}
 use Rattle.rr_auth.specs.Registries.{Reg, Sound}
 use Rattle.rr_graph.proofs.Listings.{Contains-cons_cases}
 use Rattle.rr_graph.proofs.Lists.{Contains-filter_map, Contains-head, Contains-later, Contains-map, Contains-nil}

@@ -103,7 +103,7 @@ InRouteSet r start range = carried.IsFound (Refers r) (HasRange r) applied (Set 
 
 -- A chain of references leads from the set of the name to the set (RFC 2622, 5).
 abbrev pub IsReachedFrom : Reg → List ℕ → MemberSet → Type 0
-IsReachedFrom r start set = carried.IsNamed (Refers r) (Set start) set
+IsReachedFrom r start set = carried.IsReachedFrom (Refers r) (Set start) set
 
 -- A chain of references leads to a name that is not a set's (profile).
 abbrev pub IsMissingName : Reg → List ℕ → List ℕ → Type 0

@@ -5,7 +5,7 @@ use Rattle.std.proofs.lemmas.List.Sorted.{IsPermutation-append_right, IsPermutat
 use Rattle.sqlite.specs.Effect.{Database}
 use Rattle.rr_object.specs.KeyOrders.{IsKeyValue}
 use Rattle.rr_object.specs.Objects.{Obj}
-use Rattle.rr_rows.specs.Contents.{contents, settings}
+use Rattle.rr_rows.specs.Contents.{contents, meta_rows}
 use Rattle.rr_rows.specs.Entries.{Entry, AreRowsOf, IsAdded, entry_of, named_rows, object_row}
 use Rattle.rr_rows.specs.Maps.{AreOfObjects, IsObject}
 use Rattle.rr_rows.proofs.AddedLemmas.{append_none}
@@ -33,5 +33,5 @@ adds object formed read old new added objects has absent = record {
   keyed = put_keyed objects object formed read has.keyed;
   rows = rows_permuted _ _ new (IsPermutation-map entry_of _ _ (values_with_new keys_total keys_exact objects object.key object absent))
       (one_more (entry_of object) (map entry_of (values objects)) old new has.rows added);
-  version = ap settings added.meta ∙ has.version;
+  version = ap meta_rows added.meta ∙ has.version;
 }

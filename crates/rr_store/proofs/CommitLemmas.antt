@@ -7,7 +7,7 @@ use Rattle.sqlite.specs.Held.{Held, state}
 use Rattle.sqlite.proofs.Callers.{survives_begin}
 use Rattle.sqlite.proofs.StateLemmas.{survives_then, survives_weaker}
 use Rattle.rr_rows.specs.Entries.{TreesOf}
-use Rattle.rr_store.specs.Calls.{Writes}
+use Rattle.rr_store.specs.Calls.{Transacts}
 use Rattle.rr_store.proofs.BodyLemmas.{then_ok}
 use Rattle.rr_store.proofs.LookLemmas.{of_both, on_err_as}
 
@@ -51,7 +51,7 @@ module _ {S X Y E F : Type 0} (g : Ghosts S) (old begun mid new : Held S) (work 
         both.0 ∙ ((kept (earlier clean)).committed both.1 ∙ (as_before ∙ sym (settled (open_from clean both.1))))
 
     -- a transaction writes what its work made
-    pub ended_writes : Writes g Change old new result
+    pub ended_writes : Transacts g Change old new result
     ended_writes = record {
       autocommit = λ m. autocommit;
       opened = λ clean on. open_from clean (of_both result _ (was_open clean) (on_err_as result (err clean on) (λ both. both.1)));
@@ -67,7 +67,7 @@ survives_as old new P Q follows h = survives_weaker old new (TreesOf P) (TreesOf
 
 module _ {S : Type 0} (g : Ghosts S) (old new : Held S) (P Q : Database → Database → Type 0) where
   -- and what is written, too
-  pub writes_as : {X E : Type 0} (r : Result X E) → (HasCleanDisk (state g new) → (db : Database) → P (state g old).now db → Q (state g old).now db) → Writes g P old new r → Writes g Q old new r
+  pub writes_as : {X E : Type 0} (r : Result X E) → (HasCleanDisk (state g new) → (db : Database) → P (state g old).now db → Q (state g old).now db) → Transacts g P old new r → Transacts g Q old new r
   writes_as r follows w = record {
     autocommit = w.autocommit;
     opened = w.opened;
@@ -78,12 +78,12 @@ module _ {S : Type 0} (g : Ghosts S) (old new : Held S) (P Q : Database → Data
   }
 
   -- what failed has, whatever it is called
-  pub writes_failed : {X E Y F : Type 0} (r : Result X E) (q : Result Y F) → IsErr r → IsErr q → Writes g P old new r → Writes g P old new q
+  pub writes_failed : {X E Y F : Type 0} (r : Result X E) (q : Result Y F) → IsErr r → IsErr q → Transacts g P old new r → Transacts g P old new q
   writes_failed (Ok x) q is_r is_q w = absurd (let e = is_r in cc)
   writes_failed (Err e) (Ok y) is_r is_q w = absurd (let e = is_q in cc)
   writes_failed (Err e) (Err f) is_r is_q w = record { autocommit = w.autocommit; opened = w.opened; done = λ clean. tt; is_open = λ clean. tt; kept = w.kept; crash = w.crash }
 
-  pub writes_ok : {X E Y F : Type 0} (x : X) (r : Result X E) (y : Y) (q : Result Y F) → r ≡ Ok x → q ≡ Ok y → Writes g P old new r → Writes g P old new q
+  pub writes_ok : {X E Y F : Type 0} (x : X) (r : Result X E) (y : Y) (q : Result Y F) → r ≡ Ok x → q ≡ Ok y → Transacts g P old new r → Transacts g P old new q
   writes_ok x r y q is_r is_q w = record {
     autocommit = w.autocommit;
     opened = w.opened;

@@ -7,7 +7,7 @@ use Rattle.rr_object.specs.Objects.{Obj}
 use Rattle.rr_rows.specs.Entries.{Entry, IsAdded, IsPut, entry_of}
 use Rattle.rr_rows.specs.Maps.{AreOfObjects, IsObject}
 use Rattle.rr_rows.proofs.ObjectRows.{put_held}
-use Rattle.rr_store.specs.Calls.{Writes}
+use Rattle.rr_store.specs.Calls.{Transacts}
 use Rattle.rr_store.specs.Kept.{IsKept}
 use Rattle.rr_store.proofs.AddLemmas.{added_held}
 use Rattle.rr_store.proofs.BodyLemmas.{then_ok}
@@ -21,7 +21,7 @@ pub put_told : (object : Obj) (entry : Entry) → entry ≡ entry_of object → 
 put_told object entry same is old new held put = put_held object is old new held (subst (λ e. IsPut e old new) same put)
 
 -- a call that changes rows, or fails and changes none, leaves those of some objects
-pub kept_by : {S X E : Type 0} (g : Ghosts S) (Change : Database → Database → Type 0) (old new : Held S) (r : Result X E) → IsKept g old → Writes g Change old new r
+pub kept_by : {S X E : Type 0} (g : Ghosts S) (Change : Database → Database → Type 0) (old new : Held S) (r : Result X E) → IsKept g old → Transacts g Change old new r
     → (AreOfObjects (state g old).now → Change (state g old).now (state g new).now → AreOfObjects (state g new).now) → IsKept g new
 kept_by g Change old new r kept w follows = record {
   autocommit = w.autocommit kept.autocommit;

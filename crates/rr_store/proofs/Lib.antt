@@ -16,6 +16,7 @@ pub mod OrderLemmas
 pub mod SortedLemmas
 pub mod SettledLemmas
 pub mod ShownLemmas
+pub mod SourceLemmas
 pub mod StoredLemmas
 pub mod StopLemmas
 pub mod StreamLemmas

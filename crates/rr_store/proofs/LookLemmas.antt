@@ -12,7 +12,7 @@ use Rattle.rr_rows.specs.Queries.{Means}
 use Rattle.rr_rows.specs.Entries.{TreesOf}
 use Rattle.sqlite.specs.Effect.{Database}
 use Rattle.rr_rows.specs.Contents.{RunsOn}
-use Rattle.rr_store.specs.Calls.{Looks, Rests, Writes}
+use Rattle.rr_store.specs.Calls.{Looks, Rests, Transacts}
 use Rattle.rr_store.proofs.AddingLemmas.{survives_itself}
 use Rattle.rr_store.proofs.BodyLemmas.{then_ok}
 use Rattle.sqlite.specs.Held.{Held, state}
@@ -161,7 +161,7 @@ module _ {S : Type 0} (g : Ghosts S) where
     }
 
     -- a transaction after that changes what stood before
-    pub writes_then : {X E : Type 0} (Change : Database → Database → Type 0) (r : Result X E) → Writes g Change b c r → Writes g Change a c r
+    pub writes_then : {X E : Type 0} (Change : Database → Database → Type 0) (r : Result X E) → Transacts g Change b c r → Transacts g Change a c r
     writes_then Change r two =
         let before : HasCleanDisk (state g c) → HasCleanDisk (state g b) = λ clean. omega (arith, clean, two.crash.clean) in
         record {
@@ -175,7 +175,7 @@ module _ {S : Type 0} (g : Ghosts S) where
         }
 
   -- a call that failed before its transaction has written nothing
-  pub unwritten : {X E : Type 0} (Change : Database → Database → Type 0) (a b : Held S) (r : Result X E) → IsErr r → Rests g a b → Writes g Change a b r
+  pub unwritten : {X E : Type 0} (Change : Database → Database → Type 0) (a b : Held S) (r : Result X E) → IsErr r → Rests g a b → Transacts g Change a b r
   unwritten Change a b (Ok x) is one = absurd (let e = is in cc)
   unwritten Change a b (Err e) is one = record {
     autocommit = λ m. one.autocommit;

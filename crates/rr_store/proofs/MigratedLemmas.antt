@@ -25,48 +25,48 @@ use Rattle.rr_rows.specs.Maps.{AreOldStored, IsObjectOf, this_form}
 use Rattle.rr_store.specs.Migrating.{IsMigrated, has_mntner, upper_block}
 use Rattle.rr_store.specs.MigratingParts.{IsRewritten}
 
-upper : Ends
-upper = record { first = 65536; last = 4294967295 }
+upper_span : Ends
+upper_span = record { first = 65536; last = 4294967295 }
 
-upper_key : (root source : List ℕ) → key_of (upper_block root source) ≡ Ok (AsBlock upper)
-unfolding key_of key_at key_of_text value_meaning trim_end trim_start as_span_of ends_between dashed_of cut_at as_number_of number_of upper
+upper_key : (root source : List ℕ) → key_of (upper_block root source) ≡ Ok (AsBlock upper_span)
+unfolding key_of key_at key_of_text value_meaning trim_end trim_start as_span_of ends_between dashed_of cut_at as_number_of number_of upper_span
 upper_key root source = refl
 
 -- the block has no key of tables of version 1
-no_old_key : old_key_bytes (AsBlock upper) ≡ None
-unfolding upper
+no_old_key : old_key_bytes (AsBlock upper_span) ≡ None
+unfolding upper_span
 no_old_key = refl
 
 same_key_of : (a b : Key) → ◌≡◌ {A = Result Key ObjectFault} (Ok a) (Ok b) → a ≡ b
 same_key_of a b e = cc
 
-block_key : (root source : List ℕ) (block : Obj) → object_of (upper_block root source) source ≡ Ok block → block.key ≡ AsBlock upper
-block_key root source block read =
-    same_key_of block.key (AsBlock upper) (sym (kept_its_key (upper_block root source) block (of_any_source (upper_block root source) source block read)) ∙ upper_key root source)
+upper_object_key : (root source : List ℕ) (upper : Obj) → object_of (upper_block root source) source ≡ Ok upper → upper.key ≡ AsBlock upper_span
+upper_object_key root source upper read =
+    same_key_of upper.key (AsBlock upper_span) (sym (kept_its_key (upper_block root source) upper (of_any_source (upper_block root source) source upper read)) ∙ upper_key root source)
 
 -- so no object of such tables has its key
-other_key : (object block : Obj) → block.key ≡ AsBlock upper → is_some (old_key_bytes object.key) ≡ true → object.key ≢ block.key
-other_key object block is formed same =
+other_key : (object upper : Obj) → upper.key ≡ AsBlock upper_span → is_some (old_key_bytes object.key) ≡ true → object.key ≢ upper.key
+other_key object upper is formed same =
     let none : old_key_bytes object.key ≡ None = ap old_key_bytes (same ∙ is) ∙ no_old_key in
     let never : false ≡ true = sym (ap is_some none) ∙ formed in
     cc
 
 pub migrated : (root source : List ℕ) (objects : List Obj) (old new : Database) → AreOldStored source objects old → has_mntner root objects ≡ true → IsRewritten root source objects old new → IsMigrated root source old new
 migrated root source objects old new before registered after =
-    let key = block_key root source after.block after.read in
+    let key = upper_object_key root source after.upper after.read in
     record {
       objects = objects;
-      block = after.block;
+      upper = after.upper;
       before = before;
       registered = registered;
       read = after.read;
       after = record {
         rows = after.filled.rows;
         version = after.filled.version;
-        formed = all_of (λ o. is_some (this_form o.key) ≡ true) (λ o. refl) (objects ++ after.block ∷ []);
-        of_source = all-append (IsObjectOf source) objects (after.block ∷ []) before.of_source (after.of_source, tt);
-        apart = ascending-append (λ a b. a.key ≢ b.key) objects (after.block ∷ []) before.apart (tt, tt)
-            (all_weaker (λ o. is_some (old_key_bytes o.key) ≡ true) (λ o. AllByRecursion (λ b. o.key ≢ b.key) (after.block ∷ [])) (λ o formed. (other_key o after.block key formed, tt)) objects before.formed);
+        formed = all_of (λ o. is_some (this_form o.key) ≡ true) (λ o. refl) (objects ++ after.upper ∷ []);
+        of_source = all-append (IsObjectOf source) objects (after.upper ∷ []) before.of_source (after.of_source, tt);
+        apart = ascending-append (λ a b. a.key ≢ b.key) objects (after.upper ∷ []) before.apart (tt, tt)
+            (all_weaker (λ o. is_some (old_key_bytes o.key) ≡ true) (λ o. AllByRecursion (λ b. o.key ≢ b.key) (after.upper ∷ [])) (λ o formed. (other_key o after.upper key formed, tt)) objects before.formed);
       };
       others = after.others;
     }

@@ -10,7 +10,7 @@ use Rattle.sqlite_value.specs.Order.{Row, value_cmp}
 use Rattle.sqlite_value.proofs.OrderLemmas.{value_cmp-Int}
 use Rattle.sqlite_trees.specs.Tree.{rowid, IsAscending}
 use Rattle.sqlite_trees.specs.View.{is_int}
-use Rattle.rr_rows.specs.Contents.{AreKeyed, IsPast, by_one}
+use Rattle.rr_rows.specs.Contents.{AreNumbered, IsPast, by_one}
 
 -- a number is that of the last row, if there is one
 abbrev pub IsLast : Option ℤ → List Row → Type 0
@@ -47,7 +47,7 @@ past_row a b l n is_a is_b low apart =
     past (int_cmp n l) l n (int_ranks n l) (ap is_lt compared ∙ low) (λ same. apart (is_a ∙ (ap Int same ∙ sym is_b)))
 
 module _ (rest before : List Row) (row : Row) where
-  after_last : (last : Option ℤ) (n : ℤ) → IsLast last before → rowid row ≡ Int n → AreKeyed (before ++ row ∷ rest) → IsSorted by_one (before ++ row ∷ rest) → IsPast last n
+  after_last : (last : Option ℤ) (n : ℤ) → IsLast last before → rowid row ≡ Int n → AreNumbered (before ++ row ∷ rest) → IsSorted by_one (before ++ row ∷ rest) → IsPast last n
   after_last None n was is keyed sorted = tt
   after_last (Some l) n was is keyed sorted =
       let whole : before ++ row ∷ rest ≡ was.0 ++ was.1 ∷ row ∷ rest = ap (λ xs. xs ++ row ∷ rest) was.2 ∙ append_assoc was.0 (was.1 ∷ []) (row ∷ rest) in
@@ -56,9 +56,9 @@ module _ (rest before : List Row) (row : Row) where
       (apart_next was.0 was.1 row rest (subst (IsAscending (λ a b. rowid a ≢ rowid b)) whole keyed.apart))
 
   -- so where none is above the last, they have no such numbers
-  pub none_next : (last : Option ℤ) → IsLast last before → ((n : ℤ) → rowid row ≡ Int n → IsPast last n → ⊥) → AreKeyed ((before ++ row ∷ []) ++ rest) → IsSorted by_one ((before ++ row ∷ []) ++ rest) → ⊥
+  pub none_next : (last : Option ℤ) → IsLast last before → ((n : ℤ) → rowid row ≡ Int n → IsPast last n → ⊥) → AreNumbered ((before ++ row ∷ []) ++ rest) → IsSorted by_one ((before ++ row ∷ []) ++ rest) → ⊥
   none_next last was none keyed sorted =
       let whole = append_assoc before (row ∷ []) rest in
-      let keyed' = subst AreKeyed whole keyed in
+      let keyed' = subst AreNumbered whole keyed in
       let it = int_of (rowid row) (at_row before row rest keyed'.numbered) in
       none it.0 it.1 (after_last last it.0 was it.1 keyed' (subst (IsSorted by_one) whole sorted))

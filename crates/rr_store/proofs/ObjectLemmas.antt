@@ -36,9 +36,12 @@ unfolding key_of
 no_key key e = cc
 
 -- an object has an attribute
+pub any_attribute : (fields : List Field) (object : Obj) → obj_of fields ≡ Ok object → 0 < length fields
+any_attribute [] object e = absurd (no_key object.key (kept_its_key [] object e))
+any_attribute (field ∷ fields) object e = omega arith
+
 pub has_attribute : (fields : List Field) (source : List ℕ) (object : Obj) → object_of fields source ≡ Ok object → 0 < length fields
-has_attribute [] source object e = absurd (no_key object.key (kept_its_key [] object (of_any_source [] source object e)))
-has_attribute (field ∷ fields) source object e = omega arith
+has_attribute fields source object e = any_attribute fields object (of_any_source fields source object e)
 
 -- a paragraph that reads as an object is the object's
 pub read_whole : (source text : List ℕ) (fields : List Field) (object : Obj) → ReadsAs source fields object → AreFields fields → canonical fields ≡ text → IsObjectOf source object × (canonical object.paragraph ≡ text)
@@ -76,6 +79,10 @@ names_told a b row text names is_a of third told is_b row_is =
     let both : Blob (canonical b.paragraph) ≡ Blob text = ap (λ r. column r 2) (sym row_is) ∙ third in
     let texts : canonical b.paragraph ≡ text = cc in
     told ∙ ap (λ o. once (names_of o)) (one_object a b is_a is_b (of ∙ sym texts))
+
+-- and the text that a row has is that of the object whose row it is
+pub text_told : (object : Obj) (row : Row) (text : List ℕ) → column row 2 ≡ Blob text → row ≡ object_row (entry_of object) → canonical object.paragraph ≡ text
+text_told object row text third is = let both : Blob (canonical object.paragraph) ≡ Blob text = ap (λ r. column r 2) (sym is) ∙ third in cc
 
 -- the text in an object's row
 pub text_of_row : (form : KeyForm) (object : Obj) (r : Row) (text : List ℕ) → IsRowOf form object r → column r 2 ≡ Blob text → canonical object.paragraph ≡ text

@@ -6,7 +6,7 @@ use Rattle.std.proofs.lemmas.List.Elements.{Contains-push_cases}
 use Rattle.sqlite.specs.declared.error.Error.{Error}
 use Rattle.sqlite.specs.Effect.{Database}
 use Rattle.rr_object.specs.Objects.{Obj}
-use Rattle.rr_rows.specs.Contents.{setting}
+use Rattle.rr_rows.specs.Contents.{meta_row}
 use Rattle.rr_rows.specs.Maps.{AreStoredIn}
 use Rattle.rr_rows.specs.Tables.{HasTables}
 use Rattle.rr_store.specs.Faults.{migrate_fault, unread_fault}
@@ -33,17 +33,17 @@ is_low This = omega arith
 no_member : {X : Type 0} (x : X) → Contains [] x → ⊥
 no_member x h = omega (arith, h.1)
 
-one_value : (name a b : List ℕ) → Contains (setting name a ∷ []) (setting name b) → b ≡ a
+one_value : (name a b : List ℕ) → Contains (meta_row name a ∷ []) (meta_row name b) → b ≡ a
 one_value name a b h =
-    elim (Contains-push_cases [] (setting name a) (setting name b) h) [
-      | inl none ↦ absurd (no_member (setting name b) none)
+    elim (Contains-push_cases [] (meta_row name a) (meta_row name b) h) [
+      | inl none ↦ absurd (no_member (meta_row name b) none)
       | inr same ↦ cc
     ]
 
 pub stored_says_it : (version : Version) (source : List ℕ) (objects : List Obj) (db : Database) → AreStoredIn (form_of version) (version_text version) source objects db → SaysNoOther version db
 stored_says_it version source objects db stored = record {
   only = λ n low says.
-      let is = one_value (codes "version") (version_text version) (decimal n) (subst (λ rows. Contains rows (setting (codes "version") (decimal n))) stored.version says) in
+      let is = one_value (codes "version") (version_text version) (decimal n) (subst (λ rows. Contains rows (meta_row (codes "version") (decimal n))) stored.version says) in
       decimal_injective n (version_number version) (omega (arith, low)) (is_low version) (is ∙ text_is version);
 }
 

@@ -17,7 +17,7 @@ use Rattle.sqlite.specs.Held.{Held, state}
 use Rattle.sqlite.specs.State.{State, FailsToQuery, HasCleanDisk, IsUnchanged, Shown, Survives}
 use Rattle.sqlite.proofs.Callers.{unchanged_then}
 use Rattle.sqlite.proofs.StateLemmas.{survives_then}
-use Rattle.rr_rows.specs.Contents.{AreKeyed, IsInRank, IsTidy, by_one, number}
+use Rattle.rr_rows.specs.Contents.{AreNumbered, IsInRank, IsTidy, by_one, number}
 use Rattle.rr_rows.specs.Queries.{Means}
 use Rattle.rr_rows.specs.Tables.{HasTables, Layout}
 use Rattle.rr_rows.proofs.NumberLemmas.{keyed_by}
@@ -38,11 +38,11 @@ apart_numbers [] h = tt
 apart_numbers (x ∷ xs) h = (all_numbers (λ r. rowid x ≢ rowid r) xs h.0, apart_numbers xs h.1)
 
 -- the list of the numbers of rows has these for its own
-keyed_numbers : (rows : List Row) → AreKeyed rows → AreKeyed (map number rows)
+keyed_numbers : (rows : List Row) → AreNumbered rows → AreNumbered (map number rows)
 keyed_numbers rows keyed = record { apart = apart_numbers rows keyed.apart; numbered = all_numbers (λ r. is_int (rowid r) ≡ true) rows keyed.numbered }
 
 -- in any order
-keyed_answer : (rows answer : List Row) → IsPermutation (map number rows) answer → AreKeyed rows → AreKeyed answer
+keyed_answer : (rows answer : List Row) → IsPermutation (map number rows) answer → AreNumbered rows → AreNumbered answer
 keyed_answer rows answer same keyed =
     keyed_by answer (map number (map number rows)) (IsPermutation-map number answer (map number rows) (IsPermutation-sym _ _ same)) (keyed_numbers (map number rows) (keyed_numbers rows keyed))
 
@@ -78,7 +78,7 @@ module _ {S : Type 0} (g : Ghosts S) where
     -- and so does a count, where rows have numbers of their own
     pub count_caused : (query : Program) (names : List (List ℕ)) → ((l : Layout) → Means l text (Select query names)) → lets_of query ≡ [] → (tree : ℕ)
         → ((a b : State) → HasTables a.now.schema → (rows : List Row) → Shown text [] a b rows → IsInRank by_one (map number (a.now.trees tree)) rows)
-        → AreKeyed ((state g old).now.trees tree) → FailsToCount g now new error → IsCaused (state g old) (state g new) error
+        → AreNumbered ((state g old).now.trees tree) → FailsToCount g now new error → IsCaused (state g old) (state g new) error
     count_caused query names means none tree tells keyed (inl memory) = inl (OutOfMemory, memory, tt)
     count_caused query names means none tree tells keyed (inr (inl stops)) = stops_caused stops
     count_caused query names means none tree tells keyed (inr (inr at)) =
@@ -101,7 +101,7 @@ module _ {S : Type 0} (g : Ghosts S) where
 
       pub counts_fail : {X : Type 0} (r : Result X Error) (query : Program) (names : List (List ℕ)) → ((l : Layout) → Means l text (Select query names)) → lets_of query ≡ [] → (tree : ℕ)
           → ((a b : State) → HasTables a.now.schema → (rows : List Row) → Shown text [] a b rows → IsInRank by_one (map number (a.now.trees tree)) rows)
-          → (IsTidy (state g old).now → AreKeyed ((state g old).now.trees tree)) → (HasCleanDisk (state g new) → IfErr r (FailsToCount g now new)) → IfErr r (FailsOverTidy g old new)
+          → (IsTidy (state g old).now → AreNumbered ((state g old).now.trees tree)) → (HasCleanDisk (state g new) → IfErr r (FailsToCount g now new)) → IfErr r (FailsOverTidy g old new)
       counts_fail (Ok x) query names means none tree tells keyed h = tt
       counts_fail (Err error) query names means none tree tells keyed h = λ tidy clean.
           count_caused text told old now new b (omega (arith, clean, then.clean)) tidy.has error query names means none tree tells (keyed tidy) (h clean)

@@ -14,7 +14,7 @@ use Rattle.rr_text.specs.CanonicalText.{canonical}
 use Rattle.rr_object.specs.Objects.{Obj}
 use Rattle.rr_object.specs.Classes.{class_number}
 use Rattle.rr_object.specs.Keys.{class_of}
-use Rattle.rr_rows.specs.Contents.{IsTidy, contents, object_values, setting, settings}
+use Rattle.rr_rows.specs.Contents.{IsTidy, contents, meta_row, meta_rows, object_values}
 use Rattle.rr_rows.specs.Entries.{named_rows, object_row}
 use Rattle.rr_rows.specs.Maps.{AreApart, AreInOrder, AreStoredIn, HasVersion, IsObjectOf, KeyForm, entry_in}
 use Rattle.rr_rows.proofs.MapLists.{in_order_apart}
@@ -34,20 +34,20 @@ some_of None h = absurd (cc)
 some_of (Some key) h = refl
 
 -- tables whose version is told amiss hold the rows of no objects
-pub unversioned : (version : Version) (source : List ℕ) (db : Database) (fault : OpenFault) → IsVersionFault version (settings (db.trees 0)) fault → fault ≡ BadRow → HoldNone version source db
+pub unversioned : (version : Version) (source : List ℕ) (db : Database) (fault : OpenFault) → IsVersionFault version (meta_rows (db.trees 0)) fault → fault ≡ BadRow → HoldNone version source db
 unversioned version source db (WrongVersion n) told is = absurd (cc)
 unversioned version source db BadRow told is = λ objects stored. told.bad stored.version
 unversioned version source db (Store error) told is = absurd (cc)
 unversioned version source db Memory told is = absurd (cc)
 
-pub says_other : (version : Version) (db : Database) (fault : OpenFault) → IsVersionFault version (settings (db.trees 0)) fault → (number : ℕ) → fault ≡ WrongVersion number → SaysOther version number db
+pub says_other : (version : Version) (db : Database) (fault : OpenFault) → IsVersionFault version (meta_rows (db.trees 0)) fault → (number : ℕ) → fault ≡ WrongVersion number → SaysOther version number db
 says_other version db (WrongVersion n) told number is = let same : n ≡ number = cc in subst (λ m. SaysOther version m db) same told
 says_other version db BadRow told number is = absurd (cc)
 says_other version db (Store error) told number is = absurd (cc)
 says_other version db Memory told number is = absurd (cc)
 
 -- tables whose version is told amiss say no other
-pub no_other_told : (version : Version) (db : Database) (fault : OpenFault) → IsVersionFault version (settings (db.trees 0)) fault → fault ≡ BadRow → SaysNoOther version db
+pub no_other_told : (version : Version) (db : Database) (fault : OpenFault) → IsVersionFault version (meta_rows (db.trees 0)) fault → fault ≡ BadRow → SaysNoOther version db
 no_other_told version db (WrongVersion n) told is = absurd (cc)
 no_other_told version db BadRow told is = record { only = told.no_other }
 no_other_told version db (Store error) told is = absurd (cc)
@@ -63,7 +63,7 @@ database_refuses version source db error = record {
 }
 
 -- tables whose version is told amiss are refused for that
-pub version_refuses : (version : Version) (source : List ℕ) (db : Database) (fault : OpenFault) → HasTables db.schema → IsVersionFault version (settings (db.trees 0)) fault → RefusesTables version source db fault
+pub version_refuses : (version : Version) (source : List ℕ) (db : Database) (fault : OpenFault) → HasTables db.schema → IsVersionFault version (meta_rows (db.trees 0)) fault → RefusesTables version source db fault
 version_refuses version source db fault has told = record {
   wrong_version = says_other version db fault told;
   bad_row = unversioned version source db fault told;
@@ -80,13 +80,13 @@ number_low : (version : Version) → version_number version < 2 ^ 64
 number_low Old = omega arith
 number_low This = omega arith
 
-said_alone : (name text other : List ℕ) → Contains (setting name text ∷ []) (setting name other) → text ≡ other
+said_alone : (name text other : List ℕ) → Contains (meta_row name text ∷ []) (meta_row name other) → text ≡ other
 said_alone name text other says =
     let first : says.0 ≡ 0 = omega (arith, says.1) in
-    let same : setting name text ≡ setting name other = subst (λ (k : ℕ). slice_index_or (setting name text ∷ []) k (setting name other) ≡ setting name other) first says.2 in
+    let same : meta_row name text ≡ meta_row name other = subst (λ (k : ℕ). slice_index_or (meta_row name text ∷ []) k (meta_row name other) ≡ meta_row name other) first says.2 in
     cc
 
--- and so do tables whose one setting is the version
+-- and so do tables whose one row of `meta` says the version
 pub only_said : (version : Version) (db : Database) → HasVersion (version_text version) db → SaysNoOther version db
 only_said version db is = record {
   only = λ number low says.

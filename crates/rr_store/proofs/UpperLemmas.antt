@@ -1,5 +1,5 @@
 -- The block that migration adds: its lines are good ones, and its key has no old bytes.
-use Rattle.std.proofs.Common.{◌≡◌, ℕ, Bool, true, false, not, ◌&&◌, List, [], ◌∷◌, codes, Ok, refl, sym, ap, subst, ◌∙◌, arith}
+use Rattle.std.proofs.Common.{◌≡◌, ℕ, Option, Some, None, Result, Err, IfOk, IfSome, Bool, true, false, not, ◌&&◌, List, [], ◌∷◌, codes, Ok, refl, sym, ap, subst, ◌∙◌, arith}
 use Rattle.std.specs.List.{list_all, list_any}
 use Rattle.std.proofs.lemmas.Bool.{and_parts}
 use Rattle.std.proofs.lemmas.Bool.Decides.{nat_tests}
@@ -72,3 +72,9 @@ pub as_read : (source : List ℕ) (fields : List Field) (object : Obj) → objec
 as_read source fields object read good =
     let same : object.paragraph ≡ fields = kept_paragraph fields object (of_any_source fields source object read) in
     record { fields = subst AreFields (sym same) good; read = subst (λ fs. object_of fs source ≡ Ok object) (sym same) read }
+
+pub some_as_read : {E : Type 0} (source : List ℕ) (fields : List Field) (r : Result (Option Obj) E) → IfOk r (λ read. IfSome read (λ object. object_of fields source ≡ Ok object)) → AreFields fields
+    → IfOk r (λ read. IfSome read (IsObjectOf source))
+some_as_read source fields (Ok (Some object)) h good = as_read source fields object h good
+some_as_read source fields (Ok None) h good = tt
+some_as_read source fields (Err e) h good = tt

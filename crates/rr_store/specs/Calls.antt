@@ -63,7 +63,7 @@ module _ {S : Type 0} (g : Ghosts S) where
 
   -- one transaction makes this change, or fails and leaves the rows as they were; a stop leaves one
   -- of the two
-  pub record Writes {X E : Type 0} (Change : Database → Database → Type 0) (old new : Held S)
+  pub record Transacts {X E : Type 0} (Change : Database → Database → Type 0) (old new : Held S)
       (result : Result X E) : Type 0 where
     pub autocommit : old.in_transaction ≡ false → new.in_transaction ≡ false
     pub opened : WhileOpen new (IsTrue (state g old).is_open)

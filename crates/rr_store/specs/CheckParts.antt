@@ -6,22 +6,23 @@ use Rattle.std.specs.List.{flat_map}
 use Rattle.sqlite_value.specs.Order.{Row}
 use Rattle.rr_object.specs.Objects.{Obj}
 use Rattle.sqlite.specs.Effect.{Database}
-use Rattle.rr_rows.specs.Contents.{AreKeyed, contents, pointed, setting}
+use Rattle.rr_rows.specs.Contents.{AreNumbered, contents, meta_row, pointed}
 use Rattle.rr_rows.specs.Entries.{named_rows}
 use Rattle.rr_rows.specs.Maps.{KeyForm, entry_in, this_form}
-use Rattle.rr_rows.specs.Tables.{HasTables}
+use Rattle.rr_rows.specs.Tables.{HasTables, meta_tree, named_tree, object_tree}
 use Rattle.rr_store.specs.ReadingParts.{AreNone, AreRead}
 use Rattle.rr_store.specs.Versions.{SaysVersion, form_of, version_number, version_text}
 use Rattle.rr_store.specs.declared.version.Version.{Version}
 use Rattle.rr_store.specs.declared.fault.OpenFault.{OpenFault}
 use Rattle.rr_store.specs.declared.fault.OpenFault.TheVariants.{WrongVersion, BadRow, Store, Memory}
 
--- no setting says another version, and they are not the one that says this (profile)
+-- no row of `meta` says another version of 32 bits, and the rows are not the one that says this
+-- (profile)
 pub record IsBadVersion (version : Version) (rows : List Row) : Type 0 where
   pub no_other : (n : ℕ) → n < 2 ^ 32 → SaysVersion n rows → n ≡ version_number version
-  pub bad : rows ≢ setting (codes "version") (version_text version) ∷ []
+  pub bad : rows ≢ meta_row (codes "version") (version_text version) ∷ []
 
--- a fault of the version is told where the settings have it (profile)
+-- a fault of the version is told where the rows of `meta` have it (profile)
 abbrev pub IsVersionFault : Version → List Row → OpenFault → Type 0
 IsVersionFault version rows (WrongVersion n) = (n ≢ version_number version) × SaysVersion n rows
 IsVersionFault version rows BadRow = IsBadVersion version rows
@@ -29,9 +30,9 @@ IsVersionFault version rows (Store error) = Unit {0}
 IsVersionFault version rows Memory = Unit {0}
 
 -- the three tables are there, and the rows of `meta` have numbers of their own (profile)
-pub record HasSettings (db : Database) : Type 0 where
+pub record HasNumberedMeta (db : Database) : Type 0 where
   pub tables : HasTables db.schema
-  pub keyed : AreKeyed (db.trees 0)
+  pub numbered : AreNumbered (db.trees meta_tree)
 
 -- rows, in some order, are those of the maintainers that the objects name (profile)
 abbrev pub AreNamingRows : Version → List Obj → List Row → Type 0
@@ -40,7 +41,7 @@ AreNamingRows version objects rows =
 
 -- the tables name the maintainers of the objects, and no others (profile)
 abbrev pub NamesAre : Version → List Obj → Database → Type 0
-NamesAre version objects db = AreNamingRows version objects (contents (db.trees 4))
+NamesAre version objects db = AreNamingRows version objects (contents (db.trees named_tree))
 
 -- rows, in some order, are those of these objects (profile)
 pub record HoldsObjects (form : KeyForm) (source : List ℕ) (objects : List Obj) (held : List Row)
@@ -58,14 +59,15 @@ pub record HoldsNone (form : KeyForm) (source : List ℕ) (held : List Row) : Ty
 -- `object` holds the rows of these objects
 abbrev pub TableHolds : Version → List ℕ → List Obj → Database → Type 0
 TableHolds version source objects db =
-    HoldsObjects (form_of version) source objects (contents (db.trees 2))
+    HoldsObjects (form_of version) source objects (contents (db.trees object_tree))
 
 -- `object` holds the rows of no objects of the source
 abbrev pub TableHoldsNone : Version → List ℕ → Database → Type 0
-TableHoldsNone version source db = HoldsNone (form_of version) source (contents (db.trees 2))
+TableHoldsNone version source db =
+    HoldsNone (form_of version) source (contents (db.trees object_tree))
 
 -- the objects are those to which `named` points from this maintainer
 abbrev pub NamedPointsTo : List ℕ → List ℕ → List Obj → Database → Type 0
 NamedPointsTo source name objects db =
     HoldsObjects this_form source objects
-    (pointed name (contents (db.trees 4)) (contents (db.trees 2)))
+    (pointed name (contents (db.trees named_tree)) (contents (db.trees object_tree)))

@@ -8,7 +8,7 @@ use Rattle.sqlite.specs.Held.{Held, state}
 use Rattle.sqlite.specs.State.{Survives}
 use Rattle.rr_object.specs.Objects.{Obj}
 use Rattle.rr_rows.specs.Entries.{TreesOf, entry_of}
-use Rattle.rr_rows.specs.Made.{HasItsTables, HasRow, IsVacant}
+use Rattle.rr_rows.specs.Made.{HasItsTables, HasSomeRow, IsVacant}
 use Rattle.rr_rows.specs.Maps.{IsFilled, IsObject}
 use Rattle.rr_rows.specs.Tables.{HasTables}
 use Rattle.rr_store.specs.Calls.{FailsFor, IsOpen, IsSettled, OnCleanDisk, WhileOpen, database}
@@ -24,7 +24,7 @@ pub record IsStoreOf (objects : List Obj) (db : Database) : Type 0 where
 -- where one of the three tables has a row, the database's error has a cause outside the rows
 abbrev pub FailsOverRow : {S : Type 0} → Ghosts S → Held S → Held S → Error → Type 0
 FailsOverRow g old new error =
-    HasTables (database g old).schema → HasRow (database g old) → FailsFor g old new error
+    HasTables (database g old).schema → HasSomeRow (database g old) → FailsFor g old new error
 
 module _ {S : Type 0} (g : Ghosts S) (objects : List Obj) (conn : Held S) where
   -- a database that had room for it is the store of the objects (profile)
@@ -45,7 +45,7 @@ module _ {S : Type 0} (g : Ghosts S) (objects : List Obj) (conn : Held S) where
     pub kept : WhileOpen g left (database g left ≡ database g conn)
     pub settled : IsSettled g left
     pub not_empty : fault ≡ NotEmpty
-        → OnCleanDisk g left (HasTables (database g conn).schema × HasRow (database g conn))
+        → OnCleanDisk g left (HasTables (database g conn).schema × HasSomeRow (database g conn))
     pub store : (error : Error) → fault ≡ Store error → FailsOverRow g conn left error
     pub crash : Survives (state g conn) (state g left) (TreesOf (IsStoreOf objects))
     pub crash_tables : Survives (state g conn) (state g left)

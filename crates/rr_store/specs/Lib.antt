@@ -6,7 +6,6 @@ pub mod Listing
 pub mod VacancyParts
 pub mod Faults
 pub mod Kept
-pub mod Lent
 pub mod Migrating
 pub mod MigratingParts
 pub mod NamingParts

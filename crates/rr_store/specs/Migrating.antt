@@ -22,7 +22,7 @@ use Rattle.rr_store.specs.declared.fault.MigrateFault.{MigrateFault}
 use Rattle.rr_store.specs.declared.fault.MigrateFault.TheVariants.{WrongVersion, BadRow, NoRoot}
 use Rattle.rr_store.specs.declared.fault.MigrateFault.TheVariants.{Store, Memory}
 
--- the block of the AS numbers of more than two octets (RFC 6793), which the root maintains
+-- the block of the AS numbers of more than 16 bits (RFC 6793), which the root maintains
 -- (profile)
 abbrev pub upper_block : List ℕ → List ℕ → List Field
 upper_block root source =
@@ -37,11 +37,11 @@ has_mntner name objects = list_any (λ object. is_mntner_of name object.key) obj
 -- hold the same objects and that block, and all else stays (profile)
 pub record IsMigrated (root source : List ℕ) (old new : Database) : Type 0 where
   pub objects : List Obj
-  pub block : Obj
+  pub upper : Obj
   pub before : AreOldStored source objects old
   pub registered : has_mntner root objects ≡ true
-  pub read : ReadsAs source (upper_block root source) block
-  pub after : AreStored source (objects ++ block ∷ []) new
+  pub read : ReadsAs source (upper_block root source) upper
+  pub after : AreStored source (objects ++ upper ∷ []) new
   pub others : KeepsOthers old new
 
 -- tables of version 1 hold objects of the source, and none is the root's mntner (profile)

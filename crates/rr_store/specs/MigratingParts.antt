@@ -14,11 +14,11 @@ pub record IsReplaced (entries : List Entry) (old new : Database) : Type 0 where
   pub others : KeepsOthers old new
 
 -- the tables are of version 2 and hold the rows of the objects and of the block of the AS numbers
--- of more than two octets, and all else stays (profile)
+-- of more than 16 bits, and all else stays (profile)
 pub record IsRewritten (root source : List ℕ) (objects : List Obj) (old new : Database)
     : Type 0 where
-  pub block : Obj
-  pub of_source : IsObjectOf source block
-  pub read : ReadsAs source (upper_block root source) block
-  pub filled : IsFilled (map entry_of (objects ++ block ∷ [])) new
+  pub upper : Obj
+  pub of_source : IsObjectOf source upper
+  pub read : ReadsAs source (upper_block root source) upper
+  pub filled : IsFilled (map entry_of (objects ++ upper ∷ [])) new
   pub others : KeepsOthers old new

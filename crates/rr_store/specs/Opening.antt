@@ -7,9 +7,9 @@ use Rattle.sqlite.specs.Effect.{Database}
 use Rattle.sqlite.specs.Held.{Held, state}
 use Rattle.sqlite.specs.State.{Survives}
 use Rattle.rr_object.specs.Objects.{Obj}
-use Rattle.rr_rows.specs.Contents.{settings}
+use Rattle.rr_rows.specs.Contents.{meta_rows}
 use Rattle.rr_rows.specs.Maps.{AreInOrder, AreStored, AreStoredIn, IsObjectOf}
-use Rattle.rr_rows.specs.Tables.{HasTables}
+use Rattle.rr_rows.specs.Tables.{HasTables, meta_tree}
 use Rattle.rr_store.specs.Calls.{FailsOverTidy, IsOpen, IsSettled, OnCleanDisk, Rests, database}
 use Rattle.rr_store.specs.Versions.{SaysVersion, form_of, version_number, version_text}
 use Rattle.rr_store.specs.declared.fault.OpenFault.{OpenFault}
@@ -21,11 +21,12 @@ use Rattle.rr_store.specs.declared.version.Version.TheVariants.{Old, This}
 -- (profile)
 abbrev pub SaysOther : Version → ℕ → Database → Type 0
 SaysOther version number db =
-    (number ≢ version_number version) × SaysVersion number (settings (db.trees 0))
+    (number ≢ version_number version) × SaysVersion number (meta_rows (db.trees meta_tree))
 
--- no row of `meta` says that the tables are of another version than that asked for (profile)
+-- no row of `meta` says that the tables are of another version of 32 bits than that asked for
+-- (profile)
 pub record SaysNoOther (version : Version) (db : Database) : Type 0 where
-  pub only : (number : ℕ) → number < 2 ^ 32 → SaysVersion number (settings (db.trees 0))
+  pub only : (number : ℕ) → number < 2 ^ 32 → SaysVersion number (meta_rows (db.trees meta_tree))
       → number ≡ version_number version
 
 -- the objects are such as readers make in a registry of the source
@@ -55,10 +56,6 @@ IsOfNoOther = SaysNoOther This
 -- no row of `meta` says a version that is not 1 (profile)
 abbrev pub IsOfNoneButOld : Database → Type 0
 IsOfNoneButOld = SaysNoOther Old
-
--- no list of objects of the source has these rows in tables of version 2 (profile)
-abbrev pub IsUnreadable : List ℕ → Database → Type 0
-IsUnreadable = HoldNone This
 
 -- the fault is of the rows, and not of the database or of memory
 abbrev pub IsOfRows : OpenFault → Type 0

@@ -11,7 +11,7 @@ use Rattle.sqlite.specs.declared.error.ErrorCode.TheVariants.{OutOfMemory}
 use Rattle.sqlite.specs.Given.{HasGiven}
 use Rattle.sqlite.specs.Held.{Held, state}
 use Rattle.sqlite.specs.State.{FailsToQuery, IsRolledBack, IsUnchanged, Shown, Survives}
-use Rattle.rr_rows.specs.Contents.{AreKeyed, IsPast, by_one}
+use Rattle.rr_rows.specs.Contents.{AreNumbered, IsPast, by_one}
 use Rattle.rr_store.specs.Calls.{OnCleanDisk}
 
 -- memory ran out, or a row has no whole number that is above the last
@@ -46,7 +46,7 @@ module _ {S : Type 0} (g : Ghosts S) where
     pub same : IsUnchanged (state g old) (state g new)
     pub more : List Row
     pub gives : GivesMore old new more
-    pub none : (rest : List Row) → AreKeyed (more ++ rest) → IsSorted by_one (more ++ rest) → ⊥
+    pub none : (rest : List Row) → AreNumbered (more ++ rest) → IsSorted by_one (more ++ rest) → ⊥
 
   -- numbers are not counted: memory ran out, the query failed, or a row has none that is due
   abbrev pub FailsToCount : Held S → Held S → Error → Type 0

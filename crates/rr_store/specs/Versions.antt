@@ -6,8 +6,14 @@ use Rattle.rr_store.specs.declared.version.Version.TheVariants.{Old, This}
 use Rattle.rr_object.specs.OldKeys.{old_key_bytes}
 use Rattle.rr_rows.specs.Maps.{KeyForm, old_version, this_form, this_version}
 use Rattle.sqlite_value.specs.Order.{Row}
-use Rattle.rr_rows.specs.Contents.{setting}
+use Rattle.rr_rows.specs.Contents.{meta_row}
 
+-- the other one of the two (profile)
+abbrev pub other_of : Version → Version
+other_of Old = This
+other_of This = Old
+
+-- the number of a version (profile)
 abbrev pub version_number : Version → ℕ
 version_number Old = OLD_VERSION
 version_number This = VERSION
@@ -22,6 +28,6 @@ abbrev pub form_of : Version → KeyForm
 form_of Old = old_key_bytes
 form_of This = this_form
 
--- some setting says that the tables are of the version of this number (profile)
+-- some row of `meta` says that the tables are of the version of this number (profile)
 abbrev pub SaysVersion : ℕ → List Row → Type 0
-SaysVersion n rows = Contains rows (setting (codes "version") (decimal n))
+SaysVersion n rows = Contains rows (meta_row (codes "version") (decimal n))

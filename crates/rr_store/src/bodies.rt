@@ -5,13 +5,14 @@ ghost use Rattle.rr_rows.specs.Contents.{Adds, Alters, IsTidy, Removes, is_name_
 ghost use Rattle.rr_rows.specs.Contents.{is_named_of, named_values};
 ghost use Rattle.rr_rows.specs.Entries.{IsAdded, IsPut, IsTakenOut};
 ghost use Rattle.rr_rows.specs.Maps.{AreOfObjects};
+ghost use Rattle.rr_rows.specs.Tables.{named_tree};
 ghost use Rattle.rr_store.specs.Calls.{WhileOpen, database};
 ghost use Rattle.rr_store.specs.StepParts.{CommitsNothing, GoesOn, GoesOnOpen, LeavesAll};
 ghost use Rattle.rr_store.specs.StepParts.{Made, MadeOpen};
 
 use crate::entry::Entry;
 use crate::fault::StoreFault;
-use crate::old_names::names_of_rows;
+use crate::leaving_names::names_of_rows;
 use crate::statements::{add_name, add_object, remove_name, remove_object, rows_of_key};
 use rr_number::Name;
 use sqlite::{Alter, Error, Transaction};
@@ -27,7 +28,7 @@ fn add_names<S: Alter>(
     requires { WhileOpen S.Store tx.old.conn.now (IsTidy (database S.Store tx.old.conn.now)) }
     ensures same_reference { tx.new.conn.ghost_name ≡ tx.old.conn.ghost_name }
     ensures ok { MadeOpen S.Store
-        (λ old new. Alters old new 4
+        (λ old new. Alters old new named_tree
         (Adds (map (λ name. named_values name class key.now) names.now)))
         tx.old.conn.now tx.new.conn.now result }
     ensures step { GoesOnOpen S.Store tx.old.conn.now tx.new.conn.now result }
@@ -71,7 +72,7 @@ fn remove_names<S: Alter>(
     requires { WhileOpen S.Store tx.old.conn.now (IsTidy (database S.Store tx.old.conn.now)) }
     ensures same_reference { tx.new.conn.ghost_name ≡ tx.old.conn.ghost_name }
     ensures ok { MadeOpen S.Store
-        (λ old new. Alters old new 4 (Removes (is_name_among class key.now names.now)))
+        (λ old new. Alters old new named_tree (Removes (is_name_among class key.now names.now)))
         tx.old.conn.now tx.new.conn.now result }
     ensures step { GoesOnOpen S.Store tx.old.conn.now tx.new.conn.now result }
     ensures kept { CommitsNothing S.Store tx.old.conn.now tx.new.conn.now }
@@ -94,7 +95,8 @@ fn forget_names<S: Alter>(
 ) -> Result<(), StoreFault>
     requires { WhileOpen S.Store tx.old.conn.now (AreOfObjects (database S.Store tx.old.conn.now)) }
     ensures same_reference { tx.new.conn.ghost_name ≡ tx.old.conn.ghost_name }
-    ensures ok { Made S.Store (λ old new. Alters old new 4 (Removes (is_named_of class key.now)))
+    ensures ok { Made S.Store
+        (λ old new. Alters old new named_tree (Removes (is_named_of class key.now)))
         tx.old.conn.now tx.new.conn.now result }
     ensures step { GoesOn S.Store tx.old.conn.now tx.new.conn.now result }
     ensures kept { CommitsNothing S.Store tx.old.conn.now tx.new.conn.now }

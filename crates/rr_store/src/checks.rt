@@ -5,9 +5,9 @@ ghost use Rattle.std.specs.Prelude.{OnOk};
 ghost use Rattle.std.specs.Prelude.{IsSorted};
 ghost use Rattle.sqlite.specs.Held.{state};
 ghost use Rattle.sqlite.specs.State.{IsUnchanged};
-ghost use Rattle.rr_rows.specs.Contents.{AreKeyed, by_three, contents, setting, settings};
+ghost use Rattle.rr_rows.specs.Contents.{AreNumbered, by_three, contents, meta_row, meta_rows};
 ghost use Rattle.rr_rows.specs.Maps.{AreInOrder, HasVersion, this_form};
-ghost use Rattle.rr_rows.specs.Tables.{HasTables};
+ghost use Rattle.rr_rows.specs.Tables.{HasTables, meta_tree, named_tree, object_tree};
 ghost use Rattle.rr_store.specs.Calls.{FailsOverTidy, Looks, OnCleanDisk, database};
 ghost use Rattle.rr_store.specs.CheckParts.{AreNamingRows, HoldsObjects, IsVersionFault};
 ghost use Rattle.rr_store.specs.CheckParts.{NamedPointsTo, NamesAre, TableHolds, TableHoldsNone};
@@ -17,13 +17,13 @@ ghost use Rattle.rr_store.specs.Versions.{version_text};
 ghost use Rattle.rr_store.specs.declared.fault.OpenFault.TheVariants.{BadRow, Memory, WrongVersion};
 
 use crate::fault::{NO_TABLES, OpenFault};
+use crate::meta::{other_version, says_version};
 use crate::namings::are_named;
 use crate::objects::in_order;
 use crate::reading::{
     count_named, count_object, meta_rows, names_in_turn, read_naming, read_objects,
     sorted_named_rows,
 };
-use crate::settings::{other_version, says_version};
 use crate::version::Version;
 use rr_number::Name;
 use rr_object::Object;
@@ -31,10 +31,10 @@ use rr_rows::has_tables;
 use sqlite::{Alter, Connection, Row};
 use std::alloc::Global;
 
-/// Checks that the settings are the one that says this version.
+/// Checks that the rows of `meta` are the one that says this version.
 fn judge_version(rows: &[Row], version: Version) -> Result<(), OpenFault>
     ensures ok { OnOk result
-        (rows.now ≡ setting (codes "version") (version_text version) ∷ []) }
+        (rows.now ≡ meta_row (codes "version") (version_text version) ∷ []) }
     ensures fault { IfErr result (IsVersionFault version rows.now) }
     ensures no_store { IfErr result (IfStore (λ _. ⊥)) }
 {
@@ -59,7 +59,7 @@ pub(crate) fn check_version<S: Alter>(
     ensures ok { OnCleanDisk S.Store conn.new (OnOk result
         (HasVersion (version_text version) (database S.Store conn.old))) }
     ensures fault { OnCleanDisk S.Store conn.new (IfErr result
-        (IsVersionFault version (settings ((database S.Store conn.old).trees 0)))) }
+        (IsVersionFault version (meta_rows ((database S.Store conn.old).trees meta_tree)))) }
     ensures cause { IfErr result (IfStore (FailsOverTidy S.Store conn.old conn.new)) }
 {
     let rows = meta_rows(conn)?;
@@ -76,8 +76,8 @@ pub(crate) fn check_objects<S: Alter>(
     requires autocommit { conn.old.in_transaction ≡ false }
     requires tables { OnCleanDisk S.Store conn.old (HasTables conn.old.schema) }
     ensures looks { Looks S.Store conn.old conn.new result }
-    ensures keyed { OnCleanDisk S.Store conn.new (OnOk result
-        (AreKeyed ((database S.Store conn.old).trees 2))) }
+    ensures numbered { OnCleanDisk S.Store conn.new (OnOk result
+        (AreNumbered ((database S.Store conn.old).trees object_tree))) }
     ensures read { OnCleanDisk S.Store conn.new (IfOk result (λ objects.
         TableHolds version source.now objects.items (database S.Store conn.old))) }
     ensures of_source { IfOk result (λ objects. AreObjectsOf source.now objects.items) }
@@ -100,9 +100,10 @@ pub(crate) fn all_objects<S: Alter>(
     ensures looks { Looks S.Store conn.old conn.new result }
     ensures read { OnCleanDisk S.Store conn.new (IfOk result (λ objects.
         HoldsObjects this_form source.now objects.items
-        (contents ((database S.Store conn.old).trees 2)))) }
+        (contents ((database S.Store conn.old).trees object_tree)))) }
     ensures in_order { IfOk result (λ objects. AreInOrder objects.items) }
     ensures of_source { IfOk result (λ objects. AreObjectsOf source.now objects.items) }
+    ensures cause { IfErr result (IfStore (FailsOverTidy S.Store conn.old conn.new)) }
 {
     if !has_tables(conn.schema()) {
         return Err(OpenFault::Store(NO_TABLES));
@@ -132,7 +133,7 @@ fn judge_names(
     }
 }
 
-/// Checks that the tables name the maintainers of the objects, and no others, in whatever order.
+/// The same of the tables, whose rows are asked for in that order, however they stand.
 fn check_sorted_names<S: Alter>(
     conn: &mut Connection<S>,
     alloc: Global,
@@ -153,8 +154,8 @@ fn check_sorted_names<S: Alter>(
     judge_names(alloc, &rows, objects, version)
 }
 
-/// Checks that the tables name the maintainers of the objects, and no others.
-fn check_named<S: Alter>(
+/// The same, first with the rows as they stand, then in order.
+fn check_maintainers<S: Alter>(
     conn: &mut Connection<S>,
     alloc: Global,
     objects: &[Object],
@@ -176,10 +177,9 @@ fn check_named<S: Alter>(
     check_sorted_names(conn, alloc, objects, version)
 }
 
-/// Checks that the tables name the maintainers of the objects, and no others. Rows of `named` have
-/// numbers of their own, and stand in the order of the objects unless others wrote them: only then
-/// they are asked for once more, and compared in order.
-pub(crate) fn check_names<S: Alter>(
+/// The same, and that the rows of `named` have numbers of their own. They stand in the order of the
+/// objects unless others wrote them: only then are they asked for once more, and compared in order.
+pub(crate) fn check_named_table<S: Alter>(
     conn: &mut Connection<S>,
     alloc: Global,
     objects: &[Object],
@@ -188,8 +188,8 @@ pub(crate) fn check_names<S: Alter>(
     requires autocommit { conn.old.in_transaction ≡ false }
     requires tables { OnCleanDisk S.Store conn.old (HasTables conn.old.schema) }
     ensures looks { Looks S.Store conn.old conn.new result }
-    ensures keyed { OnCleanDisk S.Store conn.new (OnOk result
-        (AreKeyed ((database S.Store conn.old).trees 4))) }
+    ensures numbered { OnCleanDisk S.Store conn.new (OnOk result
+        (AreNumbered ((database S.Store conn.old).trees named_tree))) }
     ensures ok { OnCleanDisk S.Store conn.new (OnOk result
         (NamesAre version objects.now (database S.Store conn.old))) }
     ensures bad_row { OnCleanDisk S.Store conn.new (IfErr result (λ fault. fault ≡ BadRow →
@@ -197,9 +197,9 @@ pub(crate) fn check_names<S: Alter>(
     ensures no_other { IfErr result TellsNoVersion }
     ensures cause { IfErr result (IfStore (FailsOverTidy S.Store conn.old conn.new)) }
 {
-    // for its clause: the rows have numbers of their own
+    // the count is not asked for: the clause says that the rows have numbers of their own
     let _count = count_named(conn)?;
-    check_named(conn, alloc, objects, version)
+    check_maintainers(conn, alloc, objects, version)
 }
 
 /// The objects that name a maintainer, in order of class and key.

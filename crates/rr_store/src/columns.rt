@@ -3,7 +3,7 @@
 ghost use Rattle.std.specs.Prelude.{◌≡◌, pos, IfSome, IsTrue, None};
 ghost use Rattle.sqlite_value.specs.declared.value.Value.TheVariants.{Blob, Int, Text};
 ghost use Rattle.sqlite_value.specs.Order.{column};
-ghost use Rattle.rr_rows.specs.Contents.{columns, named_values, object_values, setting};
+ghost use Rattle.rr_rows.specs.Contents.{columns, meta_row, named_values, object_values};
 
 use sqlite::Row;
 use sqlite_value::value::ValueRef;
@@ -80,7 +80,7 @@ pub(crate) fn is_named_row(row: &Row, name: &[u8], class: u8, key: &[u8]) -> boo
 }
 
 /// Whether a row without a number is that of a maintainer and an object that names it.
-pub(crate) fn is_naming(row: &Row, name: &[u8], class: u8, key: &[u8]) -> bool
+pub(crate) fn is_bare_named_row(row: &Row, name: &[u8], class: u8, key: &[u8]) -> bool
     ensures is { IsTrue result → row.now ≡ named_values name.now class key.now }
     ensures only { row.now ≡ named_values name.now class key.now → IsTrue result }
 {
@@ -90,10 +90,10 @@ pub(crate) fn is_naming(row: &Row, name: &[u8], class: u8, key: &[u8]) -> bool
         && has_text(row, 2, key)
 }
 
-/// Whether a row is that of a setting.
-pub(crate) fn is_setting(row: &Row, name: &[u8], value: &[u8]) -> bool
-    ensures is { IsTrue result → row.now ≡ setting name.now value.now }
-    ensures only { row.now ≡ setting name.now value.now → IsTrue result }
+/// Whether a row of `meta`, without a number, has this name and this value.
+pub(crate) fn is_bare_meta_row(row: &Row, name: &[u8], value: &[u8]) -> bool
+    ensures is { IsTrue result → row.now ≡ meta_row name.now value.now }
+    ensures only { row.now ≡ meta_row name.now value.now → IsTrue result }
 {
     row.column_count() == 2 && has_text(row, 0, name) && has_text(row, 1, value)
 }

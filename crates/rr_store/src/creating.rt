@@ -2,11 +2,11 @@
 
 ghost use Rattle.std.specs.Prelude.{◌≡◌, false, IfErr, OnOk};
 ghost use Rattle.sqlite.specs.declared.error.Error.{Error};
-ghost use Rattle.rr_rows.specs.Made.{HasItsTables, HasRow, IsBare, IsVacant, no_schema};
+ghost use Rattle.rr_rows.specs.Made.{HasItsTables, HasSomeRow, IsBare, IsVacant, no_schema};
 ghost use Rattle.rr_rows.specs.Tables.{HasTables};
-ghost use Rattle.rr_store.specs.Calls.{OnCleanDisk, WhileOpen, Writes, database};
+ghost use Rattle.rr_store.specs.Calls.{OnCleanDisk, Transacts, WhileOpen, database};
 ghost use Rattle.rr_store.specs.Creating.{FailsOverRow, IsStoreOf};
-ghost use Rattle.rr_store.specs.Lent.{lent};
+ghost use Rattle.rr_object.specs.Objects.{lent};
 ghost use Rattle.rr_store.specs.declared.fault.CreateFault.TheVariants.{NotEmpty, Store};
 
 use crate::ending::end;
@@ -26,9 +26,9 @@ fn create_in_blank<S: Alter>(
 ) -> Result<(), StoreFault>
     requires autocommit { conn.old.in_transaction ≡ false }
     requires blank { WhileOpen S.Store conn.old (conn.old.schema ≡ no_schema) }
-    ensures makes { Writes S.Store (λ _. IsStoreOf (lent objects.now))
+    ensures makes { Transacts S.Store (λ _. IsStoreOf (lent objects.now))
         conn.old conn.new result }
-    ensures tables { Writes S.Store HasItsTables conn.old conn.new result }
+    ensures tables { Transacts S.Store HasItsTables conn.old conn.new result }
 {
     // outside a transaction the database is as it was last committed
     let _settled = conn.is_autocommit();
@@ -45,9 +45,9 @@ fn create_in_bare<S: Alter>(
 ) -> Result<(), StoreFault>
     requires autocommit { conn.old.in_transaction ≡ false }
     requires bare { WhileOpen S.Store conn.old (IsBare (database S.Store conn.old)) }
-    ensures makes { Writes S.Store (λ _. IsStoreOf (lent objects.now))
+    ensures makes { Transacts S.Store (λ _. IsStoreOf (lent objects.now))
         conn.old conn.new result }
-    ensures tables { Writes S.Store HasItsTables conn.old conn.new result }
+    ensures tables { Transacts S.Store HasItsTables conn.old conn.new result }
 {
     // outside a transaction the database is as it was last committed
     let _settled = conn.is_autocommit();
@@ -64,13 +64,13 @@ fn create_in_tables<S: Alter>(
 ) -> Result<(), CreateFault>
     requires autocommit { conn.old.in_transaction ≡ false }
     requires tables { OnCleanDisk S.Store conn.old (HasTables conn.old.schema) }
-    ensures makes { Writes S.Store (λ _. IsStoreOf (lent objects.now))
+    ensures makes { Transacts S.Store (λ _. IsStoreOf (lent objects.now))
         conn.old conn.new result }
-    ensures tables { Writes S.Store HasItsTables conn.old conn.new result }
+    ensures tables { Transacts S.Store HasItsTables conn.old conn.new result }
     ensures bare { OnCleanDisk S.Store conn.new (OnOk result
         (IsBare (database S.Store conn.old))) }
     ensures filled { OnCleanDisk S.Store conn.new (IfErr result (λ fault. fault ≡ NotEmpty →
-        HasRow (database S.Store conn.old))) }
+        HasSomeRow (database S.Store conn.old))) }
     ensures cause { IfErr result (λ fault. (error : Error) → fault ≡ Store error →
         FailsOverRow S.Store conn.old conn.new error) }
 {
@@ -88,13 +88,13 @@ pub(crate) fn create_where_vacant<S: Alter>(
     objects: &[&Object],
 ) -> Result<(), CreateFault>
     requires autocommit { conn.old.in_transaction ≡ false }
-    ensures makes { Writes S.Store (λ _. IsStoreOf (lent objects.now))
+    ensures makes { Transacts S.Store (λ _. IsStoreOf (lent objects.now))
         conn.old conn.new result }
-    ensures tables { Writes S.Store HasItsTables conn.old conn.new result }
+    ensures tables { Transacts S.Store HasItsTables conn.old conn.new result }
     ensures vacant { OnCleanDisk S.Store conn.new (OnOk result
         (IsVacant (database S.Store conn.old))) }
     ensures filled { OnCleanDisk S.Store conn.new (IfErr result (λ fault. fault ≡ NotEmpty →
-        HasTables conn.old.schema × HasRow (database S.Store conn.old))) }
+        HasTables conn.old.schema × HasSomeRow (database S.Store conn.old))) }
     ensures cause { IfErr result (λ fault. (error : Error) → fault ≡ Store error →
         FailsOverRow S.Store conn.old conn.new error) }
 {

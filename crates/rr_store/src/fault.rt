@@ -13,7 +13,7 @@ pub(crate) const BAD_ROWS: Error = Error::SqliteFailure(ErrorCode::DatabaseCorru
 /// Why a call on a store failed. It changed no row.
 #[derive(Clone, Copy, Debug, PartialEq, Eq)]
 pub enum StoreFault {
-    /// The database refused, out of memory too.
+    /// The database refused, or ran out of memory, or its rows are not those of the store.
     Store(Error),
     /// Out of memory.
     Memory,
@@ -46,7 +46,7 @@ impl From<Error> for StoreFault {
 pub enum CreateFault {
     /// One of the three tables has a row.
     NotEmpty,
-    /// The database refused, out of memory too, or has other tables in place of the three.
+    /// The database refused, or ran out of memory, or has other tables in place of the three.
     Store(Error),
     /// Out of memory.
     Memory,
@@ -73,7 +73,7 @@ pub enum OpenFault {
     WrongVersion(u32),
     /// The rows are not those of objects of the source.
     BadRow,
-    /// The database refused, out of memory too, or has other tables in place of the three.
+    /// The database refused, or ran out of memory, or has other tables in place of the three.
     Store(Error),
     /// Out of memory.
     Memory,
@@ -127,7 +127,7 @@ pub enum MigrateFault {
     BadRow,
     /// The root's mntner is not among the objects.
     NoRoot,
-    /// The database refused, out of memory too, or has other tables in place of the three.
+    /// The database refused, or ran out of memory, or has other tables in place of the three.
     Store(Error),
     /// Out of memory.
     Memory,

@@ -8,7 +8,7 @@ ghost use Rattle.rr_rows.specs.Made.{HasItsTables, IsBare, no_schema};
 ghost use Rattle.rr_rows.specs.Maps.{IsObject};
 ghost use Rattle.rr_store.specs.Calls.{WhileOpen, database};
 ghost use Rattle.rr_store.specs.Creating.{IsStoreOf};
-ghost use Rattle.rr_store.specs.Lent.{lent};
+ghost use Rattle.rr_object.specs.Objects.{lent};
 ghost use Rattle.rr_store.specs.StepParts.{CommitsNothing, GoesOn, GoesOnOpen, LeavesAll};
 ghost use Rattle.rr_store.specs.StepParts.{Made, MadeOpen};
 
@@ -16,7 +16,7 @@ use crate::bodies::add_rows;
 use crate::entry::Entry;
 use crate::fault::StoreFault;
 use crate::making::make_tables;
-use crate::statements::add_setting;
+use crate::statements::add_meta_row;
 use crate::version::Version;
 use rr_object::Object;
 use sqlite::{Alter, Transaction};
@@ -60,7 +60,7 @@ pub(crate) fn fill<S: Alter>(
     ensures survives { LeavesAll S.Store tx.old.conn.now tx.new.conn.now }
 {
     // the count is not asked for: the clause says which rows changed
-    let _version = add_setting(tx, b"version", Version::This.text())?;
+    let _version = add_meta_row(tx, b"version", Version::This.text())?;
     add_objects(tx, alloc, objects)
 }
 

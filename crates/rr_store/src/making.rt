@@ -8,7 +8,7 @@ ghost use Rattle.rr_store.specs.StepParts.{CommitsNothing, GoesOn, LeavesAll, Ma
 
 use sqlite::{Alter, Error, Transaction};
 
-/// Makes the table `meta`, of the settings.
+/// Makes the table `meta`, of the tables' version.
 fn create_meta<S: Alter>(tx: &mut Transaction<'_, S>) -> Result<usize, Error>
     requires { WhileOpen S.Store tx.old.conn.now
         ((database S.Store tx.old.conn.now).schema ≡ no_schema) }

@@ -4,19 +4,19 @@ ghost use Rattle.std.specs.Prelude.{◌≡◌, [], ◌∷◌, ◌++◌, false, m
 ghost use Rattle.rr_rows.specs.Contents.{IsTidy, KeepsOthers};
 ghost use Rattle.rr_rows.specs.Entries.{entry_of};
 ghost use Rattle.rr_rows.specs.Made.{IsBare};
-ghost use Rattle.rr_store.specs.Calls.{OnCleanDisk, WhileOpen, Writes, database};
-ghost use Rattle.rr_store.specs.Lent.{lent};
+ghost use Rattle.rr_store.specs.Calls.{OnCleanDisk, Transacts, WhileOpen, database};
+ghost use Rattle.rr_object.specs.Objects.{lent};
 ghost use Rattle.rr_store.specs.Migrating.{FailsToRead, IsMigrated, RefusesOldTables, has_mntner};
 ghost use Rattle.rr_store.specs.MigratingParts.{IsReplaced, IsRewritten};
 ghost use Rattle.rr_store.specs.declared.fault.MigrateFault.TheVariants.{Store};
 ghost use Rattle.rr_store.specs.StepParts.{CommitsNothing, GoesOn, LeavesAll, Made};
 
 use crate::ending::end;
-use crate::fault::{MigrateFault, StoreFault};
+use crate::fault::{BAD_ROWS, MigrateFault, StoreFault};
 use crate::filling::fill;
 use crate::objects::lent;
 use crate::opening::stored_objects;
-use crate::statements::{clear_names, clear_objects, clear_settings};
+use crate::statements::{clear_meta, clear_names, clear_objects};
 use crate::upper::upper_object;
 use crate::version::Version;
 use rr_number::Name;
@@ -35,7 +35,7 @@ fn clear_rows<S: Alter>(tx: &mut Transaction<'_, S>) -> Result<(), Error>
     ensures survives { LeavesAll S.Store tx.old.conn.now tx.new.conn.now }
 {
     // the counts are not asked for: the clauses say which rows changed
-    let _settings = clear_settings(tx)?;
+    let _meta = clear_meta(tx)?;
     let _objects = clear_objects(tx)?;
     let _names = clear_names(tx)?;
     Ok(())
@@ -67,7 +67,7 @@ fn replace<S: Alter>(
 ) -> Result<(), StoreFault>
     requires autocommit { conn.old.in_transaction ≡ false }
     requires tidy { WhileOpen S.Store conn.old (IsTidy (database S.Store conn.old)) }
-    ensures { Writes S.Store (IsReplaced (map entry_of (lent objects.now)))
+    ensures { Transacts S.Store (IsReplaced (map entry_of (lent objects.now)))
         conn.old conn.new result }
 {
     // outside a transaction the database is as it was last committed
@@ -78,15 +78,15 @@ fn replace<S: Alter>(
 }
 
 /// The objects and the block.
-fn with_block(mut objects: Vec<Object>, block: Object) -> Result<Vec<Object>, AllocError>
-    ensures { IfOk result (λ all. all.items ≡ objects.items ++ block ∷ []) }
+fn with_upper(mut objects: Vec<Object>, upper: Object) -> Result<Vec<Object>, AllocError>
+    ensures { IfOk result (λ all. all.items ≡ objects.items ++ upper ∷ []) }
 {
-    objects.push(block)?;
+    objects.push(upper)?;
     Ok(objects)
 }
 
-/// Puts the rows of the objects and of the block of the other AS numbers in place of all rows, in
-/// one transaction.
+/// Puts the rows of the objects and of the block of the AS numbers of more than 16 bits in place of
+/// all rows, in one transaction.
 fn rewrite<S: Alter>(
     conn: &mut Connection<S>,
     alloc: Global,
@@ -96,11 +96,13 @@ fn rewrite<S: Alter>(
 ) -> Result<(), StoreFault>
     requires autocommit { conn.old.in_transaction ≡ false }
     requires tidy { WhileOpen S.Store conn.old (IsTidy (database S.Store conn.old)) }
-    ensures { Writes S.Store (IsRewritten root.now source.now objects.items)
+    ensures { Transacts S.Store (IsRewritten root.now source.now objects.items)
         conn.old conn.new result }
 {
-    let block = upper_object(alloc, root, source)?;
-    let all = with_block(objects, block)?;
+    let Some(upper) = upper_object(alloc, root, source)? else {
+        return Err(StoreFault::Store(BAD_ROWS));
+    };
+    let all = with_upper(objects, upper)?;
     let lent = lent(alloc, &all)?;
     replace(conn, alloc, &lent)
 }
@@ -113,7 +115,7 @@ fn has_mntner(objects: &[Object], name: &Name) -> bool
 }
 
 /// Writes tables of version 1 that hold objects of the source anew as those of version 2, with the
-/// block of the other AS numbers, which the root maintains.
+/// block of the AS numbers of more than 16 bits, which the root maintains.
 pub(crate) fn migrate_rows<S: Alter>(
     conn: &mut Connection<S>,
     alloc: Global,
@@ -121,7 +123,7 @@ pub(crate) fn migrate_rows<S: Alter>(
     source: &Name,
 ) -> Result<(), MigrateFault>
     requires autocommit { conn.old.in_transaction ≡ false }
-    ensures migrates { Writes S.Store (IsMigrated root.now source.now)
+    ensures migrates { Transacts S.Store (IsMigrated root.now source.now)
         conn.old conn.new result }
     ensures why { OnCleanDisk S.Store conn.new (IfErr result
         (RefusesOldTables root.now source.now (database S.Store conn.old))) }

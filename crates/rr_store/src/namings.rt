@@ -11,7 +11,7 @@ ghost use Rattle.rr_store.specs.CheckParts.{AreNamingRows};
 ghost use Rattle.rr_store.specs.NamingParts.{naming_row};
 ghost use Rattle.rr_store.specs.Versions.{form_of};
 
-use crate::columns::is_naming;
+use crate::columns::is_bare_named_row;
 use crate::names::maintainers_of;
 use crate::version::Version;
 use rr_number::Name;
@@ -108,7 +108,7 @@ fn are_rows_of(rows: &[Row], namings: &[Naming]) -> bool
     let mut rest = rows;
     let mut left = namings;
     while let ([row, later @ ..], [naming, others @ ..]) = (rest, left) {
-        if !is_naming(row, naming.maintainer.as_bytes(), naming.class, &naming.key) {
+        if !is_bare_named_row(row, naming.maintainer.as_bytes(), naming.class, &naming.key) {
             return false;
         }
         rest = later;

@@ -3,17 +3,17 @@
 ghost use Rattle.std.specs.Prelude.{◌≡◌, false, IfErr, IfOk};
 ghost use Rattle.rr_rows.specs.Maps.{AreInOrder, HasVersion};
 ghost use Rattle.rr_store.specs.Calls.{FailsOverTidy, Looks, OnCleanDisk, database};
-ghost use Rattle.rr_store.specs.CheckParts.{HasSettings};
+ghost use Rattle.rr_store.specs.CheckParts.{HasNumberedMeta};
 ghost use Rattle.rr_store.specs.Opening.{AreObjectsOf, AreStoredAs, HoldNone, IfStore};
 ghost use Rattle.rr_store.specs.Opening.{RefusesTables};
 ghost use Rattle.rr_store.specs.ReadingParts.{TellsNoVersion};
 ghost use Rattle.rr_store.specs.Versions.{version_text};
 ghost use Rattle.rr_store.specs.declared.fault.OpenFault.TheVariants.{BadRow};
 
-use crate::checks::{check_names, check_objects, check_version};
+use crate::checks::{check_named_table, check_objects, check_version};
 use crate::fault::OpenFault;
+use crate::meta_check::check_meta;
 use crate::objects::in_order;
-use crate::tidy::check_settings;
 use crate::version::Version;
 use rr_number::Name;
 use rr_object::Object;
@@ -28,7 +28,7 @@ fn checked_objects<S: Alter>(
     version: Version,
 ) -> Result<Vec<Object>, OpenFault>
     requires autocommit { conn.old.in_transaction ≡ false }
-    requires settings { OnCleanDisk S.Store conn.old (HasSettings (database S.Store conn.old)) }
+    requires meta { OnCleanDisk S.Store conn.old (HasNumberedMeta (database S.Store conn.old)) }
     ensures looks { Looks S.Store conn.old conn.new result }
     ensures stored { OnCleanDisk S.Store conn.new (IfOk result (λ objects.
         HasVersion (version_text version) (database S.Store conn.old) →
@@ -41,11 +41,11 @@ fn checked_objects<S: Alter>(
     ensures cause { IfErr result (IfStore (FailsOverTidy S.Store conn.old conn.new)) }
 {
     let objects = check_objects(conn, alloc, source, version)?;
-    check_names(conn, alloc, &objects, version)?;
+    check_named_table(conn, alloc, &objects, version)?;
     in_order(objects)
 }
 
-/// The objects of the source that tables hold whose settings have numbers of their own.
+/// The objects of the source that tables hold whose rows of `meta` have numbers of their own.
 fn read_tables<S: Alter>(
     conn: &mut Connection<S>,
     alloc: Global,
@@ -53,7 +53,7 @@ fn read_tables<S: Alter>(
     version: Version,
 ) -> Result<Vec<Object>, OpenFault>
     requires autocommit { conn.old.in_transaction ≡ false }
-    requires settings { OnCleanDisk S.Store conn.old (HasSettings (database S.Store conn.old)) }
+    requires meta { OnCleanDisk S.Store conn.old (HasNumberedMeta (database S.Store conn.old)) }
     ensures looks { Looks S.Store conn.old conn.new result }
     ensures stored { OnCleanDisk S.Store conn.new (IfOk result (λ objects.
         AreStoredAs version source.now objects.items (database S.Store conn.old))) }
@@ -84,6 +84,6 @@ pub(crate) fn stored_objects<S: Alter>(
         (RefusesTables version source.now (database S.Store conn.old))) }
     ensures cause { IfErr result (IfStore (FailsOverTidy S.Store conn.old conn.new)) }
 {
-    check_settings(conn)?;
+    check_meta(conn)?;
     read_tables(conn, alloc, source, version)
 }

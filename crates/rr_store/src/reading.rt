@@ -8,9 +8,9 @@ ghost use Rattle.sqlite.specs.Held.{state};
 ghost use Rattle.sqlite.specs.Listing.{understood};
 ghost use Rattle.sqlite.specs.State.{FailsToQuery, IsUnchanged, Shown};
 ghost use Rattle.sqlite.specs.Values.{bound};
-ghost use Rattle.rr_rows.specs.Contents.{AreKeyed, IsInRank, by_three, by_two, contents, number};
-ghost use Rattle.rr_rows.specs.Contents.{by_one, settings};
-ghost use Rattle.rr_rows.specs.Tables.{HasTables};
+ghost use Rattle.rr_rows.specs.Contents.{AreNumbered, IsInRank, by_three, by_two, contents, number};
+ghost use Rattle.rr_rows.specs.Contents.{by_one, meta_rows};
+ghost use Rattle.rr_rows.specs.Tables.{HasTables, meta_tree, named_tree, object_tree};
 ghost use Rattle.rr_store.specs.Calls.{FailsFor, FailsOverTidy, Looks, OnCleanDisk, database};
 ghost use Rattle.rr_store.specs.CheckParts.{NamedPointsTo, NamesAre, TableHolds, TableHoldsNone};
 ghost use Rattle.rr_store.specs.Opening.{AreObjectsOf, IfStore};
@@ -45,13 +45,13 @@ fn look<S: Alter>(
     conn.query_all(sql, params)
 }
 
-/// The settings, in order of their names.
+/// The names and values of the rows of `meta`, in order of the names.
 pub(crate) fn meta_rows<S: Alter>(conn: &mut Connection<S>) -> Result<Vec<Row>, Error>
     requires autocommit { conn.old.in_transaction ≡ false }
     requires tables { OnCleanDisk S.Store conn.old (HasTables conn.old.schema) }
     ensures looks { Looks S.Store conn.old conn.new result }
     ensures rows { OnCleanDisk S.Store conn.new (IfOk result (λ rows. IsInRank by_two
-        (settings ((database S.Store conn.old).trees 0)) rows.items)) }
+        (meta_rows ((database S.Store conn.old).trees meta_tree)) rows.items)) }
     ensures cause { IfErr result (FailsFor S.Store conn.old conn.new) }
 {
     look(
@@ -67,7 +67,7 @@ pub(crate) fn sorted_named_rows<S: Alter>(conn: &mut Connection<S>) -> Result<Ve
     requires tables { OnCleanDisk S.Store conn.old (HasTables conn.old.schema) }
     ensures looks { Looks S.Store conn.old conn.new result }
     ensures rows { OnCleanDisk S.Store conn.new (IfOk result (λ rows. IsInRank by_three
-        (contents ((database S.Store conn.old).trees 4)) rows.items)) }
+        (contents ((database S.Store conn.old).trees named_tree)) rows.items)) }
     ensures cause { IfErr result (FailsFor S.Store conn.old conn.new) }
 {
     look(
@@ -83,7 +83,7 @@ pub(crate) fn meta_numbers<S: Alter>(conn: &mut Connection<S>) -> Result<Vec<Row
     requires tables { OnCleanDisk S.Store conn.old (HasTables conn.old.schema) }
     ensures looks { Looks S.Store conn.old conn.new result }
     ensures rows { OnCleanDisk S.Store conn.new (IfOk result (λ rows. IsInRank by_one
-        (map number ((database S.Store conn.old).trees 0)) rows.items)) }
+        (map number ((database S.Store conn.old).trees meta_tree)) rows.items)) }
     ensures cause { IfErr result (FailsFor S.Store conn.old conn.new) }
 {
     look(conn, "SELECT rowid FROM meta ORDER BY rowid", &[])
@@ -95,7 +95,7 @@ pub(crate) fn object_numbers<S: Alter>(conn: &mut Connection<S>) -> Result<Vec<R
     requires tables { OnCleanDisk S.Store conn.old (HasTables conn.old.schema) }
     ensures looks { Looks S.Store conn.old conn.new result }
     ensures rows { OnCleanDisk S.Store conn.new (IfOk result (λ rows. IsInRank by_one
-        (map number ((database S.Store conn.old).trees 2)) rows.items)) }
+        (map number ((database S.Store conn.old).trees object_tree)) rows.items)) }
     ensures cause { IfErr result (FailsFor S.Store conn.old conn.new) }
 {
     look(conn, "SELECT rowid FROM object ORDER BY rowid", &[])
@@ -107,7 +107,7 @@ pub(crate) fn named_numbers<S: Alter>(conn: &mut Connection<S>) -> Result<Vec<Ro
     requires tables { OnCleanDisk S.Store conn.old (HasTables conn.old.schema) }
     ensures looks { Looks S.Store conn.old conn.new result }
     ensures rows { OnCleanDisk S.Store conn.new (IfOk result (λ rows. IsInRank by_one
-        (map number ((database S.Store conn.old).trees 4)) rows.items)) }
+        (map number ((database S.Store conn.old).trees named_tree)) rows.items)) }
     ensures cause { IfErr result (FailsFor S.Store conn.old conn.new) }
 {
     look(conn, "SELECT rowid FROM named ORDER BY rowid", &[])
@@ -118,8 +118,8 @@ pub(crate) fn count_meta<S: Alter>(conn: &mut Connection<S>) -> Result<usize, Er
     requires autocommit { conn.old.in_transaction ≡ false }
     requires tables { OnCleanDisk S.Store conn.old (HasTables conn.old.schema) }
     ensures looks { Looks S.Store conn.old conn.new result }
-    ensures keyed { OnCleanDisk S.Store conn.new (OnOk result
-        (AreKeyed ((database S.Store conn.old).trees 0))) }
+    ensures numbered { OnCleanDisk S.Store conn.new (OnOk result
+        (AreNumbered ((database S.Store conn.old).trees meta_tree))) }
     ensures cause { IfErr result (FailsOverTidy S.Store conn.old conn.new) }
 {
     // outside a transaction the database is as it was last committed
@@ -133,8 +133,8 @@ pub(crate) fn count_object<S: Alter>(conn: &mut Connection<S>) -> Result<usize, 
     requires autocommit { conn.old.in_transaction ≡ false }
     requires tables { OnCleanDisk S.Store conn.old (HasTables conn.old.schema) }
     ensures looks { Looks S.Store conn.old conn.new result }
-    ensures keyed { OnCleanDisk S.Store conn.new (OnOk result
-        (AreKeyed ((database S.Store conn.old).trees 2))) }
+    ensures numbered { OnCleanDisk S.Store conn.new (OnOk result
+        (AreNumbered ((database S.Store conn.old).trees object_tree))) }
     ensures cause { IfErr result (FailsOverTidy S.Store conn.old conn.new) }
 {
     // outside a transaction the database is as it was last committed
@@ -148,8 +148,8 @@ pub(crate) fn count_named<S: Alter>(conn: &mut Connection<S>) -> Result<usize, E
     requires autocommit { conn.old.in_transaction ≡ false }
     requires tables { OnCleanDisk S.Store conn.old (HasTables conn.old.schema) }
     ensures looks { Looks S.Store conn.old conn.new result }
-    ensures keyed { OnCleanDisk S.Store conn.new (OnOk result
-        (AreKeyed ((database S.Store conn.old).trees 4))) }
+    ensures numbered { OnCleanDisk S.Store conn.new (OnOk result
+        (AreNumbered ((database S.Store conn.old).trees named_tree))) }
     ensures cause { IfErr result (FailsOverTidy S.Store conn.old conn.new) }
 {
     // outside a transaction the database is as it was last committed

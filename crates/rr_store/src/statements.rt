@@ -5,6 +5,7 @@ ghost use Rattle.std.specs.Prelude.{IsPermutation};
 ghost use Rattle.rr_rows.specs.Contents.{Adds, Alters, IsTidy, Removes, contents};
 ghost use Rattle.rr_rows.specs.Contents.{is_name_of, is_object_of, meta_values, named_values};
 ghost use Rattle.rr_rows.specs.Contents.{object_values};
+ghost use Rattle.rr_rows.specs.Tables.{meta_tree, named_tree, object_tree};
 ghost use Rattle.rr_store.specs.Calls.{OnCleanDisk, WhileOpen, database};
 ghost use Rattle.rr_store.specs.StepParts.{CommitsNothing, GoesOn, LeavesAll, Made};
 
@@ -12,7 +13,7 @@ use sqlite::{Alter, Error, Row, Transaction};
 use sqlite_value::value::ValueRef;
 
 /// Adds a row of `meta`.
-pub(crate) fn add_setting<'x, S: Alter>(
+pub(crate) fn add_meta_row<'x, S: Alter>(
     tx: &mut Transaction<'_, S>,
     name: &'x [u8],
     value: &'x [u8],
@@ -20,7 +21,7 @@ pub(crate) fn add_setting<'x, S: Alter>(
     requires { WhileOpen S.Store tx.old.conn.now (IsTidy (database S.Store tx.old.conn.now)) }
     ensures same_reference { tx.new.conn.ghost_name ≡ tx.old.conn.ghost_name }
     ensures ok { Made S.Store
-        (λ old new. Alters old new 0 (Adds (meta_values name.now value.now ∷ [])))
+        (λ old new. Alters old new meta_tree (Adds (meta_values name.now value.now ∷ [])))
         tx.old.conn.now tx.new.conn.now result }
     ensures step { GoesOn S.Store tx.old.conn.now tx.new.conn.now result }
     ensures kept { CommitsNothing S.Store tx.old.conn.now tx.new.conn.now }
@@ -42,7 +43,7 @@ pub(crate) fn add_object<'x, S: Alter>(
     requires { WhileOpen S.Store tx.old.conn.now (IsTidy (database S.Store tx.old.conn.now)) }
     ensures same_reference { tx.new.conn.ghost_name ≡ tx.old.conn.ghost_name }
     ensures ok { Made S.Store
-        (λ old new. Alters old new 2 (Adds (object_values class key.now body.now ∷ [])))
+        (λ old new. Alters old new object_tree (Adds (object_values class key.now body.now ∷ [])))
         tx.old.conn.now tx.new.conn.now result }
     ensures step { GoesOn S.Store tx.old.conn.now tx.new.conn.now result }
     ensures kept { CommitsNothing S.Store tx.old.conn.now tx.new.conn.now }
@@ -68,7 +69,7 @@ pub(crate) fn add_name<'x, S: Alter>(
     requires { WhileOpen S.Store tx.old.conn.now (IsTidy (database S.Store tx.old.conn.now)) }
     ensures same_reference { tx.new.conn.ghost_name ≡ tx.old.conn.ghost_name }
     ensures ok { Made S.Store
-        (λ old new. Alters old new 4 (Adds (named_values name.now class key.now ∷ [])))
+        (λ old new. Alters old new named_tree (Adds (named_values name.now class key.now ∷ [])))
         tx.old.conn.now tx.new.conn.now result }
     ensures step { GoesOn S.Store tx.old.conn.now tx.new.conn.now result }
     ensures kept { CommitsNothing S.Store tx.old.conn.now tx.new.conn.now }
@@ -92,7 +93,8 @@ pub(crate) fn remove_object<S: Alter>(
 ) -> Result<usize, Error>
     requires { WhileOpen S.Store tx.old.conn.now (IsTidy (database S.Store tx.old.conn.now)) }
     ensures same_reference { tx.new.conn.ghost_name ≡ tx.old.conn.ghost_name }
-    ensures ok { Made S.Store (λ old new. Alters old new 2 (Removes (is_object_of class key.now)))
+    ensures ok { Made S.Store
+        (λ old new. Alters old new object_tree (Removes (is_object_of class key.now)))
         tx.old.conn.now tx.new.conn.now result }
     ensures step { GoesOn S.Store tx.old.conn.now tx.new.conn.now result }
     ensures kept { CommitsNothing S.Store tx.old.conn.now tx.new.conn.now }
@@ -114,7 +116,7 @@ pub(crate) fn remove_name<'x, S: Alter>(
     requires { WhileOpen S.Store tx.old.conn.now (IsTidy (database S.Store tx.old.conn.now)) }
     ensures same_reference { tx.new.conn.ghost_name ≡ tx.old.conn.ghost_name }
     ensures ok { Made S.Store
-        (λ old new. Alters old new 4 (Removes (is_name_of class key.now name.now)))
+        (λ old new. Alters old new named_tree (Removes (is_name_of class key.now name.now)))
         tx.old.conn.now tx.new.conn.now result }
     ensures step { GoesOn S.Store tx.old.conn.now tx.new.conn.now result }
     ensures kept { CommitsNothing S.Store tx.old.conn.now tx.new.conn.now }
@@ -140,7 +142,7 @@ pub(crate) fn rows_of_key<S: Alter>(
     ensures same_reference { tx.new.conn.ghost_name ≡ tx.old.conn.ghost_name }
     ensures rows { OnCleanDisk S.Store tx.new.conn.now (IfOk result (λ rows. IsPermutation
         (filter (is_object_of class key.now)
-        (contents ((database S.Store tx.old.conn.now).trees 2))) rows.items)) }
+        (contents ((database S.Store tx.old.conn.now).trees object_tree))) rows.items)) }
     ensures same { Made S.Store (λ old new. new ≡ old) tx.old.conn.now tx.new.conn.now result }
     ensures step { GoesOn S.Store tx.old.conn.now tx.new.conn.now result }
     ensures kept { CommitsNothing S.Store tx.old.conn.now tx.new.conn.now }
@@ -153,10 +155,10 @@ pub(crate) fn rows_of_key<S: Alter>(
 }
 
 /// Takes out all rows of `meta`.
-pub(crate) fn clear_settings<S: Alter>(tx: &mut Transaction<'_, S>) -> Result<usize, Error>
+pub(crate) fn clear_meta<S: Alter>(tx: &mut Transaction<'_, S>) -> Result<usize, Error>
     requires { WhileOpen S.Store tx.old.conn.now (IsTidy (database S.Store tx.old.conn.now)) }
     ensures same_reference { tx.new.conn.ghost_name ≡ tx.old.conn.ghost_name }
-    ensures ok { Made S.Store (λ old new. Alters old new 0 (Removes (λ _. true)))
+    ensures ok { Made S.Store (λ old new. Alters old new meta_tree (Removes (λ _. true)))
         tx.old.conn.now tx.new.conn.now result }
     ensures step { GoesOn S.Store tx.old.conn.now tx.new.conn.now result }
     ensures kept { CommitsNothing S.Store tx.old.conn.now tx.new.conn.now }
@@ -169,7 +171,7 @@ pub(crate) fn clear_settings<S: Alter>(tx: &mut Transaction<'_, S>) -> Result<us
 pub(crate) fn clear_objects<S: Alter>(tx: &mut Transaction<'_, S>) -> Result<usize, Error>
     requires { WhileOpen S.Store tx.old.conn.now (IsTidy (database S.Store tx.old.conn.now)) }
     ensures same_reference { tx.new.conn.ghost_name ≡ tx.old.conn.ghost_name }
-    ensures ok { Made S.Store (λ old new. Alters old new 2 (Removes (λ _. true)))
+    ensures ok { Made S.Store (λ old new. Alters old new object_tree (Removes (λ _. true)))
         tx.old.conn.now tx.new.conn.now result }
     ensures step { GoesOn S.Store tx.old.conn.now tx.new.conn.now result }
     ensures kept { CommitsNothing S.Store tx.old.conn.now tx.new.conn.now }
@@ -182,7 +184,7 @@ pub(crate) fn clear_objects<S: Alter>(tx: &mut Transaction<'_, S>) -> Result<usi
 pub(crate) fn clear_names<S: Alter>(tx: &mut Transaction<'_, S>) -> Result<usize, Error>
     requires { WhileOpen S.Store tx.old.conn.now (IsTidy (database S.Store tx.old.conn.now)) }
     ensures same_reference { tx.new.conn.ghost_name ≡ tx.old.conn.ghost_name }
-    ensures ok { Made S.Store (λ old new. Alters old new 4 (Removes (λ _. true)))
+    ensures ok { Made S.Store (λ old new. Alters old new named_tree (Removes (λ _. true)))
         tx.old.conn.now tx.new.conn.now result }
     ensures step { GoesOn S.Store tx.old.conn.now tx.new.conn.now result }
     ensures kept { CommitsNothing S.Store tx.old.conn.now tx.new.conn.now }

@@ -4,15 +4,14 @@ ghost use Rattle.std.specs.Prelude.{◌≡◌, [], ◌∷◌, false, List, IfErr
 ghost use Rattle.sqlite.specs.Held.{state};
 ghost use Rattle.sqlite.specs.State.{IsUnchanged};
 ghost use Rattle.rr_object.specs.KeyOrders.{HasKeyParts, IsKeyValue};
-ghost use Rattle.rr_object.specs.Objects.{Obj};
+ghost use Rattle.rr_object.specs.Objects.{Obj, lent};
 ghost use Rattle.rr_rows.specs.Entries.{IsAdded, IsPut, entry_of};
 ghost use Rattle.rr_rows.specs.Maps.{AreInOrder, AreOldStored, IsObject};
 ghost use Rattle.rr_rows.specs.Maps.{Puts, TakesOut};
 ghost use Rattle.rr_store.specs.Adding.{AddsTo, TakesRows};
-ghost use Rattle.rr_store.specs.Calls.{FailsOverTidy, IsSettled, Looks, OnCleanDisk, Writes};
+ghost use Rattle.rr_store.specs.Calls.{FailsOverTidy, IsSettled, Looks, OnCleanDisk, Transacts};
 ghost use Rattle.rr_store.specs.Calls.{database};
 ghost use Rattle.rr_store.specs.Creating.{FailsToMake, MakesStore};
-ghost use Rattle.rr_store.specs.Lent.{lent};
 ghost use Rattle.rr_store.specs.Listing.{AreAll, AreNaming};
 ghost use Rattle.rr_store.specs.Migrating.{FailsToMigrate, MigratesStore};
 ghost use Rattle.rr_store.specs.Opening.{AreObjectsOf, FailsToOpen, IfStore, OpensStore};
@@ -58,8 +57,9 @@ impl<S: Alter> Store<S> {
     /// Makes the store of the objects, no two of one key, in a database with nothing in it or with
     /// the three tables and no row, by one transaction. The connection is in no transaction. After
     /// a fault it is given back, with the rows as they were; `NotEmpty` says that one of the tables
-    /// has a row. A stop during the call leaves the rows and tables before it or those of the
-    /// store; one after it, while the connection is open, those that stand.
+    /// has a row. Of a database without a row no clause says why it is refused. A stop during the
+    /// call leaves the rows and tables before it or those of the store; one after it, while the
+    /// connection is open, those that stand.
     pub fn create(
         alloc: Global,
         mut conn: Connection<S>,
@@ -141,7 +141,7 @@ impl<S: Alter> Store<S> {
     }
 
     /// The store of the objects that tables of version 1 hold, written anew as those of version 2,
-    /// and of the block of the AS numbers of more than two octets, which the root maintains (RFC
+    /// and of the block of the AS numbers of more than 16 bits, which the root maintains (RFC
     /// 6793), by one transaction; all else in the file stays. The connection is in no transaction.
     /// After a fault, which says why the tables are refused, it is given back, with the rows as
     /// they were. A stop during the call leaves the rows before it or the new ones; one after it,
@@ -169,10 +169,10 @@ impl<S: Alter> Store<S> {
     /// Puts the rows of the object in place of those of its key, and so the object into the map
     /// that the tables hold, by one transaction. After a fault the rows are as they were. A stop
     /// during the call leaves the rows before or after it; one after it, while the connection is
-    /// open, those that stand.
+    /// open, those that stand. No clause says why a write is refused.
     pub fn put(&mut self, alloc: Global, object: &Object) -> Result<(), StoreFault>
-        ensures rows { Writes S.Store (IsPut (entry_of object.now)) self.old self.new result }
-        ensures puts { Writes S.Store (Puts object.now.key object.now) self.old self.new result }
+        ensures rows { Transacts S.Store (IsPut (entry_of object.now)) self.old self.new result }
+        ensures puts { Transacts S.Store (Puts object.now.key object.now) self.old self.new result }
         ensures settled { IsSettled S.Store self.new }
     {
         let written = self.put_rows_of(alloc, object);
@@ -183,7 +183,7 @@ impl<S: Alter> Store<S> {
 
     /// Puts the rows of the object, which is such as readers make.
     fn put_rows_of(&mut self, alloc: Global, object: &Object) -> Result<(), StoreFault>
-        ensures rows { Writes S.Store (IsPut (entry_of object.now)) self.old self.new result }
+        ensures rows { Transacts S.Store (IsPut (entry_of object.now)) self.old self.new result }
         ensures object { IsObject object.now }
         ensures formed { IsKeyValue object.now.key }
     {
@@ -193,12 +193,13 @@ impl<S: Alter> Store<S> {
 
     /// Adds the rows of an object whose key no stored one has: those of its key are not looked for,
     /// as [`Store::put`] does. Where some stand, the primary key of the tables that
-    /// [`Store::create`] makes refuses them. A fault and a stop leave what they leave at
+    /// [`Store::create`] makes refuses them. A fault and a stop are what they are at
     /// [`Store::put`].
     pub fn add(&mut self, alloc: Global, object: &Object) -> Result<(), StoreFault>
-        ensures rows { Writes S.Store (IsAdded (entry_of object.now ∷ []))
+        ensures rows { Transacts S.Store (IsAdded (entry_of object.now ∷ []))
             self.old self.new result }
-        ensures adds { Writes S.Store (AddsTo object.now.key object.now) self.old self.new result }
+        ensures adds { Transacts S.Store (AddsTo object.now.key object.now)
+            self.old self.new result }
         ensures settled { IsSettled S.Store self.new }
     {
         let written = self.add_rows_of(alloc, object);
@@ -209,7 +210,7 @@ impl<S: Alter> Store<S> {
 
     /// Adds the rows of the object, which is such as readers make.
     fn add_rows_of(&mut self, alloc: Global, object: &Object) -> Result<(), StoreFault>
-        ensures rows { Writes S.Store (IsAdded (entry_of object.now ∷ []))
+        ensures rows { Transacts S.Store (IsAdded (entry_of object.now ∷ []))
             self.old self.new result }
         ensures object { IsObject object.now }
         ensures formed { IsKeyValue object.now.key }
@@ -219,10 +220,10 @@ impl<S: Alter> Store<S> {
     }
 
     /// Takes out the rows of the object with this key, and so the object of the map, if there is
-    /// one. A fault and a stop leave what they leave at [`Store::put`].
+    /// one. A fault and a stop are what they are at [`Store::put`].
     pub fn remove(&mut self, alloc: Global, key: &Key) -> Result<(), StoreFault>
-        ensures rows { Writes S.Store (TakesRows key.now) self.old self.new result }
-        ensures takes { Writes S.Store (TakesOut key.now) self.old self.new result }
+        ensures rows { Transacts S.Store (TakesRows key.now) self.old self.new result }
+        ensures takes { Transacts S.Store (TakesOut key.now) self.old self.new result }
         ensures settled { IsSettled S.Store self.new }
     {
         let written = self.remove_rows_of(alloc, key);
@@ -233,7 +234,7 @@ impl<S: Alter> Store<S> {
 
     /// Takes out the rows of the object with this key, which has the parts of its class.
     fn remove_rows_of(&mut self, alloc: Global, key: &Key) -> Result<(), StoreFault>
-        ensures rows { Writes S.Store (TakesRows key.now) self.old self.new result }
+        ensures rows { Transacts S.Store (TakesRows key.now) self.old self.new result }
         ensures parts { HasKeyParts key.now }
     {
         let class = key.class().number();
@@ -243,7 +244,8 @@ impl<S: Alter> Store<S> {
 
     /// All objects, in order of class and key, each one of the source; a row that is not that of an
     /// object of the source is a fault of the store. Nothing changes, nor what a stop during the
-    /// call leaves; one after it, while the connection is open, leaves the rows that stand.
+    /// call leaves; one after it, while the connection is open, leaves the rows that stand. No
+    /// clause says why a read is refused.
     pub fn all(&mut self, alloc: Global, source: &Name) -> Result<Vec<Object>, StoreFault>
         ensures looks { Looks S.Store self.old self.new result }
         ensures all { OnCleanDisk S.Store self.new (IfOk result (λ all.
@@ -258,7 +260,7 @@ impl<S: Alter> Store<S> {
     }
 
     /// The objects that name the maintainer, as [`Store::all`] gives all, with what that leaves. A
-    /// fault of memory leaves the database as it was.
+    /// fault of memory leaves the database as it was. No clause says why a read is refused.
     pub fn naming(
         &mut self,
         alloc: Global,

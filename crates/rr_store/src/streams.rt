@@ -7,7 +7,7 @@ ghost use Rattle.sqlite.specs.Held.{state};
 ghost use Rattle.sqlite_value.specs.declared.value.Value.TheVariants.{Int};
 ghost use Rattle.sqlite_value.specs.Order.{Row as Values};
 ghost use Rattle.sqlite_trees.specs.Tree.{rowid};
-ghost use Rattle.rr_rows.specs.Contents.{AreKeyed, IsPast, contents, named_values};
+ghost use Rattle.rr_rows.specs.Contents.{AreNumbered, IsPast, contents, named_values};
 ghost use Rattle.rr_rows.specs.Entries.{named_rows};
 ghost use Rattle.rr_rows.specs.Maps.{entry_in};
 ghost use Rattle.rr_store.specs.Calls.{IsOpen, OnCleanDisk};
@@ -53,8 +53,8 @@ pub(crate) fn count_numbered<S: Alter>(rows: &mut Rows<'_, S>) -> Result<usize, 
     requires { IsOpen S.Store rows.old.conn.now }
     ensures same_reference { rows.new.conn.ghost_name ≡ rows.old.conn.ghost_name }
     ensures streams { Streams S.Store rows.old.conn.now rows.new.conn.now result }
-    ensures keyed { OnCleanDisk S.Store rows.new.conn.now (OnOk result ((rest : List Values) ×
-        GivesRest S.Store rows.old.conn.now rows.new.conn.now rest × AreKeyed rest)) }
+    ensures numbered { OnCleanDisk S.Store rows.new.conn.now (OnOk result ((rest : List Values) ×
+        GivesRest S.Store rows.old.conn.now rows.new.conn.now rest × AreNumbered rest)) }
     ensures fails { OnCleanDisk S.Store rows.new.conn.now (IfErr result
         (FailsToCount S.Store rows.old.conn.now rows.new.conn.now)) }
 {

@@ -1,20 +1,19 @@
 //! The block of AS numbers that tables of version 1 did not know.
 
-ghost use Rattle.std.specs.Prelude.{◌≡◌, ◌≢◌, IfErr, IfOk};
+ghost use Rattle.std.specs.Prelude.{◌≡◌, IfOk, IfSome, IsSome};
 ghost use Rattle.rr_text.specs.Fields.{AreFields};
 ghost use Rattle.rr_object.specs.Objects.{Obj};
 ghost use Rattle.rr_object.specs.Readings.{ReadsAs};
 ghost use Rattle.rr_rows.specs.Maps.{IsObjectOf};
 ghost use Rattle.rr_store.specs.Migrating.{upper_block};
-ghost use Rattle.rr_store.specs.declared.fault.StoreFault.TheVariants.{Memory};
 
-use crate::fault::{BAD_ROWS, StoreFault};
+use crate::objects::read_paragraph;
 use rr_number::Name;
-use rr_object::{Object, ObjectFault};
+use rr_object::Object;
 use rr_text::{LineAttribute, Paragraph};
 use std::alloc::{AllocError, Global};
 
-/// The AS numbers of more than two octets (RFC 6793).
+/// The AS numbers of more than 16 bits (RFC 6793).
 const UPPER: &[u8] = b"AS65536 - AS4294967295";
 
 /// The attributes of the block.
@@ -44,18 +43,15 @@ fn upper_paragraph(alloc: Global, root: &Name, source: &Name) -> Result<Paragrap
     Paragraph::new(alloc, &attributes)
 }
 
-/// The block of the AS numbers of more than two octets, which the root maintains. The fault is that
-/// memory ran out, or that of a root that can be no maintainer.
-pub fn upper_object(alloc: Global, root: &Name, source: &Name) -> Result<Object, StoreFault>
-    ensures of_source { IfOk result (IsObjectOf source.now) }
-    ensures read { IfOk result (ReadsAs source.now (upper_block root.now source.now)) }
-    ensures refused { IfErr result (λ fault. fault ≢ Memory → (object : Obj) →
-        ReadsAs source.now (upper_block root.now source.now) object → ⊥) }
+/// The block of the AS numbers of more than 16 bits, which the root maintains; none for a root
+/// that can be no maintainer. The error is that memory ran out.
+pub fn upper_object(alloc: Global, root: &Name, source: &Name) -> Result<Option<Object>, AllocError>
+    ensures of_source { IfOk result (λ made. IfSome made (IsObjectOf source.now)) }
+    ensures read { IfOk result (λ made. IfSome made
+        (ReadsAs source.now (upper_block root.now source.now))) }
+    ensures only { IfOk result (λ made. (object : Obj) →
+        ReadsAs source.now (upper_block root.now source.now) object → IsSome made) }
 {
     let paragraph = upper_paragraph(alloc, root, source)?;
-    match Object::read(alloc, paragraph, source) {
-        Ok(object) => Ok(object),
-        Err(ObjectFault::Memory) => Err(StoreFault::Memory),
-        Err(_) => Err(StoreFault::Store(BAD_ROWS)),
-    }
+    read_paragraph(alloc, paragraph, source)
 }

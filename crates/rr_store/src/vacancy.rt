@@ -1,8 +1,8 @@
 //! Whether a database has room for a new store.
 
 ghost use Rattle.std.specs.Prelude.{◌≡◌, false, IfErr, IfOk, IsTrue};
-ghost use Rattle.rr_rows.specs.Made.{HasRow, IsBare, no_schema};
-ghost use Rattle.rr_rows.specs.Tables.{HasTables};
+ghost use Rattle.rr_rows.specs.Made.{HasSomeRow, IsBare, no_schema};
+ghost use Rattle.rr_rows.specs.Tables.{HasTables, meta_tree, named_tree, object_tree};
 ghost use Rattle.rr_store.specs.Calls.{FailsFor, Looks, OnCleanDisk, database};
 ghost use Rattle.rr_store.specs.VacancyParts.{SaysEmpty};
 
@@ -12,7 +12,8 @@ use sqlite_schema::schema::Schema;
 
 /// Whether a schema has nothing in it.
 pub(crate) fn is_blank(schema: &Schema) -> bool
-    ensures { IsTrue result → schema.now ≡ no_schema }
+    ensures is { IsTrue result → schema.now ≡ no_schema }
+    ensures only { schema.now ≡ no_schema → IsTrue result }
 {
     schema.tables.is_empty() && schema.indexes.is_empty() && schema.views.is_empty()
 }
@@ -23,7 +24,7 @@ fn meta_is_empty<S: Alter>(conn: &mut Connection<S>) -> Result<bool, Error>
     requires tables { OnCleanDisk S.Store conn.old (HasTables conn.old.schema) }
     ensures looks { Looks S.Store conn.old conn.new result }
     ensures empty { OnCleanDisk S.Store conn.new (IfOk result
-        (SaysEmpty ((database S.Store conn.old).trees 0))) }
+        (SaysEmpty ((database S.Store conn.old).trees meta_tree))) }
     ensures cause { IfErr result (FailsFor S.Store conn.old conn.new) }
 {
     let rows = meta_numbers(conn)?;
@@ -36,7 +37,7 @@ fn object_is_empty<S: Alter>(conn: &mut Connection<S>) -> Result<bool, Error>
     requires tables { OnCleanDisk S.Store conn.old (HasTables conn.old.schema) }
     ensures looks { Looks S.Store conn.old conn.new result }
     ensures empty { OnCleanDisk S.Store conn.new (IfOk result
-        (SaysEmpty ((database S.Store conn.old).trees 2))) }
+        (SaysEmpty ((database S.Store conn.old).trees object_tree))) }
     ensures cause { IfErr result (FailsFor S.Store conn.old conn.new) }
 {
     let rows = object_numbers(conn)?;
@@ -49,7 +50,7 @@ fn named_is_empty<S: Alter>(conn: &mut Connection<S>) -> Result<bool, Error>
     requires tables { OnCleanDisk S.Store conn.old (HasTables conn.old.schema) }
     ensures looks { Looks S.Store conn.old conn.new result }
     ensures empty { OnCleanDisk S.Store conn.new (IfOk result
-        (SaysEmpty ((database S.Store conn.old).trees 4))) }
+        (SaysEmpty ((database S.Store conn.old).trees named_tree))) }
     ensures cause { IfErr result (FailsFor S.Store conn.old conn.new) }
 {
     let rows = named_numbers(conn)?;
@@ -64,7 +65,7 @@ pub(crate) fn is_bare<S: Alter>(conn: &mut Connection<S>) -> Result<bool, Error>
     ensures bare { OnCleanDisk S.Store conn.new (IfOk result (λ is. IsTrue is →
         IsBare (database S.Store conn.old))) }
     ensures filled { OnCleanDisk S.Store conn.new (IfOk result (λ is. is ≡ false →
-        HasRow (database S.Store conn.old))) }
+        HasSomeRow (database S.Store conn.old))) }
     ensures cause { IfErr result (FailsFor S.Store conn.old conn.new) }
 {
     let meta = meta_is_empty(conn)?;

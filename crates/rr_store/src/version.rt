@@ -3,7 +3,7 @@
 ghost use Rattle.std.specs.Prelude.{◌≡◌, ◌<◌, ◌^◌, decimal, IfOk, IfSome, IsTrue};
 ghost use Rattle.std.specs.Prelude.{None, Some};
 ghost use Rattle.std.specs.Option.{option_map};
-ghost use Rattle.rr_store.specs.Versions.{form_of, version_number, version_text};
+ghost use Rattle.rr_store.specs.Versions.{form_of, other_of, version_number, version_text};
 
 use itoa::Buffer;
 use rr_object::Key;
@@ -12,12 +12,12 @@ use std::alloc::{AllocError, Global};
 /// The version of the tables that a store has.
 pub const VERSION: u32 = 2;
 
-/// The version of the tables that a migration makes those of a store.
+/// The version of the tables that a migration turns into those of a store.
 pub const OLD_VERSION: u32 = 1;
 
 /// The version of tables, which says how their keys are written.
 #[derive(Clone, Copy, Debug, PartialEq, Eq)]
-pub(crate) enum Version {
+pub enum Version {
     /// 16-bit AS numbers, in four hexadecimal digits.
     Old,
     /// 32-bit AS numbers, in eight.
@@ -25,8 +25,18 @@ pub(crate) enum Version {
 }
 
 impl Version {
-    /// The number.
-    pub(crate) fn number(self) -> u32
+    /// The other one of the two.
+    pub fn other(self) -> Version
+        ensures { result ≡ other_of self }
+    {
+        match self {
+            Version::Old => Version::This,
+            Version::This => Version::Old,
+        }
+    }
+
+    /// The number of the version.
+    pub fn number(self) -> u32
         ensures { result ≡ version_number self }
     {
         match self {
@@ -35,8 +45,8 @@ impl Version {
         }
     }
 
-    /// The number as `meta` has it.
-    pub(crate) fn text(self) -> &'static [u8]
+    /// The number as `meta` has it, in decimal digits.
+    pub fn text(self) -> &'static [u8]
         ensures { result.now ≡ version_text self }
     {
         match self {
@@ -45,8 +55,9 @@ impl Version {
         }
     }
 
-    /// The text of a key, if it has one in tables of this version.
-    pub(crate) fn key_bytes(self, alloc: Global, key: &Key) -> Result<Option<Vec<u8>>, AllocError>
+    /// The text of a key, if it has one in tables of this version. The error is that memory ran
+    /// out.
+    pub fn key_bytes(self, alloc: Global, key: &Key) -> Result<Option<Vec<u8>>, AllocError>
         ensures { IfOk result
             (λ bytes. option_map (λ b. b.items) bytes ≡ form_of self key.now) }
     {
@@ -107,8 +118,8 @@ fn number_of_text(bytes: &[u8], text: &str) -> Option<u32>
     }
 }
 
-/// The number that bytes write in decimal digits without leading zeros, if they do.
-pub(crate) fn number_of(bytes: &[u8]) -> Option<u32>
+/// The number of 32 bits that bytes write in decimal digits without leading zeros, if they do.
+pub fn number_of(bytes: &[u8]) -> Option<u32>
     ensures found { IfSome result (λ n. bytes.now ≡ decimal n) }
     ensures only { (n : _) → n < 2 ^ 32 → bytes.now ≡ decimal n → result ≡ Some n }
 {

@@ -4,7 +4,7 @@ ghost use Rattle.std.specs.Prelude.{◌≡◌, [], ◌∷◌, false};
 ghost use Rattle.rr_rows.specs.Contents.{IsTidy};
 ghost use Rattle.rr_rows.specs.Entries.{IsAdded, IsPut, IsTakenOut};
 ghost use Rattle.rr_rows.specs.Maps.{AreOfObjects};
-ghost use Rattle.rr_store.specs.Calls.{WhileOpen, Writes, database};
+ghost use Rattle.rr_store.specs.Calls.{Transacts, WhileOpen, database};
 
 use crate::bodies::{add_rows, put_rows, remove_rows};
 use crate::ending::end;
@@ -22,7 +22,7 @@ pub(crate) fn put_entry<S: Alter>(
 ) -> Result<(), StoreFault>
     requires autocommit { conn.old.in_transaction ≡ false }
     requires held { WhileOpen S.Store conn.old (AreOfObjects (database S.Store conn.old)) }
-    ensures { Writes S.Store (IsPut entry.now) conn.old conn.new result }
+    ensures { Transacts S.Store (IsPut entry.now) conn.old conn.new result }
 {
     // outside a transaction the database is as it was last committed
     let _settled = conn.is_autocommit();
@@ -39,7 +39,7 @@ pub(crate) fn insert_entry<S: Alter>(
 ) -> Result<(), StoreFault>
     requires autocommit { conn.old.in_transaction ≡ false }
     requires tidy { WhileOpen S.Store conn.old (IsTidy (database S.Store conn.old)) }
-    ensures { Writes S.Store (IsAdded (entry.now ∷ [])) conn.old conn.new result }
+    ensures { Transacts S.Store (IsAdded (entry.now ∷ [])) conn.old conn.new result }
 {
     // outside a transaction the database is as it was last committed
     let _settled = conn.is_autocommit();
@@ -58,7 +58,7 @@ pub(crate) fn remove_entry<S: Alter>(
 ) -> Result<(), StoreFault>
     requires autocommit { conn.old.in_transaction ≡ false }
     requires held { WhileOpen S.Store conn.old (AreOfObjects (database S.Store conn.old)) }
-    ensures { Writes S.Store (IsTakenOut class key.now) conn.old conn.new result }
+    ensures { Transacts S.Store (IsTakenOut class key.now) conn.old conn.new result }
 {
     // outside a transaction the database is as it was last committed
     let _settled = conn.is_autocommit();

@@ -20,8 +20,8 @@ use Rattle.rr_auth.specs.Laws.{key_about}
 use Rattle.rr_auth.specs.Sources.{IsReadIn, IsReadObject}
 use Rattle.rr_registry.specs.RunLaws.{AreReadIn}
 use Rattle.rr_submission.specs.declared.request.Request.{Request}
-use Rattle.rr_submission.specs.SubmissionItems.{AreItems, Asked, submitted}
-use Rattle.rr_submission.specs.SubmissionItems.AreItems.{at_end, secrets_alone, asked, faulty, unread_for_memory}
+use Rattle.rr_submission.specs.SubmissionItems.{AreItems, ItemRequest, submitted}
+use Rattle.rr_submission.specs.SubmissionItems.AreItems.{at_end, secrets_alone, requested, faulty, unread_for_memory}
 use Rattle.rr_submission.specs.Requests.{IsRequest, IsTied, action_of, request_of, request_of_key, submitted_object, unread}
 
 -- with a key that was read
@@ -105,11 +105,11 @@ read_item source key (Ok item) h = h.1
 read_item source key (Err code) h = tt
 
 -- so the items of a text are as they are read in the source
-pub AreItems-read : (source : List ℕ) {secrets : List (List ℕ)} {es : List (Result (List Field) TextFault)} {items : List Asked} →
+pub AreItems-read : (source : List ℕ) {secrets : List (List ℕ)} {es : List (Result (List Field) TextFault)} {items : List ItemRequest} →
     AreItems source secrets es items → AreReadIn source (map submitted items)
 AreItems-read source at_end = tt
 AreItems-read source (secrets_alone alone rest) = AreItems-read source rest
-AreItems-read source (asked request other is rest) =
+AreItems-read source (requested request other is rest) =
     (read_item source request.key request.action (IsTied-request source _ request is), AreItems-read source rest)
 AreItems-read source (faulty fault code is rest) = (tt, AreItems-read source rest)
 AreItems-read source (unread_for_memory entry rest) = (tt, AreItems-read source rest)

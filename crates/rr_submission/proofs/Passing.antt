@@ -13,7 +13,7 @@ use Rattle.rr_object.specs.declared.code.Code.{Code}
 use Rattle.rr_object.specs.declared.code.Code.TheVariants.{E90}
 use Rattle.rr_submission.specs.declared.request.Request.{Request}
 use Rattle.rr_submission.specs.SubmissionTexts.{secrets_of, is_secrets_alone}
-use Rattle.rr_submission.specs.SubmissionItems.{AreItems, Asked}
+use Rattle.rr_submission.specs.SubmissionItems.{AreItems, ItemRequest}
 use Rattle.rr_submission.specs.SubmissionItems.AreItems.{at_end, secrets_alone, faulty, unread_for_memory}
 use Rattle.rr_submission.specs.Requests.{unread, text_code}
 use Rattle.rr_submission.specs.ItemReaders.{FindsItem, FindsNone}
@@ -22,7 +22,7 @@ use Rattle.rr_submission.specs.ItemReaders.{FindsItem, FindsNone}
 pub record IsPassing (source : List ℕ) (start now : Told) (p : Paragraphs) (given : List Entry) (before after : List (List ℕ)) : Type 0 where
   pub added : List Entry
   pub has : HasGiven start now p (given ++ added)
-  pub stay : (more : List Entry) (items : List Asked) → AreItems source after more items → AreItems source before (added ++ more) items
+  pub stay : (more : List Entry) (items : List ItemRequest) → AreItems source after more items → AreItems source before (added ++ more) items
 
 pub passing_none : (source : List ℕ) (start now : Told) (p : Paragraphs) (given : List Entry) (secrets : List (List ℕ)) → HasGiven start now p given
     → IsPassing source start now p given secrets secrets
@@ -49,7 +49,7 @@ passing_more source start now then p q given before after fields so has alone = 
 -- an entry that is an item
 pub passing_item : (source : List ℕ) (start now then : Told) (p q : Paragraphs) (given : List Entry) (before after counts : List (List ℕ)) (entry : Entry) (request : Request)
     → (so : IsPassing source start now p given before after) → HasGiven start then q ((given ++ so.added) ++ entry ∷ [])
-    → ((more : List Entry) (items : List Asked) → AreItems source counts more items → AreItems source after (entry ∷ more) (record { secrets = counts; request = request } ∷ items))
+    → ((more : List Entry) (items : List ItemRequest) → AreItems source counts more items → AreItems source after (entry ∷ more) (record { secrets = counts; request = request } ∷ items))
     → FindsItem source start then q given before counts request
 passing_item source start now then p q given before after counts entry request so has is = record {
   added = so.added ++ entry ∷ [];

@@ -19,11 +19,11 @@ use Rattle.rr_auth.specs.Registries.{Reg, Sound}
 use Rattle.rr_registry.specs.declared.outcome.Outcome.{Outcome}
 use Rattle.rr_registry.specs.Runs.{Decides, Run}
 use Rattle.rr_submission.specs.declared.ledger.Ledger.{Ghosts}
-use Rattle.rr_submission.specs.declared.stop.Stop.{Stop}
-use Rattle.rr_submission.specs.declared.stop.Stop.TheVariants.{Unwritten, LedgerStopped}
+use Rattle.rr_submission.specs.declared.handling_fault.HandlingFault.{HandlingFault}
+use Rattle.rr_submission.specs.declared.handling_fault.HandlingFault.TheVariants.{Unwritten, LedgerStopped}
 use Rattle.rr_submission.specs.declared.submission.Done.{Done}
 use Rattle.rr_submission.specs.declared.request.Request.{Request}
-use Rattle.rr_submission.specs.SubmissionItems.{AreItems, Asked, submitted}
+use Rattle.rr_submission.specs.SubmissionItems.{AreItems, ItemRequest, submitted}
 use Rattle.rr_submission.specs.SubmissionItems.AreItems.{at_end}
 use Rattle.rr_submission.specs.Refusals.{is_refusal, refusals}
 use Rattle.rr_submission.specs.Reports.{item_line, lines_from, stop_lines}
@@ -32,7 +32,7 @@ use Rattle.rr_submission.specs.HandledParts.{HandlesItems, HandlesAll, HandlesOn
 use Rattle.rr_submission.proofs.Confining.{all_items_confined, items_confined}
 
 -- one item more is decided
-pub Run-more : (old between new : Reg) (items : List Asked) (outcomes : List Outcome) (item : Asked) (outcome : Outcome) →
+pub Run-more : (old between new : Reg) (items : List ItemRequest) (outcomes : List Outcome) (item : ItemRequest) (outcome : Outcome) →
     Run old (map submitted items) outcomes between → Decides between item.secrets item.request.action outcome new →
     Run old (map submitted (items ++ item ∷ [])) (outcomes ++ outcome ∷ []) new
 Run-more old between new [] [] item outcome e d = (new, rw (← e) d, refl)
@@ -41,7 +41,7 @@ Run-more old between new (i ∷ is) [] item outcome e d = absurd e
 Run-more old between new (i ∷ is) (o ∷ os) item outcome r d = (r.0, r.1, Run-more r.0 between new is os item outcome r.2 d)
 
 -- and has the next line
-pub lines_from-more : (number : ℕ) (old new : Reg) (items : List Asked) (outcomes : List Outcome) (item : Asked) (outcome : Outcome) →
+pub lines_from-more : (number : ℕ) (old new : Reg) (items : List ItemRequest) (outcomes : List Outcome) (item : ItemRequest) (outcome : Outcome) →
     Run old (map submitted items) outcomes new →
     lines_from number (items ++ item ∷ []) (outcomes ++ outcome ∷ []) ≡ lines_from number items outcomes ++ item_line (number + length items) item.request.key outcome
 unfolding lines_from
@@ -62,9 +62,9 @@ refusals-more outcomes outcome = sum_by-append _ outcomes (outcome ∷ []) ∙ a
 
 -- of what was given so far the items were decided and their lines written, from a sound registry
 pub record ComesTo (source : List ℕ) (given : List Entry) (old new : Reg) (before after : Told) (secrets : List (List ℕ)) (done : Done) : Type 0 where
-  pub items : List Asked
+  pub items : List ItemRequest
   pub outcomes : List Outcome
-  pub are_items : (more : List Entry) (later : List Asked) → AreItems source secrets more later → AreItems source [] (given ++ more) (items ++ later)
+  pub are_items : (more : List Entry) (later : List ItemRequest) → AreItems source secrets more later → AreItems source [] (given ++ more) (items ++ later)
   pub runs : Run old (map submitted items) outcomes new
   pub writes : Takes before after (lines_from 1 items outcomes)
   pub counted : done.items ≡ length items
@@ -101,7 +101,7 @@ pub ComesTo-more : {source : List ℕ} {given : List Entry} {old between : Reg} 
     Takes middle after (item_line then.items request.key outcome) →
     ComesTo source (given ++ found.added) old new before after then_secrets then
 ComesTo-more {source} {given} start now p new after then_secrets then request outcome so found decides items refused line =
-    let item : Asked = record { secrets = then_secrets; request = request } in
+    let item : ItemRequest = record { secrets = then_secrets; request = request } in
     let number : then.items ≡ 1 + length so.items = items ∙ (ap (λ n. n + 1) so.counted ∙ omega arith) in
     let shown = rw number at line in
     record {
@@ -161,7 +161,7 @@ last_items : {source : List ℕ} {given : List Entry} {old between : Reg} {befor
     (found : FindsItem source start now p given secrets then_secrets request) →
     AreItems source [] (entries found.has.prefix) (so.items ++ record { secrets = then_secrets; request = request } ∷ [])
 last_items {source} {given} start now p then_secrets request so found =
-    let item : Asked = record { secrets = then_secrets; request = request } in
+    let item : ItemRequest = record { secrets = then_secrets; request = request } in
     let all : AreItems source [] (given ++ (found.added ++ [])) (so.items ++ item ∷ []) = so.are_items (found.added ++ []) (item ∷ []) (found.item [] [] at_end) in
     let same : entries found.has.prefix ≡ given ++ (found.added ++ []) = found.has.spelled ∙ ap (λ es. given ++ es) (sym (append-nil found.added)) in
     subst (λ es. AreItems source [] es (so.items ++ item ∷ [])) (sym same) all
@@ -174,7 +174,7 @@ pub HandlesSome-cut : {source : List ℕ} {given : List Entry} {old between : Re
     TakesPrefix middle after (item_line count request.key outcome) →
     HandlesUnwritten source start now old new before after count
 HandlesSome-cut {source} {old} {between} {middle} start now p new after then_secrets count request outcome so found decides items line =
-    let item : Asked = record { secrets = then_secrets; request = request } in
+    let item : ItemRequest = record { secrets = then_secrets; request = request } in
     let are : AreItems source [] (entries found.has.prefix) (so.items ++ item ∷ []) = last_items start now p then_secrets request so found in
     let run : Run old (map submitted (so.items ++ item ∷ [])) (so.outcomes ++ outcome ∷ []) new = Run-more old between new so.items so.outcomes item outcome so.runs decides in
     record {
@@ -198,11 +198,11 @@ HandlesSome-cut {source} {old} {between} {middle} start now p new after then_sec
 -- the ledger stopped
 pub HandlesThenStops-cut : {L : Type 0} (g : Ghosts L) {source : List ℕ} {given : List Entry} (old between new : L) {before middle : Told} {secrets : List (List ℕ)} {done : Done}
     (start now : Told) (p : Paragraphs) (after : Told) (then_secrets : List (List ℕ)) (count : ℕ) (request : Request) →
-    ComesTo source given (g.registry old) (g.registry between) before middle secrets done → g.Ready between → FindsItem source start now p given secrets then_secrets request →
+    ComesTo source given (g.registry old) (g.registry between) before middle secrets done → g.is_stopped between ≡ false → FindsItem source start now p given secrets then_secrets request →
     StopsAt g between then_secrets request.action new → count ≡ done.items → TakesSome middle after (stop_lines count request.key) →
     HandlesStopped g source start now old new before after count
-HandlesThenStops-cut g {source} old between new {before} {middle} start now p after then_secrets count request so ready found stops items line =
-    let item : Asked = record { secrets = then_secrets; request = request } in
+HandlesThenStops-cut g {source} old between new {before} {middle} start now p after then_secrets count request so running found stops items line =
+    let item : ItemRequest = record { secrets = then_secrets; request = request } in
     let are : AreItems source [] (entries found.has.prefix) (so.items ++ item ∷ []) = last_items start now p then_secrets request so found in
     record {
       prefix = found.has.prefix;
@@ -216,7 +216,7 @@ HandlesThenStops-cut g {source} old between new {before} {middle} start now p af
         are_items = are;
         runs = so.runs;
         confined = items_confined source (entries found.has.prefix) so.items (item ∷ []) (g.registry old) (g.registry between) so.outcomes so.sound are so.runs;
-        ready = ready;
+        running = running;
         stops = stops;
         writes = so.writes;
         ends = line;
@@ -226,10 +226,10 @@ HandlesThenStops-cut g {source} old between new {before} {middle} start now p af
 
 -- an item could not be handled
 pub Handles-cut : {L : Type 0} (g : Ghosts L) {source : List ℕ} {given : List Entry} (old between new : L) {before middle : Told} {secrets : List (List ℕ)} {done : Done}
-    (start now : Told) (p : Paragraphs) (after : Told) (then_secrets : List (List ℕ)) (request : Request) (stop : Stop) →
-    ComesTo source given (g.registry old) (g.registry between) before middle secrets done → g.Ready between → FindsItem source start now p given secrets then_secrets request →
+    (start now : Told) (p : Paragraphs) (after : Told) (then_secrets : List (List ℕ)) (request : Request) (stop : HandlingFault) →
+    ComesTo source given (g.registry old) (g.registry between) before middle secrets done → g.is_stopped between ≡ false → FindsItem source start now p given secrets then_secrets request →
     HandlesOne g then_secrets request done between new middle after (Err stop) → HandlesItems g source start now old new before after (Err stop)
-Handles-cut g old between new start now p after then_secrets request (Unwritten count) so ready found one =
+Handles-cut g old between new start now p after then_secrets request (Unwritten count) so running found one =
     HandlesSome-cut start now p _ after then_secrets count request one.outcome so found one.decides one.items one.writes
-Handles-cut g old between new start now p after then_secrets request (LedgerStopped count) so ready found one =
-    HandlesThenStops-cut g old between new start now p after then_secrets count request so ready found one.stops one.items one.writes
+Handles-cut g old between new start now p after then_secrets request (LedgerStopped count) so running found one =
+    HandlesThenStops-cut g old between new start now p after then_secrets count request so running found one.stops one.items one.writes

@@ -1,5 +1,5 @@
 -- The items of the entries of a text decided one by one, each with its line (profile).
-use Rattle.std.specs.Prelude.{◌≡◌, ℕ, ◌+◌, ◌≤◌, ◌⊎◌, List, []}
+use Rattle.std.specs.Prelude.{◌≡◌, ℕ, ◌+◌, ◌≤◌, ◌⊎◌, false, List, []}
 use Rattle.std.specs.Prelude.{◌∷◌, ◌++◌, length, map, Result, Ok, Err}
 use Rattle.rr_io.specs.Told.{Told}
 use Rattle.rr_io.specs.Receiving.{Gives, IsSpent, read_limit, read_size}
@@ -14,7 +14,7 @@ use Rattle.rr_auth.specs.Registries.{Reg}
 use Rattle.rr_registry.specs.declared.outcome.Outcome.{Outcome}
 use Rattle.rr_registry.specs.Runs.{Run}
 use Rattle.rr_submission.specs.declared.ledger.Ledger.{Ghosts}
-use Rattle.rr_submission.specs.SubmissionItems.{AreItems, Asked, submitted}
+use Rattle.rr_submission.specs.SubmissionItems.{AreItems, ItemRequest, submitted}
 use Rattle.rr_submission.specs.SubmissionLaws.{ConfinesItems}
 use Rattle.rr_submission.specs.Reports.{item_line, lines_from, stop_lines}
 
@@ -22,8 +22,8 @@ use Rattle.rr_submission.specs.Reports.{item_line, lines_from, stop_lines}
 -- decided and their lines written whole
 pub record HandlesSome (source : List ℕ) (entries : List (Result (List Field) TextFault))
     (old new : Reg) (before after : Told) (count : ℕ) : Type 0 where
-  pub told : List Asked
-  pub last : Asked
+  pub told : List ItemRequest
+  pub last : ItemRequest
   pub outcomes : List Outcome
   pub outcome : Outcome
   pub between : Told
@@ -46,15 +46,15 @@ StopsAt g old secrets (Err code) new = ⊥
 pub record HandlesThenStops {L : Type 0} (g : Ghosts L) (source : List ℕ)
     (entries : List (Result (List Field) TextFault)) (old new : L) (before after : Told)
     (count : ℕ) : Type 0 where
-  pub told : List Asked
-  pub last : Asked
+  pub told : List ItemRequest
+  pub last : ItemRequest
   pub outcomes : List Outcome
   pub middle : L
   pub between : Told
   pub are_items : AreItems source [] entries (told ++ last ∷ [])
   pub runs : Run (g.registry old) (map submitted told) outcomes (g.registry middle)
   pub confined : ConfinesItems (g.registry old) told outcomes (g.registry middle)
-  pub ready : g.Ready middle
+  pub running : g.is_stopped middle ≡ false
   pub stops : StopsAt g middle last.secrets last.request.action new
   pub writes : Takes before between (lines_from 1 told outcomes)
   pub ends : TakesSome between after (stop_lines count last.request.key)

@@ -12,12 +12,13 @@ use Rattle.rr_auth.specs.Registries.{Reg}
 use Rattle.rr_registry.specs.declared.outcome.Outcome.{Outcome}
 use Rattle.rr_registry.specs.Runs.{Decides, Run}
 use Rattle.rr_submission.specs.declared.ledger.Ledger.{Ghosts}
-use Rattle.rr_submission.specs.declared.stop.Stop.{Stop}
-use Rattle.rr_submission.specs.declared.stop.Stop.TheVariants.{Unwritten, LedgerStopped}
+use Rattle.rr_submission.specs.declared.handling_fault.HandlingFault.{HandlingFault}
+use Rattle.rr_submission.specs.declared.handling_fault.HandlingFault.TheVariants.{Unwritten}
+use Rattle.rr_submission.specs.declared.handling_fault.HandlingFault.TheVariants.{LedgerStopped}
 use Rattle.rr_submission.specs.declared.submission.Done.{Done}
 use Rattle.rr_submission.specs.declared.submission.DeskFault.{DeskFault}
 use Rattle.rr_submission.specs.declared.submission.DeskFault.TheVariants as fault
-use Rattle.rr_submission.specs.SubmissionItems.{AreItems, Asked, submitted}
+use Rattle.rr_submission.specs.SubmissionItems.{AreItems, ItemRequest, submitted}
 use Rattle.rr_submission.specs.SubmissionLaws.{ConfinesItems}
 use Rattle.rr_submission.specs.Refusals.{is_refusal, refusals}
 use Rattle.rr_submission.specs.Reports.{item_line, lines_from, stop_lines}
@@ -27,7 +28,7 @@ use Rattle.rr_submission.specs.Handled.{StopsAt, HandlesStopped, HandlesUnwritte
 -- each item was decided, and its line was written
 pub record HandlesAll (source : List ℕ) (entries : List (Result (List Field) TextFault))
     (old new : Reg) (before after : Told) (done : Done) : Type 0 where
-  pub items : List Asked
+  pub items : List ItemRequest
   pub outcomes : List Outcome
   pub are_items : AreItems source [] entries items
   pub runs : Run old (map submitted items) outcomes new
@@ -47,7 +48,7 @@ pub record HandlesRead (source : List ℕ) (start now : Told) (end : ReadEnd) (o
 -- all of the items, with what is counted; those up to the one whose line could not be written, with
 -- their number; or those before the one at which the ledger stopped
 abbrev pub HandlesItems : {L : Type 0} → Ghosts L → List ℕ → Told → Told → L → L
-    → Told → Told → Result (Done × ReadEnd) Stop → Type 0
+    → Told → Told → Result (Done × ReadEnd) HandlingFault → Type 0
 HandlesItems g source start now old new before after (Ok handled) =
     HandlesRead source start now handled.1 (g.registry old) (g.registry new) before after handled.0
 HandlesItems g source start now old new before after (Err (Unwritten count)) =
@@ -56,7 +57,7 @@ HandlesItems g source start now old new before after (Err (LedgerStopped count))
     HandlesStopped g source start now old new before after count
 
 -- a fact that holds unless the ledger stopped
-abbrev pub UnlessStopped : {T : Type 0} → Result T Stop → Type 0 → Type 0
+abbrev pub UnlessStopped : {T : Type 0} → Result T HandlingFault → Type 0 → Type 0
 UnlessStopped (Ok done) fact = fact
 UnlessStopped (Err (Unwritten count)) fact = fact
 UnlessStopped (Err (LedgerStopped count)) fact = Unit {0}
@@ -87,7 +88,7 @@ pub record HasStopped {L : Type 0} (g : Ghosts L) (secrets : List (List ℕ)) (r
 
 -- an item was decided, and its line was written or not, or the ledger stopped
 abbrev pub HandlesOne : {L : Type 0} → Ghosts L → List (List ℕ) → Request → Done → L
-    → L → Told → Told → Result Done Stop → Type 0
+    → L → Told → Told → Result Done HandlingFault → Type 0
 HandlesOne g secrets request done old new before after (Ok counted) =
     IsCounted secrets request done (g.registry old) (g.registry new) before after counted
 HandlesOne g secrets request done old new before after (Err (Unwritten count)) =
@@ -96,6 +97,6 @@ HandlesOne g secrets request done old new before after (Err (LedgerStopped count
     HasStopped g secrets request done old new before after count
 
 -- the fault of a submission whose items could not all be handled
-abbrev pub stop_fault : Stop → DeskFault
+abbrev pub stop_fault : HandlingFault → DeskFault
 stop_fault (Unwritten items) = fault.WriteFault items
 stop_fault (LedgerStopped items) = fault.StoreFault items

@@ -7,7 +7,7 @@ use Rattle.rr_io.specs.declared.receiving.ReadEnd.TheVariants.{Whole}
 use Rattle.rr_text.specs.declared.paragraphs.Paragraphs.{Paragraphs}
 use Rattle.rr_text.specs.ParagraphReaders.{Entry, HasEnded, HasGiven}
 use Rattle.rr_submission.specs.declared.request.Request.{Request}
-use Rattle.rr_submission.specs.SubmissionItems.{AreItems, Asked}
+use Rattle.rr_submission.specs.SubmissionItems.{AreItems, ItemRequest}
 
 -- these entries more were given, of which the last is an item, and the secrets of those before it
 -- count for it
@@ -16,7 +16,7 @@ pub record FindsItem (source : List ℕ) (start now : Told) (p : Paragraphs) (gi
   pub added : List Entry
   pub has : HasGiven start now p (given ++ added)
   pub some : 0 < length added
-  pub item : (more : List Entry) (items : List Asked) → AreItems source after more items
+  pub item : (more : List Entry) (items : List ItemRequest) → AreItems source after more items
       → AreItems source before (added ++ more)
       (record { secrets = after; request = request } ∷ items)
 

@@ -14,7 +14,7 @@ use Rattle.rr_registry.specs.declared.outcome.Outcome.TheVariants.{Deleted, Refu
 use Rattle.rr_submission.specs.declared.ending.Ending.{Ending}
 use Rattle.rr_submission.specs.declared.ending.Ending.TheVariants.{Stopped}
 use Rattle.rr_submission.specs.Endings.{last_line}
-use Rattle.rr_submission.specs.SubmissionItems.{Asked}
+use Rattle.rr_submission.specs.SubmissionItems.{ItemRequest}
 
 -- the word of an outcome
 abbrev pub outcome_word : Outcome → List ℕ
@@ -58,7 +58,7 @@ abbrev pub item_line : ℕ → Option Key → Outcome → List ℕ
 item_line number key outcome = number_part number ++ subject key ++ outcome_part outcome
 
 -- the lines of items, numbered from here on
-unfoldable pub lines_from : ℕ → List Asked → List Outcome → List ℕ
+unfoldable pub lines_from : ℕ → List ItemRequest → List Outcome → List ℕ
 lines_from number [] outcomes = []
 lines_from number (item ∷ items) [] = []
 lines_from number (item ∷ items) (outcome ∷ outcomes) =
@@ -70,5 +70,5 @@ unfoldable pub stop_lines : ℕ → Option Key → List ℕ
 stop_lines count key = item_line (count + 1) key (Refused E91) ++ last_line Stopped count
 
 -- a report has a line for each item, and a last line
-unfoldable pub report : Ending → List Asked → List Outcome → List ℕ
+unfoldable pub report : Ending → List ItemRequest → List Outcome → List ℕ
 report ending items outcomes = lines_from 1 items outcomes ++ last_line ending (length items)

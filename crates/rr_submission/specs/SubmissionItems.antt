@@ -10,29 +10,29 @@ use Rattle.rr_submission.specs.declared.request.Request.{Request}
 use Rattle.rr_submission.specs.SubmissionTexts.{secrets_of, is_secrets_alone}
 use Rattle.rr_submission.specs.Requests.{IsRequest, unread, text_code}
 
--- an item: the secrets of its own paragraph and of those before it, and what it asks
-pub record Asked : Type 0 where
+-- an item: what its paragraph asks, and the secrets of it and of those before it
+pub record ItemRequest : Type 0 where
   pub secrets : List (List ℕ)
   pub request : Request
 
 -- what is submitted to the registry of it: the key is for the report alone
-abbrev pub submitted : Asked → Submitted
-submitted asked = record { secrets = asked.secrets; action = asked.request.action }
+abbrev pub submitted : ItemRequest → Submitted
+submitted item = record { secrets = item.secrets; action = item.request.action }
 
 -- the items that the entries of a text give, after paragraphs that gave these secrets
 pub data AreItems (source : List ℕ) : List (List ℕ) → List (Result (List Field) TextFault)
-    → List Asked → Type 0 where
+    → List ItemRequest → Type 0 where
   -- the text is at its end
   at_end : {secrets : List (List ℕ)} → AreItems source secrets [] []
   -- a paragraph of passwords alone is not an item, and its secrets count from there on
   secrets_alone : {secrets : List (List ℕ)} {fields : List Field}
-      {entries : List (Result (List Field) TextFault)} {items : List Asked} →
+      {entries : List (Result (List Field) TextFault)} {items : List ItemRequest} →
       is_secrets_alone fields ≡ true
       → AreItems source (secrets ++ secrets_of fields) entries items →
       AreItems source secrets (Ok fields ∷ entries) items
   -- any other paragraph is one item, for which its own secrets count too
-  asked : {secrets : List (List ℕ)} {fields : List Field}
-      {entries : List (Result (List Field) TextFault)} {items : List Asked} →
+  requested : {secrets : List (List ℕ)} {fields : List Field}
+      {entries : List (Result (List Field) TextFault)} {items : List ItemRequest} →
       (request : Request) → is_secrets_alone fields ≡ false → IsRequest source fields request
       →
       AreItems source (secrets ++ secrets_of fields) entries items →
@@ -40,14 +40,14 @@ pub data AreItems (source : List ℕ) : List (List ℕ) → List (Result (List F
       (record { secrets = secrets ++ secrets_of fields; request = request } ∷ items)
   -- a paragraph that could not be read as text is an item refused, and gives no secrets
   faulty : {secrets : List (List ℕ)} {entries : List (Result (List Field) TextFault)}
-      {items : List Asked} →
+      {items : List ItemRequest} →
       (fault : TextFault) (code : Code) → text_code fault ≡ Ok code
       → AreItems source secrets entries items →
       AreItems source secrets (Err fault ∷ entries)
       (record { secrets = secrets; request = unread code } ∷ items)
   -- so is one for whose reading as text or secrets memory ran out
   unread_for_memory : {secrets : List (List ℕ)} {entries : List (Result (List Field) TextFault)}
-      {items : List Asked} →
+      {items : List ItemRequest} →
       (entry : Result (List Field) TextFault) → AreItems source secrets entries items →
       AreItems source secrets (entry ∷ entries)
       (record { secrets = secrets; request = unread E90 } ∷ items)

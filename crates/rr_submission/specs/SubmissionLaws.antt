@@ -7,19 +7,19 @@ use Rattle.rr_auth.specs.Sources.{IsRegistryOf}
 use Rattle.rr_registry.specs.Confined.{Confines}
 use Rattle.rr_registry.specs.Runs.{Run}
 use Rattle.rr_registry.specs.declared.outcome.Outcome.{Outcome}
-use Rattle.rr_submission.specs.SubmissionItems.{AreItems, Asked, submitted}
+use Rattle.rr_submission.specs.SubmissionItems.{AreItems, ItemRequest, submitted}
 
 -- a run of the items of a text, read in the source of a registry, leaves a registry of that source
 abbrev pub ItemsKeepTheSource : Type 0
 ItemsKeepTheSource =
-    (source : List ℕ) (entries : List (Result (List Field) TextFault)) (items : List Asked)
+    (source : List ℕ) (entries : List (Result (List Field) TextFault)) (items : List ItemRequest)
     (r s : Reg) (outcomes : List Outcome)
     → IsRegistryOf source r → AreItems source [] entries items
     → Run r (map submitted items) outcomes s → IsRegistryOf source s
 
 -- this run of items answers the holders of a prefix as if nobody else had submitted anything, and
 -- leaves what they hold to them
-pub record ConfinesItems (before : Reg) (items : List Asked) (outcomes : List Outcome)
+pub record ConfinesItems (before : Reg) (items : List ItemRequest) (outcomes : List Outcome)
     (after : Reg) : Type 0 where
   pub confines : Confines before (map submitted items) outcomes after
 
@@ -27,7 +27,7 @@ pub record ConfinesItems (before : Reg) (items : List Asked) (outcomes : List Ou
 -- nobody else had submitted anything, and leaves what they hold to them
 abbrev pub ConfinesTexts : List ℕ → Reg → Type 0
 ConfinesTexts source r =
-    (entries : List (Result (List Field) TextFault)) (items later : List Asked) (s : Reg)
+    (entries : List (Result (List Field) TextFault)) (items later : List ItemRequest) (s : Reg)
     (outcomes : List Outcome)
     → AreItems source [] entries (items ++ later) → Run r (map submitted items) outcomes s
     → Confines r (map submitted items) outcomes s

@@ -17,7 +17,7 @@ use Rattle.rr_submission.specs.declared.submission.Done.{Done}
 use Rattle.rr_submission.specs.declared.submission.DeskFault.{DeskFault}
 use Rattle.rr_submission.specs.declared.submission.DeskFault.TheVariants as fault
 use Rattle.rr_submission.specs.declared.ledger.Ledger.{Ghosts}
-use Rattle.rr_submission.specs.SubmissionItems.{AreItems, Asked, submitted}
+use Rattle.rr_submission.specs.SubmissionItems.{AreItems, ItemRequest, submitted}
 use Rattle.rr_submission.specs.SubmissionLaws.{ConfinesItems}
 use Rattle.rr_submission.specs.Refusals.{refusals}
 use Rattle.rr_submission.specs.Endings.{last_line}
@@ -47,7 +47,7 @@ sides reader_old reader_new writer_old writer_new before after = record {
 -- the text was read to its end, each item was decided, and the whole report was written
 pub record IsDone (source : List ℕ) (sides : Sides) (done : Done) : Type 0 where
   pub text : List ℕ
-  pub items : List Asked
+  pub items : List ItemRequest
   pub outcomes : List Outcome
   pub reads : Reads sides.reader_before sides.reader_after text Whole
   pub are_items : AreItems source [] (entries text) items
@@ -62,7 +62,7 @@ pub record IsDone (source : List ℕ) (sides : Sides) (done : Done) : Type 0 whe
 pub record IsReadFault (source : List ℕ) (sides : Sides) (count : ℕ) : Type 0 where
   pub text : List ℕ
   pub end : ReadEnd
-  pub items : List Asked
+  pub items : List ItemRequest
   pub outcomes : List Outcome
   pub between : Told
   pub reads : Reads sides.reader_before sides.reader_after text end
@@ -85,7 +85,7 @@ IsLineFault source sides count =
 -- their lines written whole
 pub record IsLastLineFault (source : List ℕ) (sides : Sides) (count : ℕ) : Type 0 where
   pub text : List ℕ
-  pub items : List Asked
+  pub items : List ItemRequest
   pub outcomes : List Outcome
   pub between : Told
   pub reads : Reads sides.reader_before sides.reader_after text Whole
@@ -114,8 +114,7 @@ pub record IsUnread (sides : Sides) : Type 0 where
   pub same : sides.after ≡ sides.before
   pub writes : TakesSome sides.writer_before sides.writer_after (last_line Memory 0)
 
--- what a submission that failed did, by its fault; a ledger that is ready does not say that it is
--- stopped
+-- what a submission that failed did, by its fault; none says that its ledger had been stopped
 abbrev pub FailsBy : {L : Type 0} → Ghosts L → List ℕ → Sides → L → L → DeskFault
     → Type 0
 FailsBy g source sides old new (fault.ReadFault items) = IsReadFault source sides items
@@ -136,6 +135,14 @@ abbrev pub SubmitsText : {L : Type 0} → Ghosts L → List ℕ → Told → Tol
 SubmitsText g source reader_old reader_new writer_old writer_new old new result =
     Submits g source (sides reader_old reader_new writer_old writer_new (g.registry old)
     (g.registry new)) old new result
+
+-- a submission is refused because its ledger or its desk is stopped, which stays as it is, like the
+-- reader and the writer
+abbrev pub RefusesSubmission : {L R W : Type 0} → L → L → R → R → W → W
+    → Result Done DeskFault → Type 0
+RefusesSubmission old new reader_old reader_new writer_old writer_new result =
+    (result ≡ Err fault.Stopped) × (new ≡ old) × (reader_new ≡ reader_old)
+    × (writer_new ≡ writer_old)
 
 -- a fact that holds unless the ledger stopped
 abbrev pub UnlessStoreFault : Result Done DeskFault → Type 0 → Type 0

@@ -15,7 +15,7 @@ pub enum Ending {
     Complete,
     /// With a failed read, or with more reads than are made.
     ReadFault,
-    /// If memory ran out, before its first item.
+    /// Because memory ran out, before its first item.
     Memory,
     /// With a stop of the ledger at an item, whose line has the code E91.
     Stopped,

@@ -1,22 +1,24 @@
 //! Submissions: read, decided item by item, and reported.
 
-ghost use Rattle.std.specs.Prelude.{◌≡◌, ◌+◌, ◌<◌, ◌^◌, [], if◌then◌else◌};
+ghost use Rattle.std.specs.Prelude.{◌≡◌, ◌+◌, ◌<◌, ◌^◌, true, false, [], if◌then◌else◌};
 ghost use Rattle.std.specs.Prelude.{IfOk, OnOk, OnErr};
 ghost use Rattle.rr_io.specs.Sending.{Writes};
 ghost use Rattle.rr_text.specs.ParagraphReaders.{HasGiven};
+ghost use Rattle.rr_auth.specs.Registries.{Sound};
 ghost use Rattle.rr_registry.specs.Runs.{Decides};
 ghost use Rattle.rr_submission.specs.Refusals.{is_refusal};
 ghost use Rattle.rr_submission.specs.Reports.{stop_lines};
 ghost use Rattle.rr_submission.specs.Handled.{StopsAt};
 ghost use Rattle.rr_submission.specs.HandledParts.{HandlesItems, HandlesOne, UnlessStopped};
-ghost use Rattle.rr_submission.specs.Submissions.{SubmitsText, UnlessStoreFault};
+ghost use Rattle.rr_submission.specs.Submissions.{RefusesSubmission, SubmitsText};
+ghost use Rattle.rr_submission.specs.Submissions.{UnlessStoreFault};
 
 use crate::ending::{Ending, write_last_line};
+use crate::handling_fault::HandlingFault;
 use crate::items::next_item;
 use crate::ledger::{Ledger, Stopped};
 use crate::line::write_item_line;
 use crate::request::Request;
-use crate::stop::Stop;
 use crate::submission::{DeskFault, Done};
 use rr_auth::{Item, Secrets};
 use rr_io::{ReadEnd, Sink, Source};
@@ -35,7 +37,8 @@ use std::io;
 /// - Where the line of an item cannot be written, that item and those before it stand, and those
 ///   after it are not read. Where only the last line cannot be written, all items stand.
 /// - Where the ledger stops at an item, those before it stand, the item has a line with the code
-///   E91, and a last line follows. After each other end the ledger is ready.
+///   E91, and a last line follows. After each other end it is not stopped.
+/// - Where the ledger was stopped before, nothing is read, decided or written.
 /// - Where memory runs out before the first item, nothing is read or decided.
 ///
 /// What the holders of a prefix hold is changed by no item of others. Where the ledger stops, this
@@ -47,13 +50,19 @@ pub fn submit<L: Ledger, R: Source, W: Sink>(
     reader: &mut R,
     writer: &mut W,
 ) -> Result<Done, DeskFault>
-    requires { L.Ready ledger.old }
-    ensures submits { SubmitsText L.Ledger source.now (R.told reader.old) (R.told reader.new)
+    ensures stopped { L.is_stopped ledger.old ≡ true → RefusesSubmission
+        ledger.old ledger.new reader.old reader.new writer.old writer.new result }
+    ensures submits { L.is_stopped ledger.old ≡ false
+        → SubmitsText L.Ledger source.now (R.told reader.old) (R.told reader.new)
         (W.told writer.old) (W.told writer.new) ledger.old ledger.new result }
-    ensures ready { UnlessStoreFault result (L.Ready ledger.new) }
+    ensures running { L.is_stopped ledger.old ≡ false
+        → UnlessStoreFault result (L.is_stopped ledger.new ≡ false) }
     ensures reader_aside { R.aside reader.new ≡ R.aside reader.old }
     ensures writer_aside { W.aside writer.new ≡ W.aside writer.old }
 {
+    if ledger.stopped() {
+        return Err(DeskFault::Stopped);
+    }
     match Paragraphs::new(alloc) {
         Ok(mut paragraphs) => report(alloc, ledger, source, &mut paragraphs, reader, writer),
         Err(_) => {
@@ -73,11 +82,12 @@ fn report<L: Ledger, R: Source, W: Sink>(
     reader: &mut R,
     writer: &mut W,
 ) -> Result<Done, DeskFault>
-    requires ready { L.Ready ledger.old }
+    requires running { L.is_stopped ledger.old ≡ false }
+    requires sound { Sound (L.registry ledger.old) }
     requires unread { HasGiven (R.told reader.old) (R.told reader.old) paragraphs.old [] }
     ensures submits { SubmitsText L.Ledger source.now (R.told reader.old) (R.told reader.new)
         (W.told writer.old) (W.told writer.new) ledger.old ledger.new result }
-    ensures ready { UnlessStoreFault result (L.Ready ledger.new) }
+    ensures running { UnlessStoreFault result (L.is_stopped ledger.new ≡ false) }
     ensures reader_aside { R.aside reader.new ≡ R.aside reader.old }
     ensures writer_aside { W.aside writer.new ≡ W.aside writer.old }
 {
@@ -107,17 +117,16 @@ fn handle_items<L: Ledger, R: Source, W: Sink>(
     paragraphs: &mut Paragraphs,
     reader: &mut R,
     writer: &mut W,
-) -> Result<(Done, ReadEnd), Stop>
-    requires ready { L.Ready ledger.old }
+) -> Result<(Done, ReadEnd), HandlingFault>
+    requires running { L.is_stopped ledger.old ≡ false }
+    requires sound { Sound (L.registry ledger.old) }
     requires unread { HasGiven (R.told reader.old) (R.told reader.old) paragraphs.old [] }
     ensures handles { HandlesItems L.Ledger source.now (R.told reader.old)
         (R.told reader.new) ledger.old ledger.new (W.told writer.old) (W.told writer.new) result }
-    ensures ready { UnlessStopped result (L.Ready ledger.new) }
+    ensures running { UnlessStopped result (L.is_stopped ledger.new ≡ false) }
     ensures reader_aside { R.aside reader.new ≡ R.aside reader.old }
     ensures writer_aside { W.aside writer.new ≡ W.aside writer.old }
 {
-    // Says that the registry is sound, so that the run confines what is foreign.
-    ledger.sound();
     let mut secrets = Secrets::new(alloc);
     let mut done = Done {
         items: 0,
@@ -142,13 +151,13 @@ fn handle_item<L: Ledger, W: Sink>(
     request: Request,
     done: Done,
     writer: &mut W,
-) -> Result<Done, Stop>
+) -> Result<Done, HandlingFault>
     requires items { done.items + 1 < 2 ^ 64 }
     requires refused { done.refused + 1 < 2 ^ 64 }
-    requires ready { L.Ready ledger.old }
+    requires running { L.is_stopped ledger.old ≡ false }
     ensures handles { HandlesOne L.Ledger secrets.old request done ledger.old ledger.new
         (W.told writer.old) (W.told writer.new) result }
-    ensures ready { UnlessStopped result (L.Ready ledger.new) }
+    ensures running { UnlessStopped result (L.is_stopped ledger.new ≡ false) }
     ensures same_secrets { secrets.new ≡ secrets.old }
     ensures aside { W.aside writer.new ≡ W.aside writer.old }
 {
@@ -158,13 +167,13 @@ fn handle_item<L: Ledger, W: Sink>(
             let done = counted(done, outcome);
             match write_item_line(writer, done.items, &key, outcome) {
                 Ok(()) => Ok(done),
-                Err(_) => Err(Stop::Unwritten { items: done.items }),
+                Err(_) => Err(HandlingFault::Unwritten { items: done.items }),
             }
         }
         Err(Stopped) => {
             // The fault that is told is the ledger's, whether or not its lines could be written.
             let _ = write_stop(writer, done.items, &key);
-            Err(Stop::LedgerStopped { items: done.items })
+            Err(HandlingFault::LedgerStopped { items: done.items })
         }
     }
 }
@@ -176,10 +185,10 @@ fn decide<L: Ledger>(
     secrets: &mut Secrets,
     action: Result<Item, Code>,
 ) -> Result<Outcome, Stopped>
-    requires { L.Ready ledger.old }
+    requires { L.is_stopped ledger.old ≡ false }
     ensures decides { IfOk result (λ outcome. Decides
         (L.registry ledger.old) secrets.old action outcome (L.registry ledger.new)) }
-    ensures ready { OnOk result (L.Ready ledger.new) }
+    ensures running { OnOk result (L.is_stopped ledger.new ≡ false) }
     ensures stops { OnErr result (StopsAt L.Ledger ledger.old secrets.old action ledger.new) }
     ensures same_secrets { secrets.new ≡ secrets.old }
 {

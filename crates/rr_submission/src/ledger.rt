@@ -1,6 +1,6 @@
 //! Ledgers: what keeps a registry and decides items.
 
-ghost use Rattle.std.specs.Prelude.{◌≡◌, ℕ, List, IfOk, OnOk, OnErr};
+ghost use Rattle.std.specs.Prelude.{◌≡◌, ℕ, Bool, false, List, IfOk, OnOk, OnErr};
 ghost use Rattle.rr_auth.specs.Registries.{Reg, Sound};
 ghost use Rattle.rr_auth.specs.declared.item.Item.{Item};
 ghost use Rattle.rr_registry.specs.Runs.{IsStep};
@@ -18,16 +18,17 @@ pub trait Ledger {
     // The registry that it keeps.
     ghost registry: { Self → Reg };
 
-    // It has not stopped.
-    ghost Ready: { Self → Type 0 };
+    // It is stopped: it decides no more.
+    ghost is_stopped: { Self → Bool };
 
     // What it leaves where it stops: of the ledger before, the secrets, the item, and the ledger
     // after.
     ghost Stops: { Self → List (List ℕ) → Item → Self → Type 0 };
 
-    /// Says that the registry is sound, also to a submission without items, and does nothing.
-    fn sound(&self)
-        ensures { Sound (registry self.now) };
+    /// Whether it is stopped. Its registry is sound, also where it is.
+    fn stopped(&self) -> bool
+        ensures is { result ≡ is_stopped self.now }
+        ensures sound { Sound (registry self.now) };
 
     /// Decides an item that was given with these secrets.
     fn decide(
@@ -36,10 +37,10 @@ pub trait Ledger {
         secrets: &mut Secrets,
         item: Item,
     ) -> Result<Outcome, Stopped>
-        requires { Ready self.old }
+        requires { is_stopped self.old ≡ false }
         ensures decides { IfOk result
             (λ outcome. IsStep (registry self.old) secrets.old item outcome (registry self.new)) }
-        ensures ready { OnOk result (Ready self.new) }
+        ensures running { OnOk result (is_stopped self.new ≡ false) }
         ensures stops { OnErr result (Stops self.old secrets.old item self.new) }
         ensures same_secrets { secrets.new ≡ secrets.old };
 }
@@ -48,13 +49,14 @@ pub trait Ledger {
 impl<B: Keeper> Ledger for Registry<B> {
     ghost registry = { λ kept. kept };
 
-    ghost Ready = { λ kept. Unit {0} };
+    ghost is_stopped = { λ kept. false };
 
     ghost Stops = { λ before secrets item after. ⊥ };
 
-    fn sound(&self) {
+    fn stopped(&self) -> bool {
         // Says that the registry is sound.
         let _book = self.book();
+        false
     }
 
     fn decide(

@@ -3,6 +3,7 @@
 
 mod ending;
 mod handling;
+mod handling_fault;
 mod items;
 pub mod laws;
 mod ledger;
@@ -11,15 +12,11 @@ mod report_keys;
 mod request;
 mod secret;
 mod short_text;
-mod stop;
 mod submission;
 mod submission_text;
 
-pub use ending::{Ending, write_last_line};
+pub use ending::Ending;
 pub use handling::submit;
-pub use items::next_item;
 pub use ledger::{Ledger, Stopped};
-pub use line::write_item_line;
-pub use request::Request;
-pub use short_text::{SHORT_SIZE, ShortText};
+pub use short_text::ShortText;
 pub use submission::{DeskFault, Done};

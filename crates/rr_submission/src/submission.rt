@@ -12,7 +12,7 @@ pub struct Done {
 /// Why a submission was cut short; `items` were decided before that.
 #[derive(Clone, Copy, Debug, PartialEq, Eq)]
 pub enum DeskFault {
-    /// A read failed, or there were too many.
+    /// A read failed, or there were more reads than 16,777,216.
     ReadFault {
         /// The items that were decided.
         items: u64,

@@ -10,7 +10,7 @@ use Rattle.rr_text.specs.declared.line_so_far.LineSoFar.TheVariants.{Nothing}
 use Rattle.rr_text.specs.declared.line_so_far.LineEnd.{LineEnd}
 use Rattle.rr_text.specs.declared.line_so_far.LineEnd.TheVariants.{Passed, Taken, Closed}
 use Rattle.rr_text.specs.LineParts.{line_so_far, line_with, end_of_line}
-use Rattle.rr_text.specs.DraftParts.{IsCutSo, KeepsBlock, IsBegun, HasEntry, IsClosed, GathersLines, Finishes, HasNoText, KeepsPiece, TakesLine, EndsLine}
+use Rattle.rr_text.specs.DraftParts.{IsCutSo, KeepsBlock, IsUnclosed, HasEntry, IsClosed, GathersLines, Finishes, HasNoText, KeepsPiece, TakesLine, EndsLine}
 use Rattle.rr_bytes.specs.Blanks.{is_line_feed}
 use Rattle.rr_text.specs.Lines.{text_lines, are_whole_lines, IsWholeLine, is_blank_line, is_paragraph_line}
 use Rattle.rr_text.specs.Blocks.{blocks, from_blank}
@@ -140,7 +140,7 @@ cut_more text block line piece started cut single h = record {
   none = cut.none;
   unbroken = cut.unbroken;
   whole = cut.whole;
-  begun = list_any-append is_line_feed line piece ∙ none_both (list_any is_line_feed line) (list_any is_line_feed piece) cut.begun (unended piece single h);
+  unfinished = list_any-append is_line_feed line piece ∙ none_both (list_any is_line_feed line) (list_any is_line_feed piece) cut.unfinished (unended piece single h);
 }
 
 -- a text without what follows it
@@ -159,7 +159,7 @@ cut_ended text block line piece started cut single = record {
   none = cut.none;
   unbroken = cut.unbroken;
   whole = cut.whole;
-  single = single_after line piece cut.begun single;
+  single = single_after line piece cut.unfinished single;
 }
 
 prefix_more : (over : Bool) (whole : ℕ) (kept new piece block : List ℕ) → (whole ≤ length kept) × (take whole kept ≡ block) → (over ≡ false → new ≡ kept ++ piece) → (over ≡ true → new ≡ kept)
@@ -237,11 +237,11 @@ cut_none text passed lines idle = record {
   none = λ _. refl;
   unbroken = ap (list_any is_blank_line) no_text_lines;
   whole = no_whole_lines;
-  begun = refl;
+  unfinished = refl;
 }
 
-begun_with : (text : List ℕ) (draft : Draft) → HasNoText draft → IsCutSo text false [] [] → IsBegun text draft
-begun_with text draft fresh cut = record {
+unclosed_with : (text : List ℕ) (draft : Draft) → HasNoText draft → IsCutSo text false [] [] → IsUnclosed text draft
+unclosed_with text draft fresh cut = record {
   block = [];
   line = [];
   cut = let started : draft.started ≡ false = fresh.started in rw started cut;
@@ -250,17 +250,17 @@ begun_with text draft fresh cut = record {
 }
 
 -- no text has begun
-pub begun_none : (draft : Draft) → HasNoText draft → IsBegun [] draft
-begun_none draft fresh = begun_with [] draft fresh (cut_none [] [] (λ more. refl) refl)
+pub unclosed_none : (draft : Draft) → HasNoText draft → IsUnclosed [] draft
+unclosed_none draft fresh = unclosed_with [] draft fresh (cut_none [] [] (λ more. refl) refl)
 
 -- a piece without its LF
-pub begun_more : (text piece : List ℕ) (old new : Draft) → IsBegun text old → KeepsPiece old new piece → text_lines piece ≡ piece ∷ [] → are_whole_lines piece ≡ false → IsBegun (text ++ piece) new
-begun_more text piece old new begun keeps single h = record {
-  block = begun.block;
-  line = begun.line ++ piece;
-  cut = let started : new.started ≡ old.started = keeps.started in rw started (cut_more text begun.block begun.line piece old.started begun.cut single h);
-  kept = kept_more old new piece begun.block begun.line begun.kept keeps;
-  known = keeps.line ∙ (ap (λ kind. line_with kind piece) begun.known ∙ line_with-append begun.line piece);
+pub unclosed_more : (text piece : List ℕ) (old new : Draft) → IsUnclosed text old → KeepsPiece old new piece → text_lines piece ≡ piece ∷ [] → are_whole_lines piece ≡ false → IsUnclosed (text ++ piece) new
+unclosed_more text piece old new unclosed keeps single h = record {
+  block = unclosed.block;
+  line = unclosed.line ++ piece;
+  cut = let started : new.started ≡ old.started = keeps.started in rw started (cut_more text unclosed.block unclosed.line piece old.started unclosed.cut single h);
+  kept = kept_more old new piece unclosed.block unclosed.line unclosed.kept keeps;
+  known = keeps.line ∙ (ap (λ kind. line_with kind piece) unclosed.known ∙ line_with-append unclosed.line piece);
 }
 
 feed_in : (bs : List ℕ) → 0 < length bs → are_whole_lines bs ≡ true → list_any is_line_feed bs ≡ true
@@ -285,7 +285,7 @@ feed_lines text piece block line started at more =
     after_lines text piece line at.cut.passed (text_lines block) at.cut.lines more
     ∙ ap (λ ls. at.cut.passed ++ (text_lines block ++ ls)) (text_lines-append (line ++ piece) more at.whole.ended ∙ ap (λ ls. ls ++ text_lines more) at.whole.single)
 
-fed_passed : (text piece block line : List ℕ) (new : Draft) → IsAtFeed text piece false block line → is_paragraph_line (line ++ piece) ≡ false → HasNoText new → IsBegun (text ++ piece) new
+fed_passed : (text piece block line : List ℕ) (new : Draft) → IsAtFeed text piece false block line → is_paragraph_line (line ++ piece) ≡ false → HasNoText new → IsUnclosed (text ++ piece) new
 fed_passed text piece block line new at h fresh =
     let none : block ≡ [] = at.cut.none refl in
     let lines : (more : List ℕ) → text_lines ((text ++ piece) ++ more) ≡ (at.cut.passed ++ (line ++ piece) ∷ []) ++ text_lines more = λ more.
@@ -296,11 +296,11 @@ fed_passed text piece block line new at h fresh =
     let idle : list_any is_paragraph_line (at.cut.passed ++ (line ++ piece) ∷ []) ≡ false =
     list_any-append is_paragraph_line at.cut.passed ((line ++ piece) ∷ [])
     ∙ none_both (list_any is_paragraph_line at.cut.passed) (list_any is_paragraph_line ((line ++ piece) ∷ [])) at.cut.idle (idle_one (line ++ piece) h)
-    in begun_with (text ++ piece) new fresh (cut_none (text ++ piece) (at.cut.passed ++ (line ++ piece) ∷ []) lines idle)
+    in unclosed_with (text ++ piece) new fresh (cut_none (text ++ piece) (at.cut.passed ++ (line ++ piece) ∷ []) lines idle)
 
 fed_taken : (text piece block line : List ℕ) (started : Bool) (mid new : Draft) → IsAtFeed text piece started block line → is_blank_line (line ++ piece) ≡ false
     → (started || is_paragraph_line (line ++ piece)) ≡ true → length mid.kept.items ≤ size_limit → KeepsBlock block (line ++ piece) mid.kept.items mid.over mid.whole → TakesLine mid new
-    → IsBegun (text ++ piece) new
+    → IsUnclosed (text ++ piece) new
 fed_taken text piece block line started mid new at h begins most kept takes =
     let more : IsLonger block (line ++ piece) = longer (text ++ piece) block (line ++ piece) started at.at h begins in
     let is : new.started ≡ true = takes.started in
@@ -317,7 +317,7 @@ fed_taken text piece block line started mid new at h begins most kept takes =
         none = λ e. cc;
         unbroken = more.unbroken;
         whole = are_whole_lines-append block (line ++ piece) at.cut.whole at.whole.ended;
-        begun = refl;
+        unfinished = refl;
       };
       kept = kept_taken mid new block (line ++ piece) most kept takes;
       known = takes.line;
@@ -356,34 +356,34 @@ fed_by Closed text piece block line started closes mid new at most kept so ends 
     rw (is, same) (fed_closed text piece block line mid (rw was at at) so.1 kept)
 
 -- a piece with its LF, after which the line is at its end
-pub begun_fed : (text piece : List ℕ) (old mid new : Draft) (closing : Bool) → IsBegun text old → KeepsPiece old mid piece
+pub unclosed_fed : (text piece : List ℕ) (old mid new : Draft) (closing : Bool) → IsUnclosed text old → KeepsPiece old mid piece
     → EndsLine (end_of_line mid.started mid.line) mid new closing → 0 < length piece → text_lines piece ≡ piece ∷ [] → are_whole_lines piece ≡ true → GathersLines closing (text ++ piece) new
-begun_fed text piece old mid new closing begun keeps ends some single h =
+unclosed_fed text piece old mid new closing unclosed keeps ends some single h =
     let started : mid.started ≡ old.started = keeps.started in
-    let known : mid.line ≡ line_so_far (begun.line ++ piece) = keeps.line ∙ (ap (λ kind. line_with kind piece) begun.known ∙ line_with-append begun.line piece) in
-    let so : EndsSo old.started (begun.line ++ piece) (end_of_line mid.started mid.line) = rw (started, known) (ends_so old.started (begun.line ++ piece)) in
-    let at : IsAtFeed text piece old.started begun.block begun.line = record {
-      cut = begun.cut;
-      at = cut_ended text begun.block begun.line piece old.started begun.cut single;
-      whole = record { single = single_after begun.line piece begun.cut.begun single; ended = whole_after begun.line piece some h };
-      some = omega (arith, some, length-append begun.line piece);
+    let known : mid.line ≡ line_so_far (unclosed.line ++ piece) = keeps.line ∙ (ap (λ kind. line_with kind piece) unclosed.known ∙ line_with-append unclosed.line piece) in
+    let so : EndsSo old.started (unclosed.line ++ piece) (end_of_line mid.started mid.line) = rw (started, known) (ends_so old.started (unclosed.line ++ piece)) in
+    let at : IsAtFeed text piece old.started unclosed.block unclosed.line = record {
+      cut = unclosed.cut;
+      at = cut_ended text unclosed.block unclosed.line piece old.started unclosed.cut single;
+      whole = record { single = single_after unclosed.line piece unclosed.cut.unfinished single; ended = whole_after unclosed.line piece some h };
+      some = omega (arith, some, length-append unclosed.line piece);
     } in
-    fed_by (end_of_line mid.started mid.line) text piece begun.block begun.line old.started closing mid new at
-    mid.most (kept_more old mid piece begun.block begun.line begun.kept keeps) so ends
+    fed_by (end_of_line mid.started mid.line) text piece unclosed.block unclosed.line old.started closing mid new at
+    mid.most (kept_more old mid piece unclosed.block unclosed.line unclosed.kept keeps) so ends
 
-begun_single : (b : ℕ) (bs : List ℕ) → list_any is_line_feed (b ∷ bs) ≡ false → text_lines (b ∷ bs) ≡ (b ∷ bs) ∷ []
+unfinished_single : (b : ℕ) (bs : List ℕ) → list_any is_line_feed (b ∷ bs) ≡ false → text_lines (b ∷ bs) ≡ (b ∷ bs) ∷ []
 unfolding text_lines
-begun_single b [] h =
+unfinished_single b [] h =
     let none : is_line_feed b ≡ false = (or_none (is_line_feed b) false h).0 in
     rw none refl
-begun_single b (c ∷ cs) h =
+unfinished_single b (c ∷ cs) h =
     let none = or_none (is_line_feed b) (list_any is_line_feed (c ∷ cs)) h in
     let first : is_line_feed b ≡ false = none.0 in
-    rw first (ap (onto_first b) (begun_single c cs none.1))
+    rw first (ap (onto_first b) (unfinished_single c cs none.1))
 
-begun_lines : (line : List ℕ) → list_any is_line_feed line ≡ false → (line ≡ []) ⊎ (text_lines line ≡ line ∷ [])
-begun_lines [] h = inl refl
-begun_lines (b ∷ bs) h = inr (begun_single b bs h)
+unfinished_lines : (line : List ℕ) → list_any is_line_feed line ≡ false → (line ≡ []) ⊎ (text_lines line ≡ line ∷ [])
+unfinished_lines [] h = inl refl
+unfinished_lines (b ∷ bs) h = inr (unfinished_single b bs h)
 
 -- where no line has begun, the text is at its end or after a line
 bare_end : (text block : List ℕ) (started : Bool) → IsCutSo text started block [] → blocks (text_lines text) ≡ blocks (text_lines block)
@@ -426,28 +426,28 @@ ended_by Closed text block line started closing old new at kept was so ends =
     subst P (sym same) (finishes_one old.started text old (was ∙ begun) (entry_of text block old whole.starts kept.kept_whole kept.too_large (closed_end text block line whole so.1)))
 
 -- the end of the text, whether or not a line has begun
-pub begun_ended : (text : List ℕ) (old new : Draft) (closing : Bool) → IsBegun text old → EndsLine (end_of_line old.started old.line) old new closing → Finishes new.started text new
-begun_ended text old new closing begun ends =
-    elim (begun_lines begun.line begun.cut.begun) [
+pub unclosed_ended : (text : List ℕ) (old new : Draft) (closing : Bool) → IsUnclosed text old → EndsLine (end_of_line old.started old.line) old new closing → Finishes new.started text new
+unclosed_ended text old new closing unclosed ends =
+    elim (unfinished_lines unclosed.line unclosed.cut.unfinished) [
       | inl none ↦
-          let known : old.line ≡ Nothing = begun.known ∙ ap line_so_far none in
-          let cut : IsCutSo text old.started begun.block [] = rw none at begun.cut in
-          let kept : KeepsBlock begun.block [] old.kept.items old.over old.whole = rw none at begun.kept in
+          let known : old.line ≡ Nothing = unclosed.known ∙ ap line_so_far none in
+          let cut : IsCutSo text old.started unclosed.block [] = rw none at unclosed.cut in
+          let kept : KeepsBlock unclosed.block [] old.kept.items old.over old.whole = rw none at unclosed.kept in
           let so : EndsLine (end_of_line old.started Nothing) old new closing = subst (λ (kind : LineSoFar). EndsLine (end_of_line old.started kind) old new closing) known ends in
-          bare_by old.started closing text begun.block old new cut kept refl so
+          bare_by old.started closing text unclosed.block old new cut kept refl so
       | inr single ↦
-          let at : IsAtLineEnd text old.started begun.block begun.line = record {
-            passed = begun.cut.passed;
-            lines = cut_all text begun.block begun.line old.started begun.cut;
-            idle = begun.cut.idle;
-            starts = begun.cut.starts;
-            none = begun.cut.none;
-            unbroken = begun.cut.unbroken;
-            whole = begun.cut.whole;
+          let at : IsAtLineEnd text old.started unclosed.block unclosed.line = record {
+            passed = unclosed.cut.passed;
+            lines = cut_all text unclosed.block unclosed.line old.started unclosed.cut;
+            idle = unclosed.cut.idle;
+            starts = unclosed.cut.starts;
+            none = unclosed.cut.none;
+            unbroken = unclosed.cut.unbroken;
+            whole = unclosed.cut.whole;
             single = single;
           } in
-          let so : EndsSo old.started begun.line (end_of_line old.started old.line) = rw begun.known (ends_so old.started begun.line) in
-          ended_by (end_of_line old.started old.line) text begun.block begun.line old.started closing old new at begun.kept refl so ends
+          let so : EndsSo old.started unclosed.line (end_of_line old.started old.line) = rw unclosed.known (ends_so old.started unclosed.line) in
+          ended_by (end_of_line old.started old.line) text unclosed.block unclosed.line old.started closing old new at unclosed.kept refl so ends
     ]
 
 unclosed_blocks : (lines : List (List ℕ)) → list_any is_blank_line lines ≡ false → list_any closes lines ≡ false
@@ -460,8 +460,8 @@ unclosed_blocks (line ∷ others) h =
 unclosed_line : (line : List ℕ) → list_any is_line_feed line ≡ false → closes line ≡ false
 unclosed_line line h = rw h (and-false (is_blank_line line))
 
-unclosed_begun : (line : List ℕ) → list_any is_line_feed line ≡ false → list_any closes (text_lines line) ≡ false
-unclosed_begun line h = elim (begun_lines line h) [
+unclosed_unfinished : (line : List ℕ) → list_any is_line_feed line ≡ false → list_any closes (text_lines line) ≡ false
+unclosed_unfinished line h = elim (unfinished_lines line h) [
   | inl none ↦ rw none (ap (list_any closes) no_text_lines)
   | inr single ↦ ap (list_any closes) single ∙ none_both (closes line) false (unclosed_line line h) refl
 ]
@@ -471,25 +471,25 @@ idle_prefix prefix rest all e h =
     (or_none (list_any is_paragraph_line prefix) (list_any is_paragraph_line rest) (sym (list_any-append is_paragraph_line prefix rest) ∙ (ap (list_any is_paragraph_line) (sym e) ∙ h))).0
 
 -- of a text whose last block may go on nothing is whole
-pub begun_whole : (text : List ℕ) (draft : Draft) → IsBegun text draft → whole_entries text ≡ []
+pub unclosed_whole : (text : List ℕ) (draft : Draft) → IsUnclosed text draft → whole_entries text ≡ []
 unfolding whole_part
-begun_whole text draft begun =
-    let more = text_lines begun.block ++ text_lines begun.line in
-    let all : text_lines text ≡ begun.cut.passed ++ more = cut_all text begun.block begun.line draft.started begun.cut in
-    let unclosed : list_any closes more ≡ false =
-    list_any-append closes (text_lines begun.block) (text_lines begun.line)
-    ∙ none_both (list_any closes (text_lines begun.block)) (list_any closes (text_lines begun.line))
-    (unclosed_blocks (text_lines begun.block) begun.cut.unbroken) (unclosed_begun begun.line begun.cut.begun)
+unclosed_whole text draft unclosed =
+    let more = text_lines unclosed.block ++ text_lines unclosed.line in
+    let all : text_lines text ≡ unclosed.cut.passed ++ more = cut_all text unclosed.block unclosed.line draft.started unclosed.cut in
+    let closes_none : list_any closes more ≡ false =
+    list_any-append closes (text_lines unclosed.block) (text_lines unclosed.line)
+    ∙ none_both (list_any closes (text_lines unclosed.block)) (list_any closes (text_lines unclosed.line))
+    (unclosed_blocks (text_lines unclosed.block) unclosed.cut.unbroken) (unclosed_unfinished unclosed.line unclosed.cut.unfinished)
     in
-    let kept : closed_lines (text_lines text) ≡ closed_lines begun.cut.passed = ap closed_lines all ∙ closed_before begun.cut.passed more unclosed in
-    let prefix = closed_prefix begun.cut.passed in
-    let cut : IsSplit (closed_lines begun.cut.passed) (prefix.0 ++ more) =
-    lines_split text (closed_lines begun.cut.passed) (prefix.0 ++ more)
-    (all ∙ (ap (λ ls. ls ++ more) prefix.1 ∙ append_assoc (closed_lines begun.cut.passed) prefix.0 more))
+    let kept : closed_lines (text_lines text) ≡ closed_lines unclosed.cut.passed = ap closed_lines all ∙ closed_before unclosed.cut.passed more closes_none in
+    let prefix = closed_prefix unclosed.cut.passed in
+    let cut : IsSplit (closed_lines unclosed.cut.passed) (prefix.0 ++ more) =
+    lines_split text (closed_lines unclosed.cut.passed) (prefix.0 ++ more)
+    (all ∙ (ap (λ ls. ls ++ more) prefix.1 ∙ append_assoc (closed_lines unclosed.cut.passed) prefix.0 more))
     in
     entries_are (concat (closed_lines (text_lines text))) []
     (ap (λ ls. blocks (text_lines (concat ls))) kept
-    ∙ (ap blocks cut.prefix ∙ idle_alone (closed_lines begun.cut.passed) (idle_prefix (closed_lines begun.cut.passed) prefix.0 begun.cut.passed prefix.1 begun.cut.idle)))
+    ∙ (ap blocks cut.prefix ∙ idle_alone (closed_lines unclosed.cut.passed) (idle_prefix (closed_lines unclosed.cut.passed) prefix.0 unclosed.cut.passed prefix.1 unclosed.cut.idle)))
 
 -- one line more of a text is added
 pub lines_taken : (text done rest piece after : List ℕ) → text ≡ done ++ rest → rest ≡ piece ++ after → text ≡ (done ++ piece) ++ after

@@ -15,19 +15,19 @@ use Rattle.rr_text.specs.declared.paragraphs.Paragraphs.{Paragraphs}
 use Rattle.rr_text.specs.Fields.{Field, AreFields}
 use Rattle.rr_text.specs.Entries.{entries}
 use Rattle.rr_text.specs.WholePart.{whole_part, whole_entries}
-use Rattle.rr_text.specs.DraftParts.{IsBegun}
+use Rattle.rr_text.specs.DraftParts.{IsUnclosed}
 use Rattle.rr_text.specs.ReaderParts.{TakesAll, FillsMore, Fills, Reading, GathersClosed, GathersRest, Gathers, GivesFound, GivesLast}
 use Rattle.rr_text.specs.ParagraphReaders.{Entry, state_of, reads_of, held, IsNew, KeepsApart, HasGiven, HasEnded, GivesNext, left_of, Nearer}
 use Rattle.rr_text.proofs.ApartLemmas.{no_entries, no_whole, joins, whole_joined}
-use Rattle.rr_text.proofs.DraftLemmas.{begun_whole}
+use Rattle.rr_text.proofs.DraftLemmas.{unclosed_whole}
 
 -- a text that is being gathered: the beginning of what was held and given is in the draft
 pub record IsGathering (before now : Told) (left : List ℕ) (made : ℕ) (cur : Paragraphs) : Type 0 where
   pub given : List ℕ
   pub prefix : List ℕ
-  pub reading : Reading Open before now left made cur given
+  pub reading : Reading Open before now made cur given
   pub cut : left ++ given ≡ prefix ++ held cur
-  pub begun : IsBegun prefix cur.draft
+  pub unclosed : IsUnclosed prefix cur.draft
 
 -- an entry that is found is the last one
 pub last_found : (text : List ℕ) (answer : Result (Option (List Field)) TextFault) → GivesFound text answer → GivesLast text answer
@@ -55,20 +55,20 @@ counts_none : (a : ℕ) → Counts a a 0
 counts_none a = record { exact = λ h. omega arith; full = λ h. omega arith }
 
 -- nothing was read yet
-pub gathering_none : (now : Told) (cur : Paragraphs) → IsBegun [] cur.draft → IsGathering now now (held cur) (reads_of cur) cur
-gathering_none now cur begun = record {
+pub gathering_none : (now : Told) (cur : Paragraphs) → IsUnclosed [] cur.draft → IsGathering now now (held cur) (reads_of cur) cur
+gathering_none now cur unclosed = record {
   given = [];
   prefix = [];
   reading = record { gives = Gives-none now; count = 0; counts = counts_none now.reads; reads = omega arith; fruitful = λ _. omega arith; bounded = omega arith };
   cut = append-nil (held cur);
-  begun = begun;
+  unclosed = unclosed;
 }
 
 -- all that was held is in the draft
 pub gathered_rest : (before now : Told) (left : List ℕ) (made : ℕ) (cur mid : Paragraphs) → IsGathering before now left made cur → reads_of mid ≡ reads_of cur
-    → ((past : List ℕ) → IsBegun past cur.draft → TakesAll past cur mid) → GathersRest Open before now left made mid
+    → ((past : List ℕ) → IsUnclosed past cur.draft → TakesAll past cur mid) → GathersRest Open before now left made mid
 gathered_rest before now left made cur mid so reads takes =
-    let all : TakesAll so.prefix cur mid = takes so.prefix so.begun in
+    let all : TakesAll so.prefix cur mid = takes so.prefix so.unclosed in
     record {
       given = so.given;
       reading = record {
@@ -80,7 +80,7 @@ gathered_rest before now left made cur mid so reads takes =
         bounded = so.reading.bounded;
       };
       none = all.none;
-      begun = subst (λ (t : List ℕ). IsBegun t mid.draft) (sym so.cut) all.begun;
+      unclosed = subst (λ (t : List ℕ). IsUnclosed t mid.draft) (sym so.cut) all.unclosed;
     }
 
 pub held_few : (p : Paragraphs) → length (held p) ≤ 4096
@@ -104,7 +104,7 @@ gathering_more before now after left made mid new rest fills draft = record {
     bounded = omega (arith, rest.reading.bounded, held_few new, length-append rest.given (held new));
   };
   cut = sym (append_assoc (left) rest.given (held new));
-  begun = subst (λ (d : Draft). IsBegun (left ++ rest.given) d) (sym draft) rest.begun;
+  unclosed = subst (λ (d : Draft). IsUnclosed (left ++ rest.given) d) (sym draft) rest.unclosed;
 }
 
 -- a read that brought nothing ends the text, or breaks it off
@@ -122,7 +122,7 @@ gathers_end Ended before now after left made mid new rest more fills draft = rec
     bounded = omega (arith, rest.reading.bounded);
   };
   none = fills.none;
-  begun = subst (λ (d : Draft). IsBegun (left ++ rest.given) d) (sym draft) rest.begun;
+  unclosed = subst (λ (d : Draft). IsUnclosed (left ++ rest.given) d) (sym draft) rest.unclosed;
 }
 gathers_end Broken before now after left made mid new rest more fills draft = (
   record {
@@ -136,7 +136,7 @@ gathers_end Broken before now after left made mid new rest more fills draft = (
       bounded = rest.reading.bounded;
     };
     none = fills.none;
-    begun = subst (λ (d : Draft). IsBegun (left ++ rest.given) d) (sym draft) rest.begun;
+    unclosed = subst (λ (d : Draft). IsUnclosed (left ++ rest.given) d) (sym draft) rest.unclosed;
   },
   omega (arith, more, fills.reads),
 )
@@ -307,12 +307,12 @@ ended_none start before after old mid given has is gathers none =
           ∙ (ap (λ es. es ++ entries (held old ++ gathers.given)) has.spelled ∙ (ap (λ es. given ++ es) none ∙ append-nil given)));
     }
 
-whole_all : (start before : Told) (old : Paragraphs) (given : List Entry) (has : HasGiven start before old given) (bytes : List ℕ) (draft : Draft) → state_of old ≡ Open → IsBegun (held old ++ bytes) draft
+whole_all : (start before : Told) (old : Paragraphs) (given : List Entry) (has : HasGiven start before old given) (bytes : List ℕ) (draft : Draft) → state_of old ≡ Open → IsUnclosed (held old ++ bytes) draft
     → whole_entries (has.text ++ bytes) ≡ given
-whole_all start before old given has bytes draft is begun =
+whole_all start before old given has bytes draft is unclosed =
     ap whole_entries (all_of start before old given has bytes)
     ∙ ((joins has.prefix (held old ++ bytes) (open_whole start before old given has is)).1
-    ∙ (ap (λ es. es ++ whole_entries (held old ++ bytes)) has.spelled ∙ (ap (λ es. given ++ es) (begun_whole (held old ++ bytes) draft begun) ∙ append-nil given)))
+    ∙ (ap (λ es. es ++ whole_entries (held old ++ bytes)) has.spelled ∙ (ap (λ es. given ++ es) (unclosed_whole (held old ++ bytes) draft unclosed) ∙ append-nil given)))
 
 -- a text that broke off
 pub broken_end : (start before after : Told) (old mid : Paragraphs) (given : List Entry) → HasGiven start before old given → state_of old ≡ Open
@@ -329,7 +329,7 @@ broken_end start before after old mid given has is (gathers, more) =
         },
         below_limit start.reads after.reads (reads_of old + gathers.reading.count) counts (omega (arith, gathers.reading.reads, more)),
       );
-      spelled = whole_all start before old given has gathers.given mid.draft is gathers.begun;
+      spelled = whole_all start before old given has gathers.given mid.draft is gathers.unclosed;
     }
 
 -- a text that met the limit of reads
@@ -347,7 +347,7 @@ endless_end start before after old mid given has is (gathers, full) =
         omega (arith, all, some, more, length-append has.text gathers.given),
         subst (λ (n : ℕ). CountsReads start after n) all counts,
       );
-      spelled = whole_all start before old given has gathers.given mid.draft is gathers.begun;
+      spelled = whole_all start before old given has gathers.given mid.draft is gathers.unclosed;
     }
 
 -- the next answer of an ended text

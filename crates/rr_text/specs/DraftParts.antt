@@ -30,7 +30,7 @@ pub record IsCutSo (text : List ℕ) (started : Bool) (block line : List ℕ) : 
   pub none : started ≡ false → block ≡ []
   pub unbroken : list_any is_blank_line (text_lines block) ≡ false
   pub whole : are_whole_lines block ≡ true
-  pub begun : list_any is_line_feed line ≡ false
+  pub unfinished : list_any is_line_feed line ≡ false
 
 -- what is kept of a block and of the line after it, and how many bytes of it are the block's
 pub record KeepsBlock (block line kept : List ℕ) (over : Bool) (whole : ℕ) : Type 0 where
@@ -40,7 +40,7 @@ pub record KeepsBlock (block line kept : List ℕ) (over : Bool) (whole : ℕ) :
   pub too_large : size_limit < whole → size_limit < length block
 
 -- the draft of a text whose last block may go on
-pub record IsBegun (text : List ℕ) (draft : Draft) : Type 0 where
+pub record IsUnclosed (text : List ℕ) (draft : Draft) : Type 0 where
   pub block : List ℕ
   pub line : List ℕ
   pub cut : IsCutSo text draft.started block line
@@ -61,14 +61,14 @@ pub record IsClosed (text : List ℕ) (draft : Draft) : Type 0 where
   pub entry : HasEntry text draft
   pub apart : whole_part text ≡ text
 
--- whether a text is closed
+-- the draft of a text, by whether a line closed its block
 abbrev pub GathersLines : Bool → List ℕ → Draft → Type 0
 GathersLines true text draft = IsClosed text draft
-GathersLines false text draft = IsBegun text draft
+GathersLines false text draft = IsUnclosed text draft
 
 -- the lines of a text are added up to the one that closes: so many bytes, or all of them
 abbrev pub AddsLines : List ℕ → List ℕ → Option ℕ → Draft → Type 0
-AddsLines past text None draft = IsBegun (past ++ text) draft
+AddsLines past text None draft = IsUnclosed (past ++ text) draft
 AddsLines past text (Some taken) draft = IsClosed (past ++ take taken text) draft
 
 -- whether a text has a block where nothing follows it

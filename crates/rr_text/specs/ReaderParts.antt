@@ -9,18 +9,19 @@ use Rattle.rr_text.specs.declared.paragraphs.ReaderState.TheVariants.{Open, Ende
 use Rattle.rr_text.specs.declared.paragraphs.Paragraphs.{Paragraphs}
 use Rattle.rr_text.specs.Fields.{Field}
 use Rattle.rr_text.specs.Entries.{entries}
-use Rattle.rr_text.specs.DraftParts.{IsBegun, IsClosed, GivesOne}
+use Rattle.rr_text.specs.DraftParts.{IsUnclosed, IsClosed, GivesOne}
 use Rattle.rr_text.specs.ParagraphReaders.{reads_of, held}
 
--- what is held is added up to the line that closes, or all of it
+-- what is held is added up to the line that closes the block
 pub record TakesClosed (past : List ℕ) (old new : Paragraphs) : Type 0 where
   pub prefix : List ℕ
   pub cut : held old ≡ prefix ++ held new
   pub closed : IsClosed (past ++ prefix) new.draft
 
+-- no line closes the block: all that is held is added, and none of it is left
 pub record TakesAll (past : List ℕ) (old new : Paragraphs) : Type 0 where
   pub none : held new ≡ []
-  pub begun : IsBegun (past ++ held old) new.draft
+  pub unclosed : IsUnclosed (past ++ held old) new.draft
 
 -- bytes were read by one call
 pub record FillsMore (before after : Told) (old new : Paragraphs) : Type 0 where
@@ -58,9 +59,8 @@ GivesBy Ended before after given = Gives before after given × IsSpent after
 GivesBy Broken before after given = BreaksOff before after given
 GivesBy Endless before after given = Gives before after given
 
--- these bytes were read in a call, after those that were left from the calls before, and its reads
--- are counted with those made before
-pub record Reading (state : ReaderState) (before after : Told) (left : List ℕ) (made : ℕ)
+-- these bytes were read in a call, and its reads are counted with those made before
+pub record Reading (state : ReaderState) (before after : Told) (made : ℕ)
     (new : Paragraphs) (given : List ℕ) : Type 0 where
   pub gives : GivesBy state before after given
   pub count : ℕ
@@ -74,7 +74,7 @@ pub record GathersClosed (before after : Told) (left : List ℕ) (made : ℕ)
     (new : Paragraphs) : Type 0 where
   pub given : List ℕ
   pub prefix : List ℕ
-  pub reading : Reading Open before after left made new given
+  pub reading : Reading Open before after made new given
   pub cut : left ++ given ≡ prefix ++ held new
   pub closed : IsClosed prefix new.draft
 
@@ -82,9 +82,9 @@ pub record GathersClosed (before after : Told) (left : List ℕ) (made : ℕ)
 pub record GathersRest (state : ReaderState) (before after : Told) (left : List ℕ) (made : ℕ)
     (new : Paragraphs) : Type 0 where
   pub given : List ℕ
-  pub reading : Reading state before after left made new given
+  pub reading : Reading state before after made new given
   pub none : held new ≡ []
-  pub begun : IsBegun (left ++ given) new.draft
+  pub unclosed : IsUnclosed (left ++ given) new.draft
 
 -- what was read, by how the text stands then: a failed read comes before the limit of reads
 abbrev pub Gathers : ReaderState → Told → Told → List ℕ → ℕ → Paragraphs → Type 0

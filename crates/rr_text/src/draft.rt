@@ -63,7 +63,7 @@ impl Draft {
     pub(crate) fn add(&mut self, piece: &[u8]) -> bool
         requires some { 0 < length piece.now }
         requires single { text_lines piece.now ≡ piece.now ∷ [] }
-        ensures { (text : List ℕ) → parts.IsBegun text self.old
+        ensures { (text : List ℕ) → parts.IsUnclosed text self.old
             → parts.GathersLines result (text ++ piece.now) self.new }
     {
         self.keep(piece);
@@ -77,7 +77,7 @@ impl Draft {
     /// Adds the lines of a piece of the text up to the one that closes the paragraph, and says how
     /// many bytes these are.
     pub(crate) fn add_lines(&mut self, text: &[u8]) -> Option<usize>
-        ensures adds { (past : List ℕ) → parts.IsBegun past self.old
+        ensures adds { (past : List ℕ) → parts.IsUnclosed past self.old
             → parts.AddsLines past text.now result self.new }
         ensures within { IfSome result (λ taken. taken ≤ length text.now) }
     {
@@ -94,9 +94,10 @@ impl Draft {
 
     /// Ends the text, and says whether it has a paragraph.
     pub(crate) fn finish(&mut self) -> bool
-        ensures { (text : List ℕ) → parts.IsBegun text self.old
+        ensures { (text : List ℕ) → parts.IsUnclosed text self.old
             → parts.Finishes result text self.new }
     {
+        // Whether the last line closes the paragraph does not matter: the text ends there.
         let _closes = self.end_line();
         self.started
     }

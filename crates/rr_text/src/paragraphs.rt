@@ -42,7 +42,7 @@ impl Paragraphs {
     ghost use Rattle.std.specs.Prelude.{◌<◌, ℕ, List, [], IfOk, IfSome, true, false};
     ghost use Rattle.rr_io.specs.Told.{Told};
     ghost use Rattle.rr_text.specs.Fields.{AreFields};
-    ghost use Rattle.rr_text.specs.DraftParts.{HasEntry, IsBegun};
+    ghost use Rattle.rr_text.specs.DraftParts.{HasEntry, IsUnclosed};
     ghost use Rattle.rr_text.specs.ReaderParts as parts;
     ghost use Rattle.rr_text.specs.ParagraphReaders.{GivesOn, HasGiven, IsNew, Nearer};
     ghost use Rattle.rr_text.specs.ParagraphReaders.{Stays, held, left_of, reads_of, state_of};
@@ -121,8 +121,8 @@ impl Paragraphs {
 
     /// The last entry of the text, if it has one.
     fn last(&mut self, alloc: Global) -> Result<Option<Paragraph>, TextFault>
-        requires { (text : List ℕ) × IsBegun text self.old.draft }
-        ensures last { (text : List ℕ) → IsBegun text self.old.draft
+        requires { (text : List ℕ) × IsUnclosed text self.old.draft }
+        ensures last { (text : List ℕ) → IsUnclosed text self.old.draft
             → parts.GivesLast text result }
         ensures same { (held self.new ≡ held self.old) × (reads_of self.new
             ≡ reads_of self.old) × (state_of self.new ≡ state_of self.old) }
@@ -157,9 +157,9 @@ impl Paragraphs {
     /// Adds what is held to the paragraph, up to the line that closes it, and says whether there is
     /// one.
     fn take_held(&mut self) -> bool
-        ensures closed { (past : List ℕ) → IsBegun past self.old.draft → result ≡ true
+        ensures closed { (past : List ℕ) → IsUnclosed past self.old.draft → result ≡ true
             → parts.TakesClosed past self.old self.new }
-        ensures begun { (past : List ℕ) → IsBegun past self.old.draft → result ≡ false
+        ensures unclosed { (past : List ℕ) → IsUnclosed past self.old.draft → result ≡ false
             → parts.TakesAll past self.old self.new }
         ensures empty { result ≡ false → self.new.from ≡ self.new.to }
         ensures reads { reads_of self.new ≡ reads_of self.old }

@@ -21,10 +21,10 @@ loop-done-preserved g c =
 pub returns-in_err-add_all-clause-many : goal.returns-in_err-add_all-clause-many
 returns-in_err-add_all-clause-many g c = λ is.
     let p = err_from_is_err_and c.from_residual.result c.from_residual.ensures.1 in
-    let begun = λ (list : List g.row.G-Node.Denot). λ (node : g.row.G-Node.Denot). Contains list node ⊎ Contains c.args.starts.items node in
-    MoreThan-weaker c.args.limit (begun []) (IsReached (g.G.Graph.edge c.args.graph.now) c.args.starts.items)
+    let listed_or_start = λ (list : List g.row.G-Node.Denot). λ (node : g.row.G-Node.Denot). Contains list node ⊎ Contains c.args.starts.items node in
+    MoreThan-weaker c.args.limit (listed_or_start []) (IsReached (g.G.Graph.edge c.args.graph.now) c.args.starts.items)
     (λ node has. elim has [ inl (k, before, _) ↦ absurd (omega arith) | inr start ↦ IsReached-start (g.G.Graph.edge c.args.graph.now) c.args.starts.items node start ])
-    (subst (λ (list : List g.row.G-Node.Denot). MoreThan c.args.limit (begun list)) c.new-found.ensures.list (c.in_err-add_all.ensures.many (cc (is, p.1, p.2))))
+    (subst (λ (list : List g.row.G-Node.Denot). MoreThan c.args.limit (listed_or_start list)) c.new-found.ensures.list (c.in_err-add_all.ensures.many (cc (is, p.1, p.2))))
 
 pub returns-in_err-add_all-2-clause-many : goal.returns-in_err-add_all-2-clause-many
 returns-in_err-add_all-2-clause-many g c = λ is.

@@ -4,7 +4,7 @@ use Rattle.rr_cli.proofs.serving.serve_at.Goals as goal
 pub returns : goal.returns
 returns g c = inr (record {
   before = c.in_ok-desk.desk;
-  after = c.serve_desk-answer.new.desk;
+  after = c.serve_desk-end.new.desk;
   opens = c.in_ok-desk.ensures.opens;
-  did = c.serve_desk-answer.ensures;
+  did = c.serve_desk-end.ensures;
 })

@@ -6,7 +6,7 @@ returns-in-Ok-clause-served g c = record {
   served = c.serve_all-served.result.served;
   failed = c.serve_all-served.result.failed;
   turns = c.serve_all-served.ensures.turns;
-  ends = inl (c.in-Ok.ensures.writes, c.answer_served.ensures);
+  ends = inl (c.in-Ok.ensures.writes, c.served_end.ensures);
 }
 
 pub returns-in-Err-clause-served : goal.returns-in-Err-clause-served

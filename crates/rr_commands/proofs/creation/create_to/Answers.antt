@@ -5,7 +5,7 @@ pub returns-in-Ok-clause-creates : goal.returns-in-Ok-clause-creates
 returns-in-Ok-clause-creates g c = inr (record {
   desk = c.in-Ok.desk;
   runs = c.in-Ok.ensures.runs;
-  opened = c.in-Ok.ensures.opened;
+  opened = c.in-Ok.ensures.opening;
   makes = c.in-Ok.ensures.makes;
   closed = c.close.ensures.same;
   tells = c.tell-told.ensures.tells;

@@ -6,5 +6,5 @@ returns g c = inr (record {
   before = c.in_ok-desk.desk;
   after = c.in_ok-desk.desk;
   opens = c.in_ok-desk.ensures.opens;
-  did = rw (← c.show.ensures.told, c.show-2.ensures.told) c.dump_to-answer.ensures.dumped;
+  did = rw (← c.show.ensures.told, c.show-2.ensures.told) c.dump_to-end.ensures.dumped;
 })

@@ -7,7 +7,7 @@ pub returns-in-Ok-clause-asked : goal.returns-in-Ok-clause-asked
 returns-in-Ok-clause-asked g c =
     let made = c.in-Ok.ensures.answers in
     record {
-      given = made.answer;
+      answer = made.answer;
       gives = made.answered;
       writes = made.writes;
       status = c.answered_status.ensures ∙ (ap error_status made.told ∙ error_status-told made.answer);
@@ -17,4 +17,4 @@ returns-in-Ok-clause-asked g c =
 pub returns-in-Err-clause-asked : goal.returns-in-Err-clause-asked
 returns-in-Err-clause-asked g c =
     let made = c.in-Err.ensures.answers in
-    record { given = made.answer; gives = made.answered; writes = made.writes; status = tt; trouble = refl }
+    record { answer = made.answer; gives = made.answered; writes = made.writes; status = tt; trouble = refl }

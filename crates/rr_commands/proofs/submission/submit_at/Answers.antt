@@ -4,7 +4,7 @@ use Rattle.rr_commands.proofs.submission.submit_at.Goals as goal
 pub returns : goal.returns
 returns g c = inr (record {
   before = c.in_ok-desk.desk;
-  after = c.submit_file-answer.new.desk;
+  after = c.submit_file-end.new.desk;
   opens = c.in_ok-desk.ensures.opens;
-  did = c.submit_file-answer.ensures;
+  did = c.submit_file-end.ensures;
 })

@@ -10,7 +10,7 @@ returns-clause-ok c = always_ok _ _ (subst AreRegistry c.deref.ensures.value c.i
 pub returns-clause-fault : goal.returns-clause-fault
 returns-clause-fault c =
     let sound = subst AreRegistry c.deref.ensures.value c.in_ok-check_registry.ensures.ok in
-    IfErr-weaker c.with_block.result _ _ (λ fault h. unowned_growth c.args.settings.now c.args.objects.items fault sound h) c.with_block.ensures.fault
+    IfErr-weaker c.with_upper.result _ _ (λ fault h. unowned_growth c.args.settings.now c.args.objects.items fault sound h) c.with_upper.ensures.fault
 
 pub returns-in_err-check_registry-clause-fault : goal.returns-in_err-check_registry-clause-fault
 returns-in_err-check_registry-clause-fault c =

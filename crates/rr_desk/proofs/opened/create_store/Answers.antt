@@ -2,7 +2,7 @@ use Rattle.std.proofs.Common.{subst}
 use Rattle.std.proofs.lemmas.Result.{IfErr-weaker, IfOk-weaker}
 use Rattle.rr_store.specs.Calls.{database}
 use Rattle.rr_store.specs.Creating.{IsStoreOf}
-use Rattle.rr_store.specs.Lent.{lent}
+use Rattle.rr_object.specs.Objects.{lent}
 use Rattle.rr_desk.proofs.ListRows.{left_as, lent_rows, untouched_back}
 use Rattle.rr_desk.proofs.opened.create_store.Goals as goal
 

@@ -36,10 +36,10 @@ returns-in_err-add_all-clause-many g c = λ is.
     let P : Type 0 = g.row.G-Node.Denot × g.row.G-Value.Denot in
     let leads = LeadsBack g.G.Labelled.passed (edges_at g.G.Node.Ord.cmp c.args.pairs.now.backward.now.map) in
     let p = err_from_is_err_and c.from_residual.result c.from_residual.ensures.1 in
-    let begun = λ (list : List P). λ (node : P). Contains list node ⊎ Contains c.args.starts.items node in
-    MoreThan-weaker c.args.limit (begun []) (IsReached leads c.args.starts.items)
+    let listed_or_start = λ (list : List P). λ (node : P). Contains list node ⊎ Contains c.args.starts.items node in
+    MoreThan-weaker c.args.limit (listed_or_start []) (IsReached leads c.args.starts.items)
     (λ node has. elim has [ inl (k, before, _) ↦ absurd (omega arith) | inr start ↦ IsReached-start leads c.args.starts.items node start ])
-    (subst (λ (list : List P). MoreThan c.args.limit (begun list)) c.new-found.ensures.list (c.in_err-add_all.ensures.many (cc (is, p.1, p.2))))
+    (subst (λ (list : List P). MoreThan c.args.limit (listed_or_start list)) c.new-found.ensures.list (c.in_err-add_all.ensures.many (cc (is, p.1, p.2))))
 
 pub returns-in_err-add_all-2-clause-many : goal.returns-in_err-add_all-2-clause-many
 returns-in_err-add_all-2-clause-many g c = λ is.

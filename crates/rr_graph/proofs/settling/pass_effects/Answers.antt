@@ -14,11 +14,11 @@ pub loop-value-preserved : goal.loop-value-preserved
 loop-value-preserved g c =
     let known = c.in_ok-note.ensures (λ _. c.args.run.now) refl c.loop-value.invariant.0 in (
       known,
-      IsMade-more g.G.Labelled.passed c.args.values.now.items c.loop-value.values.items c.pass_each.new.values.items c.dedup_if_doubled-last.new.list.items c.args.begun.now c.loop-value.value-index c.value-item.result c.args.node.now c.args.run.now c.in_ok-kept.kept.now
+      IsMade-more g.G.Labelled.passed c.args.values.now.items c.loop-value.values.items c.pass_each.new.values.items c.dedup_if_doubled-last.new.list.items c.args.starts.now c.loop-value.value-index c.value-item.result c.args.node.now c.args.run.now c.in_ok-kept.kept.now
           c.loop-value-test.true c.value-item.is c.requires (c.in_ok-kept.ensures (λ _. c.args.run.now) refl known) c.loop-value.invariant.1 c.in_ok-pass_each.ensures (c.dedup_if_doubled-last.ensures g.met.G.Labelled.exact_values),
     )
 
 pub returns : goal.returns
 returns g c =
     subst (λ (l : List g.row.G-Value.Denot). (v : g.row.G-Value.Denot) → Contains c.loop-value.values.items v ↔ (Contains c.args.values.now.items v ⊎ IsMade g.G.Labelled.passed c.args.node.now c.args.run.now l v))
-    (take_all c.loop-value.value-index c.args.begun.now c.loop-value-test.false) c.loop-value.invariant.1
+    (take_all c.loop-value.value-index c.args.starts.now c.loop-value-test.false) c.loop-value.invariant.1

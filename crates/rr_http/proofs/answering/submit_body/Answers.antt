@@ -8,7 +8,7 @@ returns-clause-submits g c =
 
 pub returns-clause-keeps : goal.returns-clause-keeps
 returns-clause-keeps g c = record {
-  runs = c.submit.ensures.runs c.requires.running;
+  running = c.submit.ensures.running c.requires.running;
   kept = c.submit.ensures.kept c.requires.running;
   of_source = c.submit.ensures.of_source;
 }

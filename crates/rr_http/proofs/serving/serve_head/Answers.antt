@@ -16,4 +16,4 @@ pub returns-in-Refused-clause-serves : goal.returns-in-Refused-clause-serves
 returns-in-Refused-clause-serves g c =
     let law = g.met.C.Connection in
     let unread = sym (law.write_leaves_source c.refuse.new.writer) ∙ (c.refuse.ensures.aside ∙ law.write_leaves_source c.args.conn.now) in
-    refusal_served _ _ _ _ _ _ (rw c.in-Refused.is at c.requires) (record { unread = unread; same = refl }) c.refuse.ensures.tells
+    refusal_served _ _ _ _ _ _ (rw c.in-Refused.is at c.requires) (record { unread = unread; same = refl }) c.refuse.ensures.replies

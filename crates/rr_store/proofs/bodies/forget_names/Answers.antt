@@ -20,7 +20,7 @@ returns-clause-ok g c clean =
     let mid : HasCleanDisk (state g.S.Store c.rows_of_key.new.tx.conn.now) = omega (arith, c.in_ok-remove_names.ensures.survives.clean) in
     let on = (c.in_ok-rows.ensures.step mid).is_open in
     let held = c.requires (omega (arith, mid, c.in_ok-rows.ensures.survives.clean)) ((c.in_ok-rows.ensures.kept mid).was_open on) in
-    let all = subst (AllByRecursion (AreNamesOf c.in_ok-names.names.items)) c.deref.ensures.value c.in_ok-names.ensures in
+    let all = subst (AllByRecursion (AreNamesOf c.in_ok-names.names.items)) c.deref.ensures.value c.in_ok-names.ensures.names in
     let gone = subst (λ names. Alters (state g.S.Store c.rows_of_key.new.tx.conn.now).now (state g.S.Store c.remove_names.new.tx.conn.now).now 4 (Removes (is_name_among c.args.class c.args.key.now names)))
     c.deref-2.ensures.value (c.in_ok-remove_names.ensures.ok clean on) in
     forgotten c.args.class c.args.key.now c.in_ok-names.names.items c.in_ok-rows.rows.items (state g.S.Store c.args.tx.now.conn.now).now (state g.S.Store c.rows_of_key.new.tx.conn.now).now

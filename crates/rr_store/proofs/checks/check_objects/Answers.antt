@@ -20,8 +20,8 @@ returns-clause-looks g c = looks_then g.S.Store c.args.conn.now c.count_object.n
 pub returns-in_err-count-clause-looks : goal.returns-in_err-count-clause-looks
 returns-in_err-count-clause-looks g c = looks_failed g.S.Store c.args.conn.now c.count_object.new.conn c.from_residual.result c.from_residual.ensures.0 c.in_err-count.ensures.looks.rests
 
-pub returns-clause-keyed : goal.returns-clause-keyed
-returns-clause-keyed g c clean = on_any c.read_objects.result (c.in_ok-count.ensures.keyed (omega (arith, clean, c.read_objects.ensures.looks.rests.crash.clean)))
+pub returns-clause-numbered : goal.returns-clause-numbered
+returns-clause-numbered g c clean = on_any c.read_objects.result (c.in_ok-count.ensures.numbered (omega (arith, clean, c.read_objects.ensures.looks.rests.crash.clean)))
 
 pub returns-clause-read : goal.returns-clause-read
 returns-clause-read g c clean =

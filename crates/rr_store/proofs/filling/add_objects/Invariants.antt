@@ -1,5 +1,5 @@
 use Rattle.std.proofs.Common.{◌≡◌, take}
-use Rattle.rr_store.specs.Lent.{lent}
+use Rattle.rr_object.specs.Objects.{lent}
 use Rattle.rr_store.proofs.FillLemmas.{AreFilled}
 use Rattle.rr_store.proofs.filling.add_objects.Given as goal
 

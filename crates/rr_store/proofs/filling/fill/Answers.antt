@@ -2,7 +2,7 @@ use Rattle.std.proofs.Common.{arith, map}
 use Rattle.sqlite.specs.Held.{state}
 use Rattle.rr_rows.specs.Entries.{entry_of}
 use Rattle.rr_rows.proofs.OtherLemmas.{others_then}
-use Rattle.rr_store.specs.Lent.{lent}
+use Rattle.rr_object.specs.Objects.{lent}
 use Rattle.rr_store.proofs.BodyLemmas.{both_ok, then_ok, filled_so}
 use Rattle.rr_store.proofs.filling.fill.Goals as goal
 
@@ -13,7 +13,7 @@ returns-clause-ok g c clean =
     let mid = c.in_ok-_version.ensures.step (omega (arith, last)) in
     both_ok c.add_objects.result c.add_objects.ensures.read (c.add_objects.ensures.ok clean mid.is_open) (λ read added. record {
       read = read;
-      filled = filled_so (map entry_of (lent c.args.objects.now)) (state g.S.Store c.args.tx.now.conn.now).now (state g.S.Store c.add_setting.new.tx.conn.now).now (state g.S.Store c.add_objects.new.tx.conn.now).now
+      filled = filled_so (map entry_of (lent c.args.objects.now)) (state g.S.Store c.args.tx.now.conn.now).now (state g.S.Store c.add_meta_row.new.tx.conn.now).now (state g.S.Store c.add_objects.new.tx.conn.now).now
           (c.requires (omega (arith, last, first)) ((c.in_ok-_version.ensures.kept (omega (arith, last))).was_open mid.is_open)) (rw c.text.ensures at (c.in_ok-_version.ensures.ok (omega (arith, last)))) added;
     })
 
@@ -22,5 +22,5 @@ returns-clause-others g c clean =
     let last = c.add_objects.ensures.survives.clean in
     let mid = c.in_ok-_version.ensures.step (omega (arith, last)) in
     then_ok c.add_objects.result (c.add_objects.ensures.ok clean mid.is_open) (λ added.
-    others_then (state g.S.Store c.args.tx.now.conn.now).now (state g.S.Store c.add_setting.new.tx.conn.now).now (state g.S.Store c.add_objects.new.tx.conn.now).now
+    others_then (state g.S.Store c.args.tx.now.conn.now).now (state g.S.Store c.add_meta_row.new.tx.conn.now).now (state g.S.Store c.add_objects.new.tx.conn.now).now
     (c.in_ok-_version.ensures.ok (omega (arith, last))).others added.others)

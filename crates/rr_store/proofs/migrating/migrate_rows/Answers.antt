@@ -1,7 +1,7 @@
 use Rattle.std.proofs.Common.{◌≡◌, inl, true, refl, arith}
 use Rattle.std.proofs.lemmas.Result.{err_from_is_err_and}
 use Rattle.sqlite.specs.Held.{state}
-use Rattle.rr_store.specs.Calls.{Writes}
+use Rattle.rr_store.specs.Calls.{Transacts}
 use Rattle.rr_store.specs.Migrating.{IsMigrated, has_mntner}
 use Rattle.rr_store.specs.MigratingParts.{IsRewritten}
 use Rattle.rr_store.proofs.CommitLemmas.{writes_as, writes_failed, writes_ok}
@@ -21,9 +21,9 @@ returns-in_ok-rewrite-clause-migrates g c =
     let old = c.args.conn.now in
     let new = c.rewrite.new.conn in
     let registered : has_mntner root objects ≡ true = cc in
-    let written : Writes g.S.Store (IsRewritten root source objects) old new c.rewrite.result =
+    let written : Transacts g.S.Store (IsRewritten root source objects) old new c.rewrite.result =
     writes_then g.S.Store old c.stored_objects.new.conn new c.in_ok-objects.ensures.looks.rests c.in_ok-objects.ensures.looks.same (IsRewritten root source objects) c.rewrite.result c.rewrite.ensures in
-    let done : Writes g.S.Store (IsMigrated root source) old new c.rewrite.result =
+    let done : Transacts g.S.Store (IsMigrated root source) old new c.rewrite.result =
     writes_as g.S.Store old new (IsRewritten root source objects) (IsMigrated root source) c.rewrite.result
     (λ clean db rewritten. migrated root source objects (state g.S.Store old).now db (c.in_ok-objects.ensures.stored (omega (arith, clean, c.rewrite.ensures.crash.clean))) registered rewritten) written in
     writes_ok g.S.Store old new (IsMigrated root source) (IsMigrated root source) c.in_ok-rewrite.field-0 c.rewrite.result tt _ c.in_ok-rewrite.was refl done
@@ -39,9 +39,9 @@ returns-in_err-rewrite-clause-migrates g c =
     let old = c.args.conn.now in
     let new = c.rewrite.new.conn in
     let registered : has_mntner root objects ≡ true = cc in
-    let written : Writes g.S.Store (IsRewritten root source objects) old new c.rewrite.result =
+    let written : Transacts g.S.Store (IsRewritten root source objects) old new c.rewrite.result =
     writes_then g.S.Store old c.stored_objects.new.conn new c.in_ok-objects.ensures.looks.rests c.in_ok-objects.ensures.looks.same (IsRewritten root source objects) c.rewrite.result c.rewrite.ensures in
-    let done : Writes g.S.Store (IsMigrated root source) old new c.rewrite.result =
+    let done : Transacts g.S.Store (IsMigrated root source) old new c.rewrite.result =
     writes_as g.S.Store old new (IsRewritten root source objects) (IsMigrated root source) c.rewrite.result
     (λ clean db rewritten. migrated root source objects (state g.S.Store old).now db (c.in_ok-objects.ensures.stored (omega (arith, clean, c.rewrite.ensures.crash.clean))) registered rewritten) written in
     writes_failed g.S.Store old new (IsMigrated root source) (IsMigrated root source) c.rewrite.result c.from_residual-in_err-rewrite.result (rw c.in_err-rewrite.was refl) c.from_residual-in_err-rewrite.ensures.0 done

@@ -1,8 +1,8 @@
 use Rattle.std.proofs.Common.{◌≡◌, IsTrue, ap, not, ◌∙◌, rules, map}
 use Rattle.sqlite.specs.Held.{state}
-use Rattle.rr_store.specs.Calls.{Writes}
+use Rattle.rr_store.specs.Calls.{Transacts}
 use Rattle.rr_rows.specs.Entries.{entry_of}
-use Rattle.rr_store.specs.Lent.{lent}
+use Rattle.rr_object.specs.Objects.{lent}
 use Rattle.rr_store.specs.MigratingParts.{IsReplaced}
 use Rattle.rr_store.proofs.CommitLemmas.{ended_writes}
 use Rattle.rr_store.proofs.migrating.replace.Goals as goal
@@ -11,7 +11,7 @@ pub returns : goal.returns
 returns g c =
     let old = c.args.conn.now in
     let settled : IsTrue (state g.S.Store old).is_open → (state g.S.Store old).now ≡ (state g.S.Store old).committed = c.is_autocommit-settled.ensures.settled (c.is_autocommit-settled.ensures.value ∙ ap not c.requires.autocommit) in
-    let made : Writes g.S.Store (IsReplaced (map entry_of (lent c.args.objects.now))) old c.end.new.tx.0 c.end.result =
+    let made : Transacts g.S.Store (IsReplaced (map entry_of (lent c.args.objects.now))) old c.end.new.tx.0 c.end.result =
     ended_writes g.S.Store old c.transaction-tx.result.conn.now c.refill-work.new.tx.conn.now c.end.new.tx.0 c.refill-work.result c.end.result (IsReplaced (map entry_of (lent c.args.objects.now))) c.transaction-tx.ensures.begun c.refill-work.ensures.ok c.end.ensures.survives
     c.refill-work.ensures.survives c.refill-work.ensures.kept settled c.end.ensures.autocommit c.end.ensures.done c.end.ensures.ok c.end.ensures.is_open c.end.ensures.was_open c.end.ensures.err in
     search rules

@@ -4,7 +4,7 @@ use Rattle.sqlite.specs.Effect.{Database}
 use Rattle.sqlite.specs.Held.{state}
 use Rattle.sqlite.specs.State.{HasCleanDisk}
 use Rattle.rr_rows.specs.Maps.{HasVersion}
-use Rattle.rr_store.specs.CheckParts.{HasSettings}
+use Rattle.rr_store.specs.CheckParts.{HasNumberedMeta}
 use Rattle.rr_store.specs.Opening.{AreStoredAs, HoldNone}
 use Rattle.rr_store.specs.Versions.{version_text}
 use Rattle.rr_store.specs.declared.fault.OpenFault.TheVariants.{BadRow}
@@ -15,11 +15,11 @@ use Rattle.rr_store.proofs.StopLemmas.{second_reads}
 use Rattle.rr_store.proofs.opening.read_tables.Goals as goal
 
 pub check_version-requires-clause-tables : goal.check_version-requires-clause-tables
-check_version-requires-clause-tables g c clean = (c.requires.settings clean).tables
+check_version-requires-clause-tables g c clean = (c.requires.meta clean).tables
 
-pub checked_objects-requires-clause-settings : goal.checked_objects-requires-clause-settings
-checked_objects-requires-clause-settings g c clean =
-    subst HasSettings (sym (c.in_ok-check_version.ensures.looks.same clean).0.now_is) (c.requires.settings (omega (arith, clean, c.in_ok-check_version.ensures.looks.rests.crash.clean)))
+pub checked_objects-requires-clause-meta : goal.checked_objects-requires-clause-meta
+checked_objects-requires-clause-meta g c clean =
+    subst HasNumberedMeta (sym (c.in_ok-check_version.ensures.looks.same clean).0.now_is) (c.requires.meta (omega (arith, clean, c.in_ok-check_version.ensures.looks.rests.crash.clean)))
 
 pub returns-clause-looks : goal.returns-clause-looks
 returns-clause-looks g c =
@@ -42,13 +42,13 @@ returns-clause-why g c clean =
     let none = subst (λ (d : Database). IfErr c.checked_objects.result (λ fault. fault ≡ BadRow → HoldNone c.args.version c.args.source.now d))
     (c.in_ok-check_version.ensures.looks.same before).0.now_is (c.checked_objects.ensures.bad_row clean) in
     both_err c.checked_objects.result _ _ _ c.checked_objects.ensures.no_other none
-    (λ fault no_other bad. rows_refuse c.args.version c.args.source.now (state g.S.Store c.args.conn.now).now fault (c.requires.settings first).tables (c.in_ok-check_version.ensures.ok before) no_other bad)
+    (λ fault no_other bad. rows_refuse c.args.version c.args.source.now (state g.S.Store c.args.conn.now).now fault (c.requires.meta first).tables (c.in_ok-check_version.ensures.ok before) no_other bad)
 
 pub returns-in_err-check_version-clause-why : goal.returns-in_err-check_version-clause-why
 returns-in_err-check_version-clause-why g c clean =
     let exit = err_from_is_err_and c.from_residual.result c.from_residual.ensures.1 in
     let first : HasCleanDisk (state g.S.Store c.args.conn.now) = omega (arith, clean, c.in_err-check_version.ensures.looks.rests.crash.clean) in
-    rw (exit.1, exit.2) (version_refuses c.args.version c.args.source.now (state g.S.Store c.args.conn.now).now c.in_err-check_version.field-0.0 (c.requires.settings first).tables (c.in_err-check_version.ensures.fault clean))
+    rw (exit.1, exit.2) (version_refuses c.args.version c.args.source.now (state g.S.Store c.args.conn.now).now c.in_err-check_version.field-0.0 (c.requires.meta first).tables (c.in_err-check_version.ensures.fault clean))
 
 pub returns-clause-cause : goal.returns-clause-cause
 returns-clause-cause g c =

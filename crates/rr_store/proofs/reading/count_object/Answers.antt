@@ -1,5 +1,5 @@
 use Rattle.std.proofs.Common.{◌≡◌, ◌∙◌, ap, not, rules, arith, IsTrue, [], IfErr, OnOk, map, refl}
-use Rattle.rr_rows.specs.Contents.{AreKeyed, IsInRank, by_one, number}
+use Rattle.rr_rows.specs.Contents.{AreNumbered, IsInRank, by_one, number}
 use Rattle.rr_rows.proofs.NumberLemmas.{keyed_by}
 use Rattle.rr_store.proofs.BodyLemmas.{then_ok}
 use Rattle.sqlite.specs.Held.{state}
@@ -39,16 +39,16 @@ returns-clause-looks g c =
     let looked : Looks g.S.Store old c.count_numbered.new.rows.conn.now c.count_numbered.result = streamed g.S.Store c.count_numbered.result old c.in_ok-rows.rows.conn.now c.count_numbered.new.rows.conn.now b.same b.survives c.count_numbered.ensures.streams (c.in_ok-rows.ensures.mode c.requires.autocommit) settled in
     search rules
 
-pub returns-clause-keyed : goal.returns-clause-keyed
-returns-clause-keyed g c =
+pub returns-clause-numbered : goal.returns-clause-numbered
+returns-clause-numbered g c =
     let old = c.args.conn.now in
     let begun = c.in_ok-rows.rows.conn.now in
     let new = c.count_numbered.new.rows.conn.now in
     let b : Begins g.S.Store object_numbers [] old begun = begins g.S.Store object_numbers [] old begun (λ clean. plain_of old.schema object_numbers _ object_numbers_is (c.requires.tables clean)) c.in_ok-rows.ensures.begun c.in_ok-rows.ensures.survives in
-    let told : HasCleanDisk (state g.S.Store new) → OnOk c.count_numbered.result (AreKeyed ((state g.S.Store old).now.trees 2)) = λ clean.
+    let told : HasCleanDisk (state g.S.Store new) → OnOk c.count_numbered.result (AreNumbered ((state g.S.Store old).now.trees 2)) = λ clean.
     let first : HasCleanDisk (state g.S.Store begun) = omega (arith, clean, c.count_numbered.ensures.streams.survives.clean) in
     let tables = c.requires.tables (omega (arith, first, b.survives.clean)) in
-    then_ok c.count_numbered.result (c.count_numbered.ensures.keyed clean) (λ rest.
+    then_ok c.count_numbered.result (c.count_numbered.ensures.numbered clean) (λ rest.
     let listed = whole_answer g.S.Store object_numbers [] old begun new b first tables (λ db rows. IsInRank by_one (map number (db.trees 2)) rows) numbers_object rest.0 rest.1 in
     keyed_by ((state g.S.Store old).now.trees 2) rest.0 listed.same rest.2) in
     search rules

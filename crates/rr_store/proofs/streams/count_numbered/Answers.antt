@@ -6,7 +6,7 @@ use Rattle.rr_rows.proofs.NumberLemmas.{IsRun, run_keyed, run_more}
 use Rattle.sqlite.specs.Given.{Advances, row_if}
 use Rattle.std.proofs.lemmas.Result.{err_from_is_err_and}
 use Rattle.sqlite_value.specs.Order.{Row}
-use Rattle.rr_rows.specs.Contents.{AreKeyed, by_one}
+use Rattle.rr_rows.specs.Contents.{AreNumbered, by_one}
 use Rattle.std.proofs.Common.{IsSorted}
 use Rattle.rr_store.proofs.NextLemmas.{IsLast, none_next}
 use Rattle.rr_store.proofs.StopLemmas.{stopped}
@@ -29,8 +29,8 @@ rows-preserved g c =
           (run_more c.rows.last rows c.in-Some.row.now n run.0 c.in_ok-next_number.ensures.number c.in_ok-next_number.ensures.past, (rows, c.in-Some.row.now, refl, c.in_ok-next_number.ensures.number))),
     )
 
-pub returns-in_default-clause-keyed : goal.returns-in_default-clause-keyed
-returns-in_default-clause-keyed g c clean =
+pub returns-in_default-clause-numbered : goal.returns-in_default-clause-numbered
+returns-in_default-clause-numbered g c clean =
     let none : row_if c.advance.new.self.has_row c.advance.new.self.conn.now ≡ None = sym c.get.ensures ∙ ap option_copied c.in_default.is in
     let all = read_all g.S.Store c.args.rows.now.conn.now c.rows.rows.conn.now c.advance.new.self.conn.now (λ rows. IsRun c.rows.last rows × IsLast c.rows.last rows) c.rows.invariant.1 c.advance.ensures.mode c.advance.ensures.survives clean
     (subst (Advances g.S.Store c.rows.rows.conn.now c.advance.new.self.conn.now) none (c.in_ok-advance.ensures.ok clean)) in
@@ -60,6 +60,6 @@ returns-in_err-next_number-clause-fails g c clean =
         more = given.0;
         gives = given.1;
         none = λ rest keyed sorted. none_next rest given.2.0 values last given.2.2 none
-            (subst (λ xs. AreKeyed (xs ++ rest)) given.2.1 keyed) (subst (λ xs. IsSorted by_one (xs ++ rest)) given.2.1 sorted);
+            (subst (λ xs. AreNumbered (xs ++ rest)) given.2.1 keyed) (subst (λ xs. IsSorted by_one (xs ++ rest)) given.2.1 sorted);
       }))
     ])

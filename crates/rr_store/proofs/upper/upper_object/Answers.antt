@@ -1,5 +1,6 @@
-use Rattle.rr_store.proofs.UpperLemmas.{as_read}
+use Rattle.rr_store.proofs.UpperLemmas.{some_as_read}
 use Rattle.rr_store.proofs.upper.upper_object.Goals as goal
 
-pub returns-in-Ok-clause-of_source : goal.returns-in-Ok-clause-of_source
-returns-in-Ok-clause-of_source c = as_read _ _ _ c.in-Ok.ensures.ok c.in_ok-paragraph.ensures.fields
+pub returns-clause-of_source : goal.returns-clause-of_source
+returns-clause-of_source c =
+    some_as_read c.args.source.now c.in_ok-paragraph.paragraph c.read_paragraph.result c.read_paragraph.ensures.found c.in_ok-paragraph.ensures.fields

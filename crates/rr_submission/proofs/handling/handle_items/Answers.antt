@@ -5,7 +5,7 @@ use Rattle.rr_submission.proofs.Progress.{ComesTo-start, ComesTo-more, Handles-c
 use Rattle.rr_submission.proofs.handling.handle_items.Goals as goal
 
 pub items-init : goal.items-init
-items-init g c = (([], c.requires.unread, rw c.new-secrets.ensures (ComesTo-start _ _ _ c.sound.ensures)), c.requires.ready, refl, refl)
+items-init g c = (([], c.requires.unread, rw c.new-secrets.ensures (ComesTo-start _ _ _ c.requires.sound)), c.requires.running, refl, refl)
 
 pub handle_item-requires-clause-items : goal.handle_item-requires-clause-items
 handle_item-requires-clause-items g c =
@@ -30,7 +30,7 @@ items-preserved g c =
     let found = rw c.in-Ok-Some.field-0-is at (c.in-Ok-Some.ensures.finds _ so.0 so.1) in
     let one = c.in_ok-done-in-Ok-Some.ensures.handles in (
       (so.0 ++ found.added, found.has, rw c.in_ok-done-in-Ok-Some.ensures.same_secrets (ComesTo-more _ _ _ _ _ _ _ _ one.outcome so.2 found one.decides one.items one.refused one.writes)),
-      c.in_ok-done-in-Ok-Some.ensures.ready,
+      c.in_ok-done-in-Ok-Some.ensures.running,
       c.in-Ok-Some.ensures.aside ∙ c.items.invariant.2,
       c.in_ok-done-in-Ok-Some.ensures.aside ∙ c.items.invariant.3,
     )

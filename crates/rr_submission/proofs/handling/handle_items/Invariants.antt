@@ -1,4 +1,4 @@
-use Rattle.std.proofs.Common.{◌≡◌, List}
+use Rattle.std.proofs.Common.{◌≡◌, false, List}
 use Rattle.rr_text.specs.ParagraphReaders.{Entry, HasGiven, left_of}
 use Rattle.rr_submission.proofs.Progress.{ComesTo}
 use Rattle.rr_submission.proofs.handling.handle_items.Given as goal
@@ -8,7 +8,7 @@ invariant-items g l =
     ((given : List Entry) × HasGiven (g.R.Source.told l.initial.reader) (g.R.Source.told l.reader) l.paragraphs given
     × ComesTo l.source given (g.L.Ledger.registry l.initial.ledger) (g.L.Ledger.registry l.ledger)
     (g.W.Sink.told l.initial.writer) (g.W.Sink.told l.writer) l.secrets l.done)
-    × g.L.Ledger.Ready l.ledger
+    × (g.L.Ledger.is_stopped l.ledger ≡ false)
     × (g.R.Source.aside l.reader ≡ g.R.Source.aside l.initial.reader)
     × (g.W.Sink.aside l.writer ≡ g.W.Sink.aside l.initial.writer)
 

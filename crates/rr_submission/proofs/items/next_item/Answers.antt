@@ -2,7 +2,7 @@
 use Rattle.std.proofs.Common.{◌∙◌, ◌++◌, refl, sym, arith}
 use Rattle.std.proofs.lemmas.Result.{err_from_is_err_and}
 use Rattle.rr_io.specs.declared.receiving.ReadEnd.TheVariants.{Whole}
-use Rattle.rr_submission.specs.SubmissionItems.AreItems.{asked, unread_for_memory}
+use Rattle.rr_submission.specs.SubmissionItems.AreItems.{requested, unread_for_memory}
 use Rattle.rr_submission.proofs.Passing.{passing_none, passing_more, passing_item, passing_end, passing_fault, passing_faulty}
 use Rattle.rr_submission.proofs.items.next_item.Goals as goal
 
@@ -32,7 +32,7 @@ returns-then-not-is_secrets_alone-clause-finds g c = λ start given has.
     let next = rw c.in-Ok-Some.field-0-is at (c.in-Ok-Some.ensures.given start (given ++ so.added) so.has) in
     let same = c.in-Ok.ensures.ok in
     rw same (passing_item _ start _ _ c.paragraphs.paragraphs _ given _ _ _ _ c.read.result so next
-    (λ more items h. asked c.read.result (sym c.is_secrets_alone.ensures ∙ c.if-not-is_secrets_alone.true) c.read.ensures.asked h))
+    (λ more items h. requested c.read.result (sym c.is_secrets_alone.ensures ∙ c.if-not-is_secrets_alone.true) c.read.ensures.asked h))
 
 pub paragraphs-preserved : goal.paragraphs-preserved
 paragraphs-preserved g c =

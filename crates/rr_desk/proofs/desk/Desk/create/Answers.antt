@@ -22,16 +22,16 @@ returns-in-Ok-create_stored-clause-runs g c = record {
   holds = c.in-Ok-create_stored.ensures.holds;
 }
 
-pub returns-in-Ok-create_stored-clause-opened : goal.returns-in-Ok-create_stored-clause-opened
-returns-in-Ok-create_stored-clause-opened g c = rw c.in-Ok-create_stored.ensures.registry c.in-Ok.ensures.opened
+pub returns-in-Ok-create_stored-clause-opening : goal.returns-in-Ok-create_stored-clause-opening
+returns-in-Ok-create_stored-clause-opening g c = rw c.in-Ok-create_stored.ensures.registry c.in-Ok.ensures.opening
 
 pub returns-in-Ok-create_stored-clause-makes : goal.returns-in-Ok-create_stored-clause-makes
 returns-in-Ok-create_stored-clause-makes g c =
-    makes_as _ _ _ (λ db rows. record { registry = c.in-Ok.registry; is_opened = c.in-Ok.ensures.opened; rows = rows }) c.in-Ok-create_stored.ensures.makes
+    makes_as _ _ _ (λ db rows. record { registry = c.in-Ok.registry; is_opening = c.in-Ok.ensures.opening; rows = rows }) c.in-Ok-create_stored.ensures.makes
 
 pub returns-in-Err-clause-fails : goal.returns-in-Err-clause-fails
 returns-in-Err-clause-fails g c =
-    none_as _ _ _ (λ db rows. record { registry = c.in-Ok.registry; is_opened = c.in-Ok.ensures.opened; rows = rows }) c.in-Err.ensures.fails
+    none_as _ _ _ (λ db rows. record { registry = c.in-Ok.registry; is_opening = c.in-Ok.ensures.opening; rows = rows }) c.in-Err.ensures.fails
 
 pub returns-in-Err-clause-not_empty : goal.returns-in-Err-clause-not_empty
 returns-in-Err-clause-not_empty g c = c.in-Err.ensures.not_empty

@@ -1,6 +1,6 @@
 use Rattle.std.proofs.Common.{sym, subst, true}
 use Rattle.sqlite.specs.Held.{state}
-use Rattle.rr_desk.specs.Stops.{IsStopped}
+use Rattle.rr_desk.specs.Stops.{LeavesStopped}
 use Rattle.rr_desk.specs.Private.{LeadsTo}
 use Rattle.rr_desk.proofs.Following.{stops_there, leads, stands_after, still_held}
 use Rattle.rr_desk.proofs.stored.Stored.decide_about.Goals as goal
@@ -19,6 +19,6 @@ follow-requires g c =
 pub returns-in-Err-clause-stops : goal.returns-in-Err-clause-stops
 returns-in-Err-clause-stops g c =
     let running = rw (← c.self.view_is) at c.requires.running in
-    subst (λ s. IsStopped s.registry c.args.secrets.now c.args.item c.apply-outcome.new.self true (state g.S.Store s.store) (state g.S.Store c.follow.new.store)) c.self.view_is
+    subst (λ s. LeavesStopped s.registry c.args.secrets.now c.args.item c.apply-outcome.new.self true (state g.S.Store s.store) (state g.S.Store c.follow.new.store)) c.self.view_is
     (stops_there g.S.Store c.self.inside.store c.follow.new.store c.self.inside.registry c.apply-outcome.new.self c.args.secrets.now c.args.item c.args.key.now c.apply-outcome.result _
     c.requires.key c.apply-outcome.ensures.step c.apply-outcome.ensures.leaves c.in-Err.ensures.changing (c.self.invariant running) c.in-Err.ensures.follows)

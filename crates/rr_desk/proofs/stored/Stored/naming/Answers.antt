@@ -8,4 +8,4 @@ pub invariant_of-self : goal.invariant_of-self
 invariant_of-self g c = λ running.
     let ran = rw (← c.self.view_is) at c.requires.running in
     look_holds (state g.S.Store c.self.inside.store) (state g.S.Store c.naming-found.new.self) c.self.inside.registry c.naming-found.result (c.self.invariant ran)
-    c.naming-found.ensures.looks.rests.crash c.naming-found.ensures.looks.same c.naming-found.ensures.memory (ap is_some (sym c.refusal-self-inside.ensures) ∙ running)
+    c.naming-found.ensures.looks.rests.crash c.naming-found.ensures.looks.same c.naming-found.ensures.memory (ap is_some (sym c.database_error-self-inside.ensures) ∙ running)

@@ -1,7 +1,7 @@
 use Rattle.std.proofs.Common.{not, ap, ◌∙◌}
 use Rattle.sqlite.specs.Held.{state}
 use Rattle.rr_rows.proofs.ObjectRows.{filled_held}
-use Rattle.rr_store.specs.Lent.{lent}
+use Rattle.rr_object.specs.Objects.{lent}
 use Rattle.rr_store.proofs.SettledLemmas.{settles}
 use Rattle.rr_store.proofs.store.Store.create.Goals as goal
 

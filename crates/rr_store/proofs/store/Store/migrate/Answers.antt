@@ -9,7 +9,7 @@ invariant_of-result g c = record {
   autocommit = c.migrate_rows-migrated.ensures.migrates.autocommit c.requires.autocommit;
   held = λ clean on.
       let migrated = c.in-Ok.ensures.migrates.done clean in
-      stored_held c.args.source.now (migrated.objects ++ migrated.block ∷ []) (state g.S.Store c.migrate_rows-migrated.new.conn).now migrated.after;
+      stored_held c.args.source.now (migrated.objects ++ migrated.upper ∷ []) (state g.S.Store c.migrate_rows-migrated.new.conn).now migrated.after;
 }
 
 pub returns-in-Ok-clause-migrates : goal.returns-in-Ok-clause-migrates

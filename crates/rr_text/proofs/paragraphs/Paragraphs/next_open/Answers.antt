@@ -24,7 +24,7 @@ pub returns-in-Ended-clause-given : goal.returns-in-Ended-clause-given
 returns-in-Ended-clause-given g c = λ start given has.
     let rest = c.in-Ended.ensures.gathers in
     let same = c.last.ensures.same in
-    last_next start _ _ _ c.gather-state.new.self _ given _ has c.requires rest same.0 same.1 (same.2 ∙ c.in-Ended.is) (c.last.ensures.last (held c.args.self.now ++ rest.given) rest.begun)
+    last_next start _ _ _ c.gather-state.new.self _ given _ has c.requires rest same.0 same.1 (same.2 ∙ c.in-Ended.is) (c.last.ensures.last (held c.args.self.now ++ rest.given) rest.unclosed)
 
 pub returns-in-Ended-clause-nearer : goal.returns-in-Ended-clause-nearer
 returns-in-Ended-clause-nearer g c =
@@ -32,12 +32,12 @@ returns-in-Ended-clause-nearer g c =
     let same = c.last.ensures.same in
     let P : ℕ → Type 0 = λ n. Nearer (left_of c.args.self.now) n c.last.result in
     subst P (sym (left_same c.gather-state.new.self c.last.new.self same.0 same.1))
-    (last_nearer _ _ c.args.self.now c.gather-state.new.self _ rest (c.last.ensures.last (held c.args.self.now ++ rest.given) rest.begun))
+    (last_nearer _ _ c.args.self.now c.gather-state.new.self _ rest (c.last.ensures.last (held c.args.self.now ++ rest.given) rest.unclosed))
 
 pub returns-in-Ended-clause-fields : goal.returns-in-Ended-clause-fields
 returns-in-Ended-clause-fields g c =
     let rest = c.in-Ended.ensures.gathers in
-    last_fields (held c.args.self.now ++ rest.given) _ (c.last.ensures.last (held c.args.self.now ++ rest.given) rest.begun)
+    last_fields (held c.args.self.now ++ rest.given) _ (c.last.ensures.last (held c.args.self.now ++ rest.given) rest.unclosed)
 
 pub returns-in-Broken-clause-given : goal.returns-in-Broken-clause-given
 returns-in-Broken-clause-given g c = λ start given has. (c.in-Broken.is, broken_end start _ _ _ c.gather-state.new.self given has c.requires c.in-Broken.ensures.gathers)

@@ -5,11 +5,11 @@ use Rattle.rr_text.specs.ParagraphReaders.{held}
 use Rattle.rr_text.proofs.paragraphs.Paragraphs.take_held.Goals as goal
 
 pub returns-in-Some-clause-closed : goal.returns-in-Some-clause-closed
-returns-in-Some-clause-closed c = λ past begun closed.
+returns-in-Some-clause-closed c = λ past unclosed closed.
     let text : c.part.result.now ≡ held c.args.self.now = c.part.ensures in
     record {
       prefix = take c.in-Some.taken c.part.result.now;
       cut = sym text ∙ (sym (take-append-drop c.in-Some.taken c.part.result.now)
           ∙ ap (λ t. take c.in-Some.taken c.part.result.now ++ t) (ap (drop c.in-Some.taken) text ∙ drop-drop c.in-Some.taken c.args.self.now.from (take c.args.self.now.to c.args.self.now.block)));
-      closed = c.in-Some.ensures.adds past begun;
+      closed = c.in-Some.ensures.adds past unclosed;
     }

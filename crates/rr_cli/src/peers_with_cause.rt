@@ -1,0 +1,20 @@
+//! Why a listener accepts no connection.
+
+use rr_commands::Cause;
+use rr_desk::Peers;
+use rr_listener::Listener;
+
+/// A listener that knows why it accepted no connection.
+pub trait PeersWithCause: Peers {
+    /// Why no connection could be accepted in the last turn, if that is how it failed.
+    fn cause(&self) -> Option<Cause>;
+}
+
+impl PeersWithCause for Listener<'_> {
+    fn cause(&self) -> Option<Cause> {
+        match self.accept_error() {
+            Some(error) => Some(Cause::of(error)),
+            None => None,
+        }
+    }
+}

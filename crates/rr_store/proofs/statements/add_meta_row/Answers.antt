@@ -1,0 +1,14 @@
+use Rattle.std.proofs.Common.{arith, [], ◌∷◌}
+use Rattle.sqlite_value.specs.declared.value.Value.TheVariants.{Text}
+use Rattle.sqlite.specs.Held.{state}
+use Rattle.rr_rows.specs.Texts.{insert_meta}
+use Rattle.rr_rows.proofs.StatementLemmas.{inserts_meta}
+use Rattle.rr_store.proofs.CallLemmas.{did}
+use Rattle.rr_store.proofs.statements.add_meta_row.Goals as goal
+
+pub returns-clause-ok : goal.returns-clause-ok
+returns-clause-ok g c clean =
+    let old = c.args.tx.now.conn.now in
+    let new = c.execute.new.self.conn.now in
+    did g.S.Store old new insert_meta (Text c.args.name.now ∷ Text c.args.value.now ∷ []) c.execute.result c.execute.ensures.ended (λ on. (c.execute.ensures.runs clean on)) _
+    (λ count ran on. inserts_meta c.args.name.now c.args.value.now (state g.S.Store old) (state g.S.Store new) (c.requires (omega (arith, c.execute.ensures.survives.clean)) on) count ran)

@@ -1,2 +1,0 @@
--- Objects that are lent.
-pub use Rattle.rr_object.specs.Objects.{lent}

@@ -1,0 +1,26 @@
+//! Whether a database has the three tables, with numbers of their own for the rows of `meta`.
+
+ghost use Rattle.std.specs.Prelude.{◌≡◌, false, IfErr, OnOk};
+ghost use Rattle.rr_store.specs.Calls.{FailsOverTidy, Looks, OnCleanDisk, database};
+ghost use Rattle.rr_store.specs.CheckParts.{HasNumberedMeta};
+
+use crate::fault::NO_TABLES;
+use crate::reading::count_meta;
+use rr_rows::has_tables;
+use sqlite::{Alter, Connection, Error};
+
+/// Checks that the three tables are there, and the rows of `meta` have numbers of their own.
+pub(crate) fn check_meta<S: Alter>(conn: &mut Connection<S>) -> Result<(), Error>
+    requires autocommit { conn.old.in_transaction ≡ false }
+    ensures looks { Looks S.Store conn.old conn.new result }
+    ensures meta { OnCleanDisk S.Store conn.new (OnOk result
+        (HasNumberedMeta (database S.Store conn.old))) }
+    ensures cause { IfErr result (FailsOverTidy S.Store conn.old conn.new) }
+{
+    if !has_tables(conn.schema()) {
+        return Err(NO_TABLES);
+    }
+    // the count is not asked for: the clause says that the rows have numbers of their own
+    let _count = count_meta(conn)?;
+    Ok(())
+}

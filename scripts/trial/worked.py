@@ -12,7 +12,7 @@ REPORT_CUT = "standard output: the report could not be written, so submit the wh
 READER_ENDED = "its reader has ended: let it read to the end"
 DISK_FULL = "the disk is full: make room"
 # Why a reader gave no more, where the system fails it.
-NOT_READ = "system error 5"
+NOT_READ = "input/output error: look at the disk, or take another file (system error 5)"
 # Why a database refused, where its file could not be read or written.
 DISK_FAILED = "the disk cannot be read or written: look at its health, and keep a copy of the database"
 STORE_FAILED = f"the database failed, so submit the whole text again: {DISK_FAILED}"

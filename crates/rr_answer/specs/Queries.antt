@@ -23,9 +23,13 @@ use Rattle.rr_answer.specs.declared.query.Query.{Query}
 use Rattle.rr_answer.specs.declared.query.Query.TheVariants.{Object, Exact, Closest, Less, More}
 use Rattle.rr_answer.specs.declared.query.Query.TheVariants.{Naming, Originated, Expand, Prefixes}
 
+-- the most bytes of a query (profile)
+abbrev pub query_limit : ℕ
+query_limit = 1024
+
 -- A query of more than 1,024 bytes is too long (profile).
 abbrev pub is_too_long : List ℕ → Bool
-is_too_long text = nat_lt 1024 (length text)
+is_too_long text = nat_lt query_limit (length text)
 
 -- The bytes that stand in no line of an object, and the LF, stand in no query (profile).
 abbrev pub is_unreadable : ℕ → Bool

@@ -23,14 +23,22 @@ abbrev pub ends_with_alphanumeric : List ℕ → Bool
 ends_with_alphanumeric text =
     option_map_or is_ascii_alphanumeric (slice_get text (length text - 1)) false
 
+-- the most bytes of an attribute's name (profile)
+abbrev pub attribute_limit : ℕ
+attribute_limit = 64
+
+-- the most bytes of a name (profile)
+abbrev pub name_limit : ℕ
+name_limit = 80
+
 -- An attribute's name has 1 to 64 of these bytes, the first a letter (profile).
 abbrev pub is_attribute_name : List ℕ → Bool
 is_attribute_name text =
-    begins_with_letter text && list_all is_name_byte text && nat_le (length text) 64
+    begins_with_letter text && list_all is_name_byte text && nat_le (length text) attribute_limit
 
 -- A name has 1 to 80 (profile) of these bytes, the first a letter, the last a letter or a digit
 -- (RFC 2622, 2).
 unfoldable pub is_name : List ℕ → Bool
 is_name text =
-    nat_le (length text) 80
+    nat_le (length text) name_limit
     && (list_all is_name_byte text && (begins_with_letter text && ends_with_alphanumeric text))

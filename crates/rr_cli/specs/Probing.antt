@@ -1,16 +1,23 @@
 -- What the probe of a command does, and what it prints (profile).
-use Rattle.std.specs.Prelude.{◌≡◌, ◌⊎◌, ℕ, Bool, true, false, List, Ok, Err, codes, nat_eq}
-use Rattle.std.specs.Prelude.{IsTrue, if◌then◌else◌}
+use Rattle.std.specs.Prelude.{◌≡◌, ◌≢◌, ◌⊎◌, ℕ, Bool, true, false, List, [], Option, Ok, Err}
+use Rattle.std.specs.Prelude.{IfSome, IsTrue, codes, if◌then◌else◌, nat_eq}
 use Rattle.std.specs.List.{starts_with}
 use Rattle.sqlite_trees.specs.declared.store.Store.{Ghosts}
 use Rattle.rr_io.specs.Sending.{Takes, TakesPrefix}
 use Rattle.rr_io.specs.Told.{Told}
+use Rattle.rr_desk.specs.Stocks.{StoresUntilStopped}
 use Rattle.rr_desk.specs.Turns.{Serving, TakesTurns, Tally}
 use Rattle.rr_desk.specs.declared.desk.Desk.{Desk}
-use Rattle.rr_commands.specs.Commands.{AtDesk, CommandEnd, Commands, DeskAction, Ending, Gives}
+use Rattle.rr_commands.specs.Commands.{AtDesk, Closes, CommandEnd, Commands, DeskAction}
+use Rattle.rr_commands.specs.Commands.{Ending, Gives}
 use Rattle.rr_commands.specs.declared.trouble.Trouble.{Trouble}
 use Rattle.rr_commands.specs.declared.trouble.Trouble.TheVariants.{ListenerUnopened, Memory}
 use Rattle.rr_commands.specs.declared.trouble.Trouble.TheVariants.{ProbeFailed, Unwritten}
+use Rattle.rr_cli.specs.Serving.{Listens}
+
+-- which bytes a peer that asked this is to be given, if it tells them (profile)
+abbrev pub Asks : Type 1
+Asks = List ℕ → Option (List ℕ) → Type 0
 
 -- the status of a probe: 1 if the reply is an error, and else 0 (profile)
 abbrev pub reply_status : List ℕ → ℕ
@@ -34,37 +41,63 @@ is_of_probe _ = false
 pub record HasNoReply (old new : Told) (ended : CommandEnd) : Type 0 where
   pub trouble : Trouble
   pub told : ended ≡ Err trouble
-  pub why : IsTrue (is_of_probe trouble)
+  pub cause : IsTrue (is_of_probe trouble)
   pub silent : new ≡ old
 
--- some text was printed as the reply (profile)
-pub record HasReply (old new : Told) (ended : CommandEnd) : Type 0 where
+-- a reply is all that was to be given, if that is told, and it is not empty (profile)
+pub record IsWhole (given : Option (List ℕ)) (reply : List ℕ) : Type 0 where
+  pub all : IfSome given (λ bytes. reply ≡ bytes)
+  pub some : reply ≢ []
+
+-- a peer asked this, and the reply is all that it was to be given (profile)
+pub record IsReplyTo (asks : Asks) (query reply : List ℕ) : Type 0 where
+  pub given : Option (List ℕ)
+  pub asked : asks query given
+  pub whole : IsWhole given reply
+
+-- the reply to this was printed (profile)
+pub record HasReply (asks : Asks) (query : List ℕ) (old new : Told) (ended : CommandEnd)
+    : Type 0 where
   pub reply : List ℕ
+  pub is_reply : IsReplyTo asks query reply
   pub prints : PrintsReply reply old new ended
 
--- one turn of the program's own listener was taken, and so many of it failed (profile)
-pub record TakesOneTurn {S : Type 0} (g : Ghosts S) (serves : Serving) (before after : Desk S)
-    (failed : ℕ) : Type 0 where
-  pub tally_before : Tally
+-- of a listener that told `tally_before` one turn was taken, and `failed` says how many failed, 0
+-- or 1; the settings stay, and until the desk is stopped its rows are those of its registry
+-- (profile)
+pub record TakesOneTurn {S : Type 0} (g : Ghosts S) (serves : Serving) (tally_before : Tally)
+    (before after : Desk S) (failed : ℕ) : Type 0 where
   pub tally_after : Tally
   pub served : ℕ
   pub turns : TakesTurns g serves 1 before after tally_before tally_after served failed
+  pub settings : after.settings ≡ before.settings
+  pub rows : StoresUntilStopped g after.stored
+
+-- any free port was listened on, and one turn of what listens on it was taken (profile)
+pub record ListensOnce {S : Type 0} (g : Ghosts S) (listens : Listens) (serves : Serving)
+    (before after : Desk S) (failed : ℕ) : Type 0 where
+  pub tally : Tally
+  pub listened : listens 0 tally
+  pub takes : TakesOneTurn g serves tally before after failed
 
 -- nobody could ask, and the desk is as it was; or one turn was taken, which failed or of which no
 -- reply could be read (profile)
-abbrev pub AsksInVain : {S : Type 0} → Ghosts S → Serving → Desk S → Desk S → Type 0
-AsksInVain g serves before after =
-    (after ≡ before) ⊎ ((failed : ℕ) × TakesOneTurn g serves before after failed)
+abbrev pub AsksInVain : {S : Type 0} → Ghosts S → Listens → Serving → Desk S → Desk S
+    → Type 0
+AsksInVain g listens serves before after =
+    (after ≡ before) ⊎ ((failed : ℕ) × ListensOnce g listens serves before after failed)
 
--- what the command does at a desk: it asks in vain, and prints nothing; or one turn was taken and
--- served, and the reply is printed (profile)
-abbrev pub ProbesDesk : {S : Type 0} → Ghosts S → Serving → Told → Told → DeskAction S
-ProbesDesk g serves old new before after ended =
-    (HasNoReply old new ended × AsksInVain g serves before after)
-    ⊎ (HasReply old new ended × TakesOneTurn g serves before after 0)
+-- what the command does at a desk: it asks in vain, and prints nothing; or it asks for the root
+-- maintainer of the settings, one turn was taken and served, and the reply is printed (profile)
+abbrev pub ProbesDesk : {S : Type 0} → Ghosts S → Listens → Asks → Serving → Told
+    → Told → DeskAction S
+ProbesDesk g listens asks serves old new before after ended =
+    (HasNoReply old new ended × AsksInVain g listens serves before after)
+    ⊎ (HasReply asks before.settings.root old new ended
+    × ListensOnce g listens serves before after 0)
 
 -- what the command does (profile)
-abbrev pub ProbesBy : {S : Type 0} → Ghosts S → Gives S → Serving → Told → Told → Ending
-    → Type 0
-ProbesBy g gives serves old new =
-    Commands (AtDesk g gives (ProbesDesk g serves old new) old new) old new
+abbrev pub ProbesBy : {S : Type 0} → Ghosts S → Gives S → Closes S → Listens → Asks
+    → Serving → Told → Told → Ending → Type 0
+ProbesBy g gives closes listens asks serves old new =
+    Commands (AtDesk g gives closes (ProbesDesk g listens asks serves old new) old new) old new

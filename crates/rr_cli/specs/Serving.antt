@@ -3,13 +3,19 @@ use Rattle.std.specs.Prelude.{◌≡◌, ◌⊎◌, ℕ, List, ◌++◌, Ok, Err
 use Rattle.sqlite_trees.specs.declared.store.Store.{Ghosts}
 use Rattle.rr_io.specs.Sending.{Takes, TakesPrefix}
 use Rattle.rr_io.specs.Told.{Told}
+use Rattle.rr_desk.specs.Stocks.{StoresUntilStopped}
 use Rattle.rr_desk.specs.Turns.{Serving, TakesTurns, Tally}
 use Rattle.rr_desk.specs.declared.desk.Desk.{Desk}
 use Rattle.rr_commands.specs.declared.cause.Cause.{Cause}
 use Rattle.rr_commands.specs.declared.trouble.Trouble.{Trouble}
 use Rattle.rr_commands.specs.declared.trouble.Trouble.TheVariants.{ListenerUnopened, Unaccepted}
 use Rattle.rr_commands.specs.declared.trouble.Trouble.TheVariants.{Unwritten}
-use Rattle.rr_commands.specs.Commands.{AtDesk, CommandEnd, Commands, DeskAction, Ending, Gives}
+use Rattle.rr_commands.specs.Commands.{AtDesk, Closes, CommandEnd, Commands, DeskAction}
+use Rattle.rr_commands.specs.Commands.{Ending, Gives}
+
+-- what may be told by what listens on this port (profile)
+abbrev pub Listens : Type 1
+Listens = ℕ → Tally → Type 0
 
 -- the line that says how many turns were served, and how many failed (profile)
 unfoldable pub served_line : ℕ → ℕ → List ℕ
@@ -17,32 +23,35 @@ served_line served failed =
     codes "served " ++ (decimal served ++ (codes ", failed " ++ (decimal failed ++ codes "\n")))
 
 -- no turn was served, and the fault is why a connection could not be accepted (profile)
-pub record IsUnaccepted (served : ℕ) (result : CommandEnd) : Type 0 where
+pub record IsUnaccepted (served : ℕ) (ended : CommandEnd) : Type 0 where
   pub cause : Cause
-  pub told : result ≡ Err (Unaccepted cause)
+  pub told : ended ≡ Err (Unaccepted cause)
   pub none : served ≡ 0
 
 -- how serving ends once that line was printed: the status is 0, also where some turns failed, but a
 -- fault may be told if none was served (profile)
 abbrev pub IsServedEnd : ℕ → CommandEnd → Type 0
-IsServedEnd served result = (result ≡ Ok 0) ⊎ IsUnaccepted served result
+IsServedEnd served ended = (ended ≡ Ok 0) ⊎ IsUnaccepted served ended
 
 -- that line was printed whole, and serving ends so; or it could not be printed whole, which is the
 -- fault then (profile)
 abbrev pub EndsServed : ℕ → ℕ → Told → Told → CommandEnd → Type 0
-EndsServed served failed old new result =
-    (Takes old new (served_line served failed) × IsServedEnd served result)
-    ⊎ (TakesPrefix old new (served_line served failed) × (result ≡ Err Unwritten))
+EndsServed served failed old new ended =
+    (Takes old new (served_line served failed) × IsServedEnd served ended)
+    ⊎ (TakesPrefix old new (served_line served failed) × (ended ≡ Err Unwritten))
 
 -- so many turns of a listener were taken, how many were served and how many failed was printed, and
--- serving ended so (profile)
+-- serving ended so; the settings stay, and until the desk is stopped its rows are those of its
+-- registry (profile)
 pub record HasServed {S : Type 0} (g : Ghosts S) (serves : Serving) (count : ℕ)
     (before after : Desk S) (tally_before tally_after : Tally) (output_before output_after : Told)
-    (result : CommandEnd) : Type 0 where
+    (ended : CommandEnd) : Type 0 where
   pub served : ℕ
   pub failed : ℕ
   pub turns : TakesTurns g serves count before after tally_before tally_after served failed
-  pub ends : EndsServed served failed output_before output_after result
+  pub settings : after.settings ≡ before.settings
+  pub rows : StoresUntilStopped g after.stored
+  pub ends : EndsServed served failed output_before output_after ended
 
 -- what the line begins with that says where the program listens (profile)
 unfoldable pub listening_head : List ℕ
@@ -65,24 +74,27 @@ pub record HasNotListened (port : ℕ) (old new : Told) (ended : CommandEnd) : T
   pub told : ended ≡ Err trouble
   pub said : ListensNot port trouble old new
 
--- the port was listened on, that was said, and then turns were served (profile)
-pub record HasListened {S : Type 0} (g : Ghosts S) (serves : Serving) (port count : ℕ)
-    (old new : Told) (before after : Desk S) (ended : CommandEnd) : Type 0 where
+-- the port was listened on, that was said, and then turns of what listens on it were served
+-- (profile)
+pub record HasListened {S : Type 0} (g : Ghosts S) (listens : Listens) (serves : Serving)
+    (port count : ℕ) (old new : Told) (before after : Desk S) (ended : CommandEnd) : Type 0 where
   pub between : Told
   pub said : Takes old between (listening_line port)
   pub tally_before : Tally
   pub tally_after : Tally
+  pub listened : listens port tally_before
   pub served : HasServed g serves count before after tally_before tally_after between new ended
 
 -- what the command does at a desk (profile)
 abbrev pub ServesDesk : {S : Type 0} →
-    Ghosts S → Serving → ℕ → ℕ → Told → Told → DeskAction S
-ServesDesk g serves port count old new before after ended =
+    Ghosts S → Listens → Serving → ℕ → ℕ → Told → Told → DeskAction S
+ServesDesk g listens serves port count old new before after ended =
     (HasNotListened port old new ended × (after ≡ before))
-    ⊎ HasListened g serves port count old new before after ended
+    ⊎ HasListened g listens serves port count old new before after ended
 
 -- what the command does (profile)
 abbrev pub ServesBy : {S : Type 0} →
-    Ghosts S → Gives S → Serving → ℕ → ℕ → Told → Told → Ending → Type 0
-ServesBy g gives serves port count old new =
-    Commands (AtDesk g gives (ServesDesk g serves port count old new) old new) old new
+    Ghosts S → Gives S → Closes S → Listens → Serving → ℕ → ℕ → Told → Told → Ending → Type 0
+ServesBy g gives closes listens serves port count old new =
+    Commands (AtDesk g gives closes (ServesDesk g listens serves port count old new) old new)
+    old new

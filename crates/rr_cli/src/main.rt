@@ -1,21 +1,37 @@
 //! The program `irrdesk`: makes a registry, submits to it, and asks and serves what it has.
 #![tactic(auto)]
 
+mod network;
 mod peers_with_cause;
 mod probing;
 mod run;
 mod serving;
+mod streams;
 
+use crate::network::Sockets;
+use crate::streams::{StandardInput, fill_closed};
 use rr_commands::{DatabaseFiles, Progress, Reading};
 use rr_io::Counted;
 use std::env;
 use std::process::ExitCode;
 
 fn main(rt: HostRuntime) -> ExitCode {
-    let mut input = Reading::silent(&rt, Counted::new(rt.stdin()));
+    // Kept to the end of the run.
+    let filled = fill_closed(&rt);
+    let stdin = StandardInput::new(&rt, filled[0].is_some());
+    let mut input = Reading::silent(&rt, Counted::new(stdin));
     let mut output = Progress::new(&rt, Counted::new(rt.stdout()));
     let mut errors = Counted::new(rt.stderr());
-    let words = env::args(&rt);
+    let arguments = env::args(&rt);
     let databases = DatabaseFiles::new(&rt);
-    ExitCode::from(run::run(&rt, &databases, words, &mut input, &mut output, &mut errors))
+    let network = Sockets::new(&rt);
+    ExitCode::from(run::run(
+        &rt,
+        &databases,
+        &network,
+        arguments,
+        &mut input,
+        &mut output,
+        &mut errors,
+    ))
 }

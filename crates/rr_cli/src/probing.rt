@@ -1,12 +1,13 @@
 //! A question of the program to itself, over a connection.
 
-ghost use Rattle.std.specs.Prelude.{◌≡◌, ◌+◌, ◌<◌, ◌^◌, IfErr, IsTrue, OnErr, OnOk};
-ghost use Rattle.std.specs.Prelude.{string_bytes};
+ghost use Rattle.std.specs.Prelude.{◌≡◌, ◌+◌, ◌<◌, ◌^◌, ℕ, IfErr, IfOk, IsTrue, OnErr, OnOk};
 ghost use Rattle.rr_http.specs.DeskRegistrars.{serves_desk};
 ghost use Rattle.rr_commands.specs.Commands.{AtDesk};
-ghost use Rattle.rr_cli.specs.Probing.{AsksInVain, PrintsReply, ProbesBy, ProbesDesk};
-ghost use Rattle.rr_cli.specs.Probing.{TakesOneTurn, is_of_probe, reply_status};
+ghost use Rattle.rr_cli.specs.Probing.{AsksInVain, IsReplyTo, IsWhole, PrintsReply, ProbesBy};
+ghost use Rattle.rr_cli.specs.Probing.{ListensOnce, ProbesDesk, TakesOneTurn, is_of_probe};
+ghost use Rattle.rr_cli.specs.Probing.{reply_status};
 
+use crate::network::Network;
 use crate::peers_with_cause::PeersWithCause;
 use rr_commands::{
     Cause, Databases, Output, ProgramFault, Trouble, close, ended, open_desk, read_settings_file,
@@ -14,67 +15,78 @@ use rr_commands::{
 use rr_desk::{Desk, Peers, Settings, serve_all};
 use rr_http::Both;
 use rr_io::{Sink, write_all};
-use rr_listener::Listener;
 use sqlite::Alter;
 use std::alloc::Global;
 use std::io;
-use std::io::{ErrorKind, Read, Write};
-use std::net::{Ipv4Addr, Shutdown, TcpStream};
-use std::time::Duration;
+use std::io::{ErrorKind, Read};
 
 /// The status if the reply is an error.
 const ERROR: u8 = 1;
 
-/// How many seconds the reply is waited for (profile).
-const REPLY_WAIT: u64 = 10;
-
 /// Asks the registry that the settings name for its root maintainer, by whois over a connection to
 /// a listener of its own, of which it takes one turn, and prints the reply: the status is 0, or 1
-/// if the reply is an error. If the turn fails nothing is printed.
-pub fn probe<'a, D: Databases, W: Output>(
+/// if the reply is an error. If the turn fails, or the reply cannot be read or is empty, nothing is
+/// printed.
+pub fn probe<'a, D: Databases, N: Network, W: Output>(
     rt: &HostRuntime,
     databases: &D,
+    network: &N,
     settings: &'a str,
     output: &mut W,
 ) -> Result<u8, ProgramFault<'a>>
-    ensures { ProbesBy D.Disk.Store (D.gives databases.now) serves_desk
+    ensures { ProbesBy D.Disk.Store (D.gives databases.now) (D.closes databases.now)
+        (N.listens network.now) (N.asks network.now) serves_desk
         (W.told output.old) (W.told output.new) result }
 {
-    let (read, mut path) = read_settings_file(rt, settings)?;
-    let path_len = path.len();
-    let end = probe_at(rt, databases, read, &mut path, output);
-    ended(rt.alloc(), end, settings, path, path_len, output)
+    let (read, path) = read_settings_file(rt, settings)?;
+    let mut found = String::new(rt.alloc());
+    let end = probe_at(
+        rt,
+        databases,
+        network,
+        read,
+        path.as_str(),
+        &mut found,
+        output,
+    );
+    ended(rt.alloc(), end, settings, path, found.as_str(), output)
 }
 
-/// Asks the registry in the database at a path for its root maintainer, and prints the reply.
-fn probe_at<D: Databases, W: Sink>(
+/// Asks the registry in the database at a path for its root maintainer, and prints the reply. What
+/// is found the matter with it, as a row, a table or what was added to one, is put into `found` for
+/// the message.
+fn probe_at<D: Databases, N: Network, W: Sink>(
     rt: &HostRuntime,
     databases: &D,
+    network: &N,
     settings: Settings,
-    path: &mut String,
+    path: &str,
+    found: &mut String,
     output: &mut W,
 ) -> Result<u8, Trouble>
-    ensures { AtDesk D.Disk.Store (D.gives databases.now)
-        (ProbesDesk D.Disk.Store serves_desk
+    ensures { AtDesk D.Disk.Store (D.gives databases.now) (D.closes databases.now)
+        (ProbesDesk D.Disk.Store (N.listens network.now) (N.asks network.now) serves_desk
         (W.told output.old) (W.told output.new))
-        (W.told output.old) (W.told output.new) settings (string_bytes path.old) result }
+        (W.told output.old) (W.told output.new) settings path.now result }
 {
-    let mut desk = open_desk(rt, databases, settings, path)?;
-    let end = probe_desk(rt, &mut desk, output);
-    close(databases, desk.close());
+    let mut desk = open_desk(rt, databases, settings, path, found)?;
+    let end = probe_desk(rt.alloc(), &mut desk, network, output);
+    let conn = desk.close();
+    close(databases, conn);
     end
 }
 
 /// Asks a desk for its root maintainer, and prints the reply.
-fn probe_desk<S: Alter, W: Sink>(
-    rt: &HostRuntime,
+fn probe_desk<S: Alter, N: Network, W: Sink>(
+    alloc: Global,
     desk: &mut Desk<S>,
+    network: &N,
     output: &mut W,
 ) -> Result<u8, Trouble>
-    ensures { ProbesDesk S.Store serves_desk
+    ensures { ProbesDesk S.Store (N.listens network.now) (N.asks network.now) serves_desk
         (W.told output.old) (W.told output.new) desk.old desk.new result }
 {
-    match ask_for_root(rt, desk) {
+    match ask_for_root(alloc, desk, network) {
         Ok(reply) => print_reply(reply.as_slice(), output),
         Err(trouble) => Err(trouble),
     }
@@ -91,30 +103,41 @@ fn print_reply<W: Sink>(reply: &[u8], output: &mut W) -> Result<u8, Trouble>
 }
 
 /// The reply to the name of a desk's root maintainer, over a connection.
-fn ask_for_root<S: Alter>(rt: &HostRuntime, desk: &mut Desk<S>) -> Result<Vec<u8>, Trouble>
-    ensures read { OnOk result (TakesOneTurn S.Store serves_desk desk.old desk.new 0) }
-    ensures unread { OnErr result (AsksInVain S.Store serves_desk desk.old desk.new) }
+fn ask_for_root<S: Alter, N: Network>(
+    alloc: Global,
+    desk: &mut Desk<S>,
+    network: &N,
+) -> Result<Vec<u8>, Trouble>
+    ensures reply { IfOk result
+        (λ reply. IsReplyTo (N.asks network.now) desk.old.settings.root reply.items) }
+    ensures read { OnOk result
+        (ListensOnce S.Store (N.listens network.now) serves_desk desk.old desk.new 0) }
+    ensures unread { OnErr result
+        (AsksInVain S.Store (N.listens network.now) serves_desk desk.old desk.new) }
     ensures why { IfErr result (λ trouble. IsTrue (is_of_probe trouble)) }
 {
-    match Listener::open(rt, 0) {
-        Ok(mut listener) => match ask(rt, &listener, desk.settings().root().as_bytes()) {
-            Ok(peer) => serve_asked(rt.alloc(), desk, &mut listener, peer),
+    match network.listen(0) {
+        Ok(mut listener) => match network.ask(&listener, desk.settings().root().as_bytes()) {
+            Ok(peer) => serve_asked(alloc, desk, &mut listener, peer),
             Err(error) => Err(trouble_of(&error)),
         },
-        Err(error) => Err(Trouble::ListenerUnopened(Cause::of(&error))),
+        Err(cause) => Err(Trouble::ListenerUnopened(cause)),
     }
 }
 
 /// Serves the connection of a peer that has asked, and reads the reply for it.
-fn serve_asked<S: Alter, P: PeersWithCause>(
+fn serve_asked<S: Alter, P: PeersWithCause, R: Read + Drop>(
     alloc: Global,
     desk: &mut Desk<S>,
     peers: &mut P,
-    peer: TcpStream,
+    peer: R,
 ) -> Result<Vec<u8>, Trouble>
     requires { (P.tally peers.old).turns + 1 < 2 ^ 64 }
-    ensures read { OnOk result (TakesOneTurn S.Store serves_desk desk.old desk.new 0) }
-    ensures unread { OnErr result (AsksInVain S.Store serves_desk desk.old desk.new) }
+    ensures whole { IfOk result (λ reply. IsWhole (R.remaining peer) reply.items) }
+    ensures read { OnOk result
+        (TakesOneTurn S.Store serves_desk (P.tally peers.old) desk.old desk.new 0) }
+    ensures unread { OnErr result ((failed : ℕ)
+        × TakesOneTurn S.Store serves_desk (P.tally peers.old) desk.old desk.new failed) }
     ensures why { IfErr result (λ trouble. IsTrue (is_of_probe trouble)) }
 {
     let failed = take_turn(alloc, desk, peers);
@@ -141,7 +164,7 @@ fn untaken(cause: Option<Cause>) -> Trouble
 /// Takes a turn of a listener, and gives how many failed: 0, or 1.
 fn take_turn<S: Alter, P: Peers>(alloc: Global, desk: &mut Desk<S>, peers: &mut P) -> u64
     requires { (P.tally peers.old).turns + 1 < 2 ^ 64 }
-    ensures { TakesOneTurn S.Store serves_desk desk.old desk.new result }
+    ensures { TakesOneTurn S.Store serves_desk (P.tally peers.old) desk.old desk.new result }
 {
     let turns = serve_all(alloc, desk, peers, &Both, 1);
     turns.failed
@@ -156,20 +179,15 @@ fn trouble_of(error: &io::Error) -> Trouble
     }
 }
 
-/// Connects to a listener, and writes a query and nothing after it (RFC 3912, 2).
-fn ask(rt: &HostRuntime, listener: &Listener<'_>, query: &[u8]) -> io::Result<TcpStream> {
-    let mut peer = TcpStream::connect(rt, (Ipv4Addr::LOCALHOST, listener.port()?))?;
-    peer.set_read_timeout(Some(Duration::from_secs(REPLY_WAIT)))?;
-    peer.write_all(query)?;
-    peer.write_all(b"\r\n")?;
-    peer.shutdown(Shutdown::Write)?;
-    Ok(peer)
-}
-
-/// The reply, to its end.
-fn read_reply(alloc: Global, mut peer: TcpStream) -> io::Result<Vec<u8>> {
+/// The reply, to its end. The error is that of a read, or that the connection ended with no reply.
+fn read_reply<R: Read + Drop>(alloc: Global, mut peer: R) -> io::Result<Vec<u8>>
+    ensures { IfOk result (λ reply. IsWhole (R.remaining peer) reply.items) }
+{
     let mut reply = Vec::new(alloc);
     peer.read_to_end(&mut reply)?;
+    if reply.is_empty() {
+        return Err(io::Error::from(ErrorKind::ConnectionAborted));
+    }
     Ok(reply)
 }
 

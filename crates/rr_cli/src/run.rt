@@ -1,8 +1,9 @@
-//! A run of the program, over its words and its three streams.
+//! A run of the program, over its arguments and its three streams.
 
 ghost use Rattle.rr_http.specs.DeskRegistrars.{serves_desk};
 ghost use Rattle.rr_cli.specs.Running.{CarriesOut};
 
+use crate::network::Network;
 use crate::probing::probe;
 use crate::serving::serve;
 use rr_arguments::{ArgumentsFault, Command, read_command};
@@ -20,20 +21,28 @@ use std::io::{ErrorKind, IsTerminal, Write};
 const HINT: &[u8] =
     b"irrdesk: objects are read from this terminal: `irrdesk help` lists the commands\n";
 
-/// Does what the words ask for, the first of which is the program's own name, and gives the status:
-/// 0 if it is done, 1 if an item was refused or an answer was an error, and at a fault, which has
-/// its line on `errors`, 2 if the words are wrong, 3 if the settings are, 4 if the store failed,
-/// and else 5 (profile).
-pub fn run<D: Databases, R: Input, W: Output, E: Sink>(
+/// Does what the arguments ask for, the first of which is the program's own name, and gives the
+/// status: 0 if it is done, 1 if an item was refused or an answer was an error, and at a fault,
+/// which has its line on `errors`, 2 if the arguments are wrong, 3 if the settings are, 4 if the
+/// store failed, and else 5 (profile).
+pub fn run<D: Databases, N: Network, R: Input, W: Output, E: Sink>(
     rt: &HostRuntime,
     databases: &D,
-    words: io::Result<Args>,
+    network: &N,
+    arguments: io::Result<Args>,
     input: &mut R,
     output: &mut W,
     errors: &mut E,
 ) -> u8 {
-    match collect(rt, words) {
-        Ok(words) => match run_words(rt, databases, words.as_slice(), input, output) {
+    match collect(rt, arguments) {
+        Ok(arguments) => match run_arguments(
+            rt,
+            databases,
+            network,
+            arguments.as_slice(),
+            input,
+            output,
+        ) {
             Ok(status) => status,
             Err(fault) => fault.legible(rt.alloc()).tell(errors),
         },
@@ -41,11 +50,11 @@ pub fn run<D: Databases, R: Input, W: Output, E: Sink>(
     }
 }
 
-/// The words as a list.
-fn collect(rt: &HostRuntime, words: io::Result<Args>) -> Result<Vec<String>, Trouble> {
-    match words {
-        Ok(words) => match words.collect(rt.alloc()) {
-            Ok(words) => Ok(words),
+/// The arguments as a list.
+fn collect(rt: &HostRuntime, arguments: io::Result<Args>) -> Result<Vec<String>, Trouble> {
+    match arguments {
+        Ok(arguments) => match arguments.collect(rt.alloc()) {
+            Ok(arguments) => Ok(arguments),
             Err(_) => Err(Trouble::Memory),
         },
         Err(error) => match error.kind() {
@@ -55,12 +64,16 @@ fn collect(rt: &HostRuntime, words: io::Result<Args>) -> Result<Vec<String>, Tro
     }
 }
 
-/// The fault of these words, which ask for nothing.
-fn fault_of<'a>(alloc: Global, words: &[String], fault: ArgumentsFault<'a>) -> ProgramFault<'a> {
+/// The fault of these arguments, which ask for nothing.
+fn fault_of<'a>(
+    alloc: Global,
+    arguments: &[String],
+    fault: ArgumentsFault<'a>,
+) -> ProgramFault<'a> {
     match fault {
         ArgumentsFault::Refused(line) => {
-            // Without memory the words stay in it as they were given.
-            let told = shown_refusal(alloc, words).unwrap_or(line);
+            // Without memory the arguments stay in it as they were given.
+            let told = shown_refusal(alloc, arguments).unwrap_or(line);
             ProgramFault::named(told, Trouble::BadArguments)
         }
         ArgumentsFault::Unexplained => ProgramFault::plain(Trouble::BadArguments),
@@ -70,24 +83,26 @@ fn fault_of<'a>(alloc: Global, words: &[String], fault: ArgumentsFault<'a>) -> P
     }
 }
 
-/// Why words are refused, in which they stand as a line shows them.
-fn shown_refusal(alloc: Global, words: &[String]) -> Option<String> {
-    let shown = shown_words(alloc, words)?;
+/// Why arguments are refused, in which they stand as a line shows them.
+fn shown_refusal(alloc: Global, arguments: &[String]) -> Option<String> {
+    let shown = shown_arguments(alloc, arguments)?;
     refusal_of(alloc, shown.as_slice())
 }
 
-/// These words as a line shows them, if there is memory.
-fn shown_words(alloc: Global, words: &[String]) -> Option<Vec<String>> {
+/// These arguments as a line shows them, if there is memory.
+fn shown_arguments(alloc: Global, arguments: &[String]) -> Option<Vec<String>> {
     let mut shown = Vec::new(alloc);
-    for word in words {
-        shown.push(shown_name(alloc, word.as_bytes()).ok()?).ok()?;
+    for argument in arguments {
+        shown
+            .push(shown_name(alloc, argument.as_bytes()).ok()?)
+            .ok()?;
     }
     Some(shown)
 }
 
-/// The line that says why these words are refused, if one does.
-fn refusal_of(alloc: Global, words: &[String]) -> Option<String> {
-    match read_command(alloc, words) {
+/// The line that says why these arguments are refused, if one does.
+fn refusal_of(alloc: Global, arguments: &[String]) -> Option<String> {
+    match read_command(alloc, arguments) {
         Ok(_command) => None,
         Err(fault) => match fault {
             ArgumentsFault::Refused(line) => Some(line),
@@ -99,30 +114,32 @@ fn refusal_of(alloc: Global, words: &[String]) -> Option<String> {
     }
 }
 
-/// Does what the words ask for.
-fn run_words<'a, D: Databases, R: Input, W: Output>(
+/// Does what the arguments ask for.
+fn run_arguments<'a, D: Databases, N: Network, R: Input, W: Output>(
     rt: &HostRuntime,
     databases: &D,
-    words: &'a [String],
+    network: &N,
+    arguments: &'a [String],
     input: &mut R,
     output: &mut W,
 ) -> Result<u8, ProgramFault<'a>> {
-    match read_command(rt.alloc(), words) {
-        Ok(command) => carry_out(rt, databases, command, input, output),
-        Err(fault) => Err(fault_of(rt.alloc(), words, fault)),
+    match read_command(rt.alloc(), arguments) {
+        Ok(command) => carry_out(rt, databases, network, command, input, output),
+        Err(fault) => Err(fault_of(rt.alloc(), arguments, fault)),
     }
 }
 
 /// Carries out a command.
-fn carry_out<'a, D: Databases, R: Input, W: Output>(
+fn carry_out<'a, D: Databases, N: Network, R: Input, W: Output>(
     rt: &HostRuntime,
     databases: &D,
+    network: &N,
     command: Command<'a>,
     input: &mut R,
     output: &mut W,
 ) -> Result<u8, ProgramFault<'a>>
-    ensures { CarriesOut D.Disk.Store
-        (D.gives databases.now) serves_desk command.entry
+    ensures { CarriesOut D.Disk.Store (D.gives databases.now) (D.closes databases.now)
+        (N.listens network.now) (N.asks network.now) serves_desk command.entry
         (R.told input.old) (R.told input.new) (W.told output.old) (W.told output.new) result }
 {
     match command {
@@ -143,8 +160,8 @@ fn carry_out<'a, D: Databases, R: Input, W: Output>(
             settings,
             port,
             count,
-        } => serve(rt, databases, settings, port, count, output),
-        Command::Probe { settings } => probe(rt, databases, settings, output),
+        } => serve(rt, databases, network, settings, port, count, output),
+        Command::Probe { settings } => probe(rt, databases, network, settings, output),
         Command::Print(text) => print(output, text.as_bytes()),
     }
 }

@@ -1,13 +1,13 @@
 //! Serving connections, of a registry in a database.
 
-ghost use Rattle.std.specs.Prelude.{◌≡◌, ◌+◌, ◌<◌, ◌^◌, false, string_bytes};
+ghost use Rattle.std.specs.Prelude.{◌≡◌, ◌+◌, ◌<◌, ◌^◌};
 ghost use Rattle.rr_io.specs.Sending.{Writes};
-ghost use Rattle.rr_desk.specs.Stocks.{StoresUntilStopped};
 ghost use Rattle.rr_http.specs.DeskRegistrars.{serves_desk};
 ghost use Rattle.rr_commands.specs.Commands.{AtDesk, EndsAs};
 ghost use Rattle.rr_cli.specs.Serving.{HasServed, IsServedEnd, ServesBy, ServesDesk};
 ghost use Rattle.rr_cli.specs.Serving.{listening_head, listening_line, served_line};
 
+use crate::network::Network;
 use crate::peers_with_cause::PeersWithCause;
 use itoa::Buffer;
 use rr_commands::{
@@ -17,7 +17,6 @@ use rr_commands::{
 use rr_desk::{ConnFault, Desk, Served, Service, Settings, serve_all};
 use rr_http::Both;
 use rr_io::{Connection, Counted, Sink, write_pieces};
-use rr_listener::Listener;
 use sqlite::{Alter, Error};
 use std::alloc::Global;
 use std::io;
@@ -26,22 +25,41 @@ use std::io;
 /// the settings name. Prints where it listens, and at the end how many connections were served and
 /// how many failed: the status is 0, unless none was served because none could be accepted. If the
 /// database fails meanwhile, that is said once on standard error.
-pub fn serve<'a, D: Databases, W: Output>(
+pub fn serve<'a, D: Databases, N: Network, W: Output>(
     rt: &HostRuntime,
     databases: &D,
+    network: &N,
     settings: &'a str,
     port: u16,
     count: u64,
     output: &mut W,
 ) -> Result<u8, ProgramFault<'a>>
-    ensures { ServesBy D.Disk.Store
-        (D.gives databases.now) serves_desk port count
+    ensures { ServesBy D.Disk.Store (D.gives databases.now) (D.closes databases.now)
+        (N.listens network.now) serves_desk port count
         (W.told output.old) (W.told output.new) result }
 {
-    let (read, mut path) = read_settings_file(rt, settings)?;
-    let path_len = path.len();
-    let end = serve_at(rt, databases, read, &mut path, port, count, output);
-    ended_at(rt.alloc(), end, port, settings, path, path_len, output)
+    let (read, path) = read_settings_file(rt, settings)?;
+    let mut found = String::new(rt.alloc());
+    let end = serve_at(
+        rt,
+        databases,
+        network,
+        read,
+        path.as_str(),
+        &mut found,
+        port,
+        count,
+        output,
+    );
+    ended_at(
+        rt.alloc(),
+        end,
+        port,
+        settings,
+        path,
+        found.as_str(),
+        output,
+    )
 }
 
 /// How serving ended; trouble with the listener is about its address.
@@ -51,7 +69,7 @@ fn ended_at<'a, W: Output>(
     port: u16,
     settings: &'a str,
     path: String,
-    path_len: usize,
+    found: &str,
     output: &W,
 ) -> Result<u8, ProgramFault<'a>>
     ensures { EndsAs end result }
@@ -63,7 +81,7 @@ fn ended_at<'a, W: Output>(
         Err(Trouble::Unaccepted(cause)) => {
             Err(about_port(alloc, Trouble::Unaccepted(cause), port))
         }
-        _ => ended(alloc, end, settings, path, path_len, output),
+        _ => ended(alloc, end, settings, path, found, output),
     }
 }
 
@@ -77,49 +95,60 @@ fn about_port<'a>(alloc: Global, trouble: Trouble, port: u16) -> ProgramFault<'a
     }
 }
 
-/// Serves so many connections to this port from the registry in the database at a path.
-fn serve_at<D: Databases, W: Sink>(
+/// Serves so many connections to this port from the registry in the database at a path. What is
+/// found the matter with it, as a row, a table or what was added to one, is put into `found` for
+/// the message.
+fn serve_at<D: Databases, N: Network, W: Sink>(
     rt: &HostRuntime,
     databases: &D,
+    network: &N,
     settings: Settings,
-    path: &mut String,
+    path: &str,
+    found: &mut String,
     port: u16,
     count: u64,
     output: &mut W,
 ) -> Result<u8, Trouble>
-    ensures { AtDesk D.Disk.Store (D.gives databases.now)
-        (ServesDesk D.Disk.Store serves_desk port count
+    ensures { AtDesk D.Disk.Store (D.gives databases.now) (D.closes databases.now)
+        (ServesDesk D.Disk.Store (N.listens network.now) serves_desk port count
         (W.told output.old) (W.told output.new))
-        (W.told output.old) (W.told output.new) settings (string_bytes path.old) result }
+        (W.told output.old) (W.told output.new) settings path.now result }
 {
-    let mut desk = open_desk(rt, databases, settings, path)?;
-    let watched = Watched {
-        rt,
-        path: path.as_str(),
-    };
-    let end = serve_desk(rt, &mut desk, &watched, port, count, output);
-    close(databases, desk.close());
+    let mut desk = open_desk(rt, databases, settings, path, found)?;
+    let watched = Watched { rt, path };
+    let end = serve_desk(
+        rt.alloc(),
+        &mut desk,
+        network,
+        &watched,
+        port,
+        count,
+        output,
+    );
+    let conn = desk.close();
+    close(databases, conn);
     end
 }
 
 /// Listens on this port, says so, and serves so many connections of a desk.
-fn serve_desk<S: Alter, V: Service, W: Sink>(
-    rt: &HostRuntime,
+fn serve_desk<S: Alter, N: Network, V: Service, W: Sink>(
+    alloc: Global,
     desk: &mut Desk<S>,
+    network: &N,
     service: &V,
     port: u16,
     count: u64,
     output: &mut W,
 ) -> Result<u8, Trouble>
-    ensures { ServesDesk S.Store V.serves port count
+    ensures { ServesDesk S.Store (N.listens network.now) V.serves port count
         (W.told output.old) (W.told output.new) desk.old desk.new result }
 {
-    match Listener::open(rt, port) {
+    match network.listen(port) {
         Ok(mut listener) => match write_listening(output, port) {
-            Ok(()) => serve_turns(rt.alloc(), desk, &mut listener, service, count, output),
+            Ok(()) => serve_turns(alloc, desk, &mut listener, service, count, output),
             Err(_) => Err(Trouble::Unwritten),
         },
-        Err(error) => Err(Trouble::ListenerUnopened(Cause::of(&error))),
+        Err(cause) => Err(Trouble::ListenerUnopened(cause)),
     }
 }
 
@@ -171,10 +200,8 @@ fn serve_turns<S: Alter, P: PeersWithCause, V: Service, W: Sink>(
     output: &mut W,
 ) -> Result<u8, Trouble>
     requires { (P.tally peers.old).turns + count < 2 ^ 64 }
-    ensures served { HasServed S.Store V.serves count desk.old desk.new
+    ensures { HasServed S.Store V.serves count desk.old desk.new
         (P.tally peers.old) (P.tally peers.new) (W.told output.old) (W.told output.new) result }
-    ensures settings { desk.new.settings ≡ desk.old.settings }
-    ensures rows { StoresUntilStopped S.Store desk.new.stored }
 {
     let served = serve_all(alloc, desk, peers, service, count);
     match write_served(output, served) {

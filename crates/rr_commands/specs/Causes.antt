@@ -11,13 +11,14 @@ use Rattle.rr_commands.specs.declared.cause.Cause.{Cause}
 use Rattle.rr_commands.specs.declared.cause.Cause.TheVariants as cause
 use Rattle.rr_commands.specs.declared.cause.DatabaseCause.{DatabaseCause}
 use Rattle.rr_commands.specs.declared.cause.DatabaseCause.TheVariants as database
-use Rattle.rr_commands.specs.declared.cause.TheConstants.{EIO, EMFILE, ENFILE}
+use Rattle.rr_commands.specs.declared.cause.TheConstants.{EBADF, EIO, EMFILE, ENFILE}
 
 -- the cause that has this number of Linux: few without a kind of their own are told apart
 -- (profile)
 abbrev pub number_cause : ℕ → Cause
 number_cause number =
     if number == EIO then cause.BadDisk
+    else if number == EBADF then cause.Closed
     else if number == ENFILE then cause.AllFiles
     else if number == EMFILE then cause.ManyFiles
     else cause.Numbered number
@@ -108,6 +109,7 @@ cause_text cause.AllFiles =
     ++ codes "(system error 23)"
 cause_text cause.BadDisk =
     codes "input/output error: look at the disk, or take another file (system error 5)"
+cause_text cause.Closed = codes "it is closed: leave it open (system error 9)"
 cause_text (cause.Numbered number) = codes "system error "
 cause_text cause.Unnumbered = codes "the system does not say why"
 

@@ -8,6 +8,8 @@ use Rattle.rr_io.specs.Told.{Told}
 use Rattle.rr_desk.specs.declared.desk.Desk.{Desk}
 use Rattle.rr_desk.specs.Opened.{OpensTables, Runs}
 use Rattle.rr_desk.specs.Settings.{SettingsParts}
+use Rattle.rr_commands.specs.declared.databases.Absent.{Absent}
+use Rattle.rr_commands.specs.declared.databases.Absent.TheVariants.{Refused}
 use Rattle.rr_commands.specs.declared.fault.ProgramFault.{ProgramFault}
 use Rattle.rr_commands.specs.declared.trouble.Trouble.{Trouble}
 use Rattle.rr_commands.specs.declared.trouble.Trouble.TheVariants as trouble
@@ -32,9 +34,14 @@ DeskAction S = Desk S → Desk S → CommandEnd → Type 0
 abbrev pub ConnectionAction : Type 0 → Type 1
 ConnectionAction S = Held S → Held S → CommandEnd → Type 0
 
--- as which connections the database at a path may be opened (profile)
+-- as which connections the database at a path may be opened, by what is done if there is none
+-- (profile)
 abbrev pub Gives : Type 0 → Type 1
-Gives S = List ℕ → Held S → Type 0
+Gives S = List ℕ → Absent → Held S → Type 0
+
+-- as which connections a database may be closed (profile)
+abbrev pub Closes : Type 0 → Type 1
+Closes S = Held S → Type 0
 
 -- how a command ends and how the program does: with the same status, or by a fault with the same
 -- trouble (profile)
@@ -93,8 +100,9 @@ pub record IsDone (does : Action) (result : Ending) : Type 0 where
 abbrev pub Commands : Action → Told → Told → Ending → Type 0
 Commands does old new result = HasNoSettings old new result ⊎ IsDone does result
 
--- the database is not opened, or not its registry, and nothing was printed; the fault is one of the
--- database, and which is not said: the message tells it, and the status if memory ran out (profile)
+-- the database is not opened, or its registry is not, and then what a further look leaves is not
+-- spoken of; nothing was printed. The fault is one of the database, and which is not said: the
+-- message tells it, and the status if memory ran out (profile)
 pub record IsUnopened (old new : Told) (ended : CommandEnd) : Type 0 where
   pub trouble : Trouble
   pub told : ended ≡ Err trouble
@@ -117,31 +125,35 @@ pub record OpensDesk {S : Type 0} (g : Ghosts S) (gives : Held S → Type 0)
   pub opens : OpensTables g conn desk.stored
   pub runs : Runs g parts desk
 
--- a desk was opened, and this was done at it (profile)
+-- a desk was opened, and this was done at it; the database that it left was closed (profile)
 pub record IsDoneAtDesk {S : Type 0} (g : Ghosts S) (gives : Held S → Type 0)
-    (does : DeskAction S)
+    (closes : Closes S) (does : DeskAction S)
     (parts : SettingsParts) (ended : CommandEnd) : Type 0 where
   pub before : Desk S
   pub after : Desk S
   pub opens : OpensDesk g gives parts before
   pub did : does before after ended
+  pub closed : closes after.stored.store
 
--- what a command does at the desk that its settings open (profile)
-abbrev pub AtDesk : {S : Type 0} → Ghosts S → Gives S → DeskAction S → Told → Told
-    → Action
-AtDesk g gives does old new parts path ended =
-    IsUnopened old new ended ⊎ IsDoneAtDesk g (gives path) does parts ended
+-- what a command does at the desk that its settings open: if there is no database, none is made
+-- (profile)
+abbrev pub AtDesk : {S : Type 0} →
+    Ghosts S → Gives S → Closes S → DeskAction S → Told → Told → Action
+AtDesk g gives closes does old new parts path ended =
+    IsUnopened old new ended ⊎ IsDoneAtDesk g (gives path Refused) closes does parts ended
 
--- a database was opened, and this was done in it (profile)
-pub record IsDoneInDatabase {S : Type 0} (gives : Held S → Type 0) (does : ConnectionAction S)
-    (ended : CommandEnd) : Type 0 where
+-- a database was opened, and this was done in it; as this left it, it was closed (profile)
+pub record IsDoneInDatabase {S : Type 0} (gives : Held S → Type 0) (closes : Closes S)
+    (does : ConnectionAction S) (ended : CommandEnd) : Type 0 where
   pub before : Held S
   pub after : Held S
   pub given : gives before
   pub did : does before after ended
+  pub closed : closes after
 
--- what a command does in the database that its settings name (profile)
-abbrev pub InDatabase : {S : Type 0} →
-    Gives S → ConnectionAction S → Told → Told → List ℕ → CommandEnd → Type 0
-InDatabase gives does old new path ended =
-    IsUnopened old new ended ⊎ IsDoneInDatabase (gives path) does ended
+-- what a command does in the database that its settings name, by what is done if there is none
+-- (profile)
+abbrev pub InDatabase : {S : Type 0} → Gives S → Absent → Closes S → ConnectionAction S → Told
+    → Told → List ℕ → CommandEnd → Type 0
+InDatabase gives absent closes does old new path ended =
+    IsUnopened old new ended ⊎ IsDoneInDatabase (gives path absent) closes does ended

@@ -10,9 +10,10 @@ use Rattle.rr_desk.specs.Opened.{HasOpeningRows, IsOccupied, MakesNone, MakesTab
 use Rattle.rr_desk.specs.Opening.{IsOpeningRegistry}
 use Rattle.rr_desk.specs.Settings.{SettingsParts}
 use Rattle.rr_desk.specs.declared.desk.Desk.{Desk}
-use Rattle.rr_commands.specs.Commands.{CommandEnd, Commands, ConnectionAction, Ending, Gives}
-use Rattle.rr_commands.specs.Commands.{InDatabase}
+use Rattle.rr_commands.specs.Commands.{Closes, CommandEnd, Commands, ConnectionAction, Ending}
+use Rattle.rr_commands.specs.Commands.{Gives, InDatabase}
 use Rattle.rr_commands.specs.Printed.{Tells}
+use Rattle.rr_commands.specs.declared.databases.Absent.TheVariants.{Made}
 use Rattle.rr_commands.specs.declared.trouble.Trouble.TheVariants.{Creating}
 
 -- the line that says how many objects a registry opens with (profile)
@@ -34,7 +35,7 @@ module _ {S : Type 0} (g : Ghosts S) (settings : SettingsParts) (unprinted print
     pub runs : Runs g settings desk
     pub opened : IsOpeningRegistry settings desk.stored.registry
     pub makes : MakesTables g (HasOpeningRows settings) before desk.stored.store
-    pub closed : after ≡ desk.stored.store
+    pub given_back : after ≡ desk.stored.store
     pub tells : Tells created_line unprinted printed ended
 
 -- what the command does in a database (profile)
@@ -45,6 +46,8 @@ CreatesIn g settings old new before after ended =
     ⊎ IsCreated g settings old new before after ended
 
 -- what the command does (profile)
-abbrev pub CreatesBy : {S : Type 0} → Ghosts S → Gives S → Told → Told → Ending → Type 0
-CreatesBy g gives old new =
-    Commands (λ settings. InDatabase gives (CreatesIn g settings old new) old new) old new
+abbrev pub CreatesBy : {S : Type 0} → Ghosts S → Gives S → Closes S → Told → Told → Ending
+    → Type 0
+CreatesBy g gives closes old new =
+    Commands (λ settings. InDatabase gives Made closes (CreatesIn g settings old new) old new)
+    old new

@@ -1,14 +1,15 @@
 -- The line that says a fault on standard error (profile).
-use Rattle.std.specs.Prelude.{ℕ, ◌==◌, ◌||◌, nat_lt, List, [], ◌++◌, map, Option}
+use Rattle.std.specs.Prelude.{◌≡◌, ◌⊎◌, ℕ, ◌==◌, ◌||◌, nat_lt, List, [], ◌++◌, map, Option}
 use Rattle.std.specs.Prelude.{None, Some, codes}
 use Rattle.std.specs.Prelude.{decimal, string_bytes, if◌then◌else◌}
 use Rattle.std.specs.Option.{option_and_then}
 use Rattle.rr_commands.specs.Causes.{number_of}
-use Rattle.rr_commands.specs.Troubles.{cause_words, trouble_cause, trouble_number}
+use Rattle.rr_commands.specs.Troubles.{cause_words, place_of, trouble_cause, trouble_number}
 use Rattle.rr_commands.specs.Words.{after_number, before, before_number}
 use Rattle.rr_commands.specs.declared.cause.Cause.{Cause}
 use Rattle.rr_commands.specs.declared.fault.About.{About}
 use Rattle.rr_commands.specs.declared.fault.About.TheVariants.{Nothing, Word, Named}
+use Rattle.rr_commands.specs.declared.fault.ProgramFault.{ProgramFault}
 use Rattle.rr_commands.specs.declared.trouble.Place.{Place}
 use Rattle.rr_commands.specs.declared.trouble.Place.TheVariants as place
 use Rattle.rr_commands.specs.declared.trouble.Trouble.{Trouble}
@@ -30,6 +31,21 @@ place_shown place.Nothing file database = []
 place_shown place.Database file database = map shown database ++ codes ": "
 place_shown place.File file database = map shown file ++ codes ": "
 place_shown place.Output file database = map shown (codes "standard output") ++ codes ": "
+
+-- a text for the database at a path, in which this was found: the path as it is, or one that ends
+-- in what was found (profile)
+abbrev pub NamesDatabase : List ℕ → List ℕ → List ℕ → Type 0
+NamesDatabase path found database =
+    (database ≡ path) ⊎ ((start : List ℕ) × (database ≡ start ++ found))
+
+-- a fault of a command that reads this file and uses the database at this path, in which this was
+-- found, shows the place of its trouble: the file, standard output, nothing, or a text for the
+-- database (profile)
+abbrev pub IsAbout : List ℕ → List ℕ → List ℕ → ProgramFault → Type 0
+IsAbout file path found fault =
+    (database : List ℕ)
+    × NamesDatabase path found database
+    × (name_shown fault.about ≡ place_shown (place_of fault.trouble) file database)
 
 -- a number in decimal digits, or nothing (profile)
 abbrev pub number_text : Option ℕ → List ℕ

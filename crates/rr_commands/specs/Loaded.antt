@@ -12,9 +12,10 @@ use Rattle.rr_desk.specs.Settings.{SettingsParts}
 use Rattle.rr_desk.specs.declared.desk.Desk.{Desk}
 use Rattle.rr_desk.specs.declared.loading.DeskLoadFault.{DeskLoadFault}
 use Rattle.rr_desk.specs.declared.loading.DeskLoadFault.TheVariants.{NotEmpty}
-use Rattle.rr_commands.specs.Commands.{CommandEnd, Commands, ConnectionAction, Ending, Gives}
-use Rattle.rr_commands.specs.Commands.{HasNoFile, InDatabase}
+use Rattle.rr_commands.specs.Commands.{Closes, CommandEnd, Commands, ConnectionAction, Ending}
+use Rattle.rr_commands.specs.Commands.{Gives, HasNoFile, InDatabase}
 use Rattle.rr_commands.specs.Printed.{Tells}
+use Rattle.rr_commands.specs.declared.databases.Absent.TheVariants.{Made}
 use Rattle.rr_commands.specs.declared.trouble.Trouble.TheVariants.{Loading}
 
 -- the line that says how many objects were loaded (profile)
@@ -47,7 +48,7 @@ module _ {S : Type 0} (g : Ghosts S) (settings : SettingsParts) (start end : Tol
     pub runs : Runs g settings desk
     pub loaded : IsLoaded settings.source start end desk.stored.registry
     pub makes : MakesTables g (HasLoadedRows settings.source start end) before desk.stored.store
-    pub closed : after ≡ desk.stored.store
+    pub given_back : after ≡ desk.stored.store
     pub tells : TellsLoaded (length (values desk.stored.registry)) unprinted printed ended
 
 -- what the load of a dump does in a database: the reader of the dump told this at its start and at
@@ -76,6 +77,8 @@ LoadsIn g settings old new before after ended =
     ⊎ LoadsFile g settings old new before after ended
 
 -- what the command does (profile)
-abbrev pub LoadsBy : {S : Type 0} → Ghosts S → Gives S → Told → Told → Ending → Type 0
-LoadsBy g gives old new =
-    Commands (λ settings. InDatabase gives (LoadsIn g settings old new) old new) old new
+abbrev pub LoadsBy : {S : Type 0} → Ghosts S → Gives S → Closes S → Told → Told → Ending
+    → Type 0
+LoadsBy g gives closes old new =
+    Commands (λ settings. InDatabase gives Made closes (LoadsIn g settings old new) old new)
+    old new

@@ -12,9 +12,10 @@ use Rattle.rr_desk.specs.Migrating.{IsMigratedBy, MigratesTables, RefusesOldRegi
 use Rattle.rr_desk.specs.Opened.{MakesNone, Runs}
 use Rattle.rr_desk.specs.Settings.{SettingsParts}
 use Rattle.rr_desk.specs.declared.desk.Desk.{Desk}
-use Rattle.rr_commands.specs.Commands.{CommandEnd, Commands, ConnectionAction, Ending, Gives}
-use Rattle.rr_commands.specs.Commands.{InDatabase}
+use Rattle.rr_commands.specs.Commands.{Closes, CommandEnd, Commands, ConnectionAction, Ending}
+use Rattle.rr_commands.specs.Commands.{Gives, InDatabase}
 use Rattle.rr_commands.specs.Printed.{Tells}
+use Rattle.rr_commands.specs.declared.databases.Absent.TheVariants.{Refused}
 use Rattle.rr_commands.specs.declared.trouble.Trouble.{Trouble}
 use Rattle.rr_commands.specs.declared.trouble.Trouble.TheVariants as trouble
 use Rattle.rr_commands.specs.declared.trouble.Trouble.TheVariants.{Migrating}
@@ -38,7 +39,7 @@ module _ {S : Type 0} (g : Ghosts S) (settings : SettingsParts) (unprinted print
     pub desk : Desk S
     pub runs : Runs g settings desk
     pub migrates : MigratesTables g settings before desk.stored
-    pub closed : after ≡ desk.stored.store
+    pub given_back : after ≡ desk.stored.store
     pub tells : Tells migrated_line unprinted printed ended
 
 -- what the command does in a database (profile)
@@ -91,17 +92,33 @@ pub record IsFoundOut (first ended : CommandEnd) : Type 0 where
 abbrev pub IsDiagnosis : CommandEnd → CommandEnd → Type 0
 IsDiagnosis first ended = (ended ≡ first) ⊎ IsFoundOut first ended
 
--- the command did this and ended as `first`; what is told is that, or what a look at the database
--- afterwards found, which is not spoken of here (profile)
+-- what is looked at: a database that was refused by its error, for its rows or for its version
+-- (profile)
+abbrev pub is_looked_at : MigrateFault → Bool
+is_looked_at (migrating.Store error) = true
+is_looked_at migrating.BadRow = true
+is_looked_at (migrating.WrongVersion version) = true
+is_looked_at _ = false
+
+-- a further look changes nothing but the connection of such a database (profile)
+abbrev pub LooksAtRefused : {S : Type 0} → CommandEnd → Held S → Held S → Type 0
+LooksAtRefused first left after =
+    (after ≡ left)
+    ⊎ ((fault : MigrateFault) × (first ≡ Err (Migrating fault)) × IsTrue (is_looked_at fault))
+
+-- the command did this, left this connection and ended as `first`; what is told is that, or what a
+-- look at a database that was refused found; what such a look leaves is not spoken of (profile)
 pub record IsDiagnosed {S : Type 0} (does : ConnectionAction S) (before after : Held S)
     (ended : CommandEnd) : Type 0 where
   pub first : CommandEnd
-  pub did : does before after first
+  pub left : Held S
+  pub did : does before left first
+  pub looks : LooksAtRefused first left after
   pub diagnosis : IsDiagnosis first ended
 
 -- what the command does (profile)
-abbrev pub MigratesBy : {S : Type 0} → Ghosts S → Gives S → Told → Told → Ending
+abbrev pub MigratesBy : {S : Type 0} → Ghosts S → Gives S → Closes S → Told → Told → Ending
     → Type 0
-MigratesBy g gives old new =
-    Commands (λ settings. InDatabase gives (IsDiagnosed (MigratesIn g settings old new)) old new)
-    old new
+MigratesBy g gives closes old new =
+    Commands (λ settings. InDatabase gives Refused closes
+    (IsDiagnosed (MigratesIn g settings old new)) old new) old new

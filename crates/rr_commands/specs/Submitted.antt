@@ -10,9 +10,10 @@ use Rattle.rr_submission.specs.Submissions.{UnlessStoreFault}
 use Rattle.rr_desk.specs.Desks.{SubmitsTo}
 use Rattle.rr_desk.specs.Opening.{IsOpeningRegistry}
 use Rattle.rr_desk.specs.Settings.{built_in}
+use Rattle.rr_desk.specs.Stocks.{StoresUntilStopped}
 use Rattle.rr_desk.specs.declared.desk.Desk.{Desk}
 use Rattle.rr_commands.specs.Causes.{stop_cause}
-use Rattle.rr_commands.specs.Commands.{AtDesk, CommandEnd, Commands, DeskAction, Ending}
+use Rattle.rr_commands.specs.Commands.{AtDesk, Closes, CommandEnd, Commands, DeskAction, Ending}
 use Rattle.rr_commands.specs.Commands.{EndsAs, Gives, HasNoFile}
 use Rattle.rr_commands.specs.declared.cause.DatabaseCause.{DatabaseCause}
 use Rattle.rr_commands.specs.declared.trouble.Trouble.{Trouble}
@@ -29,20 +30,31 @@ submission_end (Ok done) cause = Ok (done_status done)
 submission_end (Err fault) cause = Err (Submission fault cause)
 
 -- a submission was made to a desk, and its result is told; only a fault of the store stopped the
--- desk (profile)
+-- desk, whose rows until then are those of its registry; the settings stay (profile)
 pub record HasSubmitted {S : Type 0} (g : Ghosts S) (before after : Desk S)
     (unread read unprinted printed : Told) (ended : CommandEnd) : Type 0 where
   pub result : Result Done DeskFault
   pub submits : SubmitsTo g before after unread read unprinted printed result
-  pub runs : UnlessStoreFault result (after.stored.stopped ≡ false)
+  pub running : UnlessStoreFault result (after.stored.stopped ≡ false)
   pub told : ended ≡ submission_end result (stop_cause after.stored.cause)
+  pub rows : StoresUntilStopped g after.stored
+  pub settings : after.settings ≡ before.settings
 
--- there is no desk, and nothing was read or printed (profile)
+-- what went wrong without arguments: a database in memory fails only because memory ran out
+-- (profile)
+abbrev pub plain_trouble : Trouble → Trouble
+plain_trouble (Creating fault) = Memory
+plain_trouble (Submission (desk.StoreFault items) cause) = Memory
+plain_trouble (Submission desk.Stopped cause) = Memory
+plain_trouble trouble = trouble
+
+-- there is no desk, because memory ran out, and nothing was read or printed (profile)
 pub record HasNoDesk (unread read unprinted printed : Told) (ended : CommandEnd) : Type 0 where
   pub trouble : Trouble
   pub told : ended ≡ Err trouble
+  pub cause : plain_trouble trouble ≡ Memory
   pub is_unread : read ≡ unread
-  pub is_silent : printed ≡ unprinted
+  pub silent : printed ≡ unprinted
 
 -- a submission was made to a registry with the opening objects of the built-in settings and no
 -- others (profile)
@@ -77,16 +89,10 @@ SubmitsDesk g unprinted printed before after ended =
     ⊎ SubmitsFile g unprinted printed before after ended
 
 -- what the command does (profile)
-abbrev pub SubmitsBy : {S : Type 0} → Ghosts S → Gives S → Told → Told → Ending → Type 0
-SubmitsBy g gives old new = Commands (AtDesk g gives (SubmitsDesk g old new) old new) old new
-
--- what went wrong without arguments: a database in memory fails only because memory ran out
--- (profile)
-abbrev pub plain_trouble : Trouble → Trouble
-plain_trouble (Creating fault) = Memory
-plain_trouble (Submission (desk.StoreFault items) cause) = Memory
-plain_trouble (Submission desk.Stopped cause) = Memory
-plain_trouble trouble = trouble
+abbrev pub SubmitsBy : {S : Type 0} → Ghosts S → Gives S → Closes S → Told → Told → Ending
+    → Type 0
+SubmitsBy g gives closes old new =
+    Commands (AtDesk g gives closes (SubmitsDesk g old new) old new) old new
 
 -- how a run without arguments ends (profile)
 abbrev pub plain_end : CommandEnd → CommandEnd

@@ -25,8 +25,8 @@ submission_status (desk.StoreFault items) = 4
 submission_status desk.Memory = 5
 submission_status desk.Stopped = 4
 
--- the status: 2 at wrong arguments, 3 at wrong settings, 4 if the store failed or is stopped, and
--- else 5, also if memory ran out (profile)
+-- the status: 2 at wrong arguments, 3 at wrong settings, 4 if the store failed or the desk is
+-- stopped, and else 5, also if memory ran out (profile)
 abbrev pub trouble_status : Trouble → ℕ
 trouble_status trouble.BadArguments = 2
 trouble_status trouble.BadPort = 2

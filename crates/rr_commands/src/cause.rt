@@ -13,6 +13,9 @@ use std::io::ErrorKind;
 /// The number of Linux of an error of a disk or a device, which the kinds of errors have not.
 const EIO: u32 = 5;
 
+/// The number of Linux of a stream that is closed.
+const EBADF: u32 = 9;
+
 /// The number of Linux if the machine has too many open files.
 const ENFILE: u32 = 23;
 
@@ -79,6 +82,8 @@ pub enum Cause {
     AllFiles,
     /// A disk or a device fails.
     BadDisk,
+    /// The stream is closed.
+    Closed,
     /// Any other cause, by the number that the system gives it.
     Numbered(u32),
     /// A cause that has no number.
@@ -149,6 +154,8 @@ impl Cause {
     {
         if number == EIO {
             Cause::BadDisk
+        } else if number == EBADF {
+            Cause::Closed
         } else if number == ENFILE {
             Cause::AllFiles
         } else if number == EMFILE {
@@ -197,6 +204,7 @@ impl Cause {
                 (system error 23)",
             Cause::BadDisk =>
                 "input/output error: look at the disk, or take another file (system error 5)",
+            Cause::Closed => "it is closed: leave it open (system error 9)",
             Cause::Numbered(_) => "system error ",
             Cause::Unnumbered => "the system does not say why",
         }

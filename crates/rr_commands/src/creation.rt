@@ -21,13 +21,12 @@ pub fn init<'a, D: Databases, W: Output>(
     settings: &'a str,
     output: &mut W,
 ) -> Result<u8, ProgramFault<'a>>
-    ensures { CreatesBy D.Disk.Store (D.gives databases.now)
+    ensures { CreatesBy D.Disk.Store (D.gives databases.now) (D.closes databases.now)
         (W.told output.old) (W.told output.new) result }
 {
     let (read, path) = read_settings_file(rt, settings)?;
-    let path_len = path.len();
     let end = init_at(rt.alloc(), databases, read, path.as_str(), output);
-    ended(rt.alloc(), end, settings, path, path_len, output)
+    ended(rt.alloc(), end, settings, path, "", output)
 }
 
 /// Makes the registry that opens with these settings in the database at a path, and says so.
@@ -38,7 +37,7 @@ fn init_at<D: Databases, W: Sink>(
     path: &str,
     output: &mut W,
 ) -> Result<u8, Trouble>
-    ensures { InDatabase (D.gives databases.now)
+    ensures { InDatabase (D.gives databases.now) Absent.Made (D.closes databases.now)
         (CreatesIn D.Disk.Store settings (W.told output.old) (W.told output.new))
         (W.told output.old) (W.told output.new) path.now result }
 {

@@ -1,8 +1,10 @@
 //! Where the databases of registries are, and the desks that they open.
 
-ghost use Rattle.std.specs.Prelude.{◌≡◌, ℕ, List, IfErr, IfOk, IsTrue, false, string_bytes};
+ghost use Rattle.std.specs.Prelude.{◌≡◌, ℕ, List, IfErr, IfOk, IsTrue, false};
 ghost use Rattle.sqlite.specs.Held.{Held};
+ghost use Rattle.rr_desk.specs.Opened.{OpensTables, Runs};
 ghost use Rattle.rr_commands.specs.Commands.{OpensDesk, is_of_database};
+ghost use Rattle.rr_commands.specs.declared.databases.Absent.{Absent};
 
 use crate::cause::{Cause, DatabaseCause};
 use crate::diagnosis::trouble_with;
@@ -35,21 +37,25 @@ pub trait Databases {
     /// What keeps a database.
     type Disk: Alter + Drop;
 
-    // The database at a path may be opened as this connection.
-    ghost gives: { Self → List ℕ → Held Self.Disk → Type 0 };
+    // The database at a path may be opened as this connection, by what is done if there is none.
+    ghost gives: { Self → List ℕ → Absent → Held Self.Disk → Type 0 };
+
+    // As which connection a database was closed, by `close`.
+    ghost closes: { Self → Held Self.Disk → Type 0 };
 
     /// Opens the database at a path.
     fn open(&self, path: &str, absent: Absent) -> Result<Connection<Self::Disk>, DatabaseCause>
-        ensures gives { IfOk result (λ conn. gives self.now path.now conn) }
+        ensures gives { IfOk result (λ conn. gives self.now path.now absent conn) }
         ensures autocommit { IfOk result (λ conn. conn.in_transaction ≡ false) };
 
     /// How many bytes the database at a path has, or 0 if that is not available.
     fn size(&self, path: &str) -> u64;
 
-    /// Closes a database, if there is one here: `close` of this module, for one that is given by
-    /// value. It is lent, because no proof is made that an impl keeps to a trait of which a method
-    /// is given a connection of a named store.
-    fn close(&self, conn: &mut Option<Connection<Self::Disk>>);
+    /// Closes a database, if there is one here. The function `close` of this module takes one by
+    /// value; this method is lent it, because no proof is made that an impl keeps to a trait of
+    /// which a method takes a connection of a named store by value.
+    fn close(&self, conn: &mut Option<Connection<Self::Disk>>)
+        ensures { (held : Held Self.Disk) → conn.old ≡ Some held → closes self.now held };
 }
 
 /// The databases in files. A file that is made is readable by its owner alone, and so is the log
@@ -70,7 +76,9 @@ impl Databases for DatabaseFiles<'_> {
     type Disk = FileStore<File>;
 
     // No contract can say what a file has.
-    ghost gives = { λ _ _ _. Unit {0} };
+    ghost gives = { λ _ _ _ _. Unit {0} };
+
+    ghost closes = { λ _ _. Unit {0} };
 
     fn open(
         &self,
@@ -103,7 +111,9 @@ impl Databases for DatabaseFiles<'_> {
 
 /// Closes a database. What the commits left in its log goes into its file; if that fails it stays
 /// in the log, from which the next opening takes it.
-pub fn close<D: Databases>(databases: &D, conn: Connection<D::Disk>) {
+pub fn close<D: Databases>(databases: &D, conn: Connection<D::Disk>)
+    ensures { D.closes databases.now conn }
+{
     databases.close(&mut Some(conn));
 }
 
@@ -145,7 +155,8 @@ fn make_ready(rt: &HostRuntime, path: &str, absent: Absent) -> Result<(), Databa
             try_file(rt, path)?;
             refuse_empty(rt, path, absent)
         }
-        // What stands there is no file: the opening refuses it.
+        Ok(found) if found.is_dir() => Err(DatabaseCause::Refused(Cause::Folder)),
+        // What stands there is neither: the opening refuses it.
         Ok(_) => Ok(()),
         Err(error) if error.kind() == ErrorKind::NotFound => match absent {
             Absent::Refused => Err(DatabaseCause::Missing),
@@ -210,66 +221,82 @@ fn make_file(rt: &HostRuntime, path: &str) -> Result<(), DatabaseCause> {
     }
 }
 
-/// Opens the desk of the registry in the database of this name, its path. While a large one is
-/// opened, a line on a terminal says so. If a row is the matter, its class and key, or its table,
-/// are added to the name, for the message.
+/// Opens the desk of the registry in the database at a path. While a large one is opened, a line on
+/// a terminal says so. What is found the matter with it, as a row, a table or what was added to
+/// one, is put into `found` for the message.
 pub fn open_desk<D: Databases>(
     rt: &HostRuntime,
     databases: &D,
     settings: Settings,
-    name: &mut String,
+    path: &str,
+    found: &mut String,
 ) -> Result<Desk<D::Disk>, Trouble>
     ensures opens { IfOk result (OpensDesk D.Disk.Store
-        (D.gives databases.now (string_bytes name.old)) settings) }
+        (D.gives databases.now path.now Absent.Refused) settings) }
     ensures fails { IfErr result (λ trouble. IsTrue (is_of_database trouble)) }
 {
-    let mut opening = Opening::begin(rt, databases.size(name.as_str()));
-    let opened = open_quietly(rt.alloc(), databases, settings, name);
+    let mut opening = Opening::begin(rt, databases.size(path));
+    let opened = open_quietly(rt.alloc(), databases, settings, path, found);
     opening.end();
     opened
 }
 
-/// Opens the desk, without a line on a terminal.
+/// Opens the desk, without a line on a terminal. A database that has no registry of these settings
+/// is closed.
 fn open_quietly<D: Databases>(
     alloc: Global,
     databases: &D,
     settings: Settings,
-    name: &mut String,
+    path: &str,
+    found: &mut String,
 ) -> Result<Desk<D::Disk>, Trouble>
     ensures opens { IfOk result (OpensDesk D.Disk.Store
-        (D.gives databases.now (string_bytes name.old)) settings) }
+        (D.gives databases.now path.now Absent.Refused) settings) }
     ensures fails { IfErr result (λ trouble. IsTrue (is_of_database trouble)) }
 {
-    match databases.open(name.as_str(), Absent::Refused) {
-        Ok(conn) => open_over(alloc, databases, conn, settings, name),
+    let conn = open_at(databases, path)?;
+    match open_over(alloc, conn, settings, found) {
+        Ok(desk) => Ok(desk),
+        Err((trouble, conn)) => {
+            close(databases, conn);
+            Err(trouble)
+        }
+    }
+}
+
+/// Opens the database at a path, which is to be there.
+fn open_at<D: Databases>(databases: &D, path: &str) -> Result<Connection<D::Disk>, Trouble>
+    ensures gives { IfOk result (λ conn. D.gives databases.now path.now Absent.Refused conn) }
+    ensures autocommit { IfOk result (λ conn. conn.in_transaction ≡ false) }
+    ensures fails { IfErr result (λ trouble. IsTrue (is_of_database trouble)) }
+{
+    match databases.open(path, Absent::Refused) {
+        Ok(conn) => Ok(conn),
         Err(cause) => Err(Trouble::Database(cause)),
     }
 }
 
-/// Opens the desk over a database, which is closed if it has no registry of these settings.
-fn open_over<D: Databases>(
+/// Opens the desk over a database, which is given back if it has no registry of these settings.
+fn open_over<S: Alter>(
     alloc: Global,
-    databases: &D,
-    conn: Connection<D::Disk>,
+    conn: Connection<S>,
     settings: Settings,
-    name: &mut String,
-) -> Result<Desk<D::Disk>, Trouble>
-    requires autocommit { conn.in_transaction ≡ false }
-    requires given { D.gives databases.now (string_bytes name.old) conn }
-    ensures opens { IfOk result (OpensDesk D.Disk.Store
-        (D.gives databases.now (string_bytes name.old)) settings) }
-    ensures fails { IfErr result (λ trouble. IsTrue (is_of_database trouble)) }
+    found: &mut String,
+) -> Result<Desk<S>, (Trouble, Connection<S>)>
+    requires { conn.in_transaction ≡ false }
+    ensures opens { IfOk result (λ desk. OpensTables S.Store conn desk.stored) }
+    ensures runs { IfOk result (Runs S.Store settings) }
+    ensures fails { IfErr result (λ e. IsTrue (is_of_database e.0)) }
 {
     let source = settings.source().copy(alloc);
     match Desk::open(alloc, conn, settings) {
         Ok(desk) => Ok(desk),
         Err((fault, mut conn)) => {
             let trouble = match source {
-                Ok(source) => trouble_with(alloc, &mut conn, &source, fault, name),
+                Ok(source) => trouble_with(alloc, &mut conn, &source, fault, found),
                 Err(_) => Trouble::Opening(fault),
             };
-            close(databases, conn);
-            Err(trouble)
+            Err((trouble, conn))
         }
     }
 }

@@ -5,8 +5,8 @@
 
 ghost use Rattle.std.specs.Prelude.{IfSome, IsTrue, nat_lt};
 ghost use Rattle.rr_commands.specs.Commands.{is_of_database};
-ghost use Rattle.rr_commands.specs.Migrated.{IsDiagnosis, is_of_rows, is_of_tables};
-ghost use Rattle.rr_commands.specs.Migrated.{is_of_version};
+ghost use Rattle.rr_commands.specs.Migrated.{IsDiagnosis, LooksAtRefused, is_of_rows};
+ghost use Rattle.rr_commands.specs.Migrated.{is_of_tables, is_of_version};
 
 use crate::obstacle::{push_obstacle, text_at};
 use crate::shown::push_key;
@@ -16,6 +16,7 @@ use rr_index::IndexedBook;
 use rr_number::Name;
 use rr_object::{Key, Object, ObjectFault};
 use rr_registry::{LoadFault, Registry};
+use rr_rows::{META_TREE, NAMED_TREE, OBJECT_TREE};
 use rr_store::{OLD_VERSION, VERSION, Version, number_of, says_version};
 use rr_text::read_canonical;
 use sqlite::{Alter, Connection, Row};
@@ -48,14 +49,14 @@ enum RowFault {
 }
 
 /// What is the matter with a database whose registry was not opened for this reason. If a row of an
-/// object is, its class and key are added to the name of the database, if another row is, its
-/// table, and if it is what was added to a table, that.
+/// object is, its class and key are put into `found`, if another row is, its table, and if it is
+/// what was added to a table, that.
 pub(crate) fn trouble_with<S: Alter>(
     alloc: Global,
     conn: &mut Connection<S>,
     source: &Name,
     fault: OpenFault,
-    name: &mut String,
+    found: &mut String,
 ) -> Trouble
     ensures { IsTrue (is_of_database result) }
 {
@@ -64,19 +65,19 @@ pub(crate) fn trouble_with<S: Alter>(
             if let Some(version) = later_version(conn) {
                 Trouble::Opening(OpenFault::WrongVersion(version))
             } else {
-                match found_in_schema(conn, name) {
+                match found_in_schema(conn, found) {
                     Some(trouble) => trouble,
                     None => Trouble::Opening(fault),
                 }
             }
         }
-        OpenFault::BadRow => match found_in_rows(alloc, conn, source, Version::This, name) {
+        OpenFault::BadRow => match found_in_rows(alloc, conn, source, Version::This, found) {
             Some(trouble) => trouble,
             None => Trouble::Opening(fault),
         },
         OpenFault::WrongVersion(version) => {
             if version == OLD_VERSION && has_other_meta(conn, Version::Old) {
-                push_meta(name);
+                push_meta(found);
                 Trouble::OtherRows
             } else {
                 Trouble::Opening(fault)
@@ -87,29 +88,31 @@ pub(crate) fn trouble_with<S: Alter>(
 }
 
 /// What is told of how a migration ended: that, or what is found the matter with a database
-/// that was refused, as above. Its rows are looked at if a copy of the source was made.
+/// that was refused, as above. Its rows are looked at if a copy of the source was made. No other
+/// database is looked at.
 pub(crate) fn told_of<S: Alter>(
     alloc: Global,
     conn: &mut Connection<S>,
     source: Result<Name, AllocError>,
     end: Result<u8, Trouble>,
-    name: &mut String,
+    found: &mut String,
 ) -> Result<u8, Trouble>
-    ensures { IsDiagnosis end result }
+    ensures diagnosis { IsDiagnosis end result }
+    ensures looks { LooksAtRefused end conn.old conn.new }
 {
     match (end, source) {
-        (Err(Trouble::Migrating(MigrateFault::Store(_))), _) => match found_in_tables(conn, name) {
+        (Err(Trouble::Migrating(MigrateFault::Store(_))), _) => match found_in_tables(conn, found) {
             Some(trouble) => Err(trouble),
             None => end,
         },
         (Err(Trouble::Migrating(MigrateFault::BadRow)), Ok(source)) => {
-            match found_in_rows(alloc, conn, &source, Version::Old, name) {
+            match found_in_rows(alloc, conn, &source, Version::Old, found) {
                 Some(trouble) => Err(trouble),
                 None => end,
             }
         }
         (Err(Trouble::Migrating(MigrateFault::WrongVersion(version))), _) => {
-            match found_in_meta(conn, version, name) {
+            match found_in_meta(conn, version, found) {
                 Some(trouble) => Err(trouble),
                 None => end,
             }
@@ -123,13 +126,13 @@ pub(crate) fn told_of<S: Alter>(
 fn found_in_meta<S: Alter>(
     conn: &mut Connection<S>,
     version: u32,
-    name: &mut String,
+    found: &mut String,
 ) -> Option<Trouble>
     ensures { IfSome result (λ trouble. IsTrue (is_of_version version trouble)) }
 {
     if version == VERSION {
         if has_other_meta(conn, Version::This) {
-            push_meta(name);
+            push_meta(found);
             return Some(Trouble::OtherRows);
         }
     }
@@ -137,41 +140,41 @@ fn found_in_meta<S: Alter>(
 }
 
 /// Adds that the rows of `meta` are the matter.
-fn push_meta(name: &mut String) {
+fn push_meta(found: &mut String) {
     // Without memory for this, the message names the database alone.
-    let _ = name.push_str(", table meta");
+    let _ = found.push_str(", table meta");
 }
 
 /// What is the matter with tables that are not migrated, if it is found.
-fn found_in_tables<S: Alter>(conn: &mut Connection<S>, name: &mut String) -> Option<Trouble>
+fn found_in_tables<S: Alter>(conn: &mut Connection<S>, found: &mut String) -> Option<Trouble>
     ensures { IfSome result (λ trouble. IsTrue (is_of_tables trouble)) }
 {
     if let Some(version) = later_version(conn) {
         Some(Trouble::Migrating(MigrateFault::WrongVersion(version)))
     } else {
-        found_in_schema(conn, name)
+        found_in_schema(conn, found)
     }
 }
 
 /// What is the matter with how tables were made, if it is found.
-fn found_in_schema<S: Alter>(conn: &mut Connection<S>, name: &mut String) -> Option<Trouble>
-    ensures found { IfSome result (λ trouble. IsTrue (is_of_tables trouble)) }
+fn found_in_schema<S: Alter>(conn: &mut Connection<S>, found: &mut String) -> Option<Trouble>
+    ensures kind { IfSome result (λ trouble. IsTrue (is_of_tables trouble)) }
     ensures database { IfSome result (λ trouble. IsTrue (is_of_database trouble)) }
 {
     match conn.query_all(LISTED, &[]) {
-        Ok(rows) => judge_schema(conn.schema(), rows.as_slice(), name),
+        Ok(rows) => judge_schema(conn.schema(), rows.as_slice(), found),
         Err(_) => None,
     }
 }
 
 /// What is the matter with tables that are listed so: their order, or what was added to them.
-fn judge_schema(schema: &Schema, rows: &[Row], name: &mut String) -> Option<Trouble>
-    ensures found { IfSome result (λ trouble. IsTrue (is_of_tables trouble)) }
+fn judge_schema(schema: &Schema, rows: &[Row], found: &mut String) -> Option<Trouble>
+    ensures kind { IfSome result (λ trouble. IsTrue (is_of_tables trouble)) }
     ensures database { IfSome result (λ trouble. IsTrue (is_of_database trouble)) }
 {
     if has_other_order(rows) {
         Some(Trouble::OtherOrder)
-    } else if push_obstacle(schema, rows, name) {
+    } else if push_obstacle(schema, rows, found) {
         Some(Trouble::Obstacle)
     } else {
         None
@@ -217,8 +220,13 @@ fn has_other_order(rows: &[Row]) -> bool {
     let are_plain = has_key_alone("meta", rows)
         && has_key_alone("object", rows)
         && has_key_alone("named", rows);
-    // The trees of the three in `rr_rows`: the index of its key stands after each table.
-    are_plain && places != [Some(0), Some(2), Some(4)] && places.iter().all(Option::is_some)
+    // A row's place in the list is the number of its tree, so each table stands at that of rr_rows.
+    let trees = [
+        Some(META_TREE as usize),
+        Some(OBJECT_TREE as usize),
+        Some(NAMED_TREE as usize),
+    ];
+    are_plain && places != trees && places.iter().all(Option::is_some)
 }
 
 /// Where a table stands among these rows.
@@ -263,17 +271,17 @@ fn found_in_rows<S: Alter>(
     conn: &mut Connection<S>,
     source: &Name,
     version: Version,
-    name: &mut String,
+    found: &mut String,
 ) -> Option<Trouble>
-    ensures found { IfSome result (λ trouble. IsTrue (is_of_rows trouble)) }
+    ensures kind { IfSome result (λ trouble. IsTrue (is_of_rows trouble)) }
     ensures database { IfSome result (λ trouble. IsTrue (is_of_database trouble)) }
 {
     if has_other_meta(conn, version) {
-        push_meta(name);
+        push_meta(found);
         return Some(Trouble::OtherRows);
     }
     match conn.query_all(OBJECTS, &[]) {
-        Ok(rows) => judge_rows(alloc, conn, rows.as_slice(), source, version, name),
+        Ok(rows) => judge_rows(alloc, conn, rows.as_slice(), source, version, found),
         Err(_) => None,
     }
 }
@@ -295,9 +303,9 @@ fn judge_rows<S: Alter>(
     rows: &[Row],
     source: &Name,
     version: Version,
-    name: &mut String,
+    found: &mut String,
 ) -> Option<Trouble>
-    ensures found { IfSome result (λ trouble. IsTrue (is_of_rows trouble)) }
+    ensures kind { IfSome result (λ trouble. IsTrue (is_of_rows trouble)) }
     ensures database { IfSome result (λ trouble. IsTrue (is_of_database trouble)) }
 {
     let are_others = rows.iter().all(|row| fault_of(alloc, row, source, version)
@@ -306,14 +314,14 @@ fn judge_rows<S: Alter>(
         Some(_) if are_others => Some(Trouble::OtherSource),
         Some(row) => {
             if are_good(alloc, rows, source, version.other()) {
-                push_meta(name);
+                push_meta(found);
                 return Some(Trouble::OtherRows);
             }
             // Without memory for the row, the message names the database alone.
-            let _ = push_row(name, row);
+            let _ = push_row(found, row);
             Some(Trouble::BadObject)
         }
-        None => judge_together(alloc, conn, rows, source, version, name),
+        None => judge_together(alloc, conn, rows, source, version, found),
     }
 }
 
@@ -325,9 +333,9 @@ fn judge_together<S: Alter>(
     rows: &[Row],
     source: &Name,
     version: Version,
-    name: &mut String,
+    found: &mut String,
 ) -> Option<Trouble>
-    ensures found { IfSome result (λ trouble. IsTrue (is_of_rows trouble)) }
+    ensures kind { IfSome result (λ trouble. IsTrue (is_of_rows trouble)) }
     ensures database { IfSome result (λ trouble. IsTrue (is_of_database trouble)) }
 {
     let Some(objects) = objects_of(alloc, rows, source, version) else {
@@ -336,13 +344,13 @@ fn judge_together<S: Alter>(
     let loaded: Result<Registry<IndexedBook>, LoadFault> = Registry::from_objects(alloc, objects);
     match loaded {
         Ok(_) => {
-            let trouble = judge_names(conn, name);
+            let trouble = judge_names(conn, found);
             Some(trouble)
         }
         Err(LoadFault::Overlap(number) | LoadFault::Unnamed(number)) => {
             if let Some(row) = row_at(rows, number) {
                 // Without memory for the row, the message names the database alone.
-                let _ = push_row(name, row);
+                let _ = push_row(found, row);
             }
             Some(Trouble::Unsound)
         }
@@ -352,19 +360,19 @@ fn judge_together<S: Alter>(
 
 /// What is the matter with the rows of `named` beside those of a registry: the first that is of no
 /// object, and else all of them.
-fn judge_names<S: Alter>(conn: &mut Connection<S>, name: &mut String) -> Trouble
-    ensures found { IsTrue (is_of_rows result) }
+fn judge_names<S: Alter>(conn: &mut Connection<S>, found: &mut String) -> Trouble
+    ensures kind { IsTrue (is_of_rows result) }
     ensures database { IsTrue (is_of_database result) }
 {
     if let Ok(rows) = conn.query_all(NAMES_ALONE, &[]) {
         if let Some(row) = rows.as_slice().first() {
             // Without memory for the row, the message names the database alone.
-            let _ = push_row(name, row);
+            let _ = push_row(found, row);
             return Trouble::NoObject;
         }
     }
     // Without memory for the table, the message names the database alone.
-    let _ = name.push_str(", table named");
+    let _ = found.push_str(", table named");
     Trouble::OtherRows
 }
 
@@ -470,11 +478,11 @@ fn has_key(alloc: Global, row: &Row, key: &Key, version: Version) -> bool {
 }
 
 /// Adds the class and the key of a row, as the tables have them.
-fn push_row(name: &mut String, row: &Row) -> Result<(), AllocError> {
+fn push_row(found: &mut String, row: &Row) -> Result<(), AllocError> {
     match (row.get_ref(0), row.get_ref(1)) {
         (Ok(ValueRef::Int(class)), Ok(ValueRef::Text(key))) => {
-            write!(name, ", class {class}, okey ")?;
-            push_key(name, key)
+            write!(found, ", class {class}, okey ")?;
+            push_key(found, key)
         }
         _ => Ok(()),
     }

@@ -1,6 +1,6 @@
 //! Dumps, of the registry in a database.
 
-ghost use Rattle.std.specs.Prelude.{◌≡◌, false, string_bytes};
+ghost use Rattle.std.specs.Prelude.{◌≡◌, false};
 ghost use Rattle.rr_answer.specs.Dumps as dumps;
 ghost use Rattle.rr_commands.specs.Commands.{AtDesk};
 ghost use Rattle.rr_commands.specs.Dumped.{DumpsBy, DumpsDesk, HasDumped};
@@ -25,13 +25,13 @@ pub fn dump<'a, D: Databases, W: Output>(
     full: bool,
     output: &mut W,
 ) -> Result<u8, ProgramFault<'a>>
-    ensures { DumpsBy D.Disk.Store (D.gives databases.now) full
+    ensures { DumpsBy D.Disk.Store (D.gives databases.now) (D.closes databases.now) full
         (W.told output.old) (W.told output.new) result }
 {
-    let (read, mut path) = read_settings_file(rt, settings)?;
-    let path_len = path.len();
-    let end = dump_at(rt, databases, read, &mut path, full, output);
-    ended(rt.alloc(), end, settings, path, path_len, output)
+    let (read, path) = read_settings_file(rt, settings)?;
+    let mut found = String::new(rt.alloc());
+    let end = dump_at(rt, databases, read, path.as_str(), &mut found, full, output);
+    ended(rt.alloc(), end, settings, path, found.as_str(), output)
 }
 
 /// Prints the dump of the registry in the database at a path.
@@ -39,19 +39,21 @@ fn dump_at<D: Databases, W: Output>(
     rt: &HostRuntime,
     databases: &D,
     settings: Settings,
-    path: &mut String,
+    path: &str,
+    found: &mut String,
     full: bool,
     output: &mut W,
 ) -> Result<u8, Trouble>
-    ensures { AtDesk D.Disk.Store (D.gives databases.now)
+    ensures { AtDesk D.Disk.Store (D.gives databases.now) (D.closes databases.now)
         (DumpsDesk full (W.told output.old) (W.told output.new))
-        (W.told output.old) (W.told output.new) settings (string_bytes path.old) result }
+        (W.told output.old) (W.told output.new) settings path.now result }
 {
-    let desk = open_desk(rt, databases, settings, path)?;
+    let desk = open_desk(rt, databases, settings, path, found)?;
     output.show(Shown::Objects);
     let end = dump_to(rt.alloc(), &desk, full, output);
     output.show(Shown::Nothing);
-    close(databases, desk.close());
+    let conn = desk.close();
+    close(databases, conn);
     end
 }
 

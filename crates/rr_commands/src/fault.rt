@@ -25,7 +25,8 @@ pub enum About<'a> {
     Nothing,
     /// A word, or a file that a word names, as it was given.
     Word(&'a str),
-    /// A file that the settings name, or what the words are not, as a line shows it.
+    /// A word, a database and what was found in it, a place in a file, an address, or why arguments
+    /// are refused, as a line shows it.
     Named(String),
 }
 

@@ -9,7 +9,7 @@ ghost use Rattle.rr_commands.specs.Printed.{Tells};
 use crate::databases::{Absent, Databases, close};
 use crate::fault::ProgramFault;
 use crate::files::open_file;
-use crate::output::{Output, cause_of, shown_database, tell};
+use crate::output::{Output, cause_of, ended, tell};
 use crate::places::about_paragraph;
 use crate::progress::{Reading, Shown};
 use crate::settings_reading::read_settings_file;
@@ -32,7 +32,7 @@ pub fn load<'a, D: Databases, W: Output>(
     file: &'a str,
     output: &mut W,
 ) -> Result<u8, ProgramFault<'a>>
-    ensures { LoadsBy D.Disk.Store (D.gives databases.now)
+    ensures { LoadsBy D.Disk.Store (D.gives databases.now) (D.closes databases.now)
         (W.told output.old) (W.told output.new) result }
 {
     let (read, path) = read_settings_file(rt, settings)?;
@@ -54,11 +54,7 @@ fn ended_in_dump<'a, W: Output>(
         Ok(status) => Ok(status),
         Err(trouble) => match trouble.paragraph() {
             Some(number) => Err(about_paragraph(rt, file, number, trouble)),
-            None => {
-                let path_len = path.len();
-                let shown = shown_database(rt.alloc(), path, path_len);
-                Err(ProgramFault::placed(trouble, file, shown, output.cause()))
-            }
+            None => ended(rt.alloc(), end, file, path, "", output),
         },
     }
 }
@@ -72,7 +68,7 @@ fn load_at<D: Databases, W: Output>(
     file: &str,
     output: &mut W,
 ) -> Result<u8, Trouble>
-    ensures { InDatabase (D.gives databases.now)
+    ensures { InDatabase (D.gives databases.now) Absent.Made (D.closes databases.now)
         (LoadsIn D.Disk.Store settings (W.told output.old) (W.told output.new))
         (W.told output.old) (W.told output.new) path.now result }
 {

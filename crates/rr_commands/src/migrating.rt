@@ -1,7 +1,7 @@
 //! The migration of databases of version 1.
 
-ghost use Rattle.std.specs.Prelude.{◌≡◌, false, string_bytes};
-ghost use Rattle.rr_commands.specs.Commands.{InDatabase, IsDoneInDatabase};
+ghost use Rattle.std.specs.Prelude.{◌≡◌, false};
+ghost use Rattle.rr_commands.specs.Commands.{InDatabase};
 ghost use Rattle.rr_commands.specs.Migrated.{IsDiagnosed, MigratesBy, MigratesIn};
 
 use crate::databases::{Absent, Databases, close};
@@ -22,54 +22,63 @@ pub fn migrate<'a, D: Databases, W: Output>(
     settings: &'a str,
     output: &mut W,
 ) -> Result<u8, ProgramFault<'a>>
-    ensures { MigratesBy D.Disk.Store (D.gives databases.now)
+    ensures { MigratesBy D.Disk.Store (D.gives databases.now) (D.closes databases.now)
         (W.told output.old) (W.told output.new) result }
 {
-    let (read, mut path) = read_settings_file(rt, settings)?;
-    let path_len = path.len();
-    let end = migrate_at(rt.alloc(), databases, read, &mut path, output);
-    ended(rt.alloc(), end, settings, path, path_len, output)
+    let (read, path) = read_settings_file(rt, settings)?;
+    let mut found = String::new(rt.alloc());
+    let end = migrate_at(
+        rt.alloc(),
+        databases,
+        read,
+        path.as_str(),
+        &mut found,
+        output,
+    );
+    ended(rt.alloc(), end, settings, path, found.as_str(), output)
 }
 
-/// Migrates the tables of version 1 of the database of this name, its path, and says so. If a row
-/// is the matter, its class and key, or its table, are added to the name, for the message.
+/// Migrates the tables of version 1 of the database at a path, and says so. What is found the
+/// matter with it, as a row, a table or what was added to one, is put into `found` for the message.
 fn migrate_at<D: Databases, W: Sink>(
     alloc: Global,
     databases: &D,
     settings: Settings,
-    name: &mut String,
+    path: &str,
+    found: &mut String,
     output: &mut W,
 ) -> Result<u8, Trouble>
-    ensures { InDatabase (D.gives databases.now)
+    ensures { InDatabase (D.gives databases.now) Absent.Refused (D.closes databases.now)
         (IsDiagnosed (MigratesIn D.Disk.Store settings (W.told output.old) (W.told output.new)))
-        (W.told output.old) (W.told output.new) (string_bytes name.old) result }
+        (W.told output.old) (W.told output.new) path.now result }
 {
-    match databases.open(name.as_str(), Absent::Refused) {
-        Ok(conn) => migrate_over(alloc, databases, conn, settings, name, output),
+    match databases.open(path, Absent::Refused) {
+        Ok(conn) => {
+            let (conn, end) = migrate_told(alloc, conn, settings, found, output);
+            close(databases, conn);
+            end
+        }
         Err(cause) => Err(Trouble::Database(cause)),
     }
 }
 
-/// Migrates the tables of version 1 of a database, which is closed then, and says so.
-fn migrate_over<D: Databases, W: Sink>(
+/// Migrates the tables of version 1 of a database, and says so, or what is found the matter with it
+/// if it is refused. The connection is given back.
+fn migrate_told<S: Alter, W: Sink>(
     alloc: Global,
-    databases: &D,
-    conn: Connection<D::Disk>,
+    conn: Connection<S>,
     settings: Settings,
-    name: &mut String,
+    found: &mut String,
     output: &mut W,
-) -> Result<u8, Trouble>
-    requires autocommit { conn.in_transaction ≡ false }
-    requires given { D.gives databases.now (string_bytes name.old) conn }
-    ensures { IsDoneInDatabase (D.gives databases.now (string_bytes name.old))
-        (IsDiagnosed (MigratesIn D.Disk.Store settings (W.told output.old) (W.told output.new)))
-        result }
+) -> (Connection<S>, Result<u8, Trouble>)
+    requires { conn.in_transaction ≡ false }
+    ensures { IsDiagnosed (MigratesIn S.Store settings (W.told output.old) (W.told output.new))
+        conn result.0 result.1 }
 {
     let source = settings.source().copy(alloc);
     let (mut conn, end) = migrate_to(alloc, conn, settings, output);
-    let told = told_of(alloc, &mut conn, source, end, name);
-    close(databases, conn);
-    told
+    let told = told_of(alloc, &mut conn, source, end, found);
+    (conn, told)
 }
 
 /// Migrates the tables of version 1 of a database, and writes that it did. The connection is given

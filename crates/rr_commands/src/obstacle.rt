@@ -18,19 +18,19 @@ struct Obstacle<'a> {
 
 /// Adds what keeps the three tables of a schema from being read, if it is found; says whether. The
 /// rows list the schema as name, kind, table and text.
-pub(crate) fn push_obstacle(schema: &Schema, rows: &[Row], name: &mut String) -> bool {
+pub(crate) fn push_obstacle(schema: &Schema, rows: &[Row], found: &mut String) -> bool {
     match obstacle_in(schema, rows) {
-        Some(obstacle) if !has_tables(schema) => push_found(name, &obstacle).is_ok(),
+        Some(obstacle) if !has_tables(schema) => push_found(found, &obstacle).is_ok(),
         _ => false,
     }
 }
 
-fn push_found(name: &mut String, obstacle: &Obstacle<'_>) -> Result<(), AllocError> {
+fn push_found(found: &mut String, obstacle: &Obstacle<'_>) -> Result<(), AllocError> {
     let kind = obstacle.kind;
-    write!(name, ", {kind} ")?;
-    push_key(name, obstacle.name)?;
-    name.push_str(" of ")?;
-    push_key(name, obstacle.table)
+    write!(found, ", {kind} ")?;
+    push_key(found, obstacle.name)?;
+    found.push_str(" of ")?;
+    push_key(found, obstacle.table)
 }
 
 /// The first trigger or index, column, default or collation, or foreign key that keeps the tables

@@ -1,13 +1,14 @@
 //! Standard output.
 
-ghost use Rattle.std.specs.Prelude.{◌≡◌};
+ghost use Rattle.std.specs.Prelude.{◌≡◌, ◌++◌, ℕ, IfErr, IfOk, List, string_bytes};
 ghost use Rattle.rr_commands.specs.Commands.{EndsAs};
+ghost use Rattle.rr_commands.specs.Faults.{IsAbout, NamesDatabase};
 ghost use Rattle.rr_commands.specs.Printed.{Prints, Tells};
 
 use crate::cause::Cause;
 use crate::fault::ProgramFault;
 use crate::progress::Shown;
-use crate::shown::push_name;
+use crate::shown::shown_name;
 use crate::trouble::{Place, Trouble};
 use rr_io::{Sink, Source, write_all};
 use std::alloc::{AllocError, Global};
@@ -78,44 +79,46 @@ pub(crate) fn tell<W: Sink>(writer: &mut W, text: &[u8]) -> Result<u8, Trouble>
     }
 }
 
-/// How a command ended that read this file and used this database, with what its trouble is about:
-/// the name of the database is a path of so many bytes, and then what was found in it, as a line
-/// shows that.
+/// How a command ended that read this file and used the database at this path, with what its
+/// trouble is about: of the database its path, as a line shows it, and then what was found in it,
+/// which is text that a line shows.
 pub fn ended<'a, W: Output>(
     alloc: Global,
     end: Result<u8, Trouble>,
     file: &'a str,
-    database: String,
-    path_len: usize,
+    path: String,
+    found: &str,
     output: &W,
 ) -> Result<u8, ProgramFault<'a>>
-    ensures { EndsAs end result }
+    ensures ends { EndsAs end result }
+    ensures about { IfErr result (λ fault. IsAbout file.now (string_bytes path) found.now fault) }
 {
     match end {
         Ok(status) => Ok(status),
         Err(trouble) => {
-            let shown = shown_database(alloc, database, path_len);
+            let shown = shown_database(alloc, path, found);
             Err(ProgramFault::placed(trouble, file, shown, output.cause()))
         }
     }
 }
 
-/// The name of a database as a line shows it: without memory it stays as it is.
-pub(crate) fn shown_database(alloc: Global, database: String, path_len: usize) -> String {
-    match database_text(alloc, database.as_str(), path_len) {
+/// The path of a database as a line shows it, and what was found in it: without memory the path as
+/// it is.
+fn shown_database(alloc: Global, path: String, found: &str) -> String
+    ensures { NamesDatabase (string_bytes path) found.now (string_bytes result) }
+{
+    match database_text(alloc, path.as_str(), found) {
         Ok(shown) => shown,
-        Err(AllocError) => database,
+        Err(AllocError) => path,
     }
 }
 
-/// The path, which is so many bytes, as a line shows it, and what stands after it.
-fn database_text(alloc: Global, database: &str, path_len: usize) -> Result<String, AllocError> {
-    let (path, found) = match database.split_at_checked(path_len) {
-        Some((path, found)) => (path, found),
-        None => (database, ""),
-    };
-    let mut shown = String::new(alloc);
-    push_name(&mut shown, path.as_bytes())?;
+/// The path of a database as a line shows it, and what was found in it; the error is that memory
+/// ran out.
+fn database_text(alloc: Global, path: &str, found: &str) -> Result<String, AllocError>
+    ensures { IfOk result (λ text. (start : List ℕ) × (string_bytes text ≡ start ++ found.now)) }
+{
+    let mut shown = shown_name(alloc, path.as_bytes())?;
     shown.push_str(found)?;
     Ok(shown)
 }

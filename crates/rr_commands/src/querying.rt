@@ -1,8 +1,6 @@
 //! Queries, of the registry in a database.
 
-ghost use Rattle.std.specs.Prelude.{◌≡◌, false, string_bytes};
-ghost use Rattle.sqlite.specs.Held.{state};
-ghost use Rattle.rr_desk.specs.Rows.{KeepsRows};
+ghost use Rattle.std.specs.Prelude.{◌≡◌, false};
 ghost use Rattle.rr_commands.specs.Asked.{AsksBy, HasAsked, error_status};
 ghost use Rattle.rr_commands.specs.Commands.{AtDesk};
 
@@ -28,13 +26,21 @@ pub fn query<'a, D: Databases, W: Output>(
     text: &str,
     output: &mut W,
 ) -> Result<u8, ProgramFault<'a>>
-    ensures { AsksBy D.Disk.Store (D.gives databases.now) text.now
-        (W.told output.old) (W.told output.new) result }
+    ensures { AsksBy D.Disk.Store (D.gives databases.now) (D.closes databases.now)
+        text.now (W.told output.old) (W.told output.new) result }
 {
-    let (read, mut path) = read_settings_file(rt, settings)?;
-    let path_len = path.len();
-    let end = query_at(rt, databases, read, &mut path, text.as_bytes(), output);
-    ended(rt.alloc(), end, settings, path, path_len, output)
+    let (read, path) = read_settings_file(rt, settings)?;
+    let mut found = String::new(rt.alloc());
+    let end = query_at(
+        rt,
+        databases,
+        read,
+        path.as_str(),
+        &mut found,
+        text.as_bytes(),
+        output,
+    );
+    ended(rt.alloc(), end, settings, path, found.as_str(), output)
 }
 
 /// Asks the registry in the database at a path, and prints the answer.
@@ -42,17 +48,19 @@ fn query_at<D: Databases, W: Sink>(
     rt: &HostRuntime,
     databases: &D,
     settings: Settings,
-    path: &mut String,
+    path: &str,
+    found: &mut String,
     text: &[u8],
     output: &mut W,
 ) -> Result<u8, Trouble>
-    ensures { AtDesk D.Disk.Store (D.gives databases.now)
+    ensures { AtDesk D.Disk.Store (D.gives databases.now) (D.closes databases.now)
         (HasAsked D.Disk.Store text.now (W.told output.old) (W.told output.new))
-        (W.told output.old) (W.told output.new) settings (string_bytes path.old) result }
+        (W.told output.old) (W.told output.new) settings path.now result }
 {
-    let mut desk = open_desk(rt, databases, settings, path)?;
+    let mut desk = open_desk(rt, databases, settings, path, found)?;
     let end = answer_to(rt.alloc(), &mut desk, text, output);
-    close(databases, desk.close());
+    let conn = desk.close();
+    close(databases, conn);
     end
 }
 
@@ -66,9 +74,6 @@ pub fn answer_to<S: Alter, W: Sink>(
     requires { desk.old.stored.stopped ≡ false }
     ensures asked { HasAsked S.Store query.now
         (W.told writer.old) (W.told writer.new) desk.old desk.new result }
-    ensures registry { desk.new.stored.registry ≡ desk.old.stored.registry }
-    ensures settings { desk.new.settings ≡ desk.old.settings }
-    ensures keeps { KeepsRows desk.old.stored.registry (state S.Store desk.new.stored.store) }
     ensures aside { W.aside writer.new ≡ W.aside writer.old }
 {
     match desk.answer(alloc, query, writer) {

@@ -15,7 +15,7 @@ pub(crate) fn push_key(line: &mut String, text: &[u8]) -> Result<(), AllocError>
 }
 
 /// Adds the name of a file, or an argument, as a line shows it, 4,096 characters at most.
-pub(crate) fn push_name(line: &mut String, text: &[u8]) -> Result<(), AllocError> {
+fn push_name(line: &mut String, text: &[u8]) -> Result<(), AllocError> {
     push_shown(line, text, MOST_OF_NAME)
 }
 

@@ -1,10 +1,9 @@
 //! Submissions, of standard input to a registry in memory, or of a file to one in a database.
 
-ghost use Rattle.std.specs.Prelude.{◌≡◌, IfOk, false, string_bytes};
+ghost use Rattle.std.specs.Prelude.{◌≡◌, IfErr, IfOk, false};
 ghost use Rattle.sqlite.specs.Steps.{over_memory};
 ghost use Rattle.rr_desk.specs.Opening.{IsOpeningRegistry};
 ghost use Rattle.rr_desk.specs.Settings.{built_in};
-ghost use Rattle.rr_desk.specs.Stocks.{StoresUntilStopped};
 ghost use Rattle.rr_commands.specs.Commands.{AtDesk};
 ghost use Rattle.rr_commands.specs.Submitted.{EndsPlain, HasSubmitted, RunsPlain, SubmitsBy};
 ghost use Rattle.rr_commands.specs.Submitted.{SubmitsDesk};
@@ -69,13 +68,13 @@ pub fn submit<'a, D: Databases, W: Output>(
     file: &'a str,
     output: &mut W,
 ) -> Result<u8, ProgramFault<'a>>
-    ensures { SubmitsBy D.Disk.Store (D.gives databases.now)
+    ensures { SubmitsBy D.Disk.Store (D.gives databases.now) (D.closes databases.now)
         (W.told output.old) (W.told output.new) result }
 {
-    let (read, mut path) = read_settings_file(rt, settings)?;
-    let path_len = path.len();
-    let end = submit_at(rt, databases, read, &mut path, file, output);
-    ended(rt.alloc(), end, file, path, path_len, output)
+    let (read, path) = read_settings_file(rt, settings)?;
+    let mut found = String::new(rt.alloc());
+    let end = submit_at(rt, databases, read, path.as_str(), &mut found, file, output);
+    ended(rt.alloc(), end, file, path, found.as_str(), output)
 }
 
 /// Submits a file to the registry in the database at a path, and prints the report.
@@ -83,17 +82,19 @@ fn submit_at<D: Databases, W: Output>(
     rt: &HostRuntime,
     databases: &D,
     settings: Settings,
-    path: &mut String,
+    path: &str,
+    found: &mut String,
     file: &str,
     output: &mut W,
 ) -> Result<u8, Trouble>
-    ensures { AtDesk D.Disk.Store (D.gives databases.now)
+    ensures { AtDesk D.Disk.Store (D.gives databases.now) (D.closes databases.now)
         (SubmitsDesk D.Disk.Store (W.told output.old) (W.told output.new))
-        (W.told output.old) (W.told output.new) settings (string_bytes path.old) result }
+        (W.told output.old) (W.told output.new) settings path.now result }
 {
-    let mut desk = open_desk(rt, databases, settings, path)?;
+    let mut desk = open_desk(rt, databases, settings, path, found)?;
     let end = submit_file(rt, &mut desk, file, output);
-    close(databases, desk.close());
+    let conn = desk.close();
+    close(databases, conn);
     end
 }
 
@@ -146,12 +147,14 @@ fn submit_new<S: Alter + Drop, R: Source, W: Sink>(
     submit_to(alloc, &mut desk, input, output)
 }
 
-/// A new desk with the built-in settings over a database with nothing in it.
+/// A new desk with the built-in settings over a database with nothing in it. An error stands for
+/// lack of memory, as `plain_trouble` tells it.
 fn plain_desk<S: Alter + Drop>(alloc: Global, conn: Connection<S>) -> Result<Desk<S>, Trouble>
     requires { conn.in_transaction ≡ false }
     ensures running { IfOk result (λ desk. desk.stored.stopped ≡ false) }
     ensures settings { IfOk result (λ desk. desk.settings ≡ built_in) }
     ensures opened { IfOk result (λ desk. IsOpeningRegistry built_in desk.stored.registry) }
+    ensures fails { IfErr result (λ trouble. plain_trouble trouble ≡ Trouble.Memory) }
 {
     let Ok(settings) = Settings::built_in(alloc) else {
         return Err(Trouble::Memory);
@@ -170,10 +173,8 @@ pub fn submit_to<S: Alter, R: Source, W: Sink>(
     writer: &mut W,
 ) -> Result<u8, Trouble>
     requires { desk.old.stored.stopped ≡ false }
-    ensures submitted { HasSubmitted S.Store desk.old desk.new
+    ensures { HasSubmitted S.Store desk.old desk.new
         (R.told reader.old) (R.told reader.new) (W.told writer.old) (W.told writer.new) result }
-    ensures rows { StoresUntilStopped S.Store desk.new.stored }
-    ensures settings { desk.new.settings ≡ desk.old.settings }
 {
     match desk.submit(alloc, reader, writer) {
         Ok(done) => Ok(done_status(done)),

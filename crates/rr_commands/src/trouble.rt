@@ -102,7 +102,7 @@ pub enum Place {
 
 impl Trouble {
     /// The status of the program: 2 at wrong arguments, 3 at wrong settings, 4 if the store failed
-    /// or is stopped, and else 5, also if memory ran out (profile).
+    /// or the desk is stopped, and else 5, also if memory ran out (profile).
     pub fn status(self) -> u8
         ensures { result ≡ trouble_status self }
     {

@@ -1,15 +1,24 @@
--- What a look at the rows leaves of them.
+-- What a look at the rows leaves of them, and why it fails.
 use Rattle.std.specs.Prelude.{is_some}
-use Rattle.std.proofs.Common.{◌≡◌, false, Ok, Err, Result, OnOk, OnErr, IfErr, IsTrue, inl, inr, refl, sym, ap, subst, ◌∙◌, arith}
+use Rattle.std.specs.FinMap.{values}
+use Rattle.std.proofs.Common.{◌≡◌, ℕ, List, Option, Some, false, Ok, Err, Result, OnOk, OnErr, IfErr, IsTrue, inl, inr, refl, sym, ap, subst, ◌∙◌, arith}
 use Rattle.std.proofs.lemmas.Bool.{true≢false}
+use Rattle.sqlite_trees.specs.declared.store.Store.{Ghosts}
+use Rattle.sqlite.specs.declared.error.Error.{Error}
 use Rattle.sqlite.specs.Effect.{Database}
+use Rattle.sqlite.specs.Held.{Held, state}
 use Rattle.sqlite.specs.State.{State, HasCleanDisk, IsUnchanged}
 use Rattle.rr_auth.specs.Registries.{Reg}
+use Rattle.rr_auth.specs.Sources.{IsRegistryOf}
+use Rattle.rr_store.specs.Calls.{FailsFor, OnCleanDisk, database}
+use Rattle.rr_store.specs.Listing.{FailsToList}
 use Rattle.rr_store.specs.declared.fault.StoreFault.{StoreFault}
 use Rattle.rr_store.specs.declared.fault.StoreFault.TheVariants as store_fault
 use Rattle.rr_rows.specs.Maps.{HasRows}
 use Rattle.rr_desk.specs.LookupParts.{database_error}
 use Rattle.rr_desk.specs.Rows.{OnlyLooks, Holds, KeepsRows}
+use Rattle.rr_desk.specs.Stocks.{Stock, StopsForCause, StoresUntilStopped, stock_of}
+use Rattle.rr_desk.proofs.Listed.{registry_stored}
 
 -- a store that holds the rows of a registry keeps them
 pub holds_keeps : (now : State) (r : Reg) → (HasCleanDisk now → Holds r now) → KeepsRows r now
@@ -56,3 +65,28 @@ pub look_same : {X : Type 0} (old new : State) (found : Result X StoreFault) →
     → HasCleanDisk new → IsTrue new.is_open → new.now ≡ old.now
 look_same old new (Ok x) same err clean on = (same clean).0.now_is
 look_same old new (Err fault) same err clean on = err clean on
+
+-- a disk that is clean after a look was clean before it
+clean_before : (old new : State) → OnlyLooks old new → HasCleanDisk new → HasCleanDisk old
+clean_before old new survives clean = omega (arith, survives.clean)
+
+-- the error with which the database refuses a look at the rows of a registry of the source has a cause outside them
+look_caused : {S X : Type 0} (g : Ghosts S) (source : List ℕ) (r : Reg) (old new : Held S) (found : Result X StoreFault) → OnCleanDisk g old (Holds r (state g old)) → IsRegistryOf source r
+    → OnlyLooks (state g old) (state g new) → IfErr found (FailsToList g source old new) → (error : Error) → database_error found ≡ Some error → FailsFor g old new error
+look_caused g source r old new (Ok x) held of_source survives fails error is = absurd (cc)
+look_caused g source r old new (Err store_fault.Memory) held of_source survives fails error is = absurd (cc)
+look_caused g source r old new (Err (store_fault.Store told)) held of_source survives fails error is = λ clean.
+    let was = held (clean_before (state g old) (state g new) survives clean) in
+    let same : told ≡ error = (let both : Some told ≡ Some error = is in cc) in
+    fails (values r) (registry_stored source r (database g old) of_source was.rows) error (ap store_fault.Store same) clean
+
+-- and so it has where it stops a stock
+pub look_stops : {S X : Type 0} (g : Ghosts S) (source : List ℕ) (r : Reg) (old new : Held S) (before after : Option Error) (found : Result X StoreFault) → StoresUntilStopped g (stock_of r old before)
+    → OnlyLooks (state g old) (state g new) → IfErr found (FailsToList g source old new) → after ≡ database_error found → StopsForCause g source (stock_of r old before) (stock_of r new after)
+look_stops g source r old new before after found held survives fails told = record {
+  caused = λ running stopped of_source error is. look_caused g source r old new found (held running) of_source survives fails error (sym told ∙ is);
+}
+
+-- a stock that stays as it is is not stopped by that
+pub no_stop : {S : Type 0} (g : Ghosts S) (source : List ℕ) (s : Stock S) → StopsForCause g source s s
+no_stop g source s = record { caused = λ running stopped of_source error is. absurd (true≢false (sym stopped ∙ running)) }

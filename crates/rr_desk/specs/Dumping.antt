@@ -21,10 +21,10 @@ IsCutShort bytes before after Memory = TakesPart before after bytes
 IsCutShort bytes before after Stopped = ⊥
 
 -- a desk that runs writes the bytes of a dump, or it is cut short (profile)
-abbrev pub Dumps : List ℕ → Told → Told → Result ℕ DeskDumpFault → Type 0
-Dumps bytes before after (Ok count) = Takes before after bytes
+abbrev pub Dumps : {X : Type 0} → List ℕ → Told → Told → Result X DeskDumpFault → Type 0
+Dumps bytes before after (Ok done) = Takes before after bytes
 Dumps bytes before after (Err fault) = IsCutShort bytes before after fault
 
 -- a desk that is stopped gives no dump, and writes nothing
-abbrev pub RefusesDump : {W : Type 0} → W → W → Result ℕ DeskDumpFault → Type 0
+abbrev pub RefusesDump : {W X : Type 0} → W → W → Result X DeskDumpFault → Type 0
 RefusesDump writer_old writer_new result = (result ≡ Err Stopped) × (writer_new ≡ writer_old)

@@ -91,7 +91,7 @@ built_in_digest =
     ∷ (97 ∷ (163 ∷ (150 ∷ (23 ∷ (122 ∷ (156 ∷ (180 ∷ (16 ∷ (255 ∷ (97 ∷ (
     242 ∷ (0 ∷ (21 ∷ (173 ∷ [])))))))))))))))))))))))))))))))
 
--- the settings of the program without words: the source `TEST`, and the root `ROOT-MNT`, whose
+-- the settings of the program without arguments: the source `TEST`, and the root `ROOT-MNT`, whose
 -- secret is `bc` (profile)
 abbrev pub built_in : SettingsParts
 built_in = record {

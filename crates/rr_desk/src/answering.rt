@@ -12,7 +12,7 @@ ghost use Rattle.rr_answer.specs.Texts as texts;
 ghost use Rattle.rr_desk.specs.Desks.{HasAnswer, WritesAnswer};
 ghost use Rattle.rr_desk.specs.LookupParts.{LooksUp};
 ghost use Rattle.rr_desk.specs.Rows.{KeepsRows, OnlyLooks};
-ghost use Rattle.rr_desk.specs.Stocks.{StoresUntilStopped};
+ghost use Rattle.rr_desk.specs.Stocks.{StopsForCause, StoresUntilStopped};
 
 use crate::desk::Desk;
 use rr_answer::{Query, QueryFault, answer, is_too_long, objects_text, read_query};
@@ -43,7 +43,8 @@ impl<S: Alter> Desk<S> {
     /// expansion over the limit, 4 if memory ran out, 5 if the store failed, and 6 if the desk is
     /// stopped; of several the order is 2, 6, 1 and then the others (profile). What names a
     /// maintainer is looked for in the tables: a fault of the store is met there alone, and stops
-    /// the desk. After a write fault the writer has taken the beginning of the answer.
+    /// the desk; where its registry is of its source, the fault has a cause outside the rows. After
+    /// a write fault the writer has taken the beginning of the answer.
     pub fn answer<W: Sink>(
         &mut self,
         alloc: Global,
@@ -55,6 +56,8 @@ impl<S: Alter> Desk<S> {
         ensures registry { self.new.stored.registry ≡ self.old.stored.registry }
         ensures settings { self.new.settings ≡ self.old.settings }
         ensures stopped { self.old.stored.stopped ≡ true → self.new ≡ self.old }
+        ensures why { StopsForCause S.Store self.old.settings.source
+            self.old.stored self.new.stored }
         ensures rows { StoresUntilStopped S.Store self.new.stored }
         ensures keeps { self.old.stored.stopped ≡ false
             → KeepsRows self.old.stored.registry (state S.Store self.new.stored.store) }
@@ -72,11 +75,14 @@ impl<S: Alter> Desk<S> {
     }
 
     /// The answer to the text of a query.
+    #[tactic(auto, using(crate::proofs::LookupRows::no_stop))]
     fn answer_to(&mut self, alloc: Global, text: &[u8]) -> Result<Vec<u8>, QueryFault>
         ensures answered { HasAnswer S.Store self.old self.new text.now result }
         ensures registry { self.new.stored.registry ≡ self.old.stored.registry }
         ensures settings { self.new.settings ≡ self.old.settings }
         ensures stopped { self.old.stored.stopped ≡ true → self.new ≡ self.old }
+        ensures why { StopsForCause S.Store self.old.settings.source
+            self.old.stored self.new.stored }
         ensures keeps { self.old.stored.stopped ≡ false
             → KeepsRows self.old.stored.registry (state S.Store self.new.stored.store) }
         ensures only_looks { OnlyLooks
@@ -93,6 +99,7 @@ impl<S: Alter> Desk<S> {
     }
 
     /// The answer of a desk that is not stopped.
+    #[tactic(auto, using(crate::proofs::LookupRows::no_stop))]
     fn running_answer(&mut self, alloc: Global, text: &[u8]) -> Result<Vec<u8>, QueryFault>
         requires short { queries.is_too_long text.now ≡ false }
         requires running { self.old.stored.stopped ≡ false }
@@ -100,6 +107,8 @@ impl<S: Alter> Desk<S> {
         ensures answered { HasAnswer S.Store self.old self.new text.now result }
         ensures registry { self.new.stored.registry ≡ self.old.stored.registry }
         ensures settings { self.new.settings ≡ self.old.settings }
+        ensures why { StopsForCause S.Store self.old.settings.source
+            self.old.stored self.new.stored }
         ensures keeps { KeepsRows self.old.stored.registry (state S.Store self.new.stored.store) }
         ensures only_looks { OnlyLooks
             (state S.Store self.old.stored.store) (state S.Store self.new.stored.store) }
@@ -132,6 +141,8 @@ impl<S: Alter> Desk<S> {
             self.old.stored.registry name.now self.new.stored.stopped (Err fault)) }
         ensures registry { self.new.stored.registry ≡ self.old.stored.registry }
         ensures settings { self.new.settings ≡ self.old.settings }
+        ensures why { StopsForCause S.Store self.old.settings.source
+            self.old.stored self.new.stored }
         ensures keeps { KeepsRows self.old.stored.registry (state S.Store self.new.stored.store) }
         ensures only_looks { OnlyLooks
             (state S.Store self.old.stored.store) (state S.Store self.new.stored.store) }

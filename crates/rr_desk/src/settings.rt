@@ -119,7 +119,7 @@ impl Settings {
         })
     }
 
-    /// The settings of the program without words (profile); the error is that memory ran out.
+    /// The settings of the program without arguments (profile); the error is that memory ran out.
     #[tactic(auto, using(crate::proofs::GoodSettings::built_in_read))]
     pub fn built_in(alloc: Global) -> Result<Settings, AllocError>
         ensures { IfOk result (λ settings. settings ≡ built_in) }
@@ -162,7 +162,7 @@ impl Settings {
     }
 }
 
-/// The `auth` of the root of the program without words: the salt `a`, and the SHA-256 digest of
+/// The `auth` of the root of the program without arguments: the salt `a`, and the SHA-256 digest of
 /// `abc` (FIPS 180-4).
 const BUILT_IN_AUTH: &str =
     "SHA256-PW a:ba7816bf8f01cfea414140de5dae2223b00361a396177a9cb410ff61f20015ad";

@@ -14,7 +14,7 @@ ghost use Rattle.rr_desk.specs.Stops.{LeavesStopped, changes};
 ghost use Rattle.rr_desk.specs.LookupParts.{database_error, error_of};
 ghost use Rattle.rr_desk.specs.Private.{Follows, FollowsGain, FollowsIn, FollowsNew, puts_one};
 ghost use Rattle.rr_desk.specs.Rows.{KeepsRows, OnlyLooks};
-ghost use Rattle.rr_desk.specs.Stocks.{StoresUntilStopped, StoresRows};
+ghost use Rattle.rr_desk.specs.Stocks.{StopsForCause, StoresUntilStopped, StoresRows, stock_ledger};
 
 use rr_auth::{Book, Item, Secrets};
 use rr_index::IndexedBook;
@@ -93,7 +93,8 @@ impl<S: Alter> Stored<S> {
     }
 
     /// The objects that name the maintainer, by class and key, as the rows of this source have it.
-    /// A fault of the store stops it, and where memory runs out nothing changes.
+    /// A fault of the store stops it; where its registry is of this source, the fault has a cause
+    /// outside the rows. Where memory runs out it is not stopped.
     pub(crate) fn naming(
         &mut self,
         alloc: Global,
@@ -107,6 +108,7 @@ impl<S: Alter> Stored<S> {
             AllByRecursion (IsObjectOf source.now) objects.items) }
         ensures cause { self.new.cause ≡ database_error result }
         ensures stops { self.new.stopped ≡ is_some (database_error result) }
+        ensures why { StopsForCause S.Store source.now self.old self.new }
         ensures registry { self.new.registry ≡ self.old.registry }
         ensures keeps { KeepsRows self.old.registry (state S.Store self.new.store) }
         ensures only_looks { OnlyLooks
@@ -158,12 +160,11 @@ impl<S: Alter> Stored<S> {
 /// The registry is changed first, then the rows. A fault of the store stops both for good, also
 /// where memory runs out, because the rows then lack what the registry has.
 impl<S: Alter> Ledger for Stored<S> {
-    ghost registry = { λ s. s.registry };
+    ghost registry = { (stock_ledger S.Store).registry };
 
-    ghost is_stopped = { λ s. s.stopped };
+    ghost is_stopped = { (stock_ledger S.Store).is_stopped };
 
-    ghost Stops = { λ old secrets item new. LeavesStopped old.registry secrets item new.registry
-        new.stopped (state S.Store old.store) (state S.Store new.store) };
+    ghost Stops = { (stock_ledger S.Store).Stops };
 
     fn stopped(&self) -> bool {
         // Says that the registry is sound.

@@ -1,5 +1,5 @@
 -- Lemmas on a desk as what connections ask.
-use Rattle.std.proofs.Common.{ℕ, List, Ok, Err}
+use Rattle.std.proofs.Common.{◌≡◌, ℕ, List, Ok, Err, ap, ◌∙◌}
 use Rattle.std.specs.Prelude.{Result}
 use Rattle.sqlite_trees.specs.declared.store.Store as store
 use Rattle.rr_text.specs.Fields.{Field}
@@ -13,6 +13,9 @@ use Rattle.rr_submission.specs.declared.submission.DeskFault.TheVariants as faul
 use Rattle.rr_submission.specs.Handled.{StopsAt, HandlesThenStops}
 use Rattle.rr_submission.specs.Submissions.{Sides, Submits}
 use Rattle.rr_desk.specs.declared.desk.Desk.{Desk}
+use Rattle.rr_desk.specs.declared.dumping.DeskDumpFault.{DeskDumpFault}
+use Rattle.rr_desk.specs.declared.dumping.DeskDumpFault.TheVariants.{Stopped}
+use Rattle.rr_desk.specs.Dumping.{RefusesDump}
 use Rattle.rr_desk.specs.Stocks.{stock_ledger}
 use Rattle.rr_http.specs.DeskRegistrars.{desk_ledger}
 
@@ -53,3 +56,14 @@ submits_whole g source sides old new (Err (fault.StoreFault items)) submits = re
 }
 submits_whole g source sides old new (Err fault.Memory) submits = submits
 submits_whole g source sides old new (Err fault.Stopped) submits = submits
+
+-- a dump that is refused answers no count
+pub no_count : {W P : Type 0} (old new : W) (count : ℕ) → RefusesDump old new (Ok count) → P
+no_count old new count refused = let wrong = refused.0 in absurd (cc)
+
+-- a dump that is refused is refused also where no count is to be answered
+pub refused_whole : {W : Type 0} (old new : W) (fault : DeskDumpFault) (counted : Result ℕ DeskDumpFault) (done : Result (Unit {0}) DeskDumpFault) → counted ≡ Err fault → done ≡ Err fault →
+    RefusesDump old new counted → RefusesDump old new done
+refused_whole old new fault counted done first second refused =
+    let same : fault ≡ Stopped = (let is = refused.0 in cc) in
+    (second ∙ ap Err same, refused.1)

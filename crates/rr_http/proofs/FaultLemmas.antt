@@ -51,9 +51,9 @@ told_query Answers stopped text before after reader_old reader_new old new resul
 told_query Answers stopped text before after reader_old reader_new old new result same room (inr (running, inr answered)) =
     told_reply _ reader_old reader_new old new result same room answered.replies
 
-told_dumped : (text : List ℕ) (dump_result : Result ℕ DeskDumpFault) (reader_old reader_new old between new : Told) → reader_new.faults ≡ reader_old.faults → CanCount old →
+told_dumped : (text : List ℕ) (dump_result : Result (Unit {0}) DeskDumpFault) (reader_old reader_new old between new : Told) → reader_new.faults ≡ reader_old.faults → CanCount old →
     between.faults ≡ old.faults → Dumps text between new dump_result → TellsCalls reader_old reader_new old new (dump_end dump_result)
-told_dumped text (Ok count) reader_old reader_new old between new same room head dumps = (same, let still = dumps.no_fault in omega arith)
+told_dumped text (Ok done) reader_old reader_new old between new same room head dumps = (same, let still = dumps.no_fault in omega arith)
 told_dumped text (Err dump_fault.Write) reader_old reader_new old between new same room head dumps =
     let there : CanCount between = subst (λ n. n + 1 < 2 ^ 64) (sym head) room in
     (same, let up = cut_fails between new text there dumps in omega arith)

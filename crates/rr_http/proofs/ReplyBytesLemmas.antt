@@ -60,9 +60,9 @@ module _ (old new : Told) (answered : List ℕ) (fresh : old.bytes ≡ Some []) 
   answer_sent registrar head text before after result given =
       record { answer = given.text; answers = given.answers; sent = sent (head ++ given.text) result given.replies }
 
-  dumped : (text : List ℕ) (between : Told) (dump_result : Result ℕ DeskDumpFault) → Takes old between ok_head → Dumps text between new dump_result →
+  dumped : (text : List ℕ) (between : Told) (dump_result : Result (Unit {0}) DeskDumpFault) → Takes old between ok_head → Dumps text between new dump_result →
       IsDumpSent text (dump_end dump_result) answered
-  dumped text between (Ok count) head dumps =
+  dumped text between (Ok done) head dumps =
       let all : new.bytes ≡ Some (ok_head ++ text) = dumps.appended ok_head (head.appended [] fresh) in
       (text, [], sym (append-nil text), (let same : answered ≡ ok_head ++ text = cc in same))
   dumped text between (Err dump_fault.Write) head dumps = cut_short (ok_head ++ text) (TakesPrefix-then ok_head text head dumps)

@@ -63,8 +63,8 @@ AnswersQuery Answers stopped query before after old new result =
 
 -- where memory runs out the body of a dump ends early; the connection is served all the same
 -- (profile)
-abbrev pub dump_end : Result ℕ DeskDumpFault → ConnEnd
-dump_end (Ok count) = Ok tt
+abbrev pub dump_end : Result (Unit {0}) DeskDumpFault → ConnEnd
+dump_end (Ok done) = Ok tt
 dump_end (Err dump_fault.Write) = Err conn_fault.Write
 dump_end (Err dump_fault.Memory) = Ok tt
 dump_end (Err dump_fault.Stopped) = Ok tt
@@ -73,7 +73,7 @@ dump_end (Err dump_fault.Stopped) = Ok tt
 pub record IsDumped (text : List ℕ) (old new : Told) (result : ConnEnd) : Type 0 where
   pub between : Told
   pub head : Takes old between ok_head
-  pub dump_result : Result ℕ DeskDumpFault
+  pub dump_result : Result (Unit {0}) DeskDumpFault
   pub dumps : Dumps text between new dump_result
   pub ends : result ≡ dump_end dump_result
 

@@ -41,7 +41,7 @@ pub(crate) fn answer_whois<D: Registrar, W: Sink>(
     ensures aside { W.aside writer.new ≡ W.aside writer.old }
 {
     match desk.answer(alloc, query, writer) {
-        Ok(_) => Ok(()),
+        Ok(()) => Ok(()),
         Err(_) => Err(ConnFault::Write),
     }
 }
@@ -115,7 +115,7 @@ pub(crate) fn give_dump<D: Registrar, W: Sink>(
     }
     match write_ok_head(writer) {
         Ok(()) => match desk.dump(alloc, writer) {
-            Ok(_) => Ok(()),
+            Ok(()) => Ok(()),
             Err(fault) => dump_end(fault),
         },
         Err(_) => Err(ConnFault::Write),

@@ -1,26 +1,23 @@
 //! A desk over tables as a registrar.
 
-ghost use Rattle.std.specs.Prelude.{false};
-ghost use Rattle.rr_answer.specs.Dumps.{dump};
-ghost use Rattle.rr_desk.specs.Stocks.{StoresUntilStopped};
-ghost use Rattle.rr_http.specs.DeskRegistrars.{IsDeskAnswer, desk_ledger};
+ghost use Rattle.rr_http.specs.DeskRegistrars.{desk_registrar};
 
 use crate::registrar::Registrar;
-use rr_desk::{Answered, Desk, DeskDumpFault, DeskFault, Done, WriteFault};
+use rr_desk::{Desk, DeskDumpFault, DeskFault, Done, WriteFault};
 use rr_io::{Sink, Source};
 use sqlite::Alter;
 use std::alloc::Global;
 
 impl<S: Alter> Registrar for Desk<S> {
-    ghost ledger = { desk_ledger S.Store };
+    ghost ledger = { (desk_registrar S.Store).ledger };
 
-    ghost settings = { λ desk. desk.settings };
+    ghost settings = { (desk_registrar S.Store).settings };
 
-    ghost Answers = { λ before query text after. IsDeskAnswer S.Store before query text after };
+    ghost Answers = { (desk_registrar S.Store).Answers };
 
-    ghost dumped = { λ desk. dump false desk.stored.registry };
+    ghost dumped = { (desk_registrar S.Store).dumped };
 
-    ghost Kept = { λ desk. StoresUntilStopped S.Store desk.stored };
+    ghost Kept = { (desk_registrar S.Store).Kept };
 
     fn stopped(&self) -> bool {
         Desk::stopped(self)
@@ -31,12 +28,18 @@ impl<S: Alter> Registrar for Desk<S> {
         alloc: Global,
         query: &[u8],
         writer: &mut W,
-    ) -> Result<Answered, WriteFault> {
-        Desk::answer(self, alloc, query, writer)
+    ) -> Result<(), WriteFault> {
+        match Desk::answer(self, alloc, query, writer) {
+            Ok(_) => Ok(()),
+            Err(fault) => Err(fault),
+        }
     }
 
-    fn dump<W: Sink>(&self, alloc: Global, writer: &mut W) -> Result<usize, DeskDumpFault> {
-        Desk::dump(self, alloc, writer, false)
+    fn dump<W: Sink>(&self, alloc: Global, writer: &mut W) -> Result<(), DeskDumpFault> {
+        match Desk::dump(self, alloc, writer, false) {
+            Ok(_) => Ok(()),
+            Err(fault) => Err(fault),
+        }
     }
 
     fn submit<R: Source, W: Sink>(

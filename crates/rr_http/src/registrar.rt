@@ -9,7 +9,7 @@ ghost use Rattle.rr_submission.specs.Submissions.{UnlessStoreFault};
 ghost use Rattle.rr_desk.specs.Dumping.{Dumps, RefusesDump};
 ghost use Rattle.rr_desk.specs.Settings.{SettingsParts};
 
-use rr_desk::{Answered, DeskDumpFault, DeskFault, Done, WriteFault};
+use rr_desk::{DeskDumpFault, DeskFault, Done, WriteFault};
 use rr_io::{Sink, Source};
 use std::alloc::Global;
 
@@ -28,7 +28,7 @@ pub trait Registrar {
     // The public dump.
     ghost dumped: { Self → List ℕ };
 
-    // The rows that it keeps are those of its registry.
+    // Until it is stopped, the rows that it keeps are those of its registry.
     ghost Kept: { Self → Type 0 };
 
     /// Whether it is stopped.
@@ -41,14 +41,14 @@ pub trait Registrar {
         alloc: Global,
         query: &[u8],
         writer: &mut W,
-    ) -> Result<Answered, WriteFault>
+    ) -> Result<(), WriteFault>
         ensures answers { (text : List ℕ) × Answers self.old query.now text self.new
             × Writes (W.told writer.old) (W.told writer.new) text result }
         ensures settings { settings self.new ≡ settings self.old }
         ensures aside { W.aside writer.new ≡ W.aside writer.old };
 
     /// Writes the public dump, if it is not stopped.
-    fn dump<W: Sink>(&self, alloc: Global, writer: &mut W) -> Result<usize, DeskDumpFault>
+    fn dump<W: Sink>(&self, alloc: Global, writer: &mut W) -> Result<(), DeskDumpFault>
         ensures stopped { ledger.is_stopped self.now ≡ true
             → RefusesDump writer.old writer.new result }
         ensures dumps { ledger.is_stopped self.now ≡ false

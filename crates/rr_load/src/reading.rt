@@ -63,7 +63,7 @@ fn read_entries<R: Source>(
 }
 
 /// The next entry of the text that this reader gives, a paragraph or its fault; `None` at its end.
-/// The error is a failed read, or too many of them.
+/// The error is a failed read, or too many reads.
 fn next_entry<R: Source>(
     alloc: Global,
     paragraphs: &mut Paragraphs,

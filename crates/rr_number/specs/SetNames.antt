@@ -46,10 +46,14 @@ is_name_of_kind kind text =
 abbrev pub is_any_set : List ℕ → Bool
 is_any_set text = bytes_eq (upper text) as_any || bytes_eq (upper text) rs_any
 
+-- the most bytes that a set's name is spelled in (profile)
+abbrev pub set_name_limit : ℕ
+set_name_limit = 255
+
 -- A set's name has at most 255 bytes as it is spelled (profile), and its components are of one kind
 -- (RFC 2622, 5).
 unfoldable pub is_set_name : List ℕ → Bool
-is_set_name text = nat_le (length text) 255
+is_set_name text = nat_le (length text) set_name_limit
     && (is_any_set text || (is_name_of_kind AsSet text || is_name_of_kind RouteSet text))
 
 -- A component is printed in upper case, an AS number without leading zeros (profile).

@@ -16,9 +16,13 @@ use Rattle.rr_object.specs.Parts.{AuthParts}
 abbrev pub digest_bytes : ℕ
 digest_bytes = 32
 
+-- the most bytes of a salt (profile)
+abbrev pub salt_limit : ℕ
+salt_limit = 16
+
 -- a salt is 0 to 16 letters or digits (profile)
 abbrev pub is_salt : List ℕ → Bool
-is_salt salt = nat_le (length salt) 16 && list_all is_ascii_alphanumeric salt
+is_salt salt = nat_le (length salt) salt_limit && list_all is_ascii_alphanumeric salt
 
 -- a salt, a colon and the 64 hexadecimal digits of a digest, in either case (profile)
 unfoldable pub salted_digest_of : List ℕ → Option AuthParts

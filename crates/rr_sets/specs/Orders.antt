@@ -3,6 +3,7 @@
 -- route-sets promises this, name them.
 use Rattle.std.proofs.Common.{◌≡◌, ℕ, Option, None, Some, refl, ap, subst}
 use Rattle.std.specs.Option.{option_map}
+use Rattle.std.specs.declared.cmp.Ordering.{Ordering}
 use Rattle.std.specs.Ordering.{nat_cmp, ordering_then}
 use Rattle.std.proofs.lemmas.Map.Lookups.{CmpEqualImpliesEq, exact_bytes, exact_pairs}
 use Rattle.std.proofs.lemmas.Map.Lookups.{exact_unsigned}
@@ -10,7 +11,6 @@ use Rattle.rr_number.specs.Applied.{applied}
 use Rattle.rr_number.specs.Bounds.{Bounds}
 use Rattle.rr_number.specs.Operators.{lengths_under}
 use Rattle.rr_number.specs.Prefixes.{PrefixParts}
-use Rattle.rr_number.proofs.NumberOrders.{ranges_ordered}
 use Rattle.rr_number.specs.Ranges.{RangeParts, bounds_of, range_cmp, range_of}
 use Rattle.rr_number.specs.declared.operator.Operator.{Operator}
 use Rattle.rr_object.specs.declared.member.MemberSet.TheVariants.{AutNum, Set}
@@ -23,18 +23,33 @@ exact_member_sets (AutNum n) (Set b) tie = cc
 exact_member_sets (Set a) (AutNum m) tie = cc
 exact_member_sets (Set a) (Set b) tie = ap Set (exact_bytes a b tie)
 
--- Ranges that compare as equal are the same range.
-pub exact_ranges : CmpEqualImpliesEq range_cmp
-exact_ranges = ranges_ordered.exact
-
 -- the least and the greatest length of a range
 abbrev pub lengths_of : RangeParts → ℕ × ℕ
 lengths_of r = (r.low, r.high)
 
+-- pairs of numbers are compared by the first, then by the second
+abbrev pub numbers_cmp : ℕ × ℕ → ℕ × ℕ → Ordering
+numbers_cmp x y = ordering_then (nat_cmp x.0 y.0) (nat_cmp x.1 y.1)
+
 -- Lengths that compare as equal are the same lengths.
-pub exact_lengths : CmpEqualImpliesEq
-    (λ (x y : ℕ × ℕ). ordering_then (nat_cmp x.0 y.0) (nat_cmp x.1 y.1))
+pub exact_lengths : CmpEqualImpliesEq numbers_cmp
 exact_lengths = exact_pairs nat_cmp nat_cmp exact_unsigned exact_unsigned
+
+-- the numbers of a range, in the order in which they are compared
+abbrev pub numbers_of : RangeParts → (ℕ × ℕ) × (ℕ × ℕ)
+numbers_of r = ((r.prefix.address, r.prefix.length), lengths_of r)
+
+-- Ranges that compare as equal are the same range.
+pub exact_ranges : CmpEqualImpliesEq range_cmp
+exact_ranges r s tie =
+    let same : numbers_of r ≡ numbers_of s =
+    exact_pairs numbers_cmp numbers_cmp exact_lengths exact_lengths (numbers_of r) (numbers_of s)
+    tie in
+    λ i. record {
+      prefix = record { address = (same i).0.0; length = (same i).0.1 };
+      low = (same i).1.0;
+      high = (same i).1.1;
+    }
 
 -- ranges of a prefix are the same where their lengths are
 same_lengths : (prefix : PrefixParts) (a b : Option Bounds)

@@ -13,6 +13,7 @@ pub mod NamingLemmas
 pub mod NextLemmas
 pub mod OnceLemmas
 pub mod OrderLemmas
+pub mod PointedLemmas
 pub mod SortedLemmas
 pub mod SettledLemmas
 pub mod ShownLemmas

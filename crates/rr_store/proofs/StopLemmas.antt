@@ -1,5 +1,5 @@
 -- Why a reading of rows one at a time stopped.
-use Rattle.std.proofs.Common.{◌≡◌, ◌≢◌, inl, inr, ℕ, true, List, [], ◌∷◌, ◌++◌, Ok, Err, Result, IfErr, map, sym, subst, arith, IsPermutation}
+use Rattle.std.proofs.Common.{◌≡◌, ◌≢◌, inl, inr, ℕ, true, List, [], ◌∷◌, ◌++◌, Ok, Err, Result, IfErr, map, refl, sym, ap, subst, arith, IsPermutation}
 use Rattle.std.proofs.lemmas.List.Sorted.{IsPermutation-map, IsPermutation-sym}
 use Rattle.std.specs.List.{AllByRecursion}
 use Rattle.sqlite_value.specs.Order.{Row}
@@ -22,10 +22,14 @@ use Rattle.rr_rows.specs.Queries.{Means}
 use Rattle.rr_rows.specs.Tables.{HasTables, Layout}
 use Rattle.rr_rows.proofs.NumberLemmas.{keyed_by}
 use Rattle.rr_store.specs.Calls.{FailsFor, FailsOverTidy, IsCaused}
-use Rattle.rr_store.specs.Opening.{IfStore}
+use Rattle.rr_store.specs.Faults.{store_fault}
+use Rattle.rr_store.specs.Listing.{FailsToList}
+use Rattle.rr_store.specs.Opening.{HoldNone, IfStore}
+use Rattle.rr_store.specs.ReadingParts.{TellsNoVersion}
 use Rattle.rr_store.specs.StreamParts.{FailsToCount, StopsFor}
 use Rattle.rr_store.specs.declared.fault.OpenFault.{OpenFault}
-use Rattle.rr_store.specs.declared.fault.OpenFault.TheVariants.{Store}
+use Rattle.rr_store.specs.declared.fault.OpenFault.TheVariants.{WrongVersion, BadRow, Store, Memory}
+use Rattle.rr_store.specs.declared.version.Version.TheVariants.{This}
 use Rattle.rr_store.proofs.CauseLemmas.{IsTold, caused_then, fails_then, tidy_then}
 use Rattle.rr_store.proofs.StreamLemmas.{Begins, HasRead, begun_answer}
 
@@ -65,11 +69,11 @@ module _ {S : Type 0} (g : Ghosts S) where
           it.3,
         )
 
-  module _ (text : List ℕ) (told : IsTold text) (old now new : Held S) (b : Begins g text [] old now) (clean : HasCleanDisk (state g now)) (tables : HasTables old.schema) (error : Error) where
+  module _ (text : List ℕ) (params : Row) (told : IsTold text params) (old now new : Held S) (b : Begins g text params old now) (clean : HasCleanDisk (state g now)) (tables : HasTables old.schema) (error : Error) where
     -- a query on the three tables stops for a cause outside the rows
     pub stops_caused : StopsFor g now new error → IsCaused (state g old) (state g new) error
     stops_caused stops =
-        let it = stops text [] [] (b.given clean) in
+        let it = stops text params [] (b.given clean) in
         let same : IsUnchanged (state g old) (state g it.0) = unchanged_then (state g old) (state g now) (state g it.0) (b.same clean) it.1 in
         let first : Survives (state g old) (state g it.0) (λ _. ⊥) = survives_then (state g old) (state g now) (state g it.0) (λ _. ⊥) (λ _. ⊥) (λ _. ⊥) (λ _ db h. h) (λ _ db h. h) b.survives it.2 in
         caused_then (state g old) (state g it.0) (state g new) same first error
@@ -77,34 +81,34 @@ module _ {S : Type 0} (g : Ghosts S) where
 
     -- and so does a count, where rows have numbers of their own
     pub count_caused : (query : Program) (names : List (List ℕ)) → ((l : Layout) → Means l text (Select query names)) → lets_of query ≡ [] → (tree : ℕ)
-        → ((a b : State) → HasTables a.now.schema → (rows : List Row) → Shown text [] a b rows → IsInRank by_one (map number (a.now.trees tree)) rows)
+        → ((a b : State) → HasTables a.now.schema → (rows : List Row) → Shown text params a b rows → IsInRank by_one (map number (a.now.trees tree)) rows)
         → AreNumbered ((state g old).now.trees tree) → FailsToCount g now new error → IsCaused (state g old) (state g new) error
     count_caused query names means none tree tells keyed (inl memory) = inl (OutOfMemory, memory, tt)
     count_caused query names means none tree tells keyed (inr (inl stops)) = stops_caused stops
     count_caused query names means none tree tells keyed (inr (inr at)) =
-        let answer = begun_answer g text query names means none old now new b clean tables at.same (λ db rows. IsInRank by_one (map number (db.trees tree)) rows) tells at.more at.gives in
+        let answer = begun_answer g text params query names means none old now new b clean tables at.same (λ db rows. IsInRank by_one (map number (db.trees tree)) rows) tells at.more at.gives in
         absurd (at.none answer.0 (keyed_answer _ _ answer.1.same keyed) answer.1.sorted)
 
   -- what a query on the three tables that failed, at once or as its rows were read, failed for
-  module _ (text : List ℕ) (told : IsTold text) (old new : Held S) where
-    pub asks_fail : {X : Type 0} (r : Result X Error) → (HasCleanDisk (state g old) → HasTables old.schema) → Survives (state g old) (state g new) (λ _. ⊥) → (HasCleanDisk (state g new) → IfErr r (FailsToQuery text [] (state g old) (state g new))) → IfErr r (FailsFor g old new)
+  module _ (text : List ℕ) (params : Row) (told : IsTold text params) (old new : Held S) where
+    pub asks_fail : {X : Type 0} (r : Result X Error) → (HasCleanDisk (state g old) → HasTables old.schema) → Survives (state g old) (state g new) (λ _. ⊥) → (HasCleanDisk (state g new) → IfErr r (FailsToQuery text params (state g old) (state g new))) → IfErr r (FailsFor g old new)
     asks_fail (Ok x) tables survives h = tt
     asks_fail (Err error) tables survives h = λ clean. told (state g old) (state g new) (tables (omega (arith, clean, survives.clean))) error (h clean)
 
-    pub ask_fails : (error : Error) → (HasCleanDisk (state g new) → FailsToQuery text [] (state g old) (state g new) error) → FailsOverTidy g old new error
+    pub ask_fails : (error : Error) → (HasCleanDisk (state g new) → FailsToQuery text params (state g old) (state g new) error) → FailsOverTidy g old new error
     ask_fails error h tidy clean = told (state g old) (state g new) tidy.has error (h clean)
 
-    module _ (now : Held S) (b : Begins g text [] old now) (then : Survives (state g now) (state g new) (λ _. ⊥)) where
+    module _ (now : Held S) (b : Begins g text params old now) (then : Survives (state g now) (state g new) (λ _. ⊥)) where
       pub reads_fail : {X : Type 0} (r : Result X OpenFault) → (HasCleanDisk (state g new) → IfErr r (IfStore (StopsFor g now new))) → IfErr r (IfStore (FailsOverTidy g old new))
       reads_fail (Ok x) h = tt
-      reads_fail (Err fault) h = λ error is tidy clean. stops_caused text told old now new b (omega (arith, clean, then.clean)) tidy.has error (h clean error is)
+      reads_fail (Err fault) h = λ error is tidy clean. stops_caused text params told old now new b (omega (arith, clean, then.clean)) tidy.has error (h clean error is)
 
       pub counts_fail : {X : Type 0} (r : Result X Error) (query : Program) (names : List (List ℕ)) → ((l : Layout) → Means l text (Select query names)) → lets_of query ≡ [] → (tree : ℕ)
-          → ((a b : State) → HasTables a.now.schema → (rows : List Row) → Shown text [] a b rows → IsInRank by_one (map number (a.now.trees tree)) rows)
+          → ((a b : State) → HasTables a.now.schema → (rows : List Row) → Shown text params a b rows → IsInRank by_one (map number (a.now.trees tree)) rows)
           → (IsTidy (state g old).now → AreNumbered ((state g old).now.trees tree)) → (HasCleanDisk (state g new) → IfErr r (FailsToCount g now new)) → IfErr r (FailsOverTidy g old new)
       counts_fail (Ok x) query names means none tree tells keyed h = tt
       counts_fail (Err error) query names means none tree tells keyed h = λ tidy clean.
-          count_caused text told old now new b (omega (arith, clean, then.clean)) tidy.has error query names means none tree tells (keyed tidy) (h clean)
+          count_caused text params told old now new b (omega (arith, clean, then.clean)) tidy.has error query names means none tree tells (keyed tidy) (h clean)
 
 -- the database's error is the fault
 pub is_store : (P : Error → Type 0) (error : Error) → P error → IfStore P (Store error)
@@ -119,3 +123,13 @@ module _ {S : Type 0} (g : Ghosts S) (a b c : Held S) (same : HasCleanDisk (stat
   pub second_reads : {X : Type 0} (r : Result X OpenFault) → IfErr r (IfStore (FailsOverTidy g b c)) → IfErr r (IfStore (FailsOverTidy g a c))
   second_reads (Ok x) h = tt
   second_reads (Err fault) h = λ error is. tidy_then g a b c same first then error (h error is)
+
+-- objects are listed from tables that hold rows of such, unless the database fails for a cause outside these
+pub lists_fail : {S : Type 0} (g : Ghosts S) (source : List ℕ) (old new : Held S) (fault : OpenFault) → TellsNoVersion fault → (HasCleanDisk (state g new) → fault ≡ BadRow → HoldNone This source (state g old).now)
+    → IfStore (FailsOverTidy g old new) fault → FailsToList g source old new (store_fault fault)
+lists_fail g source old new (WrongVersion number) other none cause objects stored error is = absurd (other number refl)
+lists_fail g source old new BadRow other none cause objects stored error is = λ clean. absurd (none clean refl objects stored)
+lists_fail g source old new (Store e) other none cause objects stored error is =
+    let same : e ≡ error = cc in
+    cause error (ap Store same) stored.rows.tidy
+lists_fail g source old new Memory other none cause objects stored error is = absurd (cc)

@@ -123,7 +123,7 @@ module _ (form : KeyForm) (source : List ℕ) where
   read_objects (r ∷ rows) [] read = absurd read
   read_objects (r ∷ rows) (o ∷ os) read = (read.0.0, read_objects rows os read.1)
 
-  reads : (objects : List Obj) → AllByRecursion (IsObjectOf source) objects → AllByRecursion (λ o. is_some (form o.key) ≡ true) objects → AreRead form source (map (λ o. object_row (entry_in form o)) objects) objects
+  pub reads : (objects : List Obj) → AllByRecursion (IsObjectOf source) objects → AllByRecursion (λ o. is_some (form o.key) ≡ true) objects → AreRead form source (map (λ o. object_row (entry_in form o)) objects) objects
   reads [] all formed = tt
   reads (o ∷ os) all formed = ((all.0, record { key = unwrap_or (form o.key) []; formed = some_of (form o.key) formed.0; is = refl }), reads os all.1 formed.1)
 

@@ -176,25 +176,25 @@ module _ {S : Type 0} (g : Ghosts S) (text : List ℕ) (params : Row) (old now :
         subst (λ d. Tell d rest) is (tells (state g it.0) (state g new) (subst (λ (d : Database). HasTables d.schema) (sym is) tables) rest it.2)
 
 -- The rows that a query without a recursion has given begin an answer.
-pub rest_of_given : {S : Type 0} (g : Ghosts S) (text : List ℕ) (query : Program) (names : List (List ℕ)) → ((l : Layout) → Means l text (Select query names)) → lets_of query ≡ []
-    → (h : Held S) (given : List Row) → HasTables h.schema → IsUnchanged (state g h) (state g h) → HasGiven g text [] h given → (tail : List Row) × Shown text [] (state g h) (state g h) (given ++ tail)
-rest_of_given g text query names means none h given has same it =
-    begins_shown text [] (state g h) (state g h) given (given_begin g text [] h given it) same
-    (λ c db statement source. subst (λ k. EndsIn k db (timed [] c.formats statement.now)) (sym (command c statement)) (ends db (timed [] c.formats statement.now)))
+pub rest_of_given : {S : Type 0} (g : Ghosts S) (text : List ℕ) (params : Row) (query : Program) (names : List (List ℕ)) → ((l : Layout) → Means l text (Select query names)) → lets_of query ≡ []
+    → (h : Held S) (given : List Row) → HasTables h.schema → IsUnchanged (state g h) (state g h) → HasGiven g text params h given → (tail : List Row) × Shown text params (state g h) (state g h) (given ++ tail)
+rest_of_given g text params query names means none h given has same it =
+    begins_shown text params (state g h) (state g h) given (given_begin g text params h given it) same
+    (λ c db statement source. subst (λ k. EndsIn k db (timed params c.formats statement.now)) (sym (command c statement)) (ends db (timed params c.formats statement.now)))
   where
-    command : (c : Compiled) → IsStatement (state g h) text [] c → c.command ≡ Select query names
+    command : (c : Compiled) → IsStatement (state g h) text params c → c.command ≡ Select query names
     command c statement = sym (ap command_of statement.is) ∙ (ap (λ (s : Schema). command_of (understood s text)) has.is ∙ (means has.layout).is)
 
-    ends : (db : Database) (params : Row) → EndsIn (Select query names) db params
-    ends db params = subst (λ lets. Ends db.trees params [] lets) (sym none) tt
+    ends : (db : Database) (values : Row) → EndsIn (Select query names) db values
+    ends db values = subst (λ lets. Ends db.trees values [] lets) (sym none) tt
 
 -- and with others say what that says
-pub begun_answer : {S : Type 0} (g : Ghosts S) (text : List ℕ) (query : Program) (names : List (List ℕ)) → ((l : Layout) → Means l text (Select query names)) → lets_of query ≡ []
-    → (old now new : Held S) → Begins g text [] old now → HasCleanDisk (state g now) → HasTables old.schema → IsUnchanged (state g now) (state g new) → (Tell : Database → List Row → Type 0)
-    → ((a b : State) → HasTables a.now.schema → (rows : List Row) → Shown text [] a b rows → Tell a.now rows) → (more : List Row) → GivesMore g now new more
+pub begun_answer : {S : Type 0} (g : Ghosts S) (text : List ℕ) (params : Row) (query : Program) (names : List (List ℕ)) → ((l : Layout) → Means l text (Select query names)) → lets_of query ≡ []
+    → (old now new : Held S) → Begins g text params old now → HasCleanDisk (state g now) → HasTables old.schema → IsUnchanged (state g now) (state g new) → (Tell : Database → List Row → Type 0)
+    → ((a b : State) → HasTables a.now.schema → (rows : List Row) → Shown text params a b rows → Tell a.now rows) → (more : List Row) → GivesMore g now new more
     → (tail : List Row) × Tell (state g old).now (more ++ tail)
-begun_answer g text query names means none old now new b clean tables same Tell tells more gives =
+begun_answer g text params query names means none old now new b clean tables same Tell tells more gives =
     let is : (state g new).now ≡ (state g old).now = same.0.now_is ∙ (b.same clean).0.now_is in
     let has : HasTables new.schema = subst (λ (d : Database). HasTables d.schema) (sym is) tables in
-    let rest = rest_of_given g text query names means none new more has (unchanged_itself (state g new) same.0.is_open) (gives text [] [] (b.given clean)) in
+    let rest = rest_of_given g text params query names means none new more has (unchanged_itself (state g new) same.0.is_open) (gives text params [] (b.given clean)) in
     (rest.0, subst (λ d. Tell d (more ++ rest.0)) is (tells (state g new) (state g new) has (more ++ rest.0) rest.1))

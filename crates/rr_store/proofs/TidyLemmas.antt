@@ -13,7 +13,8 @@ pub none_of_length : {X : Type 0} (xs : List X) → length xs ≡ 0 → xs ≡ [
 none_of_length [] h = refl
 none_of_length (x ∷ xs) h = absurd (omega arith)
 
-as_many : (rows answer : List Row) → IsPermutation (map number rows) answer → length answer ≡ length rows
+-- the list of the numbers is as long as that of the rows
+pub as_many : (rows answer : List Row) → IsPermutation (map number rows) answer → length answer ≡ length rows
 as_many rows answer same = length_permutation _ _ same ∙ length-map rows number
 
 -- a table has no row where the list of the numbers has none

@@ -6,7 +6,8 @@ use Rattle.std.specs.List.{flat_map}
 use Rattle.sqlite_value.specs.Order.{Row}
 use Rattle.rr_object.specs.Objects.{Obj}
 use Rattle.sqlite.specs.Effect.{Database}
-use Rattle.rr_rows.specs.Contents.{AreNumbered, contents, meta_row, pointed}
+use Rattle.rr_rows.specs.Contents.{AreNumbered, IsInRank, by_one, contents, meta_row}
+use Rattle.rr_rows.specs.Contents.{numbered, pointed}
 use Rattle.rr_rows.specs.Entries.{named_rows}
 use Rattle.rr_rows.specs.Maps.{KeyForm, entry_in, this_form}
 use Rattle.rr_rows.specs.Tables.{HasTables, meta_tree, named_tree, object_tree}
@@ -50,6 +51,13 @@ pub record HoldsObjects (form : KeyForm) (source : List ℕ) (objects : List Obj
   pub same : IsPermutation held rows
   pub read : AreRead form source rows objects
 
+-- rows, in the order of their numbers, are those of these objects, in turn (profile)
+pub record HoldsInTurn (form : KeyForm) (source : List ℕ) (objects : List Obj) (held : List Row)
+    : Type 0 where
+  pub rows : List Row
+  pub ranked : IsInRank by_one (map numbered held) rows
+  pub read : AreRead form source (contents rows) objects
+
 -- rows, in some order, are those of no objects of the source (profile)
 pub record HoldsNone (form : KeyForm) (source : List ℕ) (held : List Row) : Type 0 where
   pub rows : List Row
@@ -61,6 +69,11 @@ abbrev pub TableHolds : Version → List ℕ → List Obj → Database → Type 
 TableHolds version source objects db =
     HoldsObjects (form_of version) source objects (contents (db.trees object_tree))
 
+-- `object` holds the rows of these objects, in turn by their numbers
+abbrev pub TableHoldsInTurn : Version → List ℕ → List Obj → Database → Type 0
+TableHoldsInTurn version source objects db =
+    HoldsInTurn (form_of version) source objects (db.trees object_tree)
+
 -- `object` holds the rows of no objects of the source
 abbrev pub TableHoldsNone : Version → List ℕ → Database → Type 0
 TableHoldsNone version source db =
@@ -70,4 +83,10 @@ TableHoldsNone version source db =
 abbrev pub NamedPointsTo : List ℕ → List ℕ → List Obj → Database → Type 0
 NamedPointsTo source name objects db =
     HoldsObjects this_form source objects
+    (pointed name (contents (db.trees named_tree)) (contents (db.trees object_tree)))
+
+-- and here those to which it points are the rows of no objects of the source
+abbrev pub NamedPointsToNone : List ℕ → List ℕ → Database → Type 0
+NamedPointsToNone source name db =
+    HoldsNone this_form source
     (pointed name (contents (db.trees named_tree)) (contents (db.trees object_tree)))

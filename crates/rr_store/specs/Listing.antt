@@ -1,10 +1,16 @@
 -- The objects that a store lists.
 use Rattle.std.specs.Prelude.{◌≡◌, ℕ, List, filter}
 use Rattle.std.specs.FinMap.{FinMap, values}
+use Rattle.sqlite_trees.specs.declared.store.Store.{Ghosts}
+use Rattle.sqlite.specs.declared.error.Error.{Error}
 use Rattle.sqlite.specs.Effect.{Database}
+use Rattle.sqlite.specs.Held.{Held}
 use Rattle.rr_object.specs.KeyOrders.{key_cmp}
 use Rattle.rr_object.specs.Objects.{Obj, object_names}
-use Rattle.rr_rows.specs.Maps.{HasRows}
+use Rattle.rr_rows.specs.Maps.{AreStored, HasRows}
+use Rattle.rr_store.specs.Calls.{FailsFor, database}
+use Rattle.rr_store.specs.declared.fault.StoreFault.{StoreFault}
+use Rattle.rr_store.specs.declared.fault.StoreFault.TheVariants.{Store}
 
 -- these are all objects that the tables hold, in order of class and key
 abbrev pub AreAll : Database → List Obj → Type 0
@@ -16,3 +22,10 @@ abbrev pub AreNaming : List ℕ → Database → List Obj → Type 0
 AreNaming name db listed =
     (objects : FinMap key_cmp Obj) → HasRows objects db
     → listed ≡ filter (object_names name) (values objects)
+
+-- where the tables hold the rows of objects of the source, and no others, the database's error has
+-- a cause outside the rows (profile)
+abbrev pub FailsToList : {S : Type 0} → Ghosts S → List ℕ → Held S → Held S → StoreFault → Type 0
+FailsToList g source old new fault =
+    (objects : List Obj) → AreStored source objects (database g old)
+    → (error : Error) → fault ≡ Store error → FailsFor g old new error

@@ -10,11 +10,13 @@ ghost use Rattle.rr_rows.specs.Maps.{AreInOrder, HasVersion, this_form};
 ghost use Rattle.rr_rows.specs.Tables.{HasTables, meta_tree, named_tree, object_tree};
 ghost use Rattle.rr_store.specs.Calls.{FailsOverTidy, Looks, OnCleanDisk, database};
 ghost use Rattle.rr_store.specs.CheckParts.{AreNamingRows, HoldsObjects, IsVersionFault};
-ghost use Rattle.rr_store.specs.CheckParts.{NamedPointsTo, NamesAre, TableHolds, TableHoldsNone};
-ghost use Rattle.rr_store.specs.Opening.{AreObjectsOf, IfStore};
+ghost use Rattle.rr_store.specs.CheckParts.{NamedPointsTo, NamesAre, TableHolds};
+ghost use Rattle.rr_store.specs.CheckParts.{TableHoldsInTurn, TableHoldsNone};
+ghost use Rattle.rr_store.specs.Opening.{AreObjectsOf, HoldNone, IfStore};
 ghost use Rattle.rr_store.specs.ReadingParts.{TellsNoVersion};
 ghost use Rattle.rr_store.specs.Versions.{version_text};
 ghost use Rattle.rr_store.specs.declared.fault.OpenFault.TheVariants.{BadRow, Memory, WrongVersion};
+ghost use Rattle.rr_store.specs.declared.version.Version.TheVariants.{This};
 
 use crate::fault::{NO_TABLES, OpenFault};
 use crate::meta::{other_version, says_version};
@@ -66,7 +68,8 @@ pub(crate) fn check_version<S: Alter>(
     judge_version(&rows, version)
 }
 
-/// The objects that `object` holds, in the order of its rows, which have numbers of their own.
+/// The objects that `object` holds, in the order of the numbers of its rows, which have numbers of
+/// their own.
 pub(crate) fn check_objects<S: Alter>(
     conn: &mut Connection<S>,
     alloc: Global,
@@ -80,6 +83,8 @@ pub(crate) fn check_objects<S: Alter>(
         (AreNumbered ((database S.Store conn.old).trees object_tree))) }
     ensures read { OnCleanDisk S.Store conn.new (IfOk result (λ objects.
         TableHolds version source.now objects.items (database S.Store conn.old))) }
+    ensures in_turn { OnCleanDisk S.Store conn.new (IfOk result (λ objects.
+        TableHoldsInTurn version source.now objects.items (database S.Store conn.old))) }
     ensures of_source { IfOk result (λ objects. AreObjectsOf source.now objects.items) }
     ensures bad_row { OnCleanDisk S.Store conn.new (IfErr result (λ fault. fault ≡ BadRow →
         TableHoldsNone version source.now (database S.Store conn.old))) }
@@ -103,6 +108,9 @@ pub(crate) fn all_objects<S: Alter>(
         (contents ((database S.Store conn.old).trees object_tree)))) }
     ensures in_order { IfOk result (λ objects. AreInOrder objects.items) }
     ensures of_source { IfOk result (λ objects. AreObjectsOf source.now objects.items) }
+    ensures bad_row { OnCleanDisk S.Store conn.new (IfErr result (λ fault. fault ≡ BadRow →
+        HoldNone This source.now (database S.Store conn.old))) }
+    ensures no_other { IfErr result TellsNoVersion }
     ensures cause { IfErr result (IfStore (FailsOverTidy S.Store conn.old conn.new)) }
 {
     if !has_tables(conn.schema()) {
@@ -197,7 +205,7 @@ pub(crate) fn check_named_table<S: Alter>(
     ensures no_other { IfErr result TellsNoVersion }
     ensures cause { IfErr result (IfStore (FailsOverTidy S.Store conn.old conn.new)) }
 {
-    // the count is not asked for: the clause says that the rows have numbers of their own
+    // the count is not needed: the clause says that the rows have numbers of their own
     let _count = count_named(conn)?;
     check_maintainers(conn, alloc, objects, version)
 }
@@ -215,6 +223,10 @@ pub(crate) fn naming_objects<S: Alter>(
         NamedPointsTo source.now name.now objects.items (database S.Store conn.old))) }
     ensures in_order { IfOk result (λ objects. AreInOrder objects.items) }
     ensures of_source { IfOk result (λ objects. AreObjectsOf source.now objects.items) }
+    ensures bad_row { OnCleanDisk S.Store conn.new (IfErr result (λ fault. fault ≡ BadRow →
+        HoldNone This source.now (database S.Store conn.old))) }
+    ensures no_other { IfErr result TellsNoVersion }
+    ensures cause { IfErr result (IfStore (FailsOverTidy S.Store conn.old conn.new)) }
     ensures memory { OnCleanDisk S.Store conn.new (IfErr result (λ fault. fault ≡ Memory →
         IsUnchanged (state S.Store conn.old) (state S.Store conn.new))) }
 {

@@ -1,6 +1,6 @@
 //! Queries on the three tables.
 
-ghost use Rattle.std.specs.Prelude.{◌≡◌, [], false, map, IfErr, IfOk};
+ghost use Rattle.std.specs.Prelude.{◌≡◌, [], false, length, map, IfErr, IfOk};
 ghost use Rattle.std.specs.Prelude.{IsTrue};
 ghost use Rattle.std.specs.Prelude.{OnOk};
 ghost use Rattle.sqlite.specs.Given.{IsPlain};
@@ -12,7 +12,8 @@ ghost use Rattle.rr_rows.specs.Contents.{AreNumbered, IsInRank, by_three, by_two
 ghost use Rattle.rr_rows.specs.Contents.{by_one, meta_rows};
 ghost use Rattle.rr_rows.specs.Tables.{HasTables, meta_tree, named_tree, object_tree};
 ghost use Rattle.rr_store.specs.Calls.{FailsFor, FailsOverTidy, Looks, OnCleanDisk, database};
-ghost use Rattle.rr_store.specs.CheckParts.{NamedPointsTo, NamesAre, TableHolds, TableHoldsNone};
+ghost use Rattle.rr_store.specs.CheckParts.{NamedPointsTo, NamedPointsToNone, NamesAre};
+ghost use Rattle.rr_store.specs.CheckParts.{TableHolds, TableHoldsInTurn, TableHoldsNone};
 ghost use Rattle.rr_store.specs.Opening.{AreObjectsOf, IfStore};
 ghost use Rattle.rr_store.specs.ReadingParts.{TellsNoVersion};
 ghost use Rattle.rr_store.specs.declared.fault.OpenFault.TheVariants.{BadRow, Memory};
@@ -113,13 +114,15 @@ pub(crate) fn named_numbers<S: Alter>(conn: &mut Connection<S>) -> Result<Vec<Ro
     look(conn, "SELECT rowid FROM named ORDER BY rowid", &[])
 }
 
-/// Counts the rows of `meta`, which have to have numbers of their own.
+/// How many rows `meta` has, which have to have numbers of their own.
 pub(crate) fn count_meta<S: Alter>(conn: &mut Connection<S>) -> Result<usize, Error>
     requires autocommit { conn.old.in_transaction ≡ false }
     requires tables { OnCleanDisk S.Store conn.old (HasTables conn.old.schema) }
     ensures looks { Looks S.Store conn.old conn.new result }
     ensures numbered { OnCleanDisk S.Store conn.new (OnOk result
         (AreNumbered ((database S.Store conn.old).trees meta_tree))) }
+    ensures count { OnCleanDisk S.Store conn.new (IfOk result (λ count.
+        count ≡ length ((database S.Store conn.old).trees meta_tree))) }
     ensures cause { IfErr result (FailsOverTidy S.Store conn.old conn.new) }
 {
     // outside a transaction the database is as it was last committed
@@ -128,13 +131,15 @@ pub(crate) fn count_meta<S: Alter>(conn: &mut Connection<S>) -> Result<usize, Er
     count_numbered(&mut rows)
 }
 
-/// Counts the rows of `object`, which have to have numbers of their own.
+/// How many rows `object` has, which have to have numbers of their own.
 pub(crate) fn count_object<S: Alter>(conn: &mut Connection<S>) -> Result<usize, Error>
     requires autocommit { conn.old.in_transaction ≡ false }
     requires tables { OnCleanDisk S.Store conn.old (HasTables conn.old.schema) }
     ensures looks { Looks S.Store conn.old conn.new result }
     ensures numbered { OnCleanDisk S.Store conn.new (OnOk result
         (AreNumbered ((database S.Store conn.old).trees object_tree))) }
+    ensures count { OnCleanDisk S.Store conn.new (IfOk result (λ count.
+        count ≡ length ((database S.Store conn.old).trees object_tree))) }
     ensures cause { IfErr result (FailsOverTidy S.Store conn.old conn.new) }
 {
     // outside a transaction the database is as it was last committed
@@ -143,13 +148,15 @@ pub(crate) fn count_object<S: Alter>(conn: &mut Connection<S>) -> Result<usize, 
     count_numbered(&mut rows)
 }
 
-/// Counts the rows of `named`, which have to have numbers of their own.
+/// How many rows `named` has, which have to have numbers of their own.
 pub(crate) fn count_named<S: Alter>(conn: &mut Connection<S>) -> Result<usize, Error>
     requires autocommit { conn.old.in_transaction ≡ false }
     requires tables { OnCleanDisk S.Store conn.old (HasTables conn.old.schema) }
     ensures looks { Looks S.Store conn.old conn.new result }
     ensures numbered { OnCleanDisk S.Store conn.new (OnOk result
         (AreNumbered ((database S.Store conn.old).trees named_tree))) }
+    ensures count { OnCleanDisk S.Store conn.new (IfOk result (λ count.
+        count ≡ length ((database S.Store conn.old).trees named_tree))) }
     ensures cause { IfErr result (FailsOverTidy S.Store conn.old conn.new) }
 {
     // outside a transaction the database is as it was last committed
@@ -158,7 +165,8 @@ pub(crate) fn count_named<S: Alter>(conn: &mut Connection<S>) -> Result<usize, E
     count_numbered(&mut rows)
 }
 
-/// The objects that `object` holds, in the order of its rows: one walk over the table.
+/// The objects that `object` holds, in the order of the numbers of its rows: one walk over the
+/// table, with room made for so many at first.
 pub(crate) fn read_objects<S: Alter>(
     conn: &mut Connection<S>,
     alloc: Global,
@@ -171,6 +179,8 @@ pub(crate) fn read_objects<S: Alter>(
     ensures looks { Looks S.Store conn.old conn.new result }
     ensures read { OnCleanDisk S.Store conn.new (IfOk result (λ objects.
         TableHolds version source.now objects.items (database S.Store conn.old))) }
+    ensures in_turn { OnCleanDisk S.Store conn.new (IfOk result (λ objects.
+        TableHoldsInTurn version source.now objects.items (database S.Store conn.old))) }
     ensures of_source { IfOk result (λ objects. AreObjectsOf source.now objects.items) }
     ensures bad_row { OnCleanDisk S.Store conn.new (IfErr result (λ fault. fault ≡ BadRow →
         TableHoldsNone version source.now (database S.Store conn.old))) }
@@ -224,6 +234,10 @@ pub(crate) fn read_naming<S: Alter>(
     ensures read { OnCleanDisk S.Store conn.new (IfOk result (λ objects.
         NamedPointsTo source.now name.now objects.items (database S.Store conn.old))) }
     ensures of_source { IfOk result (λ objects. AreObjectsOf source.now objects.items) }
+    ensures bad_row { OnCleanDisk S.Store conn.new (IfErr result (λ fault. fault ≡ BadRow →
+        NamedPointsToNone source.now name.now (database S.Store conn.old))) }
+    ensures no_other { IfErr result TellsNoVersion }
+    ensures cause { IfErr result (IfStore (FailsOverTidy S.Store conn.old conn.new)) }
     ensures memory { OnCleanDisk S.Store conn.new (IfErr result (λ fault. fault ≡ Memory →
         IsUnchanged (state S.Store conn.old) (state S.Store conn.new))) }
 {

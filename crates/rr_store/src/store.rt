@@ -12,7 +12,7 @@ ghost use Rattle.rr_store.specs.Adding.{AddsTo, TakesRows};
 ghost use Rattle.rr_store.specs.Calls.{FailsOverTidy, IsSettled, Looks, OnCleanDisk, Transacts};
 ghost use Rattle.rr_store.specs.Calls.{database};
 ghost use Rattle.rr_store.specs.Creating.{FailsToMake, MakesStore};
-ghost use Rattle.rr_store.specs.Listing.{AreAll, AreNaming};
+ghost use Rattle.rr_store.specs.Listing.{AreAll, AreNaming, FailsToList};
 ghost use Rattle.rr_store.specs.Migrating.{FailsToMigrate, MigratesStore};
 ghost use Rattle.rr_store.specs.Opening.{AreObjectsOf, FailsToOpen, IfStore, OpensStore};
 ghost use Rattle.rr_store.specs.Opening.{RefusesTables};
@@ -243,14 +243,16 @@ impl<S: Alter> Store<S> {
     }
 
     /// All objects, in order of class and key, each one of the source; a row that is not that of an
-    /// object of the source is a fault of the store. Nothing changes, nor what a stop during the
-    /// call leaves; one after it, while the connection is open, leaves the rows that stand. No
-    /// clause says why a read is refused.
+    /// object of the source is a fault of the store. Where the tables hold the rows of objects of
+    /// the source and no others, a fault of the store has a cause outside the rows. Nothing
+    /// changes, nor what a stop during the call leaves; one after it, while the connection is open,
+    /// leaves the rows that stand.
     pub fn all(&mut self, alloc: Global, source: &Name) -> Result<Vec<Object>, StoreFault>
         ensures looks { Looks S.Store self.old self.new result }
         ensures all { OnCleanDisk S.Store self.new (IfOk result (λ all.
             AreAll (database S.Store self.old) all.items)) }
         ensures of_source { IfOk result (λ all. AreObjectsOf source.now all.items) }
+        ensures cause { IfErr result (FailsToList S.Store source.now self.old self.new) }
         ensures settled { IsSettled S.Store self.new }
     {
         let objects = all_objects(&mut self.conn, alloc, source);
@@ -259,8 +261,8 @@ impl<S: Alter> Store<S> {
         Ok(objects?)
     }
 
-    /// The objects that name the maintainer, as [`Store::all`] gives all, with what that leaves. A
-    /// fault of memory leaves the database as it was. No clause says why a read is refused.
+    /// The objects that name the maintainer, as [`Store::all`] gives all, with the same faults and
+    /// what that leaves. A fault of memory leaves the database as it was.
     pub fn naming(
         &mut self,
         alloc: Global,
@@ -271,6 +273,7 @@ impl<S: Alter> Store<S> {
         ensures naming { OnCleanDisk S.Store self.new (IfOk result (λ those.
             AreNaming name.now (database S.Store self.old) those.items)) }
         ensures of_source { IfOk result (λ those. AreObjectsOf source.now those.items) }
+        ensures cause { IfErr result (FailsToList S.Store source.now self.old self.new) }
         ensures memory { OnCleanDisk S.Store self.new (IfErr result (λ fault. fault ≡ Memory →
             IsUnchanged (state S.Store self.old) (state S.Store self.new))) }
         ensures settled { IsSettled S.Store self.new }

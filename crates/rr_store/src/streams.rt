@@ -1,6 +1,6 @@
 //! Rows that are read one at a time, so that only what is made of them takes memory.
 
-ghost use Rattle.std.specs.Prelude.{◌≡◌, ◌++◌, List, IfErr, IfOk, IsTrue, OnOk, map};
+ghost use Rattle.std.specs.Prelude.{◌≡◌, ◌++◌, List, IfErr, IfOk, IsTrue, length, map};
 ghost use Rattle.std.specs.List.{flat_map};
 ghost use Rattle.sqlite.specs.State.{IsUnchanged};
 ghost use Rattle.sqlite.specs.Held.{state};
@@ -48,13 +48,14 @@ fn next_number(row: &Row, last: Option<i64>) -> Result<i64, Error>
     }
 }
 
-/// Counts the rows to come, whose first values are numbers that rise.
+/// How many rows are to come, whose first values are numbers that rise.
 pub(crate) fn count_numbered<S: Alter>(rows: &mut Rows<'_, S>) -> Result<usize, Error>
     requires { IsOpen S.Store rows.old.conn.now }
     ensures same_reference { rows.new.conn.ghost_name ≡ rows.old.conn.ghost_name }
     ensures streams { Streams S.Store rows.old.conn.now rows.new.conn.now result }
-    ensures numbered { OnCleanDisk S.Store rows.new.conn.now (OnOk result ((rest : List Values) ×
-        GivesRest S.Store rows.old.conn.now rows.new.conn.now rest × AreNumbered rest)) }
+    ensures numbered { OnCleanDisk S.Store rows.new.conn.now (IfOk result (λ count.
+        (rest : List Values) × GivesRest S.Store rows.old.conn.now rows.new.conn.now rest ×
+        AreNumbered rest × (count ≡ length rest))) }
     ensures fails { OnCleanDisk S.Store rows.new.conn.now (IfErr result
         (FailsToCount S.Store rows.old.conn.now rows.new.conn.now)) }
 {

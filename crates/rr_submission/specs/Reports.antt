@@ -32,10 +32,6 @@ refusal_code Unchanged = []
 refusal_code Deleted = []
 refusal_code (Refused code) = code_name code
 
--- the most bytes of a key in a report: those of a set's name (profile)
-abbrev pub key_limit : ℕ
-key_limit = 255
-
 -- a class before a key
 abbrev pub class_part : Class → List ℕ
 class_part class = class_name class ++ codes " "

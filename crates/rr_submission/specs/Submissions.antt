@@ -57,7 +57,7 @@ pub record IsDone (source : List ℕ) (sides : Sides) (done : Done) : Type 0 whe
   pub counted : done.items ≡ length items
   pub refused : done.refused ≡ refusals outcomes
 
--- a read failed or there were too many: the items before that were decided and their lines written
+-- a read failed or too many were made: the items before that were decided and their lines written
 -- whole, and the last line was written or cut short
 pub record IsReadFault (source : List ℕ) (sides : Sides) (count : ℕ) : Type 0 where
   pub text : List ℕ

@@ -33,7 +33,8 @@ use std::io;
 /// The items are read, decided and reported one by one, in order, in memory that grows with the
 /// secrets of the text, and with what is remembered of them, but else not with the text.
 ///
-/// - Where a read fails, or there are too many, the items before that are decided and reported.
+/// - Where a read fails, or there are too many reads, the items before that are decided and
+///   reported.
 /// - Where the line of an item cannot be written, that item and those before it stand, and those
 ///   after it are not read. Where only the last line cannot be written, all items stand.
 /// - Where the ledger stops at an item, those before it stand, the item has a line with the code

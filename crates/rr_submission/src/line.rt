@@ -1,6 +1,6 @@
 //! The lines of a report on items.
 
-ghost use Rattle.std.specs.Prelude.{◌≡◌, ◌+◌, ◌≤◌, ◌++◌, length};
+ghost use Rattle.std.specs.Prelude.{◌≡◌, ◌+◌, ◌≤◌, [], ◌++◌, length};
 ghost use Rattle.rr_io.specs.Sending.{Writes};
 ghost use Rattle.rr_submission.specs.Reports.{class_part, item_line, number_part, outcome_part};
 ghost use Rattle.rr_submission.specs.Reports.{outcome_word, refusal_code, subject};
@@ -38,7 +38,7 @@ fn item_line(number: u64, key: &Option<Key>, outcome: Outcome) -> ShortText
 }
 
 fn push_item_number(line: &mut ShortText, number: u64)
-    requires { length line.old ≤ 0 }
+    requires { line.old ≡ [] }
     ensures value { line.new ≡ line.old ++ number_part number }
     ensures short { length line.new ≤ 21 }
 {

@@ -3,8 +3,8 @@
 ghost use Rattle.std.specs.Prelude.{◌≡◌, ◌+◌, ◌≤◌, ◌∷◌, ◌++◌, length};
 ghost use Rattle.rr_number.specs.AsNumbers.{as_number_text};
 ghost use Rattle.rr_number.specs.Prefixes.{prefix_text};
+ghost use Rattle.rr_number.specs.SetNames.{set_name_limit};
 ghost use Rattle.rr_object.specs.KeyTexts.{key_text};
-ghost use Rattle.rr_submission.specs.Reports.{key_limit};
 
 use crate::short_text::{SHORT_SIZE, ShortText};
 use rr_number::{AsNumber, Name, Prefix, SetName};
@@ -13,9 +13,9 @@ use rr_object::Key;
 impl ShortText {
     /// Appends a key as reports print it, at most 255 bytes.
     pub(crate) fn push_key(&mut self, key: &Key)
-        requires { length self.old + key_limit ≤ SHORT_SIZE }
+        requires { length self.old + set_name_limit ≤ SHORT_SIZE }
         ensures value { self.new ≡ self.old ++ key_text key.now }
-        ensures short { length self.new ≤ length self.old + key_limit }
+        ensures short { length self.new ≤ length self.old + set_name_limit }
     {
         match key {
             Key::Mntner(name) => self.push_name(name),
@@ -30,18 +30,18 @@ impl ShortText {
 
     #[tactic(auto, using(crate::proofs::LineSizes::name_short))]
     fn push_name(&mut self, name: &Name)
-        requires { length self.old + key_limit ≤ SHORT_SIZE }
+        requires { length self.old + set_name_limit ≤ SHORT_SIZE }
         ensures value { self.new ≡ self.old ++ name.now }
-        ensures short { length self.new ≤ length self.old + key_limit }
+        ensures short { length self.new ≤ length self.old + set_name_limit }
     {
         self.push(name.as_bytes());
     }
 
     #[tactic(auto, using(crate::proofs::LineSizes::set_name_short))]
     fn push_set_name(&mut self, name: &SetName)
-        requires { length self.old + key_limit ≤ SHORT_SIZE }
+        requires { length self.old + set_name_limit ≤ SHORT_SIZE }
         ensures value { self.new ≡ self.old ++ name.now }
-        ensures short { length self.new ≤ length self.old + key_limit }
+        ensures short { length self.new ≤ length self.old + set_name_limit }
     {
         self.push(name.as_bytes());
     }

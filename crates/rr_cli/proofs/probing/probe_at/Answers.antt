@@ -7,4 +7,5 @@ returns g c = inr (record {
   after = c.probe_desk-end.new.desk;
   opens = c.in_ok-desk.ensures.opens;
   did = c.probe_desk-end.ensures;
+  closed = rw c.close-conn.ensures.same at c.close.ensures;
 })

@@ -1,18 +1,22 @@
 use Rattle.std.proofs.Common.{inl, inr, refl}
 use Rattle.rr_cli.proofs.serving.serve_turns.Goals as goal
 
-pub returns-in-Ok-clause-served : goal.returns-in-Ok-clause-served
-returns-in-Ok-clause-served g c = record {
+pub returns-in-Ok : goal.returns-in-Ok
+returns-in-Ok g c = record {
   served = c.serve_all-served.result.served;
   failed = c.serve_all-served.result.failed;
   turns = c.serve_all-served.ensures.turns;
+  settings = c.serve_all-served.ensures.settings;
+  rows = c.serve_all-served.ensures.rows;
   ends = inl (c.in-Ok.ensures.writes, c.served_end.ensures);
 }
 
-pub returns-in-Err-clause-served : goal.returns-in-Err-clause-served
-returns-in-Err-clause-served g c = record {
+pub returns-in-Err : goal.returns-in-Err
+returns-in-Err g c = record {
   served = c.serve_all-served.result.served;
   failed = c.serve_all-served.result.failed;
   turns = c.serve_all-served.ensures.turns;
+  settings = c.serve_all-served.ensures.settings;
+  rows = c.serve_all-served.ensures.rows;
   ends = inr (c.in-Err.ensures.writes, refl);
 }

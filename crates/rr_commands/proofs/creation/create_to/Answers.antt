@@ -7,7 +7,7 @@ returns-in-Ok-clause-creates g c = inr (record {
   runs = c.in-Ok.ensures.runs;
   opened = c.in-Ok.ensures.opening;
   makes = c.in-Ok.ensures.makes;
-  closed = c.close.ensures.same;
+  given_back = c.close.ensures.same;
   tells = c.tell-told.ensures.tells;
 })
 

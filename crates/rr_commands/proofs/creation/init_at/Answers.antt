@@ -7,4 +7,5 @@ returns-in-Ok g c = inr (record {
   after = c.create_to-conn.result.0;
   given = c.in-Ok.ensures.gives;
   did = c.create_to-conn.ensures.creates;
+  closed = c.close.ensures;
 })

@@ -1,4 +1,4 @@
-use Rattle.std.proofs.Common.{inr}
+use Rattle.std.proofs.Common.{inr, refl}
 use Rattle.rr_commands.proofs.dumping.dump_at.Goals as goal
 
 pub returns : goal.returns
@@ -6,5 +6,6 @@ returns g c = inr (record {
   before = c.in_ok-desk.desk;
   after = c.in_ok-desk.desk;
   opens = c.in_ok-desk.ensures.opens;
-  did = rw (← c.show.ensures.told, c.show-2.ensures.told) c.dump_to-end.ensures.dumped;
+  did = (refl, rw (← c.show.ensures.told, c.show-2.ensures.told) c.dump_to-end.ensures.dumped);
+  closed = rw (← c.close-conn.ensures.same) c.close.ensures;
 })

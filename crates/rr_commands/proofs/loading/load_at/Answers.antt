@@ -7,4 +7,5 @@ returns-in-Ok g c = inr (record {
   after = c.load_file-conn.result.0;
   given = c.in-Ok.ensures.gives;
   did = c.load_file-conn.ensures;
+  closed = c.close.ensures;
 })

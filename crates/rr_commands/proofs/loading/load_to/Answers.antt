@@ -7,7 +7,7 @@ returns-in-Ok-clause-loads g c = inr (record {
   runs = c.in-Ok.ensures.runs;
   loaded = c.in-Ok.ensures.loaded;
   makes = c.in-Ok.ensures.makes;
-  closed = c.close.ensures.same;
+  given_back = c.close.ensures.same;
   tells = rw (← c.registry.ensures) c.tell_loaded-told.ensures.tells;
 })
 

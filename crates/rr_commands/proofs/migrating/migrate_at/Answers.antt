@@ -2,4 +2,10 @@ use Rattle.std.proofs.Common.{inr}
 use Rattle.rr_commands.proofs.migrating.migrate_at.Goals as goal
 
 pub returns-in-Ok : goal.returns-in-Ok
-returns-in-Ok g c = inr c.migrate_over.ensures
+returns-in-Ok g c = inr (record {
+  before = c.in-Ok.conn;
+  after = c.migrate_told-conn.result.0;
+  given = c.in-Ok.ensures.gives;
+  did = c.migrate_told-conn.ensures;
+  closed = c.close.ensures;
+})

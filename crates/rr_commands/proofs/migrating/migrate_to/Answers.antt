@@ -6,7 +6,7 @@ returns-in-Ok-clause-migrates g c = inr (record {
   desk = c.in-Ok.desk;
   runs = c.in-Ok.ensures.runs;
   migrates = c.in-Ok.ensures.migrates;
-  closed = c.close.ensures.same;
+  given_back = c.close.ensures.same;
   tells = c.tell-told.ensures.tells;
 })
 

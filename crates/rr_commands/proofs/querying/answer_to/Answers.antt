@@ -12,9 +12,21 @@ returns-in-Ok-clause-asked g c =
       writes = made.writes;
       status = c.answered_status.ensures ∙ (ap error_status made.told ∙ error_status-told made.answer);
       trouble = tt;
+      registry = c.in-Ok.ensures.registry;
+      settings = c.in-Ok.ensures.settings;
+      keeps = c.in-Ok.ensures.keeps c.requires;
     }
 
 pub returns-in-Err-clause-asked : goal.returns-in-Err-clause-asked
 returns-in-Err-clause-asked g c =
     let made = c.in-Err.ensures.answers in
-    record { answer = made.answer; gives = made.answered; writes = made.writes; status = tt; trouble = refl }
+    record {
+      answer = made.answer;
+      gives = made.answered;
+      writes = made.writes;
+      status = tt;
+      trouble = refl;
+      registry = c.in-Err.ensures.registry;
+      settings = c.in-Err.ensures.settings;
+      keeps = c.in-Err.ensures.keeps c.requires;
+    }

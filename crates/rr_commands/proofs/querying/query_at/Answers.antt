@@ -7,4 +7,5 @@ returns g c = inr (record {
   after = c.answer_to-end.new.desk;
   opens = c.in_ok-desk.ensures.opens;
   did = c.answer_to-end.ensures.asked;
+  closed = rw (← c.close-conn.ensures.same) c.close.ensures;
 })

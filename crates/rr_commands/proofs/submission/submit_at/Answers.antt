@@ -7,4 +7,5 @@ returns g c = inr (record {
   after = c.submit_file-end.new.desk;
   opens = c.in_ok-desk.ensures.opens;
   did = c.submit_file-end.ensures;
+  closed = rw (← c.close-conn.ensures.same) c.close.ensures;
 })

@@ -1,7 +1,7 @@
 use Rattle.std.proofs.Common.{◌≡◌, IfErr, IfOk, subst, arith}
 use Rattle.sqlite.specs.Effect.{Database}
 use Rattle.rr_rows.specs.Contents.{contents}
-use Rattle.rr_store.specs.CheckParts.{HoldsNone, HoldsObjects}
+use Rattle.rr_store.specs.CheckParts.{HoldsInTurn, HoldsNone, HoldsObjects}
 use Rattle.rr_store.specs.Versions.{form_of}
 use Rattle.rr_store.specs.declared.fault.OpenFault.TheVariants.{BadRow}
 use Rattle.rr_store.proofs.StreamLemmas.{on_any}
@@ -27,6 +27,11 @@ pub returns-clause-read : goal.returns-clause-read
 returns-clause-read g c clean =
     let before : HasCleanDisk (state g.S.Store c.count_object.new.conn) = omega (arith, clean, c.read_objects.ensures.looks.rests.crash.clean) in
     subst (λ (d : Database). IfOk c.read_objects.result (λ objects. HoldsObjects (form_of c.args.version) c.args.source.now objects.items (contents (d.trees 2)))) (c.in_ok-count.ensures.looks.same before).0.now_is (c.read_objects.ensures.read clean)
+
+pub returns-clause-in_turn : goal.returns-clause-in_turn
+returns-clause-in_turn g c clean =
+    let before : HasCleanDisk (state g.S.Store c.count_object.new.conn) = omega (arith, clean, c.read_objects.ensures.looks.rests.crash.clean) in
+    subst (λ (d : Database). IfOk c.read_objects.result (λ objects. HoldsInTurn (form_of c.args.version) c.args.source.now objects.items (d.trees 2))) (c.in_ok-count.ensures.looks.same before).0.now_is (c.read_objects.ensures.in_turn clean)
 
 pub returns-clause-bad_row : goal.returns-clause-bad_row
 returns-clause-bad_row g c clean =

@@ -1,8 +1,10 @@
-use Rattle.std.proofs.lemmas.Result.{IfOk-weaker}
+use Rattle.std.proofs.lemmas.Result.{IfOk-weaker, err_from_is_err_and}
 use Rattle.sqlite_trees.proofs.ListLemmas.{all-permutation}
 use Rattle.sqlite.specs.Held.{state}
 use Rattle.rr_rows.specs.Contents.{contents, pointed}
 use Rattle.rr_rows.specs.Maps.{IsObjectOf, this_form}
+use Rattle.rr_store.proofs.CheckLemmas.{each_err}
+use Rattle.rr_store.proofs.PointedLemmas.{pointed_apart, pointed_read}
 use Rattle.rr_store.proofs.StoredLemmas.{reordered}
 use Rattle.rr_store.proofs.checks.naming_objects.Goals as goal
 
@@ -17,3 +19,15 @@ returns-clause-read g c clean =
 pub returns-clause-of_source : goal.returns-clause-of_source
 returns-clause-of_source g c =
     IfOk-weaker c.in_order.result _ _ (λ ordered same. all-permutation (IsObjectOf c.args.source.now) c.in_ok-objects.objects.items ordered.items same c.in_ok-objects.ensures.of_source) c.in_order.ensures.same
+
+pub returns-clause-bad_row : goal.returns-clause-bad_row
+returns-clause-bad_row g c clean =
+    each_err c.in_order.result _ _ c.in_order.ensures.fault
+    (λ fault tied bad objects stored. tied bad (pointed_apart c.args.source.now c.args.name.now objects (state g.S.Store c.args.conn.now).now stored c.in_ok-objects.objects.items
+    (rw c.as_bytes.ensures.value at (c.in_ok-objects.ensures.read clean))))
+
+pub returns-in_err-objects-clause-bad_row : goal.returns-in_err-objects-clause-bad_row
+returns-in_err-objects-clause-bad_row g c clean =
+    let exit = err_from_is_err_and c.from_residual.result c.from_residual.ensures.1 in
+    rw (exit.1, exit.2) (λ bad objects stored. pointed_read c.args.source.now c.args.name.now objects (state g.S.Store c.args.conn.now).now stored
+    (rw c.as_bytes.ensures.value at (c.in_err-objects.ensures.bad_row clean bad)))

@@ -1,16 +1,16 @@
-use Rattle.std.proofs.Common.{◌≡◌, ◌∙◌, ap, not, rules, arith, IsTrue, [], IfErr, OnOk, map, refl}
+use Rattle.std.proofs.Common.{◌≡◌, ◌∙◌, ap, not, rules, arith, IsTrue, [], IfErr, IfOk, OnOk, length, map, refl}
 use Rattle.rr_rows.specs.Contents.{AreNumbered, IsInRank, by_one, number}
 use Rattle.rr_rows.proofs.NumberLemmas.{keyed_by}
-use Rattle.rr_store.proofs.BodyLemmas.{then_ok}
+use Rattle.rr_store.proofs.TidyLemmas.{as_many}
 use Rattle.sqlite.specs.Held.{state}
 use Rattle.sqlite.specs.State.{HasCleanDisk}
 use Rattle.rr_rows.specs.Texts.{object_numbers}
 use Rattle.rr_rows.proofs.TextLemmas.{object_numbers_is}
 use Rattle.rr_rows.proofs.StatementLemmas.{numbers_object}
 use Rattle.rr_store.specs.Calls.{Looks}
-use Rattle.rr_store.proofs.LookLemmas.{looks_failed, plain_of, rests_failed}
+use Rattle.rr_store.proofs.LookLemmas.{looks_failed, on_each, plain_of, rests_failed}
 use Rattle.rr_store.proofs.StreamLemmas.{Begins, begins, streamed, whole_answer}
-use Rattle.std.proofs.lemmas.Result.{err_from_is_err_and}
+use Rattle.std.proofs.lemmas.Result.{IfOk-weaker, err_from_is_err_and}
 use Rattle.rr_store.specs.Calls.{FailsOverTidy}
 use Rattle.rr_store.proofs.CauseLemmas.{object_numbers_told}
 use Rattle.rr_store.proofs.StopLemmas.{ask_fails, counts_fail}
@@ -48,16 +48,30 @@ returns-clause-numbered g c =
     let told : HasCleanDisk (state g.S.Store new) → OnOk c.count_numbered.result (AreNumbered ((state g.S.Store old).now.trees 2)) = λ clean.
     let first : HasCleanDisk (state g.S.Store begun) = omega (arith, clean, c.count_numbered.ensures.streams.survives.clean) in
     let tables = c.requires.tables (omega (arith, first, b.survives.clean)) in
-    then_ok c.count_numbered.result (c.count_numbered.ensures.numbered clean) (λ rest.
+    on_each c.count_numbered.result _ _ (c.count_numbered.ensures.numbered clean) (λ count rest.
     let listed = whole_answer g.S.Store object_numbers [] old begun new b first tables (λ db rows. IsInRank by_one (map number (db.trees 2)) rows) numbers_object rest.0 rest.1 in
     keyed_by ((state g.S.Store old).now.trees 2) rest.0 listed.same rest.2) in
+    search rules
+
+pub returns-clause-count : goal.returns-clause-count
+returns-clause-count g c =
+    let old = c.args.conn.now in
+    let begun = c.in_ok-rows.rows.conn.now in
+    let new = c.count_numbered.new.rows.conn.now in
+    let b : Begins g.S.Store object_numbers [] old begun = begins g.S.Store object_numbers [] old begun (λ clean. plain_of old.schema object_numbers _ object_numbers_is (c.requires.tables clean)) c.in_ok-rows.ensures.begun c.in_ok-rows.ensures.survives in
+    let told : HasCleanDisk (state g.S.Store new) → IfOk c.count_numbered.result (λ count. count ≡ length ((state g.S.Store old).now.trees 2)) = λ clean.
+    let first : HasCleanDisk (state g.S.Store begun) = omega (arith, clean, c.count_numbered.ensures.streams.survives.clean) in
+    let tables = c.requires.tables (omega (arith, first, b.survives.clean)) in
+    IfOk-weaker c.count_numbered.result _ _ (λ count rest.
+    let listed = whole_answer g.S.Store object_numbers [] old begun new b first tables (λ db rows. IsInRank by_one (map number (db.trees 2)) rows) numbers_object rest.0 rest.1 in
+    rest.3 ∙ as_many ((state g.S.Store old).now.trees 2) rest.0 listed.same) (c.count_numbered.ensures.numbered clean) in
     search rules
 
 pub returns-in_err-rows-clause-cause : goal.returns-in_err-rows-clause-cause
 returns-in_err-rows-clause-cause g c =
     let refused = rw c.in_err-rows.was at c.query.follows.holds-at-none in
     let exit = err_from_is_err_and c.from_residual.result c.from_residual.ensures.1 in
-    rw (exit.1, exit.2) (ask_fails g.S.Store object_numbers object_numbers_told c.args.conn.now c.query.follows.lender-at-none c.in_err-rows.field-0.0 refused.err)
+    rw (exit.1, exit.2) (ask_fails g.S.Store object_numbers [] object_numbers_told c.args.conn.now c.query.follows.lender-at-none c.in_err-rows.field-0.0 refused.err)
 
 pub returns-clause-cause : goal.returns-clause-cause
 returns-clause-cause g c =
@@ -66,5 +80,5 @@ returns-clause-cause g c =
     let new = c.count_numbered.new.rows.conn.now in
     let b : Begins g.S.Store object_numbers [] old begun = begins g.S.Store object_numbers [] old begun (λ clean. plain_of old.schema object_numbers _ object_numbers_is (c.requires.tables clean)) c.in_ok-rows.ensures.begun c.in_ok-rows.ensures.survives in
     let told : IfErr c.count_numbered.result (FailsOverTidy g.S.Store old new) =
-    counts_fail g.S.Store object_numbers object_numbers_told old new begun b c.count_numbered.ensures.streams.survives c.count_numbered.result _ _ object_numbers_is refl 2 numbers_object (λ tidy. tidy.object) c.count_numbered.ensures.fails in
+    counts_fail g.S.Store object_numbers [] object_numbers_told old new begun b c.count_numbered.ensures.streams.survives c.count_numbered.result _ _ object_numbers_is refl 2 numbers_object (λ tidy. tidy.object) c.count_numbered.ensures.fails in
     search rules

@@ -1,4 +1,4 @@
-use Rattle.std.proofs.Common.{arith}
+use Rattle.std.proofs.Common.{arith, []}
 use Rattle.sqlite.specs.Held.{state}
 use Rattle.rr_rows.specs.Texts.{select_meta}
 use Rattle.rr_rows.proofs.TextLemmas.{select_meta_is}
@@ -19,4 +19,4 @@ returns-clause-rows g c clean =
     shown_of c.look.result _ _ _ old new _ (c.look.ensures.shown clean) (λ rows h. selects_meta old new tables rows.items h)
 
 pub returns-clause-cause : goal.returns-clause-cause
-returns-clause-cause g c = asks_fail g.S.Store select_meta select_meta_told c.args.conn.now c.look.new.conn c.look.result c.requires.tables c.look.ensures.looks.rests.crash c.look.ensures.refused
+returns-clause-cause g c = asks_fail g.S.Store select_meta [] select_meta_told c.args.conn.now c.look.new.conn c.look.result c.requires.tables c.look.ensures.looks.rests.crash c.look.ensures.refused

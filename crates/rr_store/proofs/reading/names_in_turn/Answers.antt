@@ -64,7 +64,7 @@ returns-in_err-rows-clause-cause g c =
     let new = c.query.follows.lender-at-none in
     let refused = rw c.in_err-rows.was at c.query.follows.holds-at-none in
     let exit = err_from_is_err_and c.from_residual.result c.from_residual.ensures.1 in
-    rw (exit.1, exit.2) (is_store (FailsOverTidy g.S.Store old new) c.in_err-rows.field-0.0 (ask_fails g.S.Store select_named select_named_told old new c.in_err-rows.field-0.0 refused.err))
+    rw (exit.1, exit.2) (is_store (FailsOverTidy g.S.Store old new) c.in_err-rows.field-0.0 (ask_fails g.S.Store select_named [] select_named_told old new c.in_err-rows.field-0.0 refused.err))
 
 pub returns-clause-cause : goal.returns-clause-cause
 returns-clause-cause g c =
@@ -73,5 +73,5 @@ returns-clause-cause g c =
     let new = c.take_all_names.new.rows.conn.now in
     let b : Begins g.S.Store select_named [] old begun = begins g.S.Store select_named [] old begun (λ clean. plain_of old.schema select_named _ select_named_is (c.requires.tables clean)) c.in_ok-rows.ensures.begun c.in_ok-rows.ensures.survives in
     let told : IfErr c.take_all_names.result (IfStore (FailsOverTidy g.S.Store old new)) =
-    reads_fail g.S.Store select_named select_named_told old new begun b c.take_all_names.ensures.streams.survives c.take_all_names.result c.take_all_names.ensures.stops in
+    reads_fail g.S.Store select_named [] select_named_told old new begun b c.take_all_names.ensures.streams.survives c.take_all_names.result c.take_all_names.ensures.stops in
     search rules

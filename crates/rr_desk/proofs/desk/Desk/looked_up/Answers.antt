@@ -16,3 +16,15 @@ returns-in_ok-text_of-in-Ok-clause-looked g c =
         registered = λ clean. told ∙ ap objects_text (c.in-Ok.ensures.found clean);
       },
     )
+
+pub returns-in_ok-text_of-in-Ok-clause-why : goal.returns-in_ok-text_of-in-Ok-clause-why
+returns-in_ok-text_of-in-Ok-clause-why g c = rw (← c.source.ensures.source) c.naming.ensures.why
+
+pub returns-in_err-text_of-in-Ok-clause-why : goal.returns-in_err-text_of-in-Ok-clause-why
+returns-in_err-text_of-in-Ok-clause-why g c = rw (← c.source.ensures.source) c.naming.ensures.why
+
+pub returns-in-Err-Store-clause-why : goal.returns-in-Err-Store-clause-why
+returns-in-Err-Store-clause-why g c = rw (← c.source.ensures.source) c.naming.ensures.why
+
+pub returns-in-Err-Memory-clause-why : goal.returns-in-Err-Memory-clause-why
+returns-in-Err-Memory-clause-why g c = rw (← c.source.ensures.source) c.naming.ensures.why

@@ -1,9 +1,9 @@
-use Rattle.rr_commands.proofs.databases.open_over.Goals as goal
+use Rattle.rr_commands.proofs.databases.open_quietly.Goals as goal
 
 pub returns-in-Ok-clause-opens : goal.returns-in-Ok-clause-opens
 returns-in-Ok-clause-opens g c = record {
-  conn = c.args.conn;
-  given = c.requires.given;
+  conn = c.in_ok-conn.conn;
+  given = c.in_ok-conn.ensures.gives;
   opens = c.in-Ok.ensures.opens;
   runs = c.in-Ok.ensures.runs;
 }

@@ -1,0 +1,81 @@
+//! How the program listens, and how it asks itself.
+
+ghost use Rattle.std.specs.Prelude.{◌≡◌, ℕ, IfOk, List, Option};
+ghost use Rattle.rr_desk.specs.Turns.{Tally};
+
+use crate::peers_with_cause::PeersWithCause;
+use rr_commands::Cause;
+use rr_listener::Listener;
+use std::io;
+use std::io::{Read, Write};
+use std::net::{Ipv4Addr, Shutdown, TcpStream};
+use std::time::Duration;
+
+/// How many seconds the reply is waited for (profile).
+const REPLY_WAIT: u64 = 10;
+
+/// How the program listens on ports and asks itself: over sockets, or over whatever else carries
+/// bytes.
+pub trait Network {
+    /// What listens.
+    type Listener: PeersWithCause + Drop;
+
+    /// A connection that has asked.
+    type Peer: Read + Drop;
+
+    // What listens on this port may tell this.
+    ghost listens: { Self → ℕ → Tally → Type 0 };
+
+    // A peer that asked this is to be given these bytes, if it tells them.
+    ghost asks: { Self → List ℕ → Option (List ℕ) → Type 0 };
+
+    /// Listens on this port, or on any free one if it is 0.
+    fn listen(&self, port: u16) -> Result<Self::Listener, Cause>
+        ensures turns { IfOk result (λ listener. (Self.Listener.tally listener).turns ≡ 0) }
+        ensures listens { IfOk result
+            (λ listener. listens self.now port (Self.Listener.tally listener)) };
+
+    /// Connects to a listener, and writes a query and nothing after it (RFC 3912, 2).
+    fn ask(&self, listener: &Self::Listener, query: &[u8]) -> io::Result<Self::Peer>
+        ensures { IfOk result (λ peer. asks self.now query.now (Self.Peer.remaining peer)) };
+}
+
+/// The sockets of this machine.
+#[derive(Clone, Copy)]
+pub struct Sockets<'a> {
+    rt: &'a HostRuntime,
+}
+
+impl<'a> Sockets<'a> {
+    /// The sockets of this machine.
+    pub fn new(rt: &'a HostRuntime) -> Sockets<'a> {
+        Sockets { rt }
+    }
+}
+
+impl<'a> Network for Sockets<'a> {
+    type Listener = Listener<'a>;
+
+    type Peer = TcpStream;
+
+    // No contract can say what a socket has.
+    ghost listens = { λ _ _ _. Unit {0} };
+
+    ghost asks = { λ _ _ _. Unit {0} };
+
+    fn listen(&self, port: u16) -> Result<Listener<'a>, Cause> {
+        match Listener::open(self.rt, port) {
+            Ok(listener) => Ok(listener),
+            Err(error) => Err(Cause::of(&error)),
+        }
+    }
+
+    fn ask(&self, listener: &Listener<'a>, query: &[u8]) -> io::Result<TcpStream> {
+        let mut peer = TcpStream::connect(self.rt, (Ipv4Addr::LOCALHOST, listener.port()?))?;
+        peer.set_read_timeout(Some(Duration::from_secs(REPLY_WAIT)))?;
+        peer.write_all(query)?;
+        peer.write_all(b"\r\n")?;
+        peer.shutdown(Shutdown::Write)?;
+        Ok(peer)
+    }
+}

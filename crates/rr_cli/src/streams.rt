@@ -1,0 +1,60 @@
+//! The standard streams, of which some may be closed as the program starts.
+
+ghost use Rattle.std.specs.Fd.{file_raw_fd};
+ghost use Rattle.std.specs.Prelude.{◌≡◌, IfSome};
+
+use std::fs::File;
+use std::io;
+use std::io::{Read, Stdin};
+use std::os::fd::{AsRawFd, RawFd};
+
+/// The number of Linux of the error of a stream that is closed.
+const EBADF: i32 = 9;
+
+/// Fills the place of each standard stream that is closed, in order, because what is opened gets
+/// the lowest free number. While these are kept, no file and no socket gets the number of a stream,
+/// and nothing that is meant for the stream goes into it, as a line of standard error into a reply.
+pub fn fill_closed(rt: &HostRuntime) -> [Option<File>; 3] {
+    [fill(rt, 0), fill(rt, 1), fill(rt, 2)]
+}
+
+/// Fills the place of the stream of this number; `None` if the stream is open, or if it cannot be
+/// filled, and then the program goes on without. It is filled by the root folder: a write to that
+/// fails with error 9, as one to a closed stream does, and neither it nor what opens the stream by
+/// name, as `/dev/stdin`, can be read, so no text is taken for an empty one.
+fn fill(rt: &HostRuntime, number: RawFd) -> Option<File>
+    ensures { IfSome result (λ file. file_raw_fd file ≡ number) }
+{
+    match File::open(rt, "/") {
+        Ok(file) if file.as_raw_fd() == number => Some(file),
+        _ => None,
+    }
+}
+
+/// Standard input, whose reads fail if it was closed: those of what fills its place would have
+/// another cause.
+#[derive(Drop)]
+pub struct StandardInput {
+    stdin: Stdin,
+    is_closed: bool,
+}
+
+impl StandardInput {
+    /// Standard input, which is closed if its place was filled.
+    pub fn new(rt: &HostRuntime, is_closed: bool) -> StandardInput {
+        StandardInput {
+            stdin: rt.stdin(),
+            is_closed,
+        }
+    }
+}
+
+impl Read for StandardInput {
+    fn read(&mut self, buf: &mut [u8]) -> io::Result<usize> {
+        if self.is_closed {
+            Err(io::Error::from_raw_os_error(EBADF))
+        } else {
+            self.stdin.read(buf)
+        }
+    }
+}

@@ -1,17 +1,17 @@
-//! Why the words of the command line ask for nothing.
+//! Why the arguments of the command line ask for nothing.
 
 use std::alloc::AllocError;
 
-/// Why the words ask for nothing that the program does.
+/// Why the arguments ask for nothing that the program does.
 #[derive(Drop)]
 pub enum ArgumentsFault<'a> {
-    /// They are none of a command, and this line says why not.
+    /// They are not those of a command, and this line says why.
     Refused(String),
-    /// They are none of a command.
+    /// They are not those of a command.
     Unexplained,
-    /// This word is not a port, which is a number from 1 to 65,535.
+    /// This argument is not a port, which is a number from 1 to 65,535.
     Port(&'a str),
-    /// This word is not a count, which is a number from 1 to 1,000,000.
+    /// This argument is not a count, which is a number from 1 to 1,000,000.
     Count(&'a str),
     /// Memory ran out.
     Memory,

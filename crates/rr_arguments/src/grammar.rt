@@ -1,13 +1,13 @@
-//! What the words of the command line may be.
+//! What the arguments of the command line may be.
 
 use crate::help;
 use clap::{Arg, ArgAction};
 use std::alloc::{AllocError, Global};
 
 /// The version of the program, and that of the tables that it reads.
-const VERSION: &str = "1.2.6 (tables 2)";
+const VERSION: &str = "1.2.7 (tables 2)";
 
-/// What the words may be. The commands stand in the order in which a registry meets them.
+/// What the arguments may be. The commands stand in the order in which a registry meets them.
 pub fn program<'a>(alloc: Global) -> Result<clap::Command<'a>, AllocError> {
     let program = clap::Command::new(alloc, "irrdesk")
         .bin_name("irrdesk")?
@@ -104,7 +104,7 @@ fn over_settings<'a>(
         .arg(needed(alloc, "SETTINGS", "The path of the settings, in TOML"))
 }
 
-/// A word that a command needs, by its place.
+/// An argument that a command needs, by its place.
 fn needed<'a>(alloc: Global, place: &'a str, help: &'a str) -> Arg<'a> {
     Arg::new(alloc, place)
         .required(true)

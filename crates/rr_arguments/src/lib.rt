@@ -1,5 +1,5 @@
-//! The command line of the program: what its words may be, what they ask for, and the help that
-//! they are shown.
+//! The command line of the program: what its arguments may be, what they ask for, and the help
+//! that is shown.
 #![tactic(auto)]
 
 mod command;

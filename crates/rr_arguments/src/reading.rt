@@ -1,4 +1,4 @@
-//! Reading the words of the command line.
+//! Reading the arguments of the command line.
 
 use crate::command::Command;
 use crate::fault::ArgumentsFault;
@@ -15,25 +15,28 @@ const GREATEST_PORT: usize = 65_535;
 /// The greatest number of connections that are served in one run (profile).
 const GREATEST_COUNT: usize = 1_000_000;
 
-/// The command that the words ask for, of which the first is the program's own name. The fault is
-/// that they ask for none, or that memory ran out.
+/// What stands before the usage in a refusal.
+const USAGE: &str = "usage: ";
+
+/// The command that the arguments ask for, of which the first is the program's own name. The fault
+/// is that they ask for none, or that memory ran out.
 pub fn read_command<'a>(
     alloc: Global,
-    words: &'a [String],
+    arguments: &'a [String],
 ) -> Result<Command<'a>, ArgumentsFault<'a>> {
-    if words.len() < 2 {
+    if arguments.len() < 2 {
         return Ok(Command::Plain);
     }
-    match words {
+    match arguments {
         [_, name, settings, query @ ..] if is_query(name.as_str(), settings.as_str(), query) => {
             read_query(alloc, settings.as_str(), query)
         }
-        _ => read_words(alloc, words),
+        _ => read_arguments(alloc, arguments),
     }
 }
 
-/// Whether these are the words of a query after its settings: each of them is one of the query,
-/// also one that begins with a dash and would be an option elsewhere (profile).
+/// Whether these are the arguments of a query after its settings: each of them is a word of the
+/// query, also one that begins with a dash and would be an option elsewhere (profile).
 fn is_query(name: &str, settings: &str, query: &[String]) -> bool {
     name == "query" && !settings.starts_with('-') && !query.is_empty()
 }
@@ -48,15 +51,45 @@ fn read_query<'a, S: AsStr>(
     Ok(Command::Query { settings, query })
 }
 
-/// The command that the words ask for by the rules of command lines.
-fn read_words<'a>(alloc: Global, words: &'a [String]) -> Result<Command<'a>, ArgumentsFault<'a>> {
-    match program(alloc)?.try_get_matches_from(words) {
+/// The command that the arguments ask for by the rules of command lines.
+fn read_arguments<'a>(
+    alloc: Global,
+    arguments: &'a [String],
+) -> Result<Command<'a>, ArgumentsFault<'a>> {
+    if let [first, help, name] = arguments {
+        if help.as_str() == "help" && name.as_str() != "help" {
+            return read_help(alloc, first.as_str(), name.as_str());
+        }
+    }
+    match program(alloc)?.try_get_matches_from(arguments) {
         Ok(matches) => match matches.subcommand() {
             Some((name, found)) => read_found(alloc, name, found),
             None => Err(ArgumentsFault::Unexplained),
         },
-        Err(error) => read_refusal(alloc, &error),
+        Err(error) => read_refusal(alloc, arguments, &error),
     }
+}
+
+/// The help on a command: what the command says with `--help`, which suggests another for one that
+/// is unknown.
+fn read_help<'a>(
+    alloc: Global,
+    first: &str,
+    name: &str,
+) -> Result<Command<'a>, ArgumentsFault<'a>> {
+    let words = words_of(alloc, &[first, name, "--help"])?;
+    match program(alloc)?.try_get_matches_from(words.as_slice()) {
+        Ok(_) => Err(ArgumentsFault::Unexplained),
+        Err(error) => read_refusal(alloc, words.as_slice(), &error),
+    }
+}
+
+fn words_of(alloc: Global, texts: &[&str]) -> Result<Vec<String>, AllocError> {
+    let mut words = Vec::new(alloc);
+    for text in texts {
+        words.push(String::from_str(alloc, text)?)?;
+    }
+    Ok(words)
 }
 
 /// The command of this name, with what was found after it.
@@ -65,12 +98,12 @@ fn read_found<'a>(
     name: &'a str,
     found: &ArgMatches<'a>,
 ) -> Result<Command<'a>, ArgumentsFault<'a>> {
-    let settings = read_word(found, "SETTINGS")?;
+    let settings = read_argument(found, "SETTINGS")?;
     match name {
         "init" => Ok(Command::Init { settings }),
         "submit" => Ok(Command::Submit {
             settings,
-            file: read_word(found, "FILE")?,
+            file: read_argument(found, "FILE")?,
         }),
         "query" => read_query(alloc, settings, found.get_strs("WORD").unwrap_or(&[])),
         "dump" => Ok(Command::Dump {
@@ -79,7 +112,7 @@ fn read_found<'a>(
         }),
         "load" => Ok(Command::Load {
             settings,
-            file: read_word(found, "FILE")?,
+            file: read_argument(found, "FILE")?,
         }),
         "migrate" => Ok(Command::Migrate { settings }),
         "serve" => Ok(Command::Serve {
@@ -92,39 +125,73 @@ fn read_found<'a>(
     }
 }
 
-/// The word of a command that has this place.
-fn read_word<'a>(found: &ArgMatches<'a>, place: &str) -> Result<&'a str, ArgumentsFault<'a>> {
+/// The argument of a command that has this place.
+fn read_argument<'a>(found: &ArgMatches<'a>, place: &str) -> Result<&'a str, ArgumentsFault<'a>> {
     match found.get_str(place) {
-        Some(word) => Ok(word),
+        Some(argument) => Ok(argument),
         None => Err(ArgumentsFault::Unexplained),
     }
 }
 
-/// The port that the words name.
+/// The port that the arguments name.
 fn read_port<'a>(found: &ArgMatches<'a>) -> Result<u16, ArgumentsFault<'a>> {
-    let word = read_word(found, "PORT")?;
-    match read_number(word, GREATEST_PORT) {
+    let argument = read_argument(found, "PORT")?;
+    match read_number(argument, GREATEST_PORT) {
         Some(port) => Ok(port as u16),
-        None => Err(ArgumentsFault::Port(word)),
+        None => Err(ArgumentsFault::Port(argument)),
     }
 }
 
-/// The number of connections that the words name.
+/// The number of connections that the arguments name.
 fn read_count<'a>(found: &ArgMatches<'a>) -> Result<u64, ArgumentsFault<'a>> {
-    let word = read_word(found, "N")?;
-    match read_number(word, GREATEST_COUNT) {
+    let argument = read_argument(found, "N")?;
+    match read_number(argument, GREATEST_COUNT) {
         Some(count) => Ok(count as u64),
-        None => Err(ArgumentsFault::Count(word)),
+        None => Err(ArgumentsFault::Count(argument)),
     }
 }
 
-/// What is to be done where the words are refused: the help and the version are refusals too.
-fn read_refusal<'a>(alloc: Global, error: &clap::Error) -> Result<Command<'a>, ArgumentsFault<'a>> {
+/// What is to be done where the arguments are refused: the help and the version are refusals too.
+fn read_refusal<'a>(
+    alloc: Global,
+    arguments: &[String],
+    error: &clap::Error,
+) -> Result<Command<'a>, ArgumentsFault<'a>> {
     let text = error.to_string(alloc)?;
     match error.kind() {
         ErrorKind::DisplayHelp | ErrorKind::DisplayVersion => Ok(Command::Print(text)),
         ErrorKind::OutOfMemory => Err(ArgumentsFault::Memory),
-        _ => Err(ArgumentsFault::Refused(one_line(alloc, text.as_str())?)),
+        _ => {
+            let mut line = one_line(alloc, text.as_str())?;
+            push_usage(alloc, arguments, &mut line)?;
+            Err(ArgumentsFault::Refused(line))
+        }
+    }
+}
+
+/// Adds the usage of the command that the arguments name to a refusal without one, as that of an
+/// option without its value is. A command that gets no further word is refused with its usage.
+fn push_usage(alloc: Global, arguments: &[String], line: &mut String) -> Result<(), AllocError> {
+    if line.contains(USAGE) {
+        return Ok(());
+    }
+    let Some(named) = arguments.get(..2) else {
+        return Ok(());
+    };
+    match program(alloc)?.try_get_matches_from(named) {
+        Ok(_) => Ok(()),
+        Err(error) => {
+            let text = error.to_string(alloc)?;
+            let refusal = one_line(alloc, text.as_str())?;
+            match refusal.split_once(USAGE) {
+                Some((_, usage)) => {
+                    line.push_str("; ")?;
+                    line.push_str(USAGE)?;
+                    line.push_str(usage)
+                }
+                None => Ok(()),
+            }
+        }
     }
 }
 
@@ -141,7 +208,9 @@ fn one_line(alloc: Global, text: &str) -> Result<String, AllocError> {
     let mut is_apart = false;
     for part in told.lines() {
         let part = part.trim();
-        if part.is_empty() {
+        // To pass an option as a value helps no command but one of a file whose name begins with a
+        // dash, and that can be written after `./`.
+        if part.is_empty() || part.starts_with("tip: to pass '") {
             is_apart = true;
         } else {
             push_part(&mut line, part, is_apart)?;
@@ -159,7 +228,7 @@ fn push_part(line: &mut String, part: &str, is_apart: bool) -> Result<(), AllocE
     }
     match part.strip_prefix("Usage: ") {
         Some(usage) => {
-            line.push_str("usage: ")?;
+            line.push_str(USAGE)?;
             line.push_str(usage)
         }
         None => line.push_str(part),

@@ -1,23 +1,24 @@
--- What the probe of a command does, and what it prints (profile).
+-- What `irrdesk probe` does, and what it prints (profile).
 use Rattle.std.specs.Prelude.{◌≡◌, ◌≢◌, ◌⊎◌, ℕ, Bool, true, false, List, [], Option, Ok, Err}
 use Rattle.std.specs.Prelude.{IfSome, IsTrue, codes, if◌then◌else◌, nat_eq}
 use Rattle.std.specs.List.{starts_with}
 use Rattle.sqlite_trees.specs.declared.store.Store.{Ghosts}
 use Rattle.rr_io.specs.Sending.{Takes, TakesPrefix}
 use Rattle.rr_io.specs.Told.{Told}
-use Rattle.rr_desk.specs.Stocks.{StoresUntilStopped}
+use Rattle.rr_desk.specs.Desks.{desk_state}
+use Rattle.rr_desk.specs.Stocks.{ConnectionLasts, StoresUntilStopped}
 use Rattle.rr_desk.specs.Turns.{Serving, TakesTurns, Tally}
 use Rattle.rr_desk.specs.declared.desk.Desk.{Desk}
-use Rattle.rr_commands.specs.Commands.{AtDesk, Closes, CommandEnd, Commands, DeskAction}
-use Rattle.rr_commands.specs.Commands.{Ending, Gives}
+use Rattle.rr_commands.specs.Commands.{ActsBySettings, AtDesk, Closes, CommandEnd, DeskAction}
+use Rattle.rr_commands.specs.Commands.{Gives, ProgramEnd, Reads}
 use Rattle.rr_commands.specs.declared.trouble.Trouble.{Trouble}
 use Rattle.rr_commands.specs.declared.trouble.Trouble.TheVariants.{ListenerUnopened, Memory}
 use Rattle.rr_commands.specs.declared.trouble.Trouble.TheVariants.{ProbeFailed, Unwritten}
 use Rattle.rr_cli.specs.Serving.{Listens}
 
--- which bytes a peer that asked this is to be given, if it tells them (profile)
-abbrev pub Asks : Type 1
-Asks = List ℕ → Option (List ℕ) → Type 0
+-- a peer that asked this is to be given these bytes, if it tells them (profile)
+abbrev pub Asking : Type 1
+Asking = List ℕ → Option (List ℕ) → Type 0
 
 -- the status of a probe: 1 if the reply is an error, and else 0 (profile)
 abbrev pub reply_status : List ℕ → ℕ
@@ -50,27 +51,28 @@ pub record IsWhole (given : Option (List ℕ)) (reply : List ℕ) : Type 0 where
   pub some : reply ≢ []
 
 -- a peer asked this, and the reply is all that it was to be given (profile)
-pub record IsReplyTo (asks : Asks) (query reply : List ℕ) : Type 0 where
+pub record IsReplyTo (asks : Asking) (query reply : List ℕ) : Type 0 where
   pub given : Option (List ℕ)
   pub asked : asks query given
   pub whole : IsWhole given reply
 
 -- the reply to this was printed (profile)
-pub record HasReply (asks : Asks) (query : List ℕ) (old new : Told) (ended : CommandEnd)
+pub record HasReply (asks : Asking) (query : List ℕ) (old new : Told) (ended : CommandEnd)
     : Type 0 where
   pub reply : List ℕ
   pub is_reply : IsReplyTo asks query reply
   pub prints : PrintsReply reply old new ended
 
 -- of a listener that told `tally_before` one turn was taken, and `failed` says how many failed, 0
--- or 1; the settings stay, and until the desk is stopped its rows are those of its registry
--- (profile)
+-- or 1; the settings stay, the connection lasts, and until the desk is stopped its rows are those
+-- of its registry (profile)
 pub record TakesOneTurn {S : Type 0} (g : Ghosts S) (serves : Serving) (tally_before : Tally)
     (before after : Desk S) (failed : ℕ) : Type 0 where
   pub tally_after : Tally
   pub served : ℕ
   pub turns : TakesTurns g serves 1 before after tally_before tally_after served failed
   pub settings : after.settings ≡ before.settings
+  pub lasts : ConnectionLasts (desk_state g before) (desk_state g after)
   pub rows : StoresUntilStopped g after.stored
 
 -- any free port was listened on, and one turn of what listens on it was taken (profile)
@@ -87,17 +89,17 @@ abbrev pub AsksInVain : {S : Type 0} → Ghosts S → Listens → Serving → De
 AsksInVain g listens serves before after =
     (after ≡ before) ⊎ ((failed : ℕ) × ListensOnce g listens serves before after failed)
 
--- what the command does at a desk: it asks in vain, and prints nothing; or it asks for the root
--- maintainer of the settings, one turn was taken and served, and the reply is printed (profile)
-abbrev pub ProbesDesk : {S : Type 0} → Ghosts S → Listens → Asks → Serving → Told
+-- what `irrdesk probe` does at a desk: it asks in vain, and prints nothing; or it asks for the root
+-- maintainer of the settings, one turn is taken and served, and the reply is printed (profile)
+abbrev pub ProbesDesk : {S : Type 0} → Ghosts S → Listens → Asking → Serving → Told
     → Told → DeskAction S
 ProbesDesk g listens asks serves old new before after ended =
     (HasNoReply old new ended × AsksInVain g listens serves before after)
     ⊎ (HasReply asks before.settings.root old new ended
     × ListensOnce g listens serves before after 0)
 
--- what the command does (profile)
-abbrev pub ProbesBy : {S : Type 0} → Ghosts S → Gives S → Closes S → Listens → Asks
-    → Serving → Told → Told → Ending → Type 0
-ProbesBy g gives closes listens asks serves old new =
-    Commands (AtDesk g gives closes (ProbesDesk g listens asks serves old new) old new) old new
+-- what `irrdesk probe` does, by its settings file (profile)
+abbrev pub ProbesBy : {S : Type 0} → Ghosts S → Gives S → Closes S → Reads → List ℕ → Listens
+    → Asking → Serving → Told → Told → ProgramEnd → Type 0
+ProbesBy g gives closes reads file listens asks serves old new = ActsBySettings reads file
+    (AtDesk g gives closes (ProbesDesk g listens asks serves old new) old new) old new

@@ -7,43 +7,48 @@ use Rattle.rr_desk.specs.Turns.{Serving}
 use Rattle.rr_arguments.specs.declared.command.Command.{Command}
 use Rattle.rr_arguments.specs.declared.command.Command.TheVariants as command
 use Rattle.rr_commands.specs.Asked.{AsksBy}
-use Rattle.rr_commands.specs.Commands.{Closes, Ending, Gives}
+use Rattle.rr_commands.specs.Commands.{Closes, Gives, ProgramEnd, Reads}
 use Rattle.rr_commands.specs.Created.{CreatesBy}
 use Rattle.rr_commands.specs.Dumped.{DumpsBy}
 use Rattle.rr_commands.specs.Loaded.{LoadsBy}
 use Rattle.rr_commands.specs.Migrated.{MigratesBy}
 use Rattle.rr_commands.specs.Printed.{Prints}
 use Rattle.rr_commands.specs.Submitted.{EndsPlain, SubmitsBy}
-use Rattle.rr_cli.specs.Probing.{Asks, ProbesBy}
+use Rattle.rr_cli.specs.Probing.{Asking, ProbesBy}
 use Rattle.rr_cli.specs.Serving.{Listens, ServesBy}
 
 -- a command was carried out, by what standard input and standard output told before and after
 -- (profile)
-abbrev pub CarriesOut : {S : Type 0} → Ghosts S → Gives S → Closes S → Listens → Asks
-    → Serving → Command → Told → Told → Told → Told → Ending → Type 0
-CarriesOut g gives closes listens asks serves command.Plain unread read old new result =
-    EndsPlain over_memory unread read old new result
-CarriesOut g gives closes listens asks serves (command.Init settings) unread read old new result =
-    CreatesBy g gives closes old new result
-CarriesOut g gives closes listens asks serves (command.Submit settings file) unread read old new
-    result =
-    SubmitsBy g gives closes old new result
-CarriesOut g gives closes listens asks serves (command.Query settings query) unread read old new
-    result =
-    AsksBy g gives closes (string_bytes query) old new result
-CarriesOut g gives closes listens asks serves (command.Dump settings full) unread read old new
-    result =
-    DumpsBy g gives closes full old new result
-CarriesOut g gives closes listens asks serves (command.Load settings file) unread read old new
-    result =
-    LoadsBy g gives closes old new result
-CarriesOut g gives closes listens asks serves (command.Migrate settings) unread read old new
-    result =
-    MigratesBy g gives closes old new result
-CarriesOut g gives closes listens asks serves (command.Serve settings port count) unread read
-    old new result =
-    ServesBy g gives closes listens serves port count old new result
-CarriesOut g gives closes listens asks serves (command.Probe settings) unread read old new result =
-    ProbesBy g gives closes listens asks serves old new result
-CarriesOut g gives closes listens asks serves (command.Print text) unread read old new result =
-    Prints (string_bytes text) old new result
+abbrev pub CarriesOut : {S : Type 0} → Ghosts S → Gives S → Closes S → Reads → Listens → Asking
+    → Serving → Command → Told → Told → Told → Told → ProgramEnd → Type 0
+CarriesOut g gives closes reads listens asks serves command.Plain reader_old reader_new
+    writer_old writer_new result =
+    EndsPlain over_memory reader_old reader_new writer_old writer_new result
+CarriesOut g gives closes reads listens asks serves (command.Init settings) reader_old reader_new
+    writer_old writer_new result =
+    CreatesBy g gives closes reads settings.now writer_old writer_new result
+CarriesOut g gives closes reads listens asks serves (command.Submit settings file)
+    reader_old reader_new writer_old writer_new result =
+    SubmitsBy g gives closes reads settings.now file.now writer_old writer_new result
+CarriesOut g gives closes reads listens asks serves (command.Query settings query)
+    reader_old reader_new writer_old writer_new result =
+    AsksBy g gives closes reads settings.now (string_bytes query) writer_old writer_new result
+CarriesOut g gives closes reads listens asks serves (command.Dump settings full)
+    reader_old reader_new writer_old writer_new result =
+    DumpsBy g gives closes reads settings.now full writer_old writer_new result
+CarriesOut g gives closes reads listens asks serves (command.Load settings file)
+    reader_old reader_new writer_old writer_new result =
+    LoadsBy g gives closes reads settings.now file.now writer_old writer_new result
+CarriesOut g gives closes reads listens asks serves (command.Migrate settings) reader_old reader_new
+    writer_old writer_new result =
+    MigratesBy g gives closes reads settings.now writer_old writer_new result
+CarriesOut g gives closes reads listens asks serves (command.Serve settings port count)
+    reader_old reader_new writer_old writer_new result =
+    ServesBy g gives closes reads settings.now listens serves port count writer_old writer_new
+    result
+CarriesOut g gives closes reads listens asks serves (command.Probe settings) reader_old reader_new
+    writer_old writer_new result =
+    ProbesBy g gives closes reads settings.now listens asks serves writer_old writer_new result
+CarriesOut g gives closes reads listens asks serves (command.Print text) reader_old reader_new
+    writer_old writer_new result =
+    Prints (string_bytes text) writer_old writer_new result

@@ -1,19 +1,20 @@
--- What the serving of a command does, and what it prints (profile).
-use Rattle.std.specs.Prelude.{◌≡◌, ◌⊎◌, ℕ, List, ◌++◌, Ok, Err, codes, decimal}
+-- What `irrdesk serve` does, and what it prints (profile).
+use Rattle.std.specs.Prelude.{◌≡◌, ◌⊎◌, ℕ, List, [], ◌∷◌, ◌++◌, IfSome, Ok, Err, codes, decimal}
 use Rattle.sqlite_trees.specs.declared.store.Store.{Ghosts}
 use Rattle.rr_io.specs.Sending.{Takes, TakesPrefix}
 use Rattle.rr_io.specs.Told.{Told}
-use Rattle.rr_desk.specs.Stocks.{StoresUntilStopped}
-use Rattle.rr_desk.specs.Turns.{Serving, TakesTurns, Tally}
+use Rattle.rr_desk.specs.Desks.{desk_state}
+use Rattle.rr_desk.specs.Stocks.{ConnectionLasts, StoresUntilStopped}
+use Rattle.rr_desk.specs.Turns.{Serving, TakesTurns, Tally, Turn, unaccepted}
 use Rattle.rr_desk.specs.declared.desk.Desk.{Desk}
 use Rattle.rr_commands.specs.declared.cause.Cause.{Cause}
 use Rattle.rr_commands.specs.declared.trouble.Trouble.{Trouble}
 use Rattle.rr_commands.specs.declared.trouble.Trouble.TheVariants.{ListenerUnopened, Unaccepted}
 use Rattle.rr_commands.specs.declared.trouble.Trouble.TheVariants.{Unwritten}
-use Rattle.rr_commands.specs.Commands.{AtDesk, Closes, CommandEnd, Commands, DeskAction}
-use Rattle.rr_commands.specs.Commands.{Ending, Gives}
+use Rattle.rr_commands.specs.Commands.{ActsBySettings, AtDesk, Closes, CommandEnd, DeskAction}
+use Rattle.rr_commands.specs.Commands.{Gives, ProgramEnd, Reads}
 
--- what may be told by what listens on this port (profile)
+-- what listens on this port may tell this (profile)
 abbrev pub Listens : Type 1
 Listens = ℕ → Tally → Type 0
 
@@ -22,36 +23,43 @@ unfoldable pub served_line : ℕ → ℕ → List ℕ
 served_line served failed =
     codes "served " ++ (decimal served ++ (codes ", failed " ++ (decimal failed ++ codes "\n")))
 
--- no turn was served, and the fault is why a connection could not be accepted (profile)
-pub record IsUnaccepted (served : ℕ) (ended : CommandEnd) : Type 0 where
+-- in the last of these turns no connection could be accepted (profile)
+abbrev pub EndsUnaccepted : List Turn → Type 0
+EndsUnaccepted turns = (earlier : List Turn) × (turns ≡ earlier ++ unaccepted ∷ [])
+
+-- no turn was served, and the fault is why no connection could be accepted in the last one, where
+-- turns are told (profile)
+pub record HasServedNone (tally : Tally) (served : ℕ) (ended : CommandEnd) : Type 0 where
   pub cause : Cause
   pub told : ended ≡ Err (Unaccepted cause)
   pub none : served ≡ 0
+  pub refused : IfSome tally.told EndsUnaccepted
 
 -- how serving ends once that line was printed: the status is 0, also where some turns failed, but a
 -- fault may be told if none was served (profile)
-abbrev pub IsServedEnd : ℕ → CommandEnd → Type 0
-IsServedEnd served ended = (ended ≡ Ok 0) ⊎ IsUnaccepted served ended
+abbrev pub IsServedEnd : Tally → ℕ → CommandEnd → Type 0
+IsServedEnd tally served ended = (ended ≡ Ok 0) ⊎ HasServedNone tally served ended
 
 -- that line was printed whole, and serving ends so; or it could not be printed whole, which is the
 -- fault then (profile)
-abbrev pub EndsServed : ℕ → ℕ → Told → Told → CommandEnd → Type 0
-EndsServed served failed old new ended =
-    (Takes old new (served_line served failed) × IsServedEnd served ended)
+abbrev pub EndsServed : Tally → ℕ → ℕ → Told → Told → CommandEnd → Type 0
+EndsServed tally served failed old new ended =
+    (Takes old new (served_line served failed) × IsServedEnd tally served ended)
     ⊎ (TakesPrefix old new (served_line served failed) × (ended ≡ Err Unwritten))
 
 -- so many turns of a listener were taken, how many were served and how many failed was printed, and
--- serving ended so; the settings stay, and until the desk is stopped its rows are those of its
--- registry (profile)
+-- serving ended so; the settings stay, the connection lasts, and until the desk is stopped its rows
+-- are those of its registry (profile)
 pub record HasServed {S : Type 0} (g : Ghosts S) (serves : Serving) (count : ℕ)
-    (before after : Desk S) (tally_before tally_after : Tally) (output_before output_after : Told)
+    (before after : Desk S) (tally_before tally_after : Tally) (old new : Told)
     (ended : CommandEnd) : Type 0 where
   pub served : ℕ
   pub failed : ℕ
   pub turns : TakesTurns g serves count before after tally_before tally_after served failed
   pub settings : after.settings ≡ before.settings
+  pub lasts : ConnectionLasts (desk_state g before) (desk_state g after)
   pub rows : StoresUntilStopped g after.stored
-  pub ends : EndsServed served failed output_before output_after ended
+  pub ends : EndsServed tally_after served failed old new ended
 
 -- what the line begins with that says where the program listens (profile)
 unfoldable pub listening_head : List ℕ
@@ -63,16 +71,16 @@ listening_line port = listening_head ++ (decimal port ++ codes "\n")
 
 -- why nothing was served: the listener was not opened, and nothing was printed, or where it listens
 -- could not be printed (profile)
-abbrev pub ListensNot : ℕ → Trouble → Told → Told → Type 0
-ListensNot port (ListenerUnopened cause) old new = new ≡ old
-ListensNot port Unwritten old new = TakesPrefix old new (listening_line port)
-ListensNot port _ old new = ⊥
+abbrev pub FailsToListen : ℕ → Trouble → Told → Told → Type 0
+FailsToListen port (ListenerUnopened cause) old new = new ≡ old
+FailsToListen port Unwritten old new = TakesPrefix old new (listening_line port)
+FailsToListen port _ old new = ⊥
 
 -- the port is not listened on, or that could not be said: nothing was served (profile)
 pub record HasNotListened (port : ℕ) (old new : Told) (ended : CommandEnd) : Type 0 where
   pub trouble : Trouble
   pub told : ended ≡ Err trouble
-  pub said : ListensNot port trouble old new
+  pub said : FailsToListen port trouble old new
 
 -- the port was listened on, that was said, and then turns of what listens on it were served
 -- (profile)
@@ -85,16 +93,16 @@ pub record HasListened {S : Type 0} (g : Ghosts S) (listens : Listens) (serves :
   pub listened : listens port tally_before
   pub served : HasServed g serves count before after tally_before tally_after between new ended
 
--- what the command does at a desk (profile)
+-- what `irrdesk serve` does at a desk (profile)
 abbrev pub ServesDesk : {S : Type 0} →
     Ghosts S → Listens → Serving → ℕ → ℕ → Told → Told → DeskAction S
 ServesDesk g listens serves port count old new before after ended =
     (HasNotListened port old new ended × (after ≡ before))
     ⊎ HasListened g listens serves port count old new before after ended
 
--- what the command does (profile)
+-- what `irrdesk serve` does, by its settings file (profile)
 abbrev pub ServesBy : {S : Type 0} →
-    Ghosts S → Gives S → Closes S → Listens → Serving → ℕ → ℕ → Told → Told → Ending → Type 0
-ServesBy g gives closes listens serves port count old new =
-    Commands (AtDesk g gives closes (ServesDesk g listens serves port count old new) old new)
-    old new
+    Ghosts S → Gives S → Closes S → Reads → List ℕ → Listens → Serving → ℕ → ℕ → Told → Told
+    → ProgramEnd → Type 0
+ServesBy g gives closes reads file listens serves port count old new = ActsBySettings reads file
+    (AtDesk g gives closes (ServesDesk g listens serves port count old new) old new) old new

@@ -10,7 +10,7 @@ mod streams;
 
 use crate::network::Sockets;
 use crate::streams::{StandardInput, fill_closed};
-use rr_commands::{DatabaseFiles, Progress, Reading};
+use rr_commands::{DatabaseFiles, Progress, Reading, SystemFiles};
 use rr_io::Counted;
 use std::env;
 use std::process::ExitCode;
@@ -24,10 +24,12 @@ fn main(rt: HostRuntime) -> ExitCode {
     let mut errors = Counted::new(rt.stderr());
     let arguments = env::args(&rt);
     let databases = DatabaseFiles::new(&rt);
+    let files = SystemFiles::new(&rt);
     let network = Sockets::new(&rt);
     ExitCode::from(run::run(
         &rt,
         &databases,
+        &files,
         &network,
         arguments,
         &mut input,

@@ -35,7 +35,7 @@ pub trait Network {
         ensures listens { IfOk result
             (λ listener. listens self.now port (Self.Listener.tally listener)) };
 
-    /// Connects to a listener, and writes a query and nothing after it (RFC 3912, 2).
+    /// Connects to a listener, and writes a query, its line end, and nothing more (RFC 3912, 2).
     fn ask(&self, listener: &Self::Listener, query: &[u8]) -> io::Result<Self::Peer>
         ensures { IfOk result (λ peer. asks self.now query.now (Self.Peer.remaining peer)) };
 }

@@ -10,7 +10,8 @@ ghost use Rattle.rr_cli.specs.Probing.{reply_status};
 use crate::network::Network;
 use crate::peers_with_cause::PeersWithCause;
 use rr_commands::{
-    Cause, Databases, Output, ProgramFault, Trouble, close, ended, open_desk, read_settings_file,
+    Cause, Databases, Files, Output, ProgramFault, Trouble, close, ended, open_desk,
+    read_settings_file,
 };
 use rr_desk::{Desk, Peers, Settings, serve_all};
 use rr_http::Both;
@@ -27,18 +28,19 @@ const ERROR: u8 = 1;
 /// a listener of its own, of which it takes one turn, and prints the reply: the status is 0, or 1
 /// if the reply is an error. If the turn fails, or the reply cannot be read or is empty, nothing is
 /// printed.
-pub fn probe<'a, D: Databases, N: Network, W: Output>(
+pub fn probe<'a, D: Databases, F: Files, N: Network, W: Output>(
     rt: &HostRuntime,
     databases: &D,
+    files: &F,
     network: &N,
     settings: &'a str,
     output: &mut W,
 ) -> Result<u8, ProgramFault<'a>>
     ensures { ProbesBy D.Disk.Store (D.gives databases.now) (D.closes databases.now)
-        (N.listens network.now) (N.asks network.now) serves_desk
+        (F.reads files.now) settings.now (N.listens network.now) (N.asks network.now) serves_desk
         (W.told output.old) (W.told output.new) result }
 {
-    let (read, path) = read_settings_file(rt, settings)?;
+    let (read, path) = read_settings_file(rt.alloc(), files, settings)?;
     let mut found = String::new(rt.alloc());
     let end = probe_at(
         rt,
@@ -52,9 +54,9 @@ pub fn probe<'a, D: Databases, N: Network, W: Output>(
     ended(rt.alloc(), end, settings, path, found.as_str(), output)
 }
 
-/// Asks the registry in the database at a path for its root maintainer, and prints the reply. What
-/// is found the matter with it, as a row, a table or what was added to one, is put into `found` for
-/// the message.
+/// Asks the registry in the database at a path for its root maintainer, and prints the reply. If
+/// the database is refused, `found` gets what is at fault, for the message: a row, a table, or what
+/// was added to one.
 fn probe_at<D: Databases, N: Network, W: Sink>(
     rt: &HostRuntime,
     databases: &D,

@@ -8,8 +8,8 @@ use crate::probing::probe;
 use crate::serving::serve;
 use rr_arguments::{ArgumentsFault, Command, read_command};
 use rr_commands::{
-    Databases, Input, Output, ProgramFault, Trouble, dump, init, load, migrate, plain, print,
-    query, shown_name, submit,
+    Databases, Files, Input, Output, ProgramFault, Trouble, dump, init, load, migrate, plain,
+    print, query, shown_name, submit,
 };
 use rr_io::Sink;
 use std::alloc::Global;
@@ -23,11 +23,12 @@ const HINT: &[u8] =
 
 /// Does what the arguments ask for, the first of which is the program's own name, and gives the
 /// status: 0 if it is done, 1 if an item was refused or an answer was an error, and at a fault,
-/// which has its line on `errors`, 2 if the arguments are wrong, 3 if the settings are, 4 if the
-/// store failed, and else 5 (profile).
-pub fn run<D: Databases, N: Network, R: Input, W: Output, E: Sink>(
+/// which has its line on `errors`, 2 at wrong arguments, 3 at wrong settings, 4 at trouble with the
+/// database or if the desk is stopped, and else 5, also if memory ran out (profile).
+pub fn run<D: Databases, F: Files, N: Network, R: Input, W: Output, E: Sink>(
     rt: &HostRuntime,
     databases: &D,
+    files: &F,
     network: &N,
     arguments: io::Result<Args>,
     input: &mut R,
@@ -38,6 +39,7 @@ pub fn run<D: Databases, N: Network, R: Input, W: Output, E: Sink>(
         Ok(arguments) => match run_arguments(
             rt,
             databases,
+            files,
             network,
             arguments.as_slice(),
             input,
@@ -46,7 +48,7 @@ pub fn run<D: Databases, N: Network, R: Input, W: Output, E: Sink>(
             Ok(status) => status,
             Err(fault) => fault.legible(rt.alloc()).tell(errors),
         },
-        Err(trouble) => ProgramFault::plain(trouble).tell(errors),
+        Err(trouble) => ProgramFault::unnamed(trouble).tell(errors),
     }
 }
 
@@ -76,10 +78,10 @@ fn fault_of<'a>(
             let told = shown_refusal(alloc, arguments).unwrap_or(line);
             ProgramFault::named(told, Trouble::BadArguments)
         }
-        ArgumentsFault::Unexplained => ProgramFault::plain(Trouble::BadArguments),
+        ArgumentsFault::Unexplained => ProgramFault::unnamed(Trouble::BadArguments),
         ArgumentsFault::Port(word) => ProgramFault::of(word, Trouble::BadPort),
         ArgumentsFault::Count(word) => ProgramFault::of(word, Trouble::BadCount),
-        ArgumentsFault::Memory => ProgramFault::plain(Trouble::Memory),
+        ArgumentsFault::Memory => ProgramFault::unnamed(Trouble::Memory),
     }
 }
 
@@ -93,9 +95,7 @@ fn shown_refusal(alloc: Global, arguments: &[String]) -> Option<String> {
 fn shown_arguments(alloc: Global, arguments: &[String]) -> Option<Vec<String>> {
     let mut shown = Vec::new(alloc);
     for argument in arguments {
-        shown
-            .push(shown_name(alloc, argument.as_bytes()).ok()?)
-            .ok()?;
+        shown.push(shown_name(alloc, argument.as_str()).ok()?).ok()?;
     }
     Some(shown)
 }
@@ -115,31 +115,33 @@ fn refusal_of(alloc: Global, arguments: &[String]) -> Option<String> {
 }
 
 /// Does what the arguments ask for.
-fn run_arguments<'a, D: Databases, N: Network, R: Input, W: Output>(
+fn run_arguments<'a, D: Databases, F: Files, N: Network, R: Input, W: Output>(
     rt: &HostRuntime,
     databases: &D,
+    files: &F,
     network: &N,
     arguments: &'a [String],
     input: &mut R,
     output: &mut W,
 ) -> Result<u8, ProgramFault<'a>> {
     match read_command(rt.alloc(), arguments) {
-        Ok(command) => carry_out(rt, databases, network, command, input, output),
+        Ok(command) => carry_out(rt, databases, files, network, command, input, output),
         Err(fault) => Err(fault_of(rt.alloc(), arguments, fault)),
     }
 }
 
 /// Carries out a command.
-fn carry_out<'a, D: Databases, N: Network, R: Input, W: Output>(
+fn carry_out<'a, D: Databases, F: Files, N: Network, R: Input, W: Output>(
     rt: &HostRuntime,
     databases: &D,
+    files: &F,
     network: &N,
     command: Command<'a>,
     input: &mut R,
     output: &mut W,
 ) -> Result<u8, ProgramFault<'a>>
     ensures { CarriesOut D.Disk.Store (D.gives databases.now) (D.closes databases.now)
-        (N.listens network.now) (N.asks network.now) serves_desk command.entry
+        (F.reads files.now) (N.listens network.now) (N.asks network.now) serves_desk command.entry
         (R.told input.old) (R.told input.new) (W.told output.old) (W.told output.new) result }
 {
     match command {
@@ -147,21 +149,21 @@ fn carry_out<'a, D: Databases, N: Network, R: Input, W: Output>(
             hint(rt);
             plain(rt.alloc(), input, output)
         }
-        Command::Init { settings } => init(rt, databases, settings, output),
-        Command::Submit { settings, file } => submit(rt, databases, settings, file, output),
+        Command::Init { settings } => init(rt, databases, files, settings, output),
+        Command::Submit { settings, file } => submit(rt, databases, files, settings, file, output),
         Command::Query {
             settings,
             query: words,
-        } => query(rt, databases, settings, words.as_str(), output),
-        Command::Dump { settings, full } => dump(rt, databases, settings, full, output),
-        Command::Load { settings, file } => load(rt, databases, settings, file, output),
-        Command::Migrate { settings } => migrate(rt, databases, settings, output),
+        } => query(rt, databases, files, settings, words.as_str(), output),
+        Command::Dump { settings, full } => dump(rt, databases, files, settings, full, output),
+        Command::Load { settings, file } => load(rt, databases, files, settings, file, output),
+        Command::Migrate { settings } => migrate(rt, databases, files, settings, output),
         Command::Serve {
             settings,
             port,
             count,
-        } => serve(rt, databases, network, settings, port, count, output),
-        Command::Probe { settings } => probe(rt, databases, network, settings, output),
+        } => serve(rt, databases, files, network, settings, port, count, output),
+        Command::Probe { settings } => probe(rt, databases, files, network, settings, output),
         Command::Print(text) => print(output, text.as_bytes()),
     }
 }

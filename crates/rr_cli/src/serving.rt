@@ -11,7 +11,7 @@ use crate::network::Network;
 use crate::peers_with_cause::PeersWithCause;
 use itoa::Buffer;
 use rr_commands::{
-    Cause, DatabaseCause, Databases, Output, ProgramFault, Trouble, close, ended, open_desk,
+    DatabaseCause, Databases, Files, Output, ProgramFault, Trouble, close, ended, open_desk,
     read_settings_file,
 };
 use rr_desk::{ConnFault, Desk, Served, Service, Settings, serve_all};
@@ -22,12 +22,13 @@ use std::alloc::Global;
 use std::io;
 
 /// Serves so many connections to this port of 127.0.0.1, by whois and HTTP, from the registry that
-/// the settings name. Prints where it listens, and at the end how many connections were served and
-/// how many failed: the status is 0, unless none was served because none could be accepted. If the
-/// database fails meanwhile, that is said once on standard error.
-pub fn serve<'a, D: Databases, N: Network, W: Output>(
+/// the settings name. Prints where it listens, and at the end how many turns were served and how
+/// many failed: the status is 0, unless no turn was served and in the last one no connection could
+/// be accepted. If the database fails meanwhile, that is said once on standard error.
+pub fn serve<'a, D: Databases, F: Files, N: Network, W: Output>(
     rt: &HostRuntime,
     databases: &D,
+    files: &F,
     network: &N,
     settings: &'a str,
     port: u16,
@@ -35,10 +36,10 @@ pub fn serve<'a, D: Databases, N: Network, W: Output>(
     output: &mut W,
 ) -> Result<u8, ProgramFault<'a>>
     ensures { ServesBy D.Disk.Store (D.gives databases.now) (D.closes databases.now)
-        (N.listens network.now) serves_desk port count
+        (F.reads files.now) settings.now (N.listens network.now) serves_desk port count
         (W.told output.old) (W.told output.new) result }
 {
-    let (read, path) = read_settings_file(rt, settings)?;
+    let (read, path) = read_settings_file(rt.alloc(), files, settings)?;
     let mut found = String::new(rt.alloc());
     let end = serve_at(
         rt,
@@ -91,13 +92,13 @@ fn about_port<'a>(alloc: Global, trouble: Trouble, port: u16) -> ProgramFault<'a
 {
     match format!(in alloc; "127.0.0.1:{port}") {
         Ok(address) => ProgramFault::named(address, trouble),
-        Err(_) => ProgramFault::plain(trouble),
+        Err(_) => ProgramFault::unnamed(trouble),
     }
 }
 
-/// Serves so many connections to this port from the registry in the database at a path. What is
-/// found the matter with it, as a row, a table or what was added to one, is put into `found` for
-/// the message.
+/// Serves so many connections to this port from the registry in the database at a path. If the
+/// database is refused, `found` gets what is at fault, for the message: a row, a table, or what was
+/// added to one.
 fn serve_at<D: Databases, N: Network, W: Sink>(
     rt: &HostRuntime,
     databases: &D,
@@ -205,17 +206,17 @@ fn serve_turns<S: Alter, P: PeersWithCause, V: Service, W: Sink>(
 {
     let served = serve_all(alloc, desk, peers, service, count);
     match write_served(output, served) {
-        Ok(()) => served_end(served, peers.cause()),
+        Ok(()) => served_end(served, peers),
         Err(_) => Err(Trouble::Unwritten),
     }
 }
 
 /// The status is 0, unless no turn was served and no connection could be accepted in the last one:
 /// then the fault is its cause.
-fn served_end(served: Served, cause: Option<Cause>) -> Result<u8, Trouble>
-    ensures { IsServedEnd served.served result }
+fn served_end<P: PeersWithCause>(served: Served, peers: &P) -> Result<u8, Trouble>
+    ensures { IsServedEnd (P.tally peers.now) served.served result }
 {
-    match cause {
+    match peers.cause() {
         Some(cause) if served.served == 0 => Err(Trouble::Unaccepted(cause)),
         _ => Ok(0),
     }

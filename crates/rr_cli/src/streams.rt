@@ -8,7 +8,7 @@ use std::io;
 use std::io::{Read, Stdin};
 use std::os::fd::{AsRawFd, RawFd};
 
-/// The number of Linux of the error of a stream that is closed.
+/// Linux's number for a closed stream.
 const EBADF: i32 = 9;
 
 /// Fills the place of each standard stream that is closed, in order, because what is opened gets

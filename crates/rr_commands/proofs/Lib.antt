@@ -1,3 +1,4 @@
 mod AskedLemmas
-mod ShownLemmas
+mod FileLemmas
+mod LineLemmas
 mod WritingLemmas

@@ -11,14 +11,16 @@ use Rattle.rr_commands.specs.declared.cause.Cause.{Cause}
 use Rattle.rr_commands.specs.declared.cause.Cause.TheVariants as cause
 use Rattle.rr_commands.specs.declared.cause.DatabaseCause.{DatabaseCause}
 use Rattle.rr_commands.specs.declared.cause.DatabaseCause.TheVariants as database
-use Rattle.rr_commands.specs.declared.cause.TheConstants.{EBADF, EIO, EMFILE, ENFILE}
+use Rattle.rr_commands.specs.declared.cause.TheConstants.{EBADF, EINVAL, EIO, EMFILE}
+use Rattle.rr_commands.specs.declared.cause.TheConstants.{ENFILE}
 
--- the cause that has this number of Linux: few without a kind of their own are told apart
--- (profile)
+-- the cause to which Linux gives this number: of those without a kind of their own, few are told
+-- apart (profile)
 abbrev pub number_cause : ℕ → Cause
 number_cause number =
     if number == EIO then cause.BadDisk
     else if number == EBADF then cause.Closed
+    else if number == EINVAL then cause.Invalid
     else if number == ENFILE then cause.AllFiles
     else if number == EMFILE then cause.ManyFiles
     else cause.Numbered number
@@ -29,6 +31,12 @@ numbered None = cause.Unnumbered
 numbered (Some (pos number)) = number_cause number
 numbered (Some (negsuc number)) = cause.Unnumbered
 
+-- the cause of input that does not fit: without a number the system did not see it, because it is a
+-- name with a zero byte (profile)
+abbrev pub input_cause : Option ℤ → Cause
+input_cause None = cause.BadName
+input_cause (Some number) = numbered (Some number)
+
 -- the cause of an error of the system, by its kind, and else by its number (profile)
 abbrev pub system_cause : ErrorKind → Option ℤ → Cause
 system_cause kind.NotFound code = cause.Missing
@@ -37,7 +45,7 @@ system_cause kind.IsADirectory code = cause.Folder
 system_cause kind.NotADirectory code = cause.NoFolder
 system_cause kind.FilesystemLoop code = cause.Loop
 system_cause kind.InvalidFilename code = cause.LongName
-system_cause kind.InvalidInput code = cause.BadName
+system_cause kind.InvalidInput code = input_cause code
 system_cause kind.ReadOnlyFilesystem code = cause.ReadOnly
 system_cause kind.StorageFull code = cause.Full
 system_cause kind.QuotaExceeded code = cause.Quota
@@ -109,6 +117,8 @@ cause_text cause.AllFiles =
     ++ codes "(system error 23)"
 cause_text cause.BadDisk =
     codes "input/output error: look at the disk, or take another file (system error 5)"
+cause_text cause.Invalid =
+    codes "the system does not do that with it: take another file (system error 22)"
 cause_text cause.Closed = codes "it is closed: leave it open (system error 9)"
 cause_text (cause.Numbered number) = codes "system error "
 cause_text cause.Unnumbered = codes "the system does not say why"
@@ -122,7 +132,7 @@ number_of _ = None
 abbrev pub code_cause : ErrorCode → DatabaseCause
 code_cause code.CannotOpen = database.Unopened
 code_cause code.DatabaseBusy = database.Busy
-code_cause code.NotADatabase = database.Other
+code_cause code.NotADatabase = database.NoDatabase
 code_cause code.DatabaseCorrupt = database.Damaged
 code_cause code.DiskFull = database.Full
 code_cause code.SystemIoFailure = database.Failed
@@ -149,35 +159,48 @@ unread_text =
     ++ codes "irrdesk does not read: name another file, or restore a backup"
 
 -- a cause in words, before that of the system if it has one (profile)
-abbrev pub database_text : DatabaseCause → List ℕ
-database_text database.Missing =
+abbrev pub database_cause_text : DatabaseCause → List ℕ
+database_cause_text database.Missing =
     codes "there is no such database: `irrdesk init` or `irrdesk load` makes it"
-database_text database.NoFolder =
+database_cause_text database.MissingWithLog =
+    codes "there is no such database, but its log or journal (`-wal`, `-journal`): put the "
+    ++ codes "database back, or move that elsewhere and restore a backup"
+database_cause_text database.NoFolder =
     codes "the folder of the database is missing: make it, or correct `store`"
-database_text (database.Refused cause) = codes "the database cannot be opened or made: "
-database_text database.Unopened =
+database_cause_text (database.Refused cause) = codes "the database cannot be opened or made: "
+database_cause_text database.Denied =
+    codes "permission is denied for the database, its log or its folder: let the user who runs "
+    ++ codes "irrdesk own and write them"
+database_cause_text database.HasJournal =
+    codes "a program of SQLite left a journal (`-journal`): copy both elsewhere, and run `sqlite3 "
+    ++ codes "DATABASE 'PRAGMA integrity_check'`, which applies it"
+database_cause_text database.Unopened =
     codes "the database cannot be opened or made: look at its folder, its links, its permissions "
     ++ codes "and the limit on open files"
-database_text database.Empty =
+database_cause_text database.Empty =
     codes "the database has no registry that can be read: restore a backup, or make one by "
     ++ codes "`irrdesk init` or `irrdesk load`"
-database_text database.Busy =
+database_cause_text database.EmptyWithLog =
+    codes "it is empty, but not its log or journal (`-wal`, `-journal`): move that elsewhere, and "
+    ++ codes "restore a backup"
+database_cause_text database.Busy =
     codes "in use, most likely by the running server: ask it over its port, or stop it first"
-database_text database.Other = unread_text
-database_text database.Encoded =
-    codes "its text is UTF-16: `umask 077; sqlite3 OLD .dump | sqlite3 NEW` makes it UTF-8"
-database_text database.Damaged = unread_text
-database_text database.Full = codes "the disk is full: make room"
-database_text database.Failed =
+database_cause_text database.NoDatabase = unread_text
+database_cause_text database.Encoded =
+    codes "its text is UTF-16: `umask 077; sqlite3 OLD .dump | sqlite3 NEW` makes it UTF-8; OLD is "
+    ++ codes "the database, NEW the new `store`"
+database_cause_text database.Damaged = unread_text
+database_cause_text database.Full = codes "the disk is full: make room"
+database_cause_text database.Failed =
     codes "the disk cannot be read or written: look at its health, and keep a copy of the "
     ++ codes "database"
-database_text database.Forbidden =
+database_cause_text database.Forbidden =
     codes "a rule that was added to the tables forbids the change: take the rule out"
-database_text database.Memory = codes "out of memory: give the program more"
-database_text database.Unknown = codes "the database cannot be used: look at its disk"
+database_cause_text database.Memory = codes "out of memory: give the program more"
+database_cause_text database.Unknown = codes "the database cannot be used: look at its disk"
 
 -- a cause in words if it tells more than these do, and else these (profile)
 abbrev pub text_or : DatabaseCause → List ℕ → List ℕ
-text_or database.Other words = words
+text_or database.NoDatabase words = words
 text_or database.Unknown words = words
-text_or cause words = database_text cause
+text_or cause words = database_cause_text cause

@@ -1,12 +1,12 @@
--- What the dump of a command does (profile).
+-- What `irrdesk dump` does (profile).
 use Rattle.std.specs.Prelude.{◌≡◌, ℕ, Bool, List, Ok, Err}
 use Rattle.sqlite_trees.specs.declared.store.Store.{Ghosts}
 use Rattle.rr_io.specs.Sending.{Takes}
 use Rattle.rr_io.specs.Told.{Told}
 use Rattle.rr_answer.specs.Dumps.{dump}
 use Rattle.rr_desk.specs.Dumping.{IsCutShort}
-use Rattle.rr_commands.specs.Commands.{AtDesk, Closes, CommandEnd, Commands, DeskAction, Ending}
-use Rattle.rr_commands.specs.Commands.{Gives}
+use Rattle.rr_commands.specs.Commands.{ActsBySettings, AtDesk, Closes, CommandEnd, DeskAction}
+use Rattle.rr_commands.specs.Commands.{Gives, ProgramEnd, Reads}
 use Rattle.rr_commands.specs.declared.trouble.Trouble.TheVariants.{Dumping}
 
 -- the bytes of a dump were written, and the status is 0; or it was cut short (profile)
@@ -15,14 +15,14 @@ HasDumped bytes old new (Ok status) = (status ≡ 0) × Takes old new bytes
 HasDumped bytes old new (Err (Dumping fault)) = IsCutShort bytes old new fault
 HasDumped bytes old new (Err _) = ⊥
 
--- what the dump of a command does at a desk, which stays as it was: the dump of its registry is
--- full if that is asked for (profile)
+-- what `irrdesk dump` does at a desk, which stays as it was: the dump of its registry is full if
+-- that is asked for (profile)
 abbrev pub DumpsDesk : {S : Type 0} → Bool → Told → Told → DeskAction S
 DumpsDesk full old new before after ended =
     (after ≡ before) × HasDumped (dump full before.stored.registry) old new ended
 
--- what the command does (profile)
-abbrev pub DumpsBy : {S : Type 0} → Ghosts S → Gives S → Closes S → Bool → Told → Told
-    → Ending → Type 0
-DumpsBy g gives closes full old new =
-    Commands (AtDesk g gives closes (DumpsDesk full old new) old new) old new
+-- what `irrdesk dump` does, by its settings file (profile)
+abbrev pub DumpsBy : {S : Type 0} → Ghosts S → Gives S → Closes S → Reads → List ℕ → Bool
+    → Told → Told → ProgramEnd → Type 0
+DumpsBy g gives closes reads file full old new =
+    ActsBySettings reads file (AtDesk g gives closes (DumpsDesk full old new) old new) old new

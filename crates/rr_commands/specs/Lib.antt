@@ -1,6 +1,8 @@
 pub mod Causes
 pub mod Faults
+pub mod Found
 pub mod SettingsFiles
+pub mod Shown
 pub mod Troubles
 pub mod Words
 pub mod Submitted

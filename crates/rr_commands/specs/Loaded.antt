@@ -1,19 +1,17 @@
--- What the load of a command does, by how it ends (profile).
+-- What `irrdesk load` does, by how it ends (profile).
 use Rattle.std.specs.Prelude.{◌≡◌, ℕ, ◌⊎◌, List, ◌++◌, length, Err, codes}
 use Rattle.std.specs.Prelude.{decimal}
 use Rattle.std.specs.FinMap.{values}
 use Rattle.sqlite_trees.specs.declared.store.Store.{Ghosts}
 use Rattle.sqlite.specs.Held.{Held}
 use Rattle.rr_io.specs.Told.{Told}
-use Rattle.rr_store.specs.Calls.{OnCleanDisk, database}
-use Rattle.rr_desk.specs.Loaded.{FailsToLoad, HasLoadedRows, IsLoaded}
-use Rattle.rr_desk.specs.Opened.{IsOccupied, MakesNone, MakesTables, Runs}
+use Rattle.rr_desk.specs.Loaded.{FailsToLoadTables, HasLoadedRows, IsLoaded}
+use Rattle.rr_desk.specs.Opened.{IsRunning, MakesTables}
 use Rattle.rr_desk.specs.Settings.{SettingsParts}
 use Rattle.rr_desk.specs.declared.desk.Desk.{Desk}
 use Rattle.rr_desk.specs.declared.loading.DeskLoadFault.{DeskLoadFault}
-use Rattle.rr_desk.specs.declared.loading.DeskLoadFault.TheVariants.{NotEmpty}
-use Rattle.rr_commands.specs.Commands.{Closes, CommandEnd, Commands, ConnectionAction, Ending}
-use Rattle.rr_commands.specs.Commands.{Gives, HasNoFile, InDatabase}
+use Rattle.rr_commands.specs.Commands.{ActsBySettings, Closes, CommandEnd, ConnectionAction, Gives}
+use Rattle.rr_commands.specs.Commands.{HasNoFile, InDatabase, ProgramEnd, Reads}
 use Rattle.rr_commands.specs.Printed.{Tells}
 use Rattle.rr_commands.specs.declared.databases.Absent.TheVariants.{Made}
 use Rattle.rr_commands.specs.declared.trouble.Trouble.TheVariants.{Loading}
@@ -26,59 +24,58 @@ loaded_line count = codes "loaded " ++ (decimal count ++ codes " objects\n")
 abbrev pub uncounted_line : List ℕ
 uncounted_line = codes "loaded the dump\n"
 
--- either line was written (profile)
+-- one of the two lines was written, or could not be written whole (profile)
 abbrev pub TellsLoaded : ℕ → Told → Told → CommandEnd → Type 0
 TellsLoaded count old new ended =
     Tells (loaded_line count) old new ended ⊎ Tells uncounted_line old new ended
 
-module _ {S : Type 0} (g : Ghosts S) (settings : SettingsParts) (start end : Told)
-    (unprinted printed : Told) where
+module _ {S : Type 0} (g : Ghosts S) (settings : SettingsParts)
+    (reader_old reader_new writer_old writer_new : Told) where
   -- no registry was made of what was read, and nothing was printed (profile)
   pub record IsUnloaded (before after : Held S) (ended : CommandEnd) : Type 0 where
     pub fault : DeskLoadFault
     pub told : ended ≡ Err (Loading fault)
-    pub fails : FailsToLoad settings.source start end fault
-    pub none : MakesNone g (HasLoadedRows settings.source start end) before after
-    pub not_empty : fault ≡ NotEmpty → OnCleanDisk g after (IsOccupied (database g before))
-    pub silent : printed ≡ unprinted
+    pub fails : FailsToLoadTables g settings.source reader_old reader_new before after fault
+    pub silent : writer_new ≡ writer_old
 
   -- a dump was read to its end, its registry was made, and that was printed (profile)
   pub record HasLoaded (before after : Held S) (ended : CommandEnd) : Type 0 where
     pub desk : Desk S
-    pub runs : Runs g settings desk
-    pub loaded : IsLoaded settings.source start end desk.stored.registry
-    pub makes : MakesTables g (HasLoadedRows settings.source start end) before desk.stored.store
+    pub runs : IsRunning g settings desk
+    pub loaded : IsLoaded settings.source reader_old reader_new desk.stored.registry
+    pub makes : MakesTables g (HasLoadedRows settings.source reader_old reader_new) before
+        desk.stored.store
     pub given_back : after ≡ desk.stored.store
-    pub tells : TellsLoaded (length (values desk.stored.registry)) unprinted printed ended
+    pub tells : TellsLoaded (length (values desk.stored.registry)) writer_old writer_new ended
 
--- what the load of a dump does in a database: the reader of the dump told this at its start and at
--- its end (profile)
+-- what the load of a dump does in a database, by what its reader told before and after (profile)
 abbrev pub Loads : {S : Type 0} → Ghosts S → SettingsParts → Told → Told → Told → Told
-    →
-    ConnectionAction S
-Loads g settings start end old new before after ended =
-    IsUnloaded g settings start end old new before after ended
-    ⊎ HasLoaded g settings start end old new before after ended
-
--- a file was loaded into a database: what its reader told when it was opened, and when all was done
--- (profile)
-pub record LoadsFile {S : Type 0} (g : Ghosts S) (settings : SettingsParts) (old new : Told)
-    (before after : Held S) (ended : CommandEnd) : Type 0 where
-  pub start : Told
-  pub end : Told
-  pub loads : Loads g settings start end old new before after ended
-
--- what the command does in a database: its file is not opened and the database as it was, or what
--- is read is loaded (profile)
-abbrev pub LoadsIn : {S : Type 0} → Ghosts S → SettingsParts → Told → Told
     → ConnectionAction S
-LoadsIn g settings old new before after ended =
-    (HasNoFile old new ended × (after ≡ before))
-    ⊎ LoadsFile g settings old new before after ended
+Loads g settings reader_old reader_new writer_old writer_new before after ended =
+    IsUnloaded g settings reader_old reader_new writer_old writer_new before after ended
+    ⊎ HasLoaded g settings reader_old reader_new writer_old writer_new before after ended
 
--- what the command does (profile)
-abbrev pub LoadsBy : {S : Type 0} → Ghosts S → Gives S → Closes S → Told → Told → Ending
-    → Type 0
-LoadsBy g gives closes old new =
-    Commands (λ settings. InDatabase gives Made closes (LoadsIn g settings old new) old new)
-    old new
+-- the file at this path was loaded into a database: what its reader told when it was opened, and
+-- when all was done (profile)
+pub record LoadsFile {S : Type 0} (g : Ghosts S) (settings : SettingsParts) (reads : Reads)
+    (file : List ℕ) (writer_old writer_new : Told) (before after : Held S) (ended : CommandEnd)
+    : Type 0 where
+  pub reader_old : Told
+  pub reader_new : Told
+  pub opened : reads file reader_old.bytes
+  pub loads : Loads g settings reader_old reader_new writer_old writer_new before after ended
+
+-- what `irrdesk load` does in a database: its file is not opened and the database stays as it was,
+-- or what is read is loaded (profile)
+abbrev pub LoadsIn : {S : Type 0} → Ghosts S → SettingsParts → Reads → List ℕ → Told → Told
+    → ConnectionAction S
+LoadsIn g settings reads file old new before after ended =
+    (HasNoFile old new ended × (after ≡ before))
+    ⊎ LoadsFile g settings reads file old new before after ended
+
+-- what `irrdesk load` does, by its settings file (profile)
+abbrev pub LoadsBy : {S : Type 0} → Ghosts S → Gives S → Closes S → Reads → List ℕ → List ℕ
+    → Told → Told → ProgramEnd → Type 0
+LoadsBy g gives closes reads file dump old new =
+    ActsBySettings reads file (λ settings. InDatabase gives Made closes
+    (LoadsIn g settings reads dump old new) old new) old new

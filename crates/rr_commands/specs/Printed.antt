@@ -2,7 +2,7 @@
 use Rattle.std.specs.Prelude.{◌≡◌, ℕ, List, Ok, Err}
 use Rattle.rr_io.specs.Sending.{Takes, TakesPrefix}
 use Rattle.rr_io.specs.Told.{Told}
-use Rattle.rr_commands.specs.Commands.{CommandEnd, Ending}
+use Rattle.rr_commands.specs.Commands.{CommandEnd, ProgramEnd}
 use Rattle.rr_commands.specs.declared.trouble.Trouble.TheVariants.{Unwritten}
 
 -- a text was written, and the status is 0; or it could not be written whole (profile)
@@ -11,6 +11,6 @@ Tells text old new (Ok status) = (status ≡ 0) × Takes old new text
 Tells text old new (Err fault) = (fault ≡ Unwritten) × TakesPrefix old new text
 
 -- the same, as the program ends by it (profile)
-abbrev pub Prints : List ℕ → Told → Told → Ending → Type 0
+abbrev pub Prints : List ℕ → Told → Told → ProgramEnd → Type 0
 Prints text old new (Ok status) = (status ≡ 0) × Takes old new text
 Prints text old new (Err fault) = (fault.trouble ≡ Unwritten) × TakesPrefix old new text

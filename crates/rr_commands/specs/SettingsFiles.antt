@@ -83,15 +83,15 @@ settings_in None = Err BadToml
 settings_in (Some table) = both (parts_of table) (store_of table)
 
 -- the settings and the path of the database that a text has (profile)
-abbrev pub settings_text : List ℕ → Result (SettingsParts × List ℕ) SettingsFault
-settings_text text = settings_in (parse_document text)
+abbrev pub settings_of_text : List ℕ → Result (SettingsParts × List ℕ) SettingsFault
+settings_of_text text = settings_in (parse_document text)
 
 -- why the bytes of a file are no settings: they are too many, no text, no TOML, or a key is missing
 -- or bad; or memory ran out (profile)
 abbrev pub AreNoSettings : List ℕ → Trouble → Type 0
 AreNoSettings bytes trouble.SettingsTooLong = MOST_BYTES < length bytes
 AreNoSettings bytes trouble.SettingsNotText = ¬ (IsUtf8 bytes)
-AreNoSettings bytes (trouble.SettingsNotToml line) = settings_text bytes ≡ Err BadToml
-AreNoSettings bytes (trouble.SettingBad key) = settings_text bytes ≡ Err (BadKey key)
+AreNoSettings bytes (trouble.SettingsNotToml line) = settings_of_text bytes ≡ Err BadToml
+AreNoSettings bytes (trouble.SettingBad key) = settings_of_text bytes ≡ Err (BadKey key)
 AreNoSettings bytes trouble.Memory = Unit {0}
 AreNoSettings bytes _ = ⊥

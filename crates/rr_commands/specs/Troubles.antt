@@ -8,7 +8,7 @@ use Rattle.rr_submission.specs.declared.submission.DeskFault.TheVariants as desk
 use Rattle.rr_desk.specs.declared.dumping.DeskDumpFault.TheVariants as dumping
 use Rattle.rr_desk.specs.declared.loading.DeskLoadFault.{DeskLoadFault}
 use Rattle.rr_desk.specs.declared.loading.DeskLoadFault.TheVariants as loading
-use Rattle.rr_commands.specs.Causes.{cause_text, database_text}
+use Rattle.rr_commands.specs.Causes.{cause_text, database_cause_text}
 use Rattle.rr_commands.specs.declared.cause.Cause.{Cause}
 use Rattle.rr_commands.specs.declared.cause.Cause.TheVariants as cause
 use Rattle.rr_commands.specs.declared.cause.DatabaseCause.TheVariants as database
@@ -25,8 +25,8 @@ submission_status (desk.StoreFault items) = 4
 submission_status desk.Memory = 5
 submission_status desk.Stopped = 4
 
--- the status: 2 at wrong arguments, 3 at wrong settings, 4 if the store failed or the desk is
--- stopped, and else 5, also if memory ran out (profile)
+-- the status: 2 at wrong arguments, 3 at wrong settings, 4 at trouble with the database or if the
+-- desk is stopped, and else 5, also if memory ran out (profile)
 abbrev pub trouble_status : Trouble → ℕ
 trouble_status trouble.BadArguments = 2
 trouble_status trouble.BadPort = 2
@@ -48,11 +48,17 @@ trouble_status (trouble.Opening opening.BadRow) = 4
 trouble_status (trouble.Opening (opening.Store error)) = 4
 trouble_status (trouble.Opening opening.Memory) = 5
 trouble_status trouble.OtherSource = 4
+trouble_status trouble.OtherSourceRow = 4
 trouble_status trouble.BadObject = 4
-trouble_status trouble.Unsound = 4
+trouble_status trouble.Unnamed = 4
+trouble_status trouble.Overlap = 4
 trouble_status trouble.OtherRows = 4
+trouble_status trouble.OldKeys = 4
+trouble_status trouble.NewKeys = 4
 trouble_status trouble.NoObject = 4
+trouble_status trouble.Empty = 4
 trouble_status trouble.OtherOrder = 4
+trouble_status trouble.OtherTables = 4
 trouble_status trouble.Obstacle = 4
 trouble_status (trouble.ServedInVain cause) = 4
 trouble_status (trouble.FileUnopened cause) = 5
@@ -107,8 +113,8 @@ trouble_cause _ stream = None
 
 -- a cause in words, or nothing: that of the system, or why the database failed (profile)
 abbrev pub cause_words : Trouble → Option Cause → List ℕ
-cause_words (trouble.Submission (desk.StoreFault items) cause) given = database_text cause
-cause_words (trouble.ServedInVain cause) given = database_text cause
+cause_words (trouble.Submission (desk.StoreFault items) cause) given = database_cause_text cause
+cause_words (trouble.ServedInVain cause) given = database_cause_text cause
 cause_words _ None = []
 cause_words _ (Some cause) = cause_text cause
 
@@ -156,11 +162,17 @@ place_of (trouble.Database cause) = place.Database
 place_of (trouble.Creating fault) = place.Database
 place_of (trouble.Opening fault) = place.Database
 place_of trouble.OtherSource = place.Database
+place_of trouble.OtherSourceRow = place.Database
 place_of trouble.BadObject = place.Database
-place_of trouble.Unsound = place.Database
+place_of trouble.Unnamed = place.Database
+place_of trouble.Overlap = place.Database
 place_of trouble.OtherRows = place.Database
+place_of trouble.OldKeys = place.Database
+place_of trouble.NewKeys = place.Database
 place_of trouble.NoObject = place.Database
+place_of trouble.Empty = place.Database
 place_of trouble.OtherOrder = place.Database
+place_of trouble.OtherTables = place.Database
 place_of trouble.Obstacle = place.Database
 place_of (trouble.ServedInVain cause) = place.Database
 place_of (trouble.Submission fault cause) = place.Database

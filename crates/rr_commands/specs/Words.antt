@@ -16,7 +16,7 @@ use Rattle.rr_desk.specs.declared.dumping.DeskDumpFault.{DeskDumpFault}
 use Rattle.rr_desk.specs.declared.dumping.DeskDumpFault.TheVariants as dumping
 use Rattle.rr_desk.specs.declared.loading.DeskLoadFault.{DeskLoadFault}
 use Rattle.rr_desk.specs.declared.loading.DeskLoadFault.TheVariants as loading
-use Rattle.rr_commands.specs.Causes.{database_cause, database_text, text_or}
+use Rattle.rr_commands.specs.Causes.{database_cause, database_cause_text, text_or}
 use Rattle.rr_commands.specs.declared.settings_file.SettingKey.{SettingKey}
 use Rattle.rr_commands.specs.declared.settings_file.SettingKey.TheVariants as key
 use Rattle.rr_commands.specs.declared.trouble.Trouble.{Trouble}
@@ -33,7 +33,7 @@ not_empty = codes "the database has a registry already: take a new one"
 -- of tables that the database refused, if its cause tells no more (profile)
 abbrev pub no_tables_made : List ℕ
 no_tables_made =
-    codes "the database refuses the tables of a registry: take a new one, on a disk with room"
+    codes "the database has other tables, or refuses those of a registry: take a new one"
 
 -- of tables of another version, before its number (profile)
 abbrev pub of_version : List ℕ
@@ -125,49 +125,67 @@ migrating_words (migrating.Store error) = refused_words error
 migrating_words migrating.Memory = out_of_memory
 
 -- the words before the cause and the number, or all of them (profile)
-abbrev pub before : Trouble → List ℕ
-before trouble.BadArguments = codes "`irrdesk help` lists the commands"
-before trouble.BadPort = codes "a port is a number from 1 to 65535"
-before trouble.BadCount = codes "a count is a number from 1 to 1000000"
-before trouble.ArgumentsNotText = codes "an argument is not UTF-8 text: write it as such"
-before (trouble.SettingsUnread cause) = codes "the settings cannot be read: "
-before trouble.SettingsNotText = codes "the settings are not UTF-8 text: save them as such"
-before trouble.SettingsTooLong = codes "the settings are longer than 1048576 bytes: shorten them"
-before (trouble.SettingsNotToml line) = codes "the settings are not TOML: see line "
-before (trouble.SettingBad key) = setting_words key
-before (trouble.Database cause) = database_text cause
-before (trouble.Creating fault) = creating_words fault
-before (trouble.Opening fault) = opening_words fault
-before trouble.OtherSource =
-    codes "the rows of the database are of a registry of another source: correct `source`"
-before trouble.BadObject =
-    codes "the row is not that of an object of the settings' source: restore a backup, or take "
-    ++ codes "the row out"
-before trouble.Unsound =
-    codes "the object of the row names a maintainer who is not there, or its range overlaps one "
-    ++ codes "before it: restore a backup, or mend the rows"
-before trouble.OtherRows =
+abbrev pub before_cause : Trouble → List ℕ
+before_cause trouble.BadArguments = codes "`irrdesk help` lists the commands"
+before_cause trouble.BadPort = codes "a port is a number from 1 to 65535"
+before_cause trouble.BadCount = codes "a count is a number from 1 to 1000000"
+before_cause trouble.ArgumentsNotText = codes "an argument is not UTF-8 text: write it as such"
+before_cause (trouble.SettingsUnread cause) = codes "the settings cannot be read: "
+before_cause trouble.SettingsNotText = codes "the settings are not UTF-8 text: save them as such"
+before_cause trouble.SettingsTooLong =
+    codes "the settings are longer than 1048576 bytes: shorten them"
+before_cause (trouble.SettingsNotToml line) = codes "the settings are not TOML: see line "
+before_cause (trouble.SettingBad key) = setting_words key
+before_cause (trouble.Database cause) = database_cause_text cause
+before_cause (trouble.Creating fault) = creating_words fault
+before_cause (trouble.Opening fault) = opening_words fault
+before_cause trouble.OtherSource =
+    codes "most rows of the database are of another source: correct `source`"
+before_cause trouble.OtherSourceRow =
+    codes "the object of the row is of another source: restore a backup, or correct it or `source`"
+before_cause trouble.BadObject =
+    codes "the row is not as irrdesk writes one: restore a backup, or go by \"A damaged file\" in "
+    ++ codes "docs/BACKUP.md"
+before_cause trouble.Unnamed =
+    codes "the object of the row names a maintainer who is not there: restore a backup, or go by "
+    ++ codes "\"A damaged file\" in docs/BACKUP.md"
+before_cause trouble.Overlap =
+    codes "the object of the row has a range that overlaps one before it: restore a backup, or "
+    ++ codes "take one of the two out of `object` and `named`"
+before_cause trouble.OtherRows =
     codes "its rows are not those of a registry: restore a backup, or mend the table"
-before trouble.NoObject =
+before_cause trouble.OldKeys =
+    codes "`meta` says version 2, and the keys are of version 1: restore a backup, or set the "
+    ++ codes "value to 1 in a copy, and migrate that"
+before_cause trouble.NewKeys =
+    codes "`meta` says version 1, and the keys are of version 2: restore a backup, or set the "
+    ++ codes "value to 2 in a copy"
+before_cause trouble.NoObject =
     codes "`named` has a row of this class and okey, and `object` has none: restore a backup, or "
     ++ codes "take that row out"
-before trouble.OtherOrder =
+before_cause trouble.Empty =
+    codes "the database has no objects: restore a backup, or let `store` name another one"
+before_cause trouble.OtherOrder =
     codes "the tables of the registry are not first and in order: `umask 077; sqlite3 OLD '.dump "
-    ++ codes "meta' '.dump object' '.dump named' | sqlite3 NEW` lays them so in a new file"
-before trouble.Obstacle =
+    ++ codes "meta' '.dump object' '.dump named' | sqlite3 NEW` lays them so; OLD is the database, "
+    ++ codes "NEW the new `store`"
+before_cause trouble.OtherTables =
+    codes "the tables of the registry were not made by irrdesk: \"A damaged file\" in "
+    ++ codes "docs/BACKUP.md makes a registry of their rows"
+before_cause trouble.Obstacle =
     codes "it keeps the tables of the registry from being read: take it out"
-before (trouble.FileUnopened cause) = codes "the file cannot be opened: "
-before (trouble.Submission fault cause) = submission_words fault
-before (trouble.Dumping fault) = dumping_words fault
-before (trouble.Loading fault) = loading_words fault
-before (trouble.Migrating fault) = migrating_words fault
-before (trouble.ListenerUnopened cause) = codes "it cannot listen: "
-before (trouble.Unaccepted cause) = codes "no connection could be accepted: "
-before (trouble.ProbeFailed cause) = codes "the program's own listener cannot be asked: "
-before (trouble.ServedInVain cause) =
+before_cause (trouble.FileUnopened cause) = codes "the file cannot be opened: "
+before_cause (trouble.Submission fault cause) = submission_words fault
+before_cause (trouble.Dumping fault) = dumping_words fault
+before_cause (trouble.Loading fault) = loading_words fault
+before_cause (trouble.Migrating fault) = migrating_words fault
+before_cause (trouble.ListenerUnopened cause) = codes "it cannot listen: "
+before_cause (trouble.Unaccepted cause) = codes "no connection could be accepted: "
+before_cause (trouble.ProbeFailed cause) = codes "the program's own listener cannot be asked: "
+before_cause (trouble.ServedInVain cause) =
     codes "the database failed, and each request is refused until the server is started again: "
-before trouble.Unwritten = codes "the write failed: "
-before trouble.Memory = out_of_memory
+before_cause trouble.Unwritten = codes "the write failed: "
+before_cause trouble.Memory = out_of_memory
 
 -- the words between the cause and the number (profile)
 abbrev pub before_number : Trouble → List ℕ
@@ -209,7 +227,7 @@ reason E04 =
     ++ codes "mend it"
 reason E05 =
     codes " is not an object: E05, an attribute has a bad value, as `auth` in a dump that is not "
-    ++ codes "full: load a full one, or mend it"
+    ++ codes "full, or is `password` or `delete`, which no dump has: load a full one, or mend it"
 reason E06 =
     codes " is not an object: E06, its `source` is not that of the settings: let both be the same"
 reason _ = []

@@ -2,24 +2,27 @@
 
 ghost use Rattle.std.specs.Prelude.{◌≡◌, Option};
 ghost use Rattle.std.specs.IoError.{error_kind, raw_os_error};
-ghost use Rattle.rr_commands.specs.Causes.{cause_text, code_cause, database_cause, database_text};
-ghost use Rattle.rr_commands.specs.Causes.{number_cause, number_of, numbered, stop_cause};
-ghost use Rattle.rr_commands.specs.Causes.{system_cause, text_or};
+ghost use Rattle.rr_commands.specs.Causes.{cause_text, code_cause, database_cause};
+ghost use Rattle.rr_commands.specs.Causes.{database_cause_text, input_cause, number_cause};
+ghost use Rattle.rr_commands.specs.Causes.{number_of, numbered, stop_cause, system_cause, text_or};
 
 use sqlite::ErrorCode;
 use std::io;
 use std::io::ErrorKind;
 
-/// The number of Linux of an error of a disk or a device, which the kinds of errors have not.
+/// Linux's number for an error of a disk or a device, for which `ErrorKind` has no kind.
 const EIO: u32 = 5;
 
-/// The number of Linux of a stream that is closed.
+/// Linux's number for a closed stream.
 const EBADF: u32 = 9;
 
-/// The number of Linux if the machine has too many open files.
+/// Linux's number for a call that does not fit its file or socket.
+const EINVAL: u32 = 22;
+
+/// Linux's number for a machine with too many open files.
 const ENFILE: u32 = 23;
 
-/// The number of Linux if the program has too many open files.
+/// Linux's number for a program with too many open files.
 const EMFILE: u32 = 24;
 
 /// Why the system refused a file or a socket. Only causes that ask for different things of the
@@ -82,6 +85,8 @@ pub enum Cause {
     AllFiles,
     /// A disk or a device fails.
     BadDisk,
+    /// The call does not fit the file or socket.
+    Invalid,
     /// The stream is closed.
     Closed,
     /// Any other cause, by the number that the system gives it.
@@ -102,7 +107,7 @@ impl Cause {
             ErrorKind::NotADirectory => Cause::NoFolder,
             ErrorKind::FilesystemLoop => Cause::Loop,
             ErrorKind::InvalidFilename => Cause::LongName,
-            ErrorKind::InvalidInput => Cause::BadName,
+            ErrorKind::InvalidInput => Cause::of_input(error.raw_os_error()),
             ErrorKind::ReadOnlyFilesystem => Cause::ReadOnly,
             ErrorKind::StorageFull => Cause::Full,
             ErrorKind::QuotaExceeded => Cause::Quota,
@@ -135,6 +140,17 @@ impl Cause {
         }
     }
 
+    /// The cause of input that does not fit: without a number the system did not see it, because it
+    /// is a name with a zero byte.
+    fn of_input(code: Option<i32>) -> Cause
+        ensures { result ≡ input_cause code }
+    {
+        match code {
+            Some(_) => Cause::numbered(code),
+            None => Cause::BadName,
+        }
+    }
+
     /// The cause that has this number of the system, if it has one.
     fn numbered(code: Option<i32>) -> Cause
         ensures { result ≡ numbered code }
@@ -156,6 +172,8 @@ impl Cause {
             Cause::BadDisk
         } else if number == EBADF {
             Cause::Closed
+        } else if number == EINVAL {
+            Cause::Invalid
         } else if number == ENFILE {
             Cause::AllFiles
         } else if number == EMFILE {
@@ -204,6 +222,8 @@ impl Cause {
                 (system error 23)",
             Cause::BadDisk =>
                 "input/output error: look at the disk, or take another file (system error 5)",
+            Cause::Invalid =>
+                "the system does not do that with it: take another file (system error 22)",
             Cause::Closed => "it is closed: leave it open (system error 9)",
             Cause::Numbered(_) => "system error ",
             Cause::Unnumbered => "the system does not say why",
@@ -226,18 +246,26 @@ impl Cause {
 pub enum DatabaseCause {
     /// The file is missing.
     Missing,
+    /// The file is missing, and its log or journal is there.
+    MissingWithLog,
     /// The folder of a file that is to be made is missing.
     NoFolder,
     /// The system refuses the file.
     Refused(Cause),
+    /// The user may not use the file, its log or its folder.
+    Denied,
+    /// SQLite's own program left a journal of what it was about to change.
+    HasJournal,
     /// The file, its log or its folder cannot be opened or made.
     Unopened,
     /// The file is empty.
     Empty,
+    /// The file is empty, and its log or journal is not.
+    EmptyWithLog,
     /// Another process has it open.
     Busy,
     /// The file is not a database, or it was damaged, or changed in a way that is not read.
-    Other,
+    NoDatabase,
     /// The file is a database whose text is UTF-16.
     Encoded,
     /// The file was damaged, or changed in a way that is not read.
@@ -281,7 +309,7 @@ impl DatabaseCause {
         match code {
             ErrorCode::CannotOpen => DatabaseCause::Unopened,
             ErrorCode::DatabaseBusy => DatabaseCause::Busy,
-            ErrorCode::NotADatabase => DatabaseCause::Other,
+            ErrorCode::NotADatabase => DatabaseCause::NoDatabase,
             ErrorCode::DatabaseCorrupt => DatabaseCause::Damaged,
             ErrorCode::DiskFull => DatabaseCause::Full,
             ErrorCode::SystemIoFailure | ErrorCode::Closed => DatabaseCause::Failed,
@@ -293,28 +321,40 @@ impl DatabaseCause {
 
     /// The cause in words, before that of the system if it has one.
     pub fn text(self) -> &'static str
-        ensures { result.now ≡ database_text self }
+        ensures { result.now ≡ database_cause_text self }
     {
         match self {
             DatabaseCause::Missing =>
                 "there is no such database: `irrdesk init` or `irrdesk load` makes it",
+            DatabaseCause::MissingWithLog =>
+                "there is no such database, but its log or journal (`-wal`, `-journal`): put the \
+                database back, or move that elsewhere and restore a backup",
             DatabaseCause::NoFolder =>
                 "the folder of the database is missing: make it, or correct `store`",
             DatabaseCause::Refused(_) => "the database cannot be opened or made: ",
+            DatabaseCause::Denied =>
+                "permission is denied for the database, its log or its folder: let the user who \
+                runs irrdesk own and write them",
+            DatabaseCause::HasJournal =>
+                "a program of SQLite left a journal (`-journal`): copy both elsewhere, and run \
+                `sqlite3 DATABASE 'PRAGMA integrity_check'`, which applies it",
             DatabaseCause::Unopened =>
                 "the database cannot be opened or made: look at its folder, its links, its \
                 permissions and the limit on open files",
             DatabaseCause::Empty =>
                 "the database has no registry that can be read: restore a backup, or make one by \
                 `irrdesk init` or `irrdesk load`",
+            DatabaseCause::EmptyWithLog =>
+                "it is empty, but not its log or journal (`-wal`, `-journal`): move that \
+                elsewhere, and restore a backup",
             DatabaseCause::Busy =>
                 "in use, most likely by the running server: ask it over its port, or stop it first",
-            DatabaseCause::Other | DatabaseCause::Damaged =>
+            DatabaseCause::NoDatabase | DatabaseCause::Damaged =>
                 "it is not the database of a registry, or one that was damaged or changed in a way \
                 that irrdesk does not read: name another file, or restore a backup",
-            DatabaseCause::Encoded => {
-                "its text is UTF-16: `umask 077; sqlite3 OLD .dump | sqlite3 NEW` makes it UTF-8"
-            }
+            DatabaseCause::Encoded =>
+                "its text is UTF-16: `umask 077; sqlite3 OLD .dump | sqlite3 NEW` makes it UTF-8; \
+                OLD is the database, NEW the new `store`",
             DatabaseCause::Full => "the disk is full: make room",
             DatabaseCause::Failed =>
                 "the disk cannot be read or written: look at its health, and keep a copy of the \
@@ -331,7 +371,7 @@ impl DatabaseCause {
         ensures { result.now ≡ text_or self words.now }
     {
         match self {
-            DatabaseCause::Other | DatabaseCause::Unknown => words,
+            DatabaseCause::NoDatabase | DatabaseCause::Unknown => words,
             _ => self.text(),
         }
     }

@@ -6,6 +6,7 @@ ghost use Rattle.rr_commands.specs.Created.{CreatesBy, CreatesIn};
 
 use crate::databases::{Absent, Databases, close};
 use crate::fault::ProgramFault;
+use crate::files::Files;
 use crate::output::{Output, ended, tell};
 use crate::settings_reading::read_settings_file;
 use crate::trouble::Trouble;
@@ -15,16 +16,17 @@ use sqlite::{Alter, Connection};
 use std::alloc::Global;
 
 /// Makes the database that the settings name, with the opening objects of a registry, and says so.
-pub fn init<'a, D: Databases, W: Output>(
+pub fn init<'a, D: Databases, F: Files, W: Output>(
     rt: &HostRuntime,
     databases: &D,
+    files: &F,
     settings: &'a str,
     output: &mut W,
 ) -> Result<u8, ProgramFault<'a>>
     ensures { CreatesBy D.Disk.Store (D.gives databases.now) (D.closes databases.now)
-        (W.told output.old) (W.told output.new) result }
+        (F.reads files.now) settings.now (W.told output.old) (W.told output.new) result }
 {
-    let (read, path) = read_settings_file(rt, settings)?;
+    let (read, path) = read_settings_file(rt.alloc(), files, settings)?;
     let end = init_at(rt.alloc(), databases, read, path.as_str(), output);
     ended(rt.alloc(), end, settings, path, "", output)
 }

@@ -2,8 +2,9 @@
 
 ghost use Rattle.std.specs.Prelude.{◌≡◌, ℕ, List, IfErr, IfOk, IsTrue, false};
 ghost use Rattle.sqlite.specs.Held.{Held};
-ghost use Rattle.rr_desk.specs.Opened.{OpensTables, Runs};
-ghost use Rattle.rr_commands.specs.Commands.{OpensDesk, is_of_database};
+ghost use Rattle.rr_desk.specs.Opened.{IsRunning, OpensTables};
+ghost use Rattle.rr_commands.specs.Commands.{FailsToOpenDesk, OpensDesk, OpensNoDesk};
+ghost use Rattle.rr_commands.specs.Commands.{is_of_database};
 ghost use Rattle.rr_commands.specs.declared.databases.Absent.{Absent};
 
 use crate::cause::{Cause, DatabaseCause};
@@ -23,6 +24,15 @@ use std::{fs, io};
 /// Where the header of a database says how its texts are encoded, in four bytes.
 const ENCODING: usize = 56;
 
+/// How many bytes a page of a database has at least, and so a log in which one was committed.
+const LEAST_PAGE: u64 = 512;
+
+/// How the name of a database's log ends.
+const LOG: &str = "-wal";
+
+/// How the name of a journal ends that SQLite's own program leaves.
+const JOURNAL: &str = "-journal";
+
 /// What is done if a path leads to no database.
 #[derive(Clone, Copy)]
 pub enum Absent {
@@ -40,10 +50,10 @@ pub trait Databases {
     // The database at a path may be opened as this connection, by what is done if there is none.
     ghost gives: { Self → List ℕ → Absent → Held Self.Disk → Type 0 };
 
-    // As which connection a database was closed, by `close`.
+    // The database of this connection was closed.
     ghost closes: { Self → Held Self.Disk → Type 0 };
 
-    /// Opens the database at a path.
+    /// Opens the database at a path. The error is why it cannot be opened or made.
     fn open(&self, path: &str, absent: Absent) -> Result<Connection<Self::Disk>, DatabaseCause>
         ensures gives { IfOk result (λ conn. gives self.now path.now absent conn) }
         ensures autocommit { IfOk result (λ conn. conn.in_transaction ≡ false) };
@@ -51,9 +61,9 @@ pub trait Databases {
     /// How many bytes the database at a path has, or 0 if that is not available.
     fn size(&self, path: &str) -> u64;
 
-    /// Closes a database, if there is one here. The function `close` of this module takes one by
-    /// value; this method is lent it, because no proof is made that an impl keeps to a trait of
-    /// which a method takes a connection of a named store by value.
+    /// Closes the database of this connection, if there is one. Call the function `close` of this
+    /// module, which takes the connection by value: an impl of a method that takes a connection of
+    /// a named store by value cannot be proved.
     fn close(&self, conn: &mut Option<Connection<Self::Disk>>)
         ensures { (held : Held Self.Disk) → conn.old ≡ Some held → closes self.now held };
 }
@@ -117,52 +127,98 @@ pub fn close<D: Databases>(databases: &D, conn: Connection<D::Disk>)
     databases.close(&mut Some(conn));
 }
 
-/// Why the database at a path cannot be opened, by the library's error, which is the same for one
-/// that is damaged and for one in UTF-16.
+/// Why the database at a path cannot be opened, by the library's error. It is the same for one that
+/// is damaged and for one in UTF-16, and for one with a journal and for one whose log is denied.
 fn cause_at(rt: &HostRuntime, path: &str, error: sqlite::Error) -> DatabaseCause {
     match DatabaseCause::of(error) {
         DatabaseCause::Damaged if is_utf16(rt, path) => DatabaseCause::Encoded,
+        DatabaseCause::Unopened if has_journal(rt, path) => DatabaseCause::HasJournal,
+        DatabaseCause::Unopened if is_log_denied(rt, path) => DatabaseCause::Denied,
         cause => cause,
     }
 }
 
 /// Whether the header of the database at a path says that its texts are UTF-16.
 fn is_utf16(rt: &HostRuntime, path: &str) -> bool {
-    match read_header(rt, path) {
+    match read_first(rt, path, ENCODING as u64 + 4) {
         Ok(header) => matches!(header.as_slice().get(ENCODING..), Some([0, 0, 0, 2 | 3])),
         Err(_) => false,
     }
 }
 
-/// The header of the database at a path, to its encoding.
-fn read_header(rt: &HostRuntime, path: &str) -> io::Result<Vec<u8>> {
-    let mut header = Vec::new(rt.alloc());
+/// Whether SQLite's own program left a journal that is to be applied beside the database at a path.
+fn has_journal(rt: &HostRuntime, path: &str) -> bool {
+    match beside(rt, path, JOURNAL) {
+        Ok(journal) => is_hot(rt, journal.as_str()),
+        Err(_) => false,
+    }
+}
+
+/// Whether the user may not use the log of the database at a path.
+fn is_log_denied(rt: &HostRuntime, path: &str) -> bool {
+    match beside(rt, path, LOG) {
+        Ok(log) => matches!(try_file(rt, log.as_str()), Err(DatabaseCause::Denied)),
+        Err(_) => false,
+    }
+}
+
+/// The path of the file with this ending beside the database at a path: where a link leads, as the
+/// library has it.
+fn beside(rt: &HostRuntime, path: &str, ending: &str) -> Result<String, DatabaseCause> {
+    match fs::canonicalize(rt, path) {
+        Ok(found) => joined(rt, found.as_str(), ending),
+        Err(error) if error.kind() == ErrorKind::NotFound => joined(rt, path, ending),
+        Err(error) => Err(refused(&error)),
+    }
+}
+
+fn joined(rt: &HostRuntime, path: &str, ending: &str) -> Result<String, DatabaseCause> {
+    match format!(in rt.alloc(); "{path}{ending}") {
+        Ok(joined) => Ok(joined),
+        Err(_) => Err(DatabaseCause::Memory),
+    }
+}
+
+/// The first bytes of a file, at most as many as this.
+fn read_first(rt: &HostRuntime, path: &str, most: u64) -> io::Result<Vec<u8>> {
+    let mut first = Vec::new(rt.alloc());
     fs::File::open(rt, path)?
-        .take(ENCODING as u64 + 4)
-        .read_to_end(&mut header)?;
-    Ok(header)
+        .take(most)
+        .read_to_end(&mut first)?;
+    Ok(first)
 }
 
 /// Sees that a file may be read and written, and makes it if it is missing and that is asked for:
 /// readable by its owner alone, whatever the umask, because the digests of all secrets stand in it.
-/// Its log gets the permissions of the file.
+/// Its log gets the permissions of the file. A path that the library takes for no file (`:memory:`,
+/// `file:`) is refused.
 fn make_ready(rt: &HostRuntime, path: &str, absent: Absent) -> Result<(), DatabaseCause> {
     if path == ":memory:" || path.starts_with("file:") {
         return Err(DatabaseCause::Unopened);
     }
     match fs::metadata(rt, path) {
         Ok(found) if found.is_file() => {
+            if found.len() == 0 {
+                refuse_rest(rt, path, DatabaseCause::EmptyWithLog)?;
+            }
             try_file(rt, path)?;
-            refuse_empty(rt, path, absent)
+            match absent {
+                // The library would write a header to it.
+                Absent::Refused if found.len() == 0 => Err(DatabaseCause::Empty),
+                _ => Ok(()),
+            }
         }
         Ok(found) if found.is_dir() => Err(DatabaseCause::Refused(Cause::Folder)),
         // What stands there is neither: the opening refuses it.
         Ok(_) => Ok(()),
-        Err(error) if error.kind() == ErrorKind::NotFound => match absent {
-            Absent::Refused => Err(DatabaseCause::Missing),
-            Absent::Made => make_file(rt, path),
-        },
-        Err(error) => Err(DatabaseCause::Refused(Cause::of(&error))),
+        Err(error) if error.kind() == ErrorKind::NotFound => {
+            refuse_rest(rt, path, DatabaseCause::MissingWithLog)?;
+            match absent {
+                Absent::Refused => Err(DatabaseCause::Missing),
+                Absent::Made => make_file(rt, path),
+            }
+        }
+        Err(error) => Err(refused(&error)),
     }
 }
 
@@ -170,35 +226,47 @@ fn make_ready(rt: &HostRuntime, path: &str, absent: Absent) -> Result<(), Databa
 fn try_file(rt: &HostRuntime, path: &str) -> Result<(), DatabaseCause> {
     match OpenOptions::new().read(true).write(true).open(rt, path) {
         Ok(_) => Ok(()),
-        Err(error) => Err(DatabaseCause::Refused(Cause::of(&error))),
+        Err(error) => Err(refused(&error)),
     }
 }
 
-/// Refuses an empty file that is not to be made a database: the library would write a header to it.
-/// One with a log beside it is left to the library, because what was committed may be there.
-fn refuse_empty(rt: &HostRuntime, path: &str, absent: Absent) -> Result<(), DatabaseCause> {
-    match absent {
-        Absent::Refused if is_empty(rt, path) && !has_log(rt, path) => Err(DatabaseCause::Empty),
-        _ => Ok(()),
+/// Why the system refuses a database.
+fn refused(error: &io::Error) -> DatabaseCause {
+    match Cause::of(error) {
+        Cause::Denied => DatabaseCause::Denied,
+        cause => DatabaseCause::Refused(cause),
     }
 }
 
-/// Whether the file at a path is empty.
-fn is_empty(rt: &HostRuntime, path: &str) -> bool {
-    match fs::metadata(rt, path) {
-        Ok(found) => found.len() == 0,
+/// Refuses a file that is empty or missing, for this cause, if its log has what was committed, or
+/// its journal what is to be applied: the library would begin that log anew, and SQLite's own
+/// program would remove that journal.
+fn refuse_rest(rt: &HostRuntime, path: &str, cause: DatabaseCause) -> Result<(), DatabaseCause> {
+    let log = beside(rt, path, LOG)?;
+    let journal = beside(rt, path, JOURNAL)?;
+    if has_commits(rt, log.as_str()) || is_hot(rt, journal.as_str()) {
+        Err(cause)
+    } else {
+        Ok(())
+    }
+}
+
+/// Whether the log at a path may have what was committed: one that was only begun has not.
+fn has_commits(rt: &HostRuntime, log: &str) -> bool {
+    match fs::metadata(rt, log) {
+        Ok(found) => found.is_file() && found.len() >= LEAST_PAGE,
         Err(_) => false,
     }
 }
 
-/// Whether a file may have a log beside it.
-fn has_log(rt: &HostRuntime, path: &str) -> bool {
-    match format!(in rt.alloc(); "{path}-wal") {
-        Ok(log) => match fs::metadata(rt, log.as_str()) {
-            Ok(_) => true,
-            Err(error) => error.kind() != ErrorKind::NotFound,
+/// Whether the journal at a path is to be applied: one that is empty or begins with a zero is not.
+fn is_hot(rt: &HostRuntime, journal: &str) -> bool {
+    match fs::metadata(rt, journal) {
+        Ok(found) if found.is_file() => match read_first(rt, journal, 1) {
+            Ok(first) => !matches!(first.as_slice(), [] | [0]),
+            Err(_) => false,
         },
-        Err(_) => true,
+        _ => false,
     }
 }
 
@@ -216,14 +284,14 @@ fn make_file(rt: &HostRuntime, path: &str) -> Result<(), DatabaseCause> {
             // meanwhile.
             ErrorKind::AlreadyExists => Ok(()),
             ErrorKind::NotFound => Err(DatabaseCause::NoFolder),
-            _ => Err(DatabaseCause::Refused(Cause::of(&error))),
+            _ => Err(refused(&error)),
         },
     }
 }
 
 /// Opens the desk of the registry in the database at a path. While a large one is opened, a line on
-/// a terminal says so. What is found the matter with it, as a row, a table or what was added to
-/// one, is put into `found` for the message.
+/// a terminal says so. If the database is refused, `found` gets what is at fault, for the message:
+/// a row, a table, or what was added to one.
 pub fn open_desk<D: Databases>(
     rt: &HostRuntime,
     databases: &D,
@@ -233,7 +301,8 @@ pub fn open_desk<D: Databases>(
 ) -> Result<Desk<D::Disk>, Trouble>
     ensures opens { IfOk result (OpensDesk D.Disk.Store
         (D.gives databases.now path.now Absent.Refused) settings) }
-    ensures fails { IfErr result (λ trouble. IsTrue (is_of_database trouble)) }
+    ensures fails { IfErr result (OpensNoDesk D.Disk.Store
+        (D.gives databases.now path.now Absent.Refused) (D.closes databases.now) settings) }
 {
     let mut opening = Opening::begin(rt, databases.size(path));
     let opened = open_quietly(rt.alloc(), databases, settings, path, found);
@@ -252,7 +321,8 @@ fn open_quietly<D: Databases>(
 ) -> Result<Desk<D::Disk>, Trouble>
     ensures opens { IfOk result (OpensDesk D.Disk.Store
         (D.gives databases.now path.now Absent.Refused) settings) }
-    ensures fails { IfErr result (λ trouble. IsTrue (is_of_database trouble)) }
+    ensures fails { IfErr result (OpensNoDesk D.Disk.Store
+        (D.gives databases.now path.now Absent.Refused) (D.closes databases.now) settings) }
 {
     let conn = open_at(databases, path)?;
     match open_over(alloc, conn, settings, found) {
@@ -285,17 +355,15 @@ fn open_over<S: Alter>(
 ) -> Result<Desk<S>, (Trouble, Connection<S>)>
     requires { conn.in_transaction ≡ false }
     ensures opens { IfOk result (λ desk. OpensTables S.Store conn desk.stored) }
-    ensures runs { IfOk result (Runs S.Store settings) }
-    ensures fails { IfErr result (λ e. IsTrue (is_of_database e.0)) }
+    ensures runs { IfOk result (IsRunning S.Store settings) }
+    ensures fails { IfErr result (λ e.
+        FailsToOpenDesk S.Store settings.source conn e.1 e.0) }
 {
     let source = settings.source().copy(alloc);
     match Desk::open(alloc, conn, settings) {
         Ok(desk) => Ok(desk),
         Err((fault, mut conn)) => {
-            let trouble = match source {
-                Ok(source) => trouble_with(alloc, &mut conn, &source, fault, found),
-                Err(_) => Trouble::Opening(fault),
-            };
+            let trouble = trouble_with(alloc, &mut conn, source, fault, found);
             Err((trouble, conn))
         }
     }

@@ -1,14 +1,16 @@
 //! What is the matter with a database whose registry is not opened or not migrated, for messages
 //! alone: contracts say of which kind it is, and not that it is so. The store says only that there
-//! is something; the rows are looked at once more, because a person needs to know where. If memory
-//! runs out meanwhile, what the store said is told, or what else was found.
+//! is something; the rows are looked at once more, because a person needs to know where, and that
+//! commits nothing. If memory runs out meanwhile, what the store said is told, or what else was
+//! found.
 
-ghost use Rattle.std.specs.Prelude.{IfSome, IsTrue, nat_lt};
-ghost use Rattle.rr_commands.specs.Commands.{is_of_database};
-ghost use Rattle.rr_commands.specs.Migrated.{IsDiagnosis, LooksAtRefused, is_of_rows};
-ghost use Rattle.rr_commands.specs.Migrated.{is_of_tables, is_of_version};
+ghost use Rattle.std.specs.Prelude.{◌≡◌, IfSome, IsTrue, false, nat_lt};
+ghost use Rattle.rr_commands.specs.Commands.{LooksAt};
+ghost use Rattle.rr_commands.specs.Found.{IsToldUnopened, is_of_old, is_of_rows, is_of_unmigrated};
+ghost use Rattle.rr_commands.specs.Found.{is_of_unopened, is_of_version};
+ghost use Rattle.rr_commands.specs.Migrated.{IsDiagnosis, LooksAtRefused};
 
-use crate::obstacle::{push_obstacle, text_at};
+use crate::obstacle::{has_other_tables, push_obstacle, text_at};
 use crate::shown::push_key;
 use crate::trouble::Trouble;
 use rr_desk::{MigrateFault, OpenFault};
@@ -17,15 +19,16 @@ use rr_number::Name;
 use rr_object::{Key, Object, ObjectFault};
 use rr_registry::{LoadFault, Registry};
 use rr_rows::{META_TREE, NAMED_TREE, OBJECT_TREE};
-use rr_store::{OLD_VERSION, VERSION, Version, number_of, says_version};
+use rr_store::{OLD_VERSION, VERSION, Version, is_version_row_alone, read_decimal};
 use rr_text::read_canonical;
 use sqlite::{Alter, Connection, Row};
 use sqlite_schema::schema::Schema;
 use sqlite_value::value::ValueRef;
 use std::alloc::{AllocError, Global};
 
-/// What a file has, in its order: each of the three tables is followed by the index of its key.
-const LISTED: &str = "SELECT name, type, tbl_name, sql FROM sqlite_schema ORDER BY rowid";
+/// What a file has, in its order: each of the three tables is followed by the index of its key. A
+/// row has the number of its tree and one more.
+const LISTED: &str = "SELECT name, type, tbl_name, sql, rowid FROM sqlite_schema ORDER BY rowid";
 
 /// The rows of `meta`.
 const META: &str = "SELECT name, value FROM meta";
@@ -50,18 +53,20 @@ enum RowFault {
 
 /// What is the matter with a database whose registry was not opened for this reason. If a row of an
 /// object is, its class and key are put into `found`, if another row is, its table, and if it is
-/// what was added to a table, that.
+/// what was added to a table, that. Its rows are looked at if a copy of the source was made.
 pub(crate) fn trouble_with<S: Alter>(
     alloc: Global,
     conn: &mut Connection<S>,
-    source: &Name,
+    source: Result<Name, AllocError>,
     fault: OpenFault,
     found: &mut String,
 ) -> Trouble
-    ensures { IsTrue (is_of_database result) }
+    requires { conn.old.in_transaction ≡ false }
+    ensures cause { IsToldUnopened fault result }
+    ensures looks { LooksAt S.Store conn.old conn.new }
 {
-    match fault {
-        OpenFault::Store(_) => {
+    match (fault, source) {
+        (OpenFault::Store(_), _) => {
             if let Some(version) = later_version(conn) {
                 Trouble::Opening(OpenFault::WrongVersion(version))
             } else {
@@ -71,25 +76,69 @@ pub(crate) fn trouble_with<S: Alter>(
                 }
             }
         }
-        OpenFault::BadRow => match found_in_rows(alloc, conn, source, Version::This, found) {
-            Some(trouble) => trouble,
-            None => Trouble::Opening(fault),
-        },
-        OpenFault::WrongVersion(version) => {
-            if version == OLD_VERSION && has_other_meta(conn, Version::Old) {
-                push_meta(found);
-                Trouble::OtherRows
-            } else {
-                Trouble::Opening(fault)
+        (OpenFault::BadRow, Ok(source)) => {
+            match found_in_rows(alloc, conn, &source, Version::Current, found) {
+                Some(trouble) => trouble,
+                None => Trouble::Opening(fault),
             }
         }
-        OpenFault::Memory => Trouble::Opening(fault),
+        (OpenFault::WrongVersion(version), Ok(source)) => {
+            match found_in_old(alloc, conn, &source, version, found) {
+                Some(trouble) => trouble,
+                None => Trouble::Opening(fault),
+            }
+        }
+        _ => Trouble::Opening(fault),
+    }
+}
+
+/// What is the matter with tables that say this version and are not read, if it is found: of the
+/// version that is migrated, another row of `meta` beside it, or keys of the version that is read.
+fn found_in_old<S: Alter>(
+    alloc: Global,
+    conn: &mut Connection<S>,
+    source: &Name,
+    version: u32,
+    found: &mut String,
+) -> Option<Trouble>
+    requires { conn.old.in_transaction ≡ false }
+    ensures kind { IfSome result (λ trouble. IsTrue (is_of_old version trouble)) }
+    ensures looks { LooksAt S.Store conn.old conn.new }
+{
+    if version != OLD_VERSION {
+        return None;
+    }
+    if has_other_meta(conn, Version::Old) {
+        push_meta(found);
+        return Some(Trouble::OtherRows);
+    }
+    match look(conn, OBJECTS) {
+        Ok(rows) if has_new_keys(alloc, rows.as_slice(), source) => {
+            push_meta(found);
+            Some(Trouble::NewKeys)
+        }
+        _ => None,
+    }
+}
+
+/// Whether these rows are good in the version that is read alone.
+fn has_new_keys(alloc: Global, rows: &[Row], source: &Name) -> bool {
+    !are_good(alloc, rows, source, Version::Old) && are_good(alloc, rows, source, Version::Current)
+}
+
+/// What is the matter with rows that are good in the other version than this one, which `meta`
+/// says.
+fn keys_beside(version: Version) -> Trouble
+    ensures kind { IsTrue (is_of_rows result) }
+{
+    match version {
+        Version::Old => Trouble::NewKeys,
+        Version::Current => Trouble::OldKeys,
     }
 }
 
 /// What is told of how a migration ended: that, or what is found the matter with a database
-/// that was refused, as above. Its rows are looked at if a copy of the source was made. No other
-/// database is looked at.
+/// that was refused, as above. No other database is looked at.
 pub(crate) fn told_of<S: Alter>(
     alloc: Global,
     conn: &mut Connection<S>,
@@ -97,8 +146,9 @@ pub(crate) fn told_of<S: Alter>(
     end: Result<u8, Trouble>,
     found: &mut String,
 ) -> Result<u8, Trouble>
+    requires { conn.old.in_transaction ≡ false }
     ensures diagnosis { IsDiagnosis end result }
-    ensures looks { LooksAtRefused end conn.old conn.new }
+    ensures looks { LooksAtRefused S.Store end conn.old conn.new }
 {
     match (end, source) {
         (Err(Trouble::Migrating(MigrateFault::Store(_))), _) => match found_in_tables(conn, found) {
@@ -117,7 +167,25 @@ pub(crate) fn told_of<S: Alter>(
                 None => end,
             }
         }
+        (Err(Trouble::Migrating(MigrateFault::NoRoot)), _) => {
+            if has_no_objects(conn) {
+                Err(Trouble::Empty)
+            } else {
+                end
+            }
+        }
         _ => end,
+    }
+}
+
+/// Whether the tables have no objects.
+fn has_no_objects<S: Alter>(conn: &mut Connection<S>) -> bool
+    requires { conn.old.in_transaction ≡ false }
+    ensures { LooksAt S.Store conn.old conn.new }
+{
+    match look(conn, OBJECTS) {
+        Ok(rows) => rows.as_slice().is_empty(),
+        Err(_) => false,
     }
 }
 
@@ -128,10 +196,12 @@ fn found_in_meta<S: Alter>(
     version: u32,
     found: &mut String,
 ) -> Option<Trouble>
-    ensures { IfSome result (λ trouble. IsTrue (is_of_version version trouble)) }
+    requires { conn.old.in_transaction ≡ false }
+    ensures kind { IfSome result (λ trouble. IsTrue (is_of_version version trouble)) }
+    ensures looks { LooksAt S.Store conn.old conn.new }
 {
     if version == VERSION {
-        if has_other_meta(conn, Version::This) {
+        if has_other_meta(conn, Version::Current) {
             push_meta(found);
             return Some(Trouble::OtherRows);
         }
@@ -147,7 +217,9 @@ fn push_meta(found: &mut String) {
 
 /// What is the matter with tables that are not migrated, if it is found.
 fn found_in_tables<S: Alter>(conn: &mut Connection<S>, found: &mut String) -> Option<Trouble>
-    ensures { IfSome result (λ trouble. IsTrue (is_of_tables trouble)) }
+    requires { conn.old.in_transaction ≡ false }
+    ensures kind { IfSome result (λ trouble. IsTrue (is_of_unmigrated trouble)) }
+    ensures looks { LooksAt S.Store conn.old conn.new }
 {
     if let Some(version) = later_version(conn) {
         Some(Trouble::Migrating(MigrateFault::WrongVersion(version)))
@@ -158,24 +230,29 @@ fn found_in_tables<S: Alter>(conn: &mut Connection<S>, found: &mut String) -> Op
 
 /// What is the matter with how tables were made, if it is found.
 fn found_in_schema<S: Alter>(conn: &mut Connection<S>, found: &mut String) -> Option<Trouble>
-    ensures kind { IfSome result (λ trouble. IsTrue (is_of_tables trouble)) }
-    ensures database { IfSome result (λ trouble. IsTrue (is_of_database trouble)) }
+    requires { conn.old.in_transaction ≡ false }
+    ensures unopened { IfSome result (λ trouble. IsTrue (is_of_unopened trouble)) }
+    ensures unmigrated { IfSome result (λ trouble. IsTrue (is_of_unmigrated trouble)) }
+    ensures looks { LooksAt S.Store conn.old conn.new }
 {
-    match conn.query_all(LISTED, &[]) {
+    match look(conn, LISTED) {
         Ok(rows) => judge_schema(conn.schema(), rows.as_slice(), found),
         Err(_) => None,
     }
 }
 
-/// What is the matter with tables that are listed so: their order, or what was added to them.
+/// What is the matter with tables that are listed so: their order, what was added to them, or that
+/// they were made otherwise.
 fn judge_schema(schema: &Schema, rows: &[Row], found: &mut String) -> Option<Trouble>
-    ensures kind { IfSome result (λ trouble. IsTrue (is_of_tables trouble)) }
-    ensures database { IfSome result (λ trouble. IsTrue (is_of_database trouble)) }
+    ensures unopened { IfSome result (λ trouble. IsTrue (is_of_unopened trouble)) }
+    ensures unmigrated { IfSome result (λ trouble. IsTrue (is_of_unmigrated trouble)) }
 {
     if has_other_order(rows) {
         Some(Trouble::OtherOrder)
     } else if push_obstacle(schema, rows, found) {
         Some(Trouble::Obstacle)
+    } else if has_other_tables(schema) {
+        Some(Trouble::OtherTables)
     } else {
         None
     }
@@ -184,9 +261,11 @@ fn judge_schema(schema: &Schema, rows: &[Row], found: &mut String) -> Option<Tro
 /// The version that `meta` says, if it is a later one: those tables may have other
 /// columns.
 fn later_version<S: Alter>(conn: &mut Connection<S>) -> Option<u32>
-    ensures { IfSome result (λ version. IsTrue (nat_lt VERSION version)) }
+    requires { conn.old.in_transaction ≡ false }
+    ensures later { IfSome result (λ version. IsTrue (nat_lt VERSION version)) }
+    ensures looks { LooksAt S.Store conn.old conn.new }
 {
-    match conn.query_all(META, &[]) {
+    match look(conn, META) {
         Ok(rows) => {
             let version = version_in(rows.as_slice())?;
             if version > VERSION {
@@ -204,7 +283,7 @@ fn version_in(rows: &[Row]) -> Option<u32> {
     let row = rows.iter().find(|row| is_named(row, "version"))?;
     let found: Result<String, sqlite::Error> = row.get(1);
     match found {
-        Ok(found) => number_of(found.as_bytes()),
+        Ok(found) => read_decimal(found.as_bytes()),
         Err(_) => None,
     }
 }
@@ -212,26 +291,28 @@ fn version_in(rows: &[Row]) -> Option<u32> {
 /// Whether the three tables are there, each with the index of its key alone, but do not stand
 /// first, or not in their order.
 fn has_other_order(rows: &[Row]) -> bool {
-    let places = [
-        place_of("meta", rows),
-        place_of("object", rows),
-        place_of("named", rows),
+    let found = [
+        tree_of("meta", rows),
+        tree_of("object", rows),
+        tree_of("named", rows),
     ];
     let are_plain = has_key_alone("meta", rows)
         && has_key_alone("object", rows)
         && has_key_alone("named", rows);
-    // A row's place in the list is the number of its tree, so each table stands at that of rr_rows.
     let trees = [
-        Some(META_TREE as usize),
-        Some(OBJECT_TREE as usize),
-        Some(NAMED_TREE as usize),
+        Some(u64::from(META_TREE)),
+        Some(u64::from(OBJECT_TREE)),
+        Some(u64::from(NAMED_TREE)),
     ];
-    are_plain && places != trees && places.iter().all(Option::is_some)
+    are_plain && found != trees && found.iter().all(Option::is_some)
 }
 
-/// Where a table stands among these rows.
-fn place_of(name: &str, rows: &[Row]) -> Option<usize> {
-    rows.iter().position(|row| is_named(row, name) && text_at(row, 1) == b"table".as_slice())
+/// The tree of a table among these rows. A table that was dropped before it leaves a gap.
+fn tree_of(name: &str, rows: &[Row]) -> Option<u64> {
+    let row = rows.iter().find(|row| is_named(row, name)
+        && text_at(row, 1) == b"table".as_slice())?;
+    let listed: Result<u64, sqlite::Error> = row.get(4);
+    listed.ok()?.checked_sub(1)
 }
 
 /// Whether a table has one index that came with it.
@@ -273,30 +354,45 @@ fn found_in_rows<S: Alter>(
     version: Version,
     found: &mut String,
 ) -> Option<Trouble>
+    requires { conn.old.in_transaction ≡ false }
     ensures kind { IfSome result (λ trouble. IsTrue (is_of_rows trouble)) }
-    ensures database { IfSome result (λ trouble. IsTrue (is_of_database trouble)) }
+    ensures looks { LooksAt S.Store conn.old conn.new }
 {
     if has_other_meta(conn, version) {
         push_meta(found);
         return Some(Trouble::OtherRows);
     }
-    match conn.query_all(OBJECTS, &[]) {
+    match look(conn, OBJECTS) {
         Ok(rows) => judge_rows(alloc, conn, rows.as_slice(), source, version, found),
         Err(_) => None,
     }
 }
 
 /// Whether `meta` has other rows than that of this version.
-fn has_other_meta<S: Alter>(conn: &mut Connection<S>, version: Version) -> bool {
-    match conn.query_all(META, &[]) {
-        Ok(rows) => !says_version(rows.as_slice(), version),
+fn has_other_meta<S: Alter>(conn: &mut Connection<S>, version: Version) -> bool
+    requires { conn.old.in_transaction ≡ false }
+    ensures { LooksAt S.Store conn.old conn.new }
+{
+    match look(conn, META) {
+        Ok(rows) => !is_version_row_alone(rows.as_slice(), version),
         Err(_) => false,
     }
 }
 
-/// What is the matter with these rows of objects: if all are of another source, that; if all are
+/// The answer of a query, in a transaction that is rolled back.
+fn look<S: Alter>(conn: &mut Connection<S>, query: &str) -> Result<Vec<Row>, sqlite::Error>
+    requires { conn.old.in_transaction ≡ false }
+    ensures { LooksAt S.Store conn.old conn.new }
+{
+    let mut tx = conn.transaction();
+    let rows = tx.query_all(query, &[]);
+    tx.rollback();
+    rows
+}
+
+/// What is the matter with these rows of objects: if most are of another source, that; if all are
 /// good in the other version, that `meta` says this one; otherwise the first that is bad by itself,
-/// and else what is bad of all together.
+/// or else of another source, and else what is bad of all together.
 fn judge_rows<S: Alter>(
     alloc: Global,
     conn: &mut Connection<S>,
@@ -305,21 +401,27 @@ fn judge_rows<S: Alter>(
     version: Version,
     found: &mut String,
 ) -> Option<Trouble>
+    requires { conn.old.in_transaction ≡ false }
     ensures kind { IfSome result (λ trouble. IsTrue (is_of_rows trouble)) }
-    ensures database { IfSome result (λ trouble. IsTrue (is_of_database trouble)) }
+    ensures looks { LooksAt S.Store conn.old conn.new }
 {
-    let are_others = rows.iter().all(|row| fault_of(alloc, row, source, version)
-        == Some(RowFault::OtherSource));
-    match first_bad(alloc, rows, source, version) {
-        Some(_) if are_others => Some(Trouble::OtherSource),
+    if are_mostly_others(alloc, rows, source, version) {
+        return Some(Trouble::OtherSource);
+    }
+    if let Some(row) = first_with(alloc, rows, source, version, RowFault::Bad) {
+        if are_good(alloc, rows, source, version.other()) {
+            push_meta(found);
+            return Some(keys_beside(version));
+        }
+        // Without memory for the row, the message names the database alone.
+        let _ = push_row(found, row);
+        return Some(Trouble::BadObject);
+    }
+    match first_with(alloc, rows, source, version, RowFault::OtherSource) {
         Some(row) => {
-            if are_good(alloc, rows, source, version.other()) {
-                push_meta(found);
-                return Some(Trouble::OtherRows);
-            }
-            // Without memory for the row, the message names the database alone.
+            // As above.
             let _ = push_row(found, row);
-            Some(Trouble::BadObject)
+            Some(Trouble::OtherSourceRow)
         }
         None => judge_together(alloc, conn, rows, source, version, found),
     }
@@ -335,8 +437,9 @@ fn judge_together<S: Alter>(
     version: Version,
     found: &mut String,
 ) -> Option<Trouble>
+    requires { conn.old.in_transaction ≡ false }
     ensures kind { IfSome result (λ trouble. IsTrue (is_of_rows trouble)) }
-    ensures database { IfSome result (λ trouble. IsTrue (is_of_database trouble)) }
+    ensures looks { LooksAt S.Store conn.old conn.new }
 {
     let Some(objects) = objects_of(alloc, rows, source, version) else {
         return None;
@@ -347,12 +450,13 @@ fn judge_together<S: Alter>(
             let trouble = judge_names(conn, found);
             Some(trouble)
         }
-        Err(LoadFault::Overlap(number) | LoadFault::Unnamed(number)) => {
-            if let Some(row) = row_at(rows, number) {
-                // Without memory for the row, the message names the database alone.
-                let _ = push_row(found, row);
-            }
-            Some(Trouble::Unsound)
+        Err(LoadFault::Overlap(number)) => {
+            push_numbered(found, rows, number);
+            Some(Trouble::Overlap)
+        }
+        Err(LoadFault::Unnamed(number)) => {
+            push_numbered(found, rows, number);
+            Some(Trouble::Unnamed)
         }
         Err(_) => None,
     }
@@ -361,10 +465,11 @@ fn judge_together<S: Alter>(
 /// What is the matter with the rows of `named` beside those of a registry: the first that is of no
 /// object, and else all of them.
 fn judge_names<S: Alter>(conn: &mut Connection<S>, found: &mut String) -> Trouble
+    requires { conn.old.in_transaction ≡ false }
     ensures kind { IsTrue (is_of_rows result) }
-    ensures database { IsTrue (is_of_database result) }
+    ensures looks { LooksAt S.Store conn.old conn.new }
 {
-    if let Ok(rows) = conn.query_all(NAMES_ALONE, &[]) {
+    if let Ok(rows) = look(conn, NAMES_ALONE) {
         if let Some(row) = rows.as_slice().first() {
             // Without memory for the row, the message names the database alone.
             let _ = push_row(found, row);
@@ -376,24 +481,38 @@ fn judge_names<S: Alter>(conn: &mut Connection<S>, found: &mut String) -> Troubl
     Trouble::OtherRows
 }
 
+/// Adds the row of this number, from 1.
+fn push_numbered(found: &mut String, rows: &[Row], number: u64) {
+    if let Some(row) = row_at(rows, number) {
+        // Without memory for the row, the message names the database alone.
+        let _ = push_row(found, row);
+    }
+}
+
 /// The row of this number, from 1.
 fn row_at(rows: &[Row], number: u64) -> Option<&Row> {
     rows.get(usize::try_from(number).ok()?.checked_sub(1)?)
 }
 
-/// The first row that has no object of the source by its class and key.
-fn first_bad<'a>(
+/// Whether more than half of the rows have objects of another source.
+fn are_mostly_others(alloc: Global, rows: &[Row], source: &Name, version: Version) -> bool {
+    let others = rows
+        .iter()
+        .filter(|row| fault_of(alloc, row, source, version) == Some(RowFault::OtherSource))
+        .count();
+    others > rows.len() / 2
+}
+
+/// The first row with this fault.
+fn first_with<'a>(
     alloc: Global,
     rows: &'a [Row],
     source: &Name,
     version: Version,
+    fault: RowFault,
 ) -> Option<&'a Row> {
-    rows.iter().find(|row| {
-        matches!(
-            fault_of(alloc, row, source, version),
-            Some(RowFault::OtherSource | RowFault::Bad)
-        )
-    })
+    rows.iter()
+        .find(|row| fault_of(alloc, row, source, version) == Some(fault))
 }
 
 /// Whether each row has an object of the source by its class and key.

@@ -7,6 +7,7 @@ ghost use Rattle.rr_commands.specs.Dumped.{DumpsBy, DumpsDesk, HasDumped};
 
 use crate::databases::{Databases, close, open_desk};
 use crate::fault::ProgramFault;
+use crate::files::Files;
 use crate::output::{Output, ended};
 use crate::progress::Shown;
 use crate::settings_reading::read_settings_file;
@@ -18,17 +19,18 @@ use std::alloc::Global;
 
 /// Prints the dump of the registry that the settings name, with all of each object if it is to be
 /// full, and else with their public forms.
-pub fn dump<'a, D: Databases, W: Output>(
+pub fn dump<'a, D: Databases, F: Files, W: Output>(
     rt: &HostRuntime,
     databases: &D,
+    files: &F,
     settings: &'a str,
     full: bool,
     output: &mut W,
 ) -> Result<u8, ProgramFault<'a>>
-    ensures { DumpsBy D.Disk.Store (D.gives databases.now) (D.closes databases.now) full
-        (W.told output.old) (W.told output.new) result }
+    ensures { DumpsBy D.Disk.Store (D.gives databases.now) (D.closes databases.now)
+        (F.reads files.now) settings.now full (W.told output.old) (W.told output.new) result }
 {
-    let (read, path) = read_settings_file(rt, settings)?;
+    let (read, path) = read_settings_file(rt.alloc(), files, settings)?;
     let mut found = String::new(rt.alloc());
     let end = dump_at(rt, databases, read, path.as_str(), &mut found, full, output);
     ended(rt.alloc(), end, settings, path, found.as_str(), output)
@@ -57,7 +59,8 @@ fn dump_at<D: Databases, W: Output>(
     end
 }
 
-/// Writes the dump of a desk.
+/// Writes the dump of a desk that runs, full if that is asked for, and gives the status 0; the
+/// fault is how it was cut short.
 pub fn dump_to<S: Alter, W: Sink>(
     alloc: Global,
     desk: &Desk<S>,

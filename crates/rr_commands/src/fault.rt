@@ -1,9 +1,9 @@
 //! Why the program fails, and the line on standard error that says so.
 
-ghost use Rattle.std.specs.Prelude.{◌≡◌, ◌++◌, [], codes, map, string_bytes};
+ghost use Rattle.std.specs.Prelude.{◌≡◌, ◌++◌, [], IfSome, codes, map, string_bytes};
 ghost use Rattle.rr_io.specs.Sending.{TakesSome, Writes};
-ghost use Rattle.rr_commands.specs.Faults.{fault_line, name_shown, number_text, place_shown};
-ghost use Rattle.rr_commands.specs.Faults.{shown, trouble_text};
+ghost use Rattle.rr_commands.specs.Faults.{IsLegible, byte_on_line, fault_line, name_on_line};
+ghost use Rattle.rr_commands.specs.Faults.{number_text, place_on_line, trouble_text};
 ghost use Rattle.rr_commands.specs.Troubles.{place_of, trouble_status};
 ghost use Rattle.rr_commands.specs.declared.fault.About.TheVariants as abouts;
 ghost use Rattle.rr_commands.specs.declared.trouble.Place.TheVariants as place;
@@ -12,7 +12,7 @@ use crate::cause::Cause;
 use crate::output::STANDARD_OUTPUT;
 use crate::shown::shown_name;
 use crate::trouble::{Place, Trouble};
-use crate::words::{after_number, before, before_number};
+use crate::words::{after_number, before_cause, before_number};
 use itoa::Buffer;
 use rr_io::{Sink, write_all, write_pieces};
 use std::alloc::Global;
@@ -41,7 +41,7 @@ pub struct ProgramFault<'a> {
 
 impl<'a> ProgramFault<'a> {
     /// A fault that is about nothing that has a name.
-    pub fn plain(trouble: Trouble) -> ProgramFault<'a>
+    pub fn unnamed(trouble: Trouble) -> ProgramFault<'a>
         ensures about { result.about ≡ abouts.Nothing }
         ensures trouble { result.trouble ≡ trouble }
     {
@@ -91,7 +91,7 @@ impl<'a> ProgramFault<'a> {
 
     /// A fault of standard output, which took no more for this cause.
     pub fn of_output(trouble: Trouble, stream: Cause) -> ProgramFault<'a>
-        ensures about { name_shown result.about ≡ place_shown place.Output [] [] }
+        ensures about { name_on_line result.about ≡ place_on_line place.Output [] [] }
         ensures trouble { result.trouble ≡ trouble }
         ensures stream { result.stream ≡ stream }
     {
@@ -111,11 +111,11 @@ impl<'a> ProgramFault<'a> {
         stream: Cause,
     ) -> ProgramFault<'a>
         ensures trouble { result.trouble ≡ trouble }
-        ensures about { name_shown result.about
-            ≡ place_shown (place_of trouble) file.now (string_bytes database) }
+        ensures about { name_on_line result.about
+            ≡ place_on_line (place_of trouble) file.now (string_bytes database) }
     {
         match trouble.place() {
-            Place::Nothing => ProgramFault::plain(trouble),
+            Place::Nothing => ProgramFault::unnamed(trouble),
             Place::Database => ProgramFault::named(database, trouble),
             Place::File => ProgramFault::of_file(file, trouble, stream),
             Place::Output => ProgramFault::of_output(trouble, stream),
@@ -125,6 +125,7 @@ impl<'a> ProgramFault<'a> {
     /// The same fault, about the same as a line shows it. Without memory a word stays as it was
     /// given, and its control characters alone are not written.
     pub fn legible(self, alloc: Global) -> ProgramFault<'a>
+        ensures about { IsLegible self.entry.about result.about }
         ensures trouble { result.trouble ≡ self.entry.trouble }
         ensures stream { result.stream ≡ self.entry.stream }
     {
@@ -139,9 +140,11 @@ impl<'a> ProgramFault<'a> {
     }
 
     /// The word that it is about, as a line shows it, if it is about one and there is memory.
-    fn shown_word(&self, alloc: Global) -> Option<String> {
+    fn shown_word(&self, alloc: Global) -> Option<String>
+        ensures { IfSome result (λ name. IsLegible self.now.about (abouts.Named name)) }
+    {
         match &self.about {
-            About::Word(word) => shown_name(alloc, word.as_bytes()).ok(),
+            About::Word(word) => shown_name(alloc, *word).ok(),
             About::Nothing | About::Named(_) => None,
         }
     }
@@ -174,7 +177,8 @@ impl<'a> ProgramFault<'a> {
 
 /// Writes the name of what a fault is about, and a colon.
 fn write_about<E: Sink>(errors: &mut E, about: &About<'_>) -> io::Result<()>
-    ensures writes { Writes (E.told errors.old) (E.told errors.new) (name_shown about.now) result }
+    ensures writes { Writes (E.told errors.old) (E.told errors.new)
+        (name_on_line about.now) result }
     ensures aside { E.aside errors.new ≡ E.aside errors.old }
 {
     match about {
@@ -187,27 +191,28 @@ fn write_about<E: Sink>(errors: &mut E, about: &About<'_>) -> io::Result<()>
 /// Writes a name, and a colon.
 fn write_name<E: Sink>(errors: &mut E, name: &[u8]) -> io::Result<()>
     ensures writes { Writes (E.told errors.old) (E.told errors.new)
-        (map shown name.now ++ codes ": ") result }
+        (map byte_on_line name.now ++ codes ": ") result }
     ensures aside { E.aside errors.new ≡ E.aside errors.old }
 {
-    write_shown(errors, name)?;
+    write_on_line(errors, name)?;
     write_all(errors, b": ")
 }
 
 /// Writes a text, with `?` for each control character, so that it stays on its line.
-fn write_shown<E: Sink>(errors: &mut E, text: &[u8]) -> io::Result<()>
-    ensures writes { Writes (E.told errors.old) (E.told errors.new) (map shown text.now) result }
+fn write_on_line<E: Sink>(errors: &mut E, text: &[u8]) -> io::Result<()>
+    ensures writes { Writes (E.told errors.old) (E.told errors.new)
+        (map byte_on_line text.now) result }
     ensures aside { E.aside errors.new ≡ E.aside errors.old }
 {
     'bytes: for byte in text {
-        write_all(errors, &[shown(*byte)])?;
+        write_all(errors, &[byte_on_line(*byte)])?;
     }
     Ok(())
 }
 
-/// The byte, or `?` for a control character.
-fn shown(byte: u8) -> u8
-    ensures { result ≡ shown byte }
+/// The byte as it is written on the line: `?` for a control character.
+fn byte_on_line(byte: u8) -> u8
+    ensures { result ≡ byte_on_line byte }
 {
     if byte.is_ascii_control() { b'?' } else { byte }
 }
@@ -225,7 +230,7 @@ fn write_trouble<E: Sink>(errors: &mut E, trouble: Trouble, stream: Cause) -> io
     write_pieces(
         errors,
         &[
-            before(trouble).as_bytes(),
+            before_cause(trouble).as_bytes(),
             trouble.cause_words(cause).as_bytes(),
             number_text(&mut code_digits, cause.and_then(Cause::number)),
             before_number(trouble).as_bytes(),

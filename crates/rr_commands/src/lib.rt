@@ -1,5 +1,5 @@
-//! What each command but `serve` and `probe` does, over the files and the database that its
-//! settings name; the databases are in files, or in whatever else keeps them.
+//! What each command but `serve` and `probe` does, with the files that its arguments name and the
+//! database that its settings name; the databases are in files, or in whatever else keeps them.
 #![tactic(auto)]
 
 mod cause;
@@ -28,6 +28,7 @@ pub use creation::{create_to, init};
 pub use databases::{Absent, DatabaseFiles, Databases, close, open_desk};
 pub use dumping::{dump, dump_to};
 pub use fault::ProgramFault;
+pub use files::{Files, SystemFiles};
 pub use loading::{load, load_to};
 pub use migrating::{migrate, migrate_to};
 pub use output::{Input, Output, ended, print};

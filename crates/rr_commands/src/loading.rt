@@ -8,7 +8,7 @@ ghost use Rattle.rr_commands.specs.Printed.{Tells};
 
 use crate::databases::{Absent, Databases, close};
 use crate::fault::ProgramFault;
-use crate::files::open_file;
+use crate::files::{Files, open_file};
 use crate::output::{Output, cause_of, ended, tell};
 use crate::places::about_paragraph;
 use crate::progress::{Reading, Shown};
@@ -21,22 +21,22 @@ use rr_io::{Counted, Sink, Source, write_pieces};
 use rr_registry::Registry;
 use sqlite::{Alter, Connection};
 use std::alloc::{AllocError, Global};
-use std::fs::File;
 
 /// Makes the registry of a dump in the database that the settings name, which is to be new or
 /// without rows, and says how many objects it has.
-pub fn load<'a, D: Databases, W: Output>(
+pub fn load<'a, D: Databases, F: Files, W: Output>(
     rt: &HostRuntime,
     databases: &D,
+    files: &F,
     settings: &'a str,
     file: &'a str,
     output: &mut W,
 ) -> Result<u8, ProgramFault<'a>>
     ensures { LoadsBy D.Disk.Store (D.gives databases.now) (D.closes databases.now)
-        (W.told output.old) (W.told output.new) result }
+        (F.reads files.now) settings.now file.now (W.told output.old) (W.told output.new) result }
 {
-    let (read, path) = read_settings_file(rt, settings)?;
-    let end = load_at(rt, databases, read, path.as_str(), file, output);
+    let (read, path) = read_settings_file(rt.alloc(), files, settings)?;
+    let end = load_at(rt, databases, files, read, path.as_str(), file, output);
     ended_in_dump(rt, end, file, path, output)
 }
 
@@ -60,21 +60,23 @@ fn ended_in_dump<'a, W: Output>(
 }
 
 /// Makes the registry of a dump in the database at a path, and says how many objects it has.
-fn load_at<D: Databases, W: Output>(
+fn load_at<D: Databases, F: Files, W: Output>(
     rt: &HostRuntime,
     databases: &D,
+    files: &F,
     settings: Settings,
     path: &str,
     file: &str,
     output: &mut W,
 ) -> Result<u8, Trouble>
     ensures { InDatabase (D.gives databases.now) Absent.Made (D.closes databases.now)
-        (LoadsIn D.Disk.Store settings (W.told output.old) (W.told output.new))
+        (LoadsIn D.Disk.Store settings (F.reads files.now) file.now
+        (W.told output.old) (W.told output.new))
         (W.told output.old) (W.told output.new) path.now result }
 {
     match databases.open(path, Absent::Made) {
         Ok(conn) => {
-            let (conn, end) = load_file(rt, conn, settings, file, output);
+            let (conn, end) = load_file(rt, conn, files, settings, file, output);
             close(databases, conn);
             end
         }
@@ -82,36 +84,24 @@ fn load_at<D: Databases, W: Output>(
     }
 }
 
-/// Opens the file of a dump, and loads it into a database, whose connection is given back.
-fn load_file<S: Alter, W: Output>(
+/// Loads the file of a dump into a database, and shows on a terminal how many bytes were read. The
+/// connection is given back.
+fn load_file<S: Alter, F: Files, W: Output>(
     rt: &HostRuntime,
     conn: Connection<S>,
+    files: &F,
     settings: Settings,
     file: &str,
     output: &mut W,
 ) -> (Connection<S>, Result<u8, Trouble>)
     requires { conn.in_transaction ≡ false }
-    ensures { LoadsIn S.Store settings
+    ensures { LoadsIn S.Store settings (F.reads files.now) file.now
         (W.told output.old) (W.told output.new) conn result.0 result.1 }
 {
-    match open_file(rt, file) {
-        Ok(file) => load_shown(rt, conn, settings, file, output),
-        Err(trouble) => (conn, Err(trouble)),
-    }
-}
-
-/// Loads the dump in a file into a database, and shows on a terminal how many bytes were read.
-fn load_shown<S: Alter, W: Output>(
-    rt: &HostRuntime,
-    conn: Connection<S>,
-    settings: Settings,
-    file: File,
-    output: &mut W,
-) -> (Connection<S>, Result<u8, Trouble>)
-    requires { conn.in_transaction ≡ false }
-    ensures { LoadsIn S.Store settings
-        (W.told output.old) (W.told output.new) conn result.0 result.1 }
-{
+    let file = match open_file(files, file) {
+        Ok(file) => file,
+        Err(trouble) => return (conn, Err(trouble)),
+    };
     let mut reading = Reading::new(rt, Counted::new(file));
     output.show(Shown::Others);
     let (conn, end) = load_to(rt.alloc(), conn, settings, &mut reading, output);

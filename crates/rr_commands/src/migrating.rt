@@ -7,6 +7,7 @@ ghost use Rattle.rr_commands.specs.Migrated.{IsDiagnosed, MigratesBy, MigratesIn
 use crate::databases::{Absent, Databases, close};
 use crate::diagnosis::told_of;
 use crate::fault::ProgramFault;
+use crate::files::Files;
 use crate::output::{Output, ended, tell};
 use crate::settings_reading::read_settings_file;
 use crate::trouble::Trouble;
@@ -15,17 +16,19 @@ use rr_io::Sink;
 use sqlite::{Alter, Connection};
 use std::alloc::Global;
 
-/// Makes the tables of version 1 that the settings name those of version 2, and says so.
-pub fn migrate<'a, D: Databases, W: Output>(
+/// Turns the tables of version 1, in the database that the settings name, into those of version 2,
+/// and says so.
+pub fn migrate<'a, D: Databases, F: Files, W: Output>(
     rt: &HostRuntime,
     databases: &D,
+    files: &F,
     settings: &'a str,
     output: &mut W,
 ) -> Result<u8, ProgramFault<'a>>
     ensures { MigratesBy D.Disk.Store (D.gives databases.now) (D.closes databases.now)
-        (W.told output.old) (W.told output.new) result }
+        (F.reads files.now) settings.now (W.told output.old) (W.told output.new) result }
 {
-    let (read, path) = read_settings_file(rt, settings)?;
+    let (read, path) = read_settings_file(rt.alloc(), files, settings)?;
     let mut found = String::new(rt.alloc());
     let end = migrate_at(
         rt.alloc(),
@@ -38,8 +41,9 @@ pub fn migrate<'a, D: Databases, W: Output>(
     ended(rt.alloc(), end, settings, path, found.as_str(), output)
 }
 
-/// Migrates the tables of version 1 of the database at a path, and says so. What is found the
-/// matter with it, as a row, a table or what was added to one, is put into `found` for the message.
+/// Migrates the tables of version 1 of the database at a path, and says so. If the database is
+/// refused, `found` gets what is at fault, for the message: a row, a table, or what was added to
+/// one.
 fn migrate_at<D: Databases, W: Sink>(
     alloc: Global,
     databases: &D,
@@ -49,7 +53,8 @@ fn migrate_at<D: Databases, W: Sink>(
     output: &mut W,
 ) -> Result<u8, Trouble>
     ensures { InDatabase (D.gives databases.now) Absent.Refused (D.closes databases.now)
-        (IsDiagnosed (MigratesIn D.Disk.Store settings (W.told output.old) (W.told output.new)))
+        (IsDiagnosed D.Disk.Store
+        (MigratesIn D.Disk.Store settings (W.told output.old) (W.told output.new)))
         (W.told output.old) (W.told output.new) path.now result }
 {
     match databases.open(path, Absent::Refused) {
@@ -72,7 +77,8 @@ fn migrate_told<S: Alter, W: Sink>(
     output: &mut W,
 ) -> (Connection<S>, Result<u8, Trouble>)
     requires { conn.in_transaction ≡ false }
-    ensures { IsDiagnosed (MigratesIn S.Store settings (W.told output.old) (W.told output.new))
+    ensures { IsDiagnosed S.Store
+        (MigratesIn S.Store settings (W.told output.old) (W.told output.new))
         conn result.0 result.1 }
 {
     let source = settings.source().copy(alloc);

@@ -25,6 +25,31 @@ pub(crate) fn push_obstacle(schema: &Schema, rows: &[Row], found: &mut String) -
     }
 }
 
+/// Whether a schema has the three tables with their columns, in a way that is not read.
+pub(crate) fn has_other_tables(schema: &Schema) -> bool {
+    !has_tables(schema)
+        && has_whole(schema, "meta")
+        && has_whole(schema, "object")
+        && has_whole(schema, "named")
+}
+
+/// Whether a schema has the table of this name with its columns.
+fn has_whole(schema: &Schema, name: &str) -> bool {
+    schema.tables.as_slice().iter().any(|table| {
+        table.name.as_slice() == name.as_bytes() && has_columns(table)
+    })
+}
+
+/// Whether a table is one of the three and has its columns.
+fn has_columns(table: &Table) -> bool {
+    match columns_of(table.name.as_slice()) {
+        Some(wanted) => wanted
+            .iter()
+            .all(|name| has_column(table.columns.as_slice(), name)),
+        None => false,
+    }
+}
+
 fn push_found(found: &mut String, obstacle: &Obstacle<'_>) -> Result<(), AllocError> {
     let kind = obstacle.kind;
     write!(found, ", {kind} ")?;
@@ -114,10 +139,10 @@ fn has_more(table: &Table) -> bool {
 /// spelled otherwise is needed.
 fn column_of(table: &Table) -> Option<Obstacle<'_>> {
     let wanted = columns_of(table.name.as_slice())?;
-    let columns = table.columns.as_slice();
-    if !wanted.iter().all(|name| has_column(columns, name)) {
+    if !has_columns(table) {
         return None;
     }
+    let columns = table.columns.as_slice();
     let column = columns.iter().find(|column| is_further(column, wanted))?;
     Some(Obstacle {
         kind: "column",

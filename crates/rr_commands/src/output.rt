@@ -2,7 +2,7 @@
 
 ghost use Rattle.std.specs.Prelude.{◌≡◌, ◌++◌, ℕ, IfErr, IfOk, List, string_bytes};
 ghost use Rattle.rr_commands.specs.Commands.{EndsAs};
-ghost use Rattle.rr_commands.specs.Faults.{IsAbout, NamesDatabase};
+ghost use Rattle.rr_commands.specs.Faults.{IsAbout, IsShownAs, NamesDatabase};
 ghost use Rattle.rr_commands.specs.Printed.{Prints, Tells};
 
 use crate::cause::Cause;
@@ -107,7 +107,7 @@ pub fn ended<'a, W: Output>(
 fn shown_database(alloc: Global, path: String, found: &str) -> String
     ensures { NamesDatabase (string_bytes path) found.now (string_bytes result) }
 {
-    match database_text(alloc, path.as_str(), found) {
+    match path_and_found(alloc, path.as_str(), found) {
         Ok(shown) => shown,
         Err(AllocError) => path,
     }
@@ -115,10 +115,11 @@ fn shown_database(alloc: Global, path: String, found: &str) -> String
 
 /// The path of a database as a line shows it, and what was found in it; the error is that memory
 /// ran out.
-fn database_text(alloc: Global, path: &str, found: &str) -> Result<String, AllocError>
-    ensures { IfOk result (λ text. (start : List ℕ) × (string_bytes text ≡ start ++ found.now)) }
+fn path_and_found(alloc: Global, path: &str, found: &str) -> Result<String, AllocError>
+    ensures { IfOk result (λ text. (start : List ℕ) × IsShownAs path.now start
+        × (string_bytes text ≡ start ++ found.now)) }
 {
-    let mut shown = shown_name(alloc, path.as_bytes())?;
+    let mut shown = shown_name(alloc, path)?;
     shown.push_str(found)?;
     Ok(shown)
 }

@@ -3,7 +3,6 @@
 ghost use Rattle.std.specs.Prelude.{◌≡◌, ◌≤◌, length};
 
 use crate::fault::ProgramFault;
-use crate::files::open_file;
 use crate::shown::{push_key, shown_name};
 use crate::trouble::Trouble;
 use rr_io::{Counted, Source};
@@ -14,8 +13,8 @@ use std::fs::File;
 use std::io::{BufRead, BufReader, Read};
 use std::{fs, io};
 
-/// A fault about the paragraph of this number, from 1, of a file: it names the line and, if they
-/// can be read, the class and the key, if the file is one that can be read again.
+/// A fault about the paragraph of this number, from 1, of a file. If the file can be read again, it
+/// names the line and, where they can be read, the class and the key; otherwise the file alone.
 pub(crate) fn about_paragraph<'a>(
     rt: &HostRuntime,
     file: &'a str,
@@ -36,11 +35,11 @@ fn place(rt: &HostRuntime, file: &str, number: u64) -> Option<String> {
         return None;
     }
     let alloc = rt.alloc();
-    let reader = BufReader::new(alloc, open_file(rt, file).ok()?).ok()?;
+    let reader = BufReader::new(alloc, File::open(rt, file).ok()?).ok()?;
     let mut lines = Lines::new(alloc, reader);
     let key = find_paragraph(alloc, &mut lines, number)?;
     let line = lines.start?;
-    let file = shown_name(alloc, file.as_bytes()).ok()?;
+    let file = shown_name(alloc, file).ok()?;
     match key {
         Some(key) => {
             let class = key.class().name();

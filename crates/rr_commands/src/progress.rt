@@ -1,5 +1,7 @@
 //! How far a long command has come, on the last line of a terminal.
 
+ghost use Rattle.std.specs.Prelude.{◌≡◌};
+
 use crate::cause::Cause;
 use crate::output::{Input, Output};
 use rr_io::{Sink, Source};
@@ -292,7 +294,9 @@ pub struct Reading<'a, R> {
 
 impl<'a, R: Source> Reading<'a, R> {
     /// The reader, with its bytes counted from now on.
-    pub fn new(rt: &'a HostRuntime, reader: R) -> Reading<'a, R> {
+    pub fn new(rt: &'a HostRuntime, reader: R) -> Reading<'a, R>
+        ensures { result.reader ≡ reader }
+    {
         Reading {
             reader,
             meter: Meter::new(rt, Things::Bytes, false),
@@ -301,7 +305,9 @@ impl<'a, R: Source> Reading<'a, R> {
     }
 
     /// The reader, with nothing counted.
-    pub fn silent(rt: &'a HostRuntime, reader: R) -> Reading<'a, R> {
+    pub fn silent(rt: &'a HostRuntime, reader: R) -> Reading<'a, R>
+        ensures { result.reader ≡ reader }
+    {
         Reading {
             reader,
             meter: Meter::silent(rt),

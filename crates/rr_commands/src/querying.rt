@@ -6,6 +6,7 @@ ghost use Rattle.rr_commands.specs.Commands.{AtDesk};
 
 use crate::databases::{Databases, close, open_desk};
 use crate::fault::ProgramFault;
+use crate::files::Files;
 use crate::output::{Output, ended};
 use crate::settings_reading::read_settings_file;
 use crate::trouble::Trouble;
@@ -19,17 +20,18 @@ const ERROR: u8 = 1;
 
 /// Asks the registry that the settings name, and prints the answer: the status is 0, or 1 if the
 /// answer is an error.
-pub fn query<'a, D: Databases, W: Output>(
+pub fn query<'a, D: Databases, F: Files, W: Output>(
     rt: &HostRuntime,
     databases: &D,
+    files: &F,
     settings: &'a str,
     text: &str,
     output: &mut W,
 ) -> Result<u8, ProgramFault<'a>>
     ensures { AsksBy D.Disk.Store (D.gives databases.now) (D.closes databases.now)
-        text.now (W.told output.old) (W.told output.new) result }
+        (F.reads files.now) settings.now text.now (W.told output.old) (W.told output.new) result }
 {
-    let (read, path) = read_settings_file(rt, settings)?;
+    let (read, path) = read_settings_file(rt.alloc(), files, settings)?;
     let mut found = String::new(rt.alloc());
     let end = query_at(
         rt,

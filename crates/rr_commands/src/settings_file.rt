@@ -6,7 +6,7 @@ ghost use Rattle.std.specs.Option.{option_copied};
 ghost use Rattle.toml.specs.Parse.{parse_document};
 ghost use Rattle.toml.specs.View.{table_view};
 ghost use Rattle.rr_commands.specs.SettingsFiles.{integer_at, key_of, non_negative, number_at};
-ghost use Rattle.rr_commands.specs.SettingsFiles.{parts_of, settings_text, store_of, text_at};
+ghost use Rattle.rr_commands.specs.SettingsFiles.{parts_of, settings_of_text, store_of, text_at};
 ghost use Rattle.rr_commands.specs.declared.settings_file.SettingsFault.TheVariants.{BadToml};
 ghost use Rattle.rr_commands.specs.declared.settings_file.SettingsFault.TheVariants.{Memory};
 
@@ -68,9 +68,9 @@ impl From<AllocError> for SettingsFault {
 /// ignored (profile).
 pub fn read_settings(alloc: Global, text: &str) -> Result<(Settings, String), SettingsFault>
     ensures ok { IfOk result
-        (λ read. settings_text text.now ≡ Ok (read.0, string_bytes read.1)) }
+        (λ read. settings_of_text text.now ≡ Ok (read.0, string_bytes read.1)) }
     ensures fault { IfErr result
-        (λ fault. fault ≢ Memory → settings_text text.now ≡ Err fault) }
+        (λ fault. fault ≢ Memory → settings_of_text text.now ≡ Err fault) }
 {
     let table = read_table(alloc, text)?;
     let settings = read_parts(alloc, &table)?;

@@ -1,16 +1,20 @@
 //! Settings files.
 
-ghost use Rattle.std.specs.Prelude.{◌≡◌, IfErr, IfOk, IsTrue, Ok, string_bytes};
-ghost use Rattle.rr_commands.specs.Commands.{is_of_settings};
-ghost use Rattle.rr_commands.specs.SettingsFiles.{AreNoSettings, settings_text};
+ghost use Rattle.std.specs.Prelude.{◌≡◌, ◌≤◌, ◌+◌, [], IfErr, IfOk, IfSome, IsTrue};
+ghost use Rattle.std.specs.Prelude.{Ok, OnOk, length, string_bytes, take};
+ghost use Rattle.rr_commands.specs.Commands.{GivesNoSettings, HasSettings, ReadsFile};
+ghost use Rattle.rr_commands.specs.Commands.{is_of_reading};
+ghost use Rattle.rr_commands.specs.Faults.{name_on_line, place_on_line};
+ghost use Rattle.rr_commands.specs.SettingsFiles.{AreNoSettings, settings_of_text};
+ghost use Rattle.rr_commands.specs.declared.trouble.Place.TheVariants as place;
 
 use crate::cause::Cause;
 use crate::fault::ProgramFault;
+use crate::files::Files;
 use crate::settings_file::{SettingsFault, read_settings};
 use crate::trouble::Trouble;
 use rr_desk::Settings;
 use std::alloc::Global;
-use std::fs::File;
 use std::io;
 use std::io::{ErrorKind, Read};
 
@@ -19,33 +23,56 @@ const MOST_BYTES: u64 = 1_048_576;
 
 /// The settings in a file, and the path of the database. The fault is about the file (status 3), or
 /// that memory ran out (status 5).
-pub fn read_settings_file<'a>(
-    rt: &HostRuntime,
+pub fn read_settings_file<'a, F: Files>(
+    alloc: Global,
+    files: &F,
     file: &'a str,
 ) -> Result<(Settings, String), ProgramFault<'a>>
-    ensures { IfErr result (λ fault. IsTrue (is_of_settings fault.trouble)) }
+    ensures read { IfOk result (λ read.
+        HasSettings (F.reads files.now) file.now read.0 (string_bytes read.1)) }
+    ensures fails { IfErr result (λ fault.
+        GivesNoSettings (F.reads files.now) file.now fault.trouble) }
+    ensures about { IfErr result (λ fault.
+        name_on_line fault.about ≡ place_on_line place.File file.now []) }
 {
-    let bytes = match read_bytes(rt, file) {
-        Ok(bytes) => bytes,
-        Err(error) => return Err(ProgramFault::of(file, trouble_of(&error))),
-    };
-    match read_text(rt.alloc(), bytes.as_slice()) {
+    match read_at(alloc, files, file) {
         Ok(read) => Ok(read),
         Err(trouble) => Err(ProgramFault::of(file, trouble)),
     }
 }
 
+/// The settings in a file, and the path of the database.
+fn read_at<F: Files>(alloc: Global, files: &F, file: &str) -> Result<(Settings, String), Trouble>
+    ensures read { IfOk result (λ read.
+        HasSettings (F.reads files.now) file.now read.0 (string_bytes read.1)) }
+    ensures fails { IfErr result (GivesNoSettings (F.reads files.now) file.now) }
+{
+    match read_bytes(alloc, files, file) {
+        Ok(bytes) => read_text(alloc, bytes.as_slice()),
+        Err(error) => Err(trouble_of(&error)),
+    }
+}
+
 /// The bytes of a file, or one more than the most if it has more.
-fn read_bytes(rt: &HostRuntime, file: &str) -> io::Result<Vec<u8>> {
-    let mut bytes = Vec::new(rt.alloc());
-    File::open(rt, file)?
-        .take(MOST_BYTES + 1)
-        .read_to_end(&mut bytes)?;
+fn read_bytes<F: Files>(alloc: Global, files: &F, file: &str) -> io::Result<Vec<u8>>
+    ensures { IfOk result (λ read. ReadsFile (F.reads files.now) file.now read.items) }
+{
+    let file = files.open(file)?;
+    read_prefix(alloc, file)
+}
+
+/// What a reader gives to its end, or one byte more than the most if it gives more.
+fn read_prefix<R: Read + Drop>(alloc: Global, reader: R) -> io::Result<Vec<u8>>
+    ensures { IfOk result (λ read. IfSome (R.remaining reader)
+        (λ bytes. read.items ≡ take (MOST_BYTES + 1) bytes)) }
+{
+    let mut bytes = Vec::new(alloc);
+    reader.take(MOST_BYTES + 1).read_to_end(&mut bytes)?;
     Ok(bytes)
 }
 
 fn trouble_of(error: &io::Error) -> Trouble
-    ensures { IsTrue (is_of_settings result) }
+    ensures { IsTrue (is_of_reading result) }
 {
     match error.kind() {
         ErrorKind::OutOfMemory => Trouble::Memory,
@@ -56,9 +83,9 @@ fn trouble_of(error: &io::Error) -> Trouble
 /// The settings that the bytes of a file are, and the path of the database.
 fn read_text(alloc: Global, bytes: &[u8]) -> Result<(Settings, String), Trouble>
     ensures ok { IfOk result
-        (λ read. settings_text bytes.now ≡ Ok (read.0, string_bytes read.1)) }
-    ensures why { IfErr result (λ trouble. AreNoSettings bytes.now trouble) }
-    ensures fault { IfErr result (λ trouble. IsTrue (is_of_settings trouble)) }
+        (λ read. settings_of_text bytes.now ≡ Ok (read.0, string_bytes read.1)) }
+    ensures short { OnOk result (length bytes.now ≤ MOST_BYTES) }
+    ensures why { IfErr result (AreNoSettings bytes.now) }
 {
     if bytes.len() as u64 > MOST_BYTES {
         return Err(Trouble::SettingsTooLong);

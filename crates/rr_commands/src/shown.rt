@@ -1,6 +1,11 @@
 //! What strangers wrote, as lines for a terminal show it: keys, names in a database, names of files
 //! and arguments.
 
+ghost use Rattle.std.specs.Prelude.{◌≡◌, IfOk, string_bytes};
+ghost use Rattle.std.specs.List.{list_all};
+ghost use Rattle.rr_commands.specs.Faults.{IsShownAs};
+ghost use Rattle.rr_commands.specs.Shown.{needs_no_escape, stands_for_itself};
+
 use std::alloc::{AllocError, Global};
 
 /// The most characters of a key, or of a name in a database, that are shown.
@@ -20,10 +25,39 @@ fn push_name(line: &mut String, text: &[u8]) -> Result<(), AllocError> {
 }
 
 /// The name of a file, or an argument, as a line shows it.
-pub fn shown_name(alloc: Global, text: &[u8]) -> Result<String, AllocError> {
+pub fn shown_name(alloc: Global, text: &str) -> Result<String, AllocError>
+    ensures { IfOk result (λ line. IsShownAs text.now (string_bytes line)) }
+{
+    if needs_no_escape(text.as_bytes()) {
+        return String::from_str(alloc, text);
+    }
     let mut line = String::new(alloc);
-    push_name(&mut line, text)?;
+    push_name(&mut line, text.as_bytes())?;
     Ok(line)
+}
+
+/// Whether a line shows a text as it is.
+fn needs_no_escape(text: &[u8]) -> bool
+    ensures { result ≡ needs_no_escape text.now }
+{
+    if text.len() > MOST_OF_NAME {
+        return false;
+    }
+    stand_for_themselves(text)
+}
+
+/// Whether each byte is one that a line shows as it is.
+fn stand_for_themselves(text: &[u8]) -> bool
+    ensures { result ≡ list_all stands_for_itself text.now }
+{
+    text.iter().all(|byte| stands_for_itself(*byte))
+}
+
+/// Whether a byte is that of a blank, or of a character of ASCII that is seen, save the backslash.
+fn stands_for_itself(byte: u8) -> bool
+    ensures { result ≡ stands_for_itself byte }
+{
+    byte >= b' ' && byte <= b'~' && byte != b'\\'
 }
 
 /// Adds a text as a line shows it: no two texts that are not cut are shown alike. What is surely

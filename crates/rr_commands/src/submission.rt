@@ -12,7 +12,7 @@ ghost use Rattle.rr_commands.specs.Submitted.{done_status, plain_trouble};
 use crate::cause::DatabaseCause;
 use crate::databases::{Databases, close, open_desk};
 use crate::fault::ProgramFault;
-use crate::files::open_file;
+use crate::files::{Files, open_file};
 use crate::output::{Input, Output, cause_of, ended};
 use crate::progress::{Reading, Shown};
 use crate::settings_reading::read_settings_file;
@@ -26,7 +26,7 @@ use std::alloc::Global;
 const REFUSED: u8 = 1;
 
 /// Submits `input` to a registry in memory, which opens with the built-in settings, and prints the
-/// report: the status is 0 if each item was accepted, and 1 if one was refused.
+/// report: the status is 0, or 1 if an item was refused.
 pub fn plain<'a, R: Input, W: Output>(
     alloc: Global,
     input: &mut R,
@@ -59,28 +59,39 @@ fn plain_trouble(trouble: Trouble) -> Trouble
     }
 }
 
-/// Submits a file to the registry that the settings name, and prints the report: the status is 0 if
-/// each item was accepted, and 1 if one was refused.
-pub fn submit<'a, D: Databases, W: Output>(
+/// Submits a file to the registry that the settings name, and prints the report: the status is 0,
+/// or 1 if an item was refused.
+pub fn submit<'a, D: Databases, F: Files, W: Output>(
     rt: &HostRuntime,
     databases: &D,
+    files: &F,
     settings: &'a str,
     file: &'a str,
     output: &mut W,
 ) -> Result<u8, ProgramFault<'a>>
     ensures { SubmitsBy D.Disk.Store (D.gives databases.now) (D.closes databases.now)
-        (W.told output.old) (W.told output.new) result }
+        (F.reads files.now) settings.now file.now (W.told output.old) (W.told output.new) result }
 {
-    let (read, path) = read_settings_file(rt, settings)?;
+    let (read, path) = read_settings_file(rt.alloc(), files, settings)?;
     let mut found = String::new(rt.alloc());
-    let end = submit_at(rt, databases, read, path.as_str(), &mut found, file, output);
+    let end = submit_at(
+        rt,
+        databases,
+        files,
+        read,
+        path.as_str(),
+        &mut found,
+        file,
+        output,
+    );
     ended(rt.alloc(), end, file, path, found.as_str(), output)
 }
 
 /// Submits a file to the registry in the database at a path, and prints the report.
-fn submit_at<D: Databases, W: Output>(
+fn submit_at<D: Databases, F: Files, W: Output>(
     rt: &HostRuntime,
     databases: &D,
+    files: &F,
     settings: Settings,
     path: &str,
     found: &mut String,
@@ -88,27 +99,30 @@ fn submit_at<D: Databases, W: Output>(
     output: &mut W,
 ) -> Result<u8, Trouble>
     ensures { AtDesk D.Disk.Store (D.gives databases.now) (D.closes databases.now)
-        (SubmitsDesk D.Disk.Store (W.told output.old) (W.told output.new))
+        (SubmitsDesk D.Disk.Store (F.reads files.now) file.now
+        (W.told output.old) (W.told output.new))
         (W.told output.old) (W.told output.new) settings path.now result }
 {
     let mut desk = open_desk(rt, databases, settings, path, found)?;
-    let end = submit_file(rt, &mut desk, file, output);
+    let end = submit_file(rt, &mut desk, files, file, output);
     let conn = desk.close();
     close(databases, conn);
     end
 }
 
 /// Submits a file to a desk, and prints the report.
-fn submit_file<S: Alter, W: Output>(
+fn submit_file<S: Alter, F: Files, W: Output>(
     rt: &HostRuntime,
     desk: &mut Desk<S>,
+    files: &F,
     file: &str,
     output: &mut W,
 ) -> Result<u8, Trouble>
     requires { desk.old.stored.stopped ≡ false }
-    ensures { SubmitsDesk S.Store (W.told output.old) (W.told output.new) desk.old desk.new result }
+    ensures { SubmitsDesk S.Store (F.reads files.now) file.now
+        (W.told output.old) (W.told output.new) desk.old desk.new result }
 {
-    let mut reader = Reading::silent(rt, Counted::new(open_file(rt, file)?));
+    let mut reader = Reading::silent(rt, Counted::new(open_file(files, file)?));
     output.show(Shown::Items);
     let end = submit_to(rt.alloc(), desk, &mut reader, output);
     output.show(Shown::Nothing);
@@ -117,7 +131,9 @@ fn submit_file<S: Alter, W: Output>(
     end
 }
 
-/// Submits `input` to a new desk over a database in memory.
+/// Submits `input` to a new desk over a database in memory, and prints the report: the status is 0,
+/// or 1 if an item was refused; the fault is why there is no desk, or how the submission was cut
+/// short.
 pub fn submit_plain<R: Source, W: Sink>(
     alloc: Global,
     input: &mut R,
@@ -165,7 +181,8 @@ fn plain_desk<S: Alter + Drop>(alloc: Global, conn: Connection<S>) -> Result<Des
     }
 }
 
-/// Submits what the reader gives to a desk, and writes the report.
+/// Submits what the reader gives to a desk that runs, and writes the report: the status is 0, or 1
+/// if an item was refused; the fault is how the submission was cut short.
 pub fn submit_to<S: Alter, R: Source, W: Sink>(
     alloc: Global,
     desk: &mut Desk<S>,
@@ -173,8 +190,10 @@ pub fn submit_to<S: Alter, R: Source, W: Sink>(
     writer: &mut W,
 ) -> Result<u8, Trouble>
     requires { desk.old.stored.stopped ≡ false }
-    ensures { HasSubmitted S.Store desk.old desk.new
+    ensures submits { HasSubmitted S.Store desk.old desk.new
         (R.told reader.old) (R.told reader.new) (W.told writer.old) (W.told writer.new) result }
+    ensures reader_aside { R.aside reader.new ≡ R.aside reader.old }
+    ensures writer_aside { W.aside writer.new ≡ W.aside writer.old }
 {
     match desk.submit(alloc, reader, writer) {
         Ok(done) => Ok(done_status(done)),
@@ -185,7 +204,7 @@ pub fn submit_to<S: Alter, R: Source, W: Sink>(
     }
 }
 
-/// 0 if each item was accepted, and else 1.
+/// 0 if no item was refused, and else 1.
 fn done_status(done: Done) -> u8
     ensures { result ≡ done_status done }
 {

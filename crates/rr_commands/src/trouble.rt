@@ -15,8 +15,8 @@ const WRONG_ARGUMENTS: u8 = 2;
 /// The status at wrong settings.
 const WRONG_SETTINGS: u8 = 3;
 
-/// The status at a fault of the database, or if the desk is stopped.
-const STORE_FAILED: u8 = 4;
+/// The status at trouble with the database, or if the desk is stopped.
+const DATABASE_TROUBLE: u8 = 4;
 
 /// The status at a fault of a file, a socket, or standard output, at a dump that is not a registry,
 /// or if memory ran out.
@@ -49,18 +49,31 @@ pub enum Trouble {
     Creating(CreateFault),
     /// The registry in the database was not opened.
     Opening(OpenFault),
-    /// All rows of the database are of a registry of another source.
+    /// Most rows of the database are of a registry of another source.
     OtherSource,
+    /// The object of a row of the database is of another source.
+    OtherSourceRow,
     /// A row of the database has no object of the source by its class and key.
     BadObject,
-    /// A row's object names a maintainer who is not there, or its span crosses one before it.
-    Unsound,
+    /// A row's object names a maintainer who is not there.
+    Unnamed,
+    /// The span of a row's object crosses one before it.
+    Overlap,
     /// The rows of `meta`, or those of `named`, are not those of a registry.
     OtherRows,
+    /// `meta` says the version that is read, and the keys of objects are those of the one before.
+    OldKeys,
+    /// `meta` says the version that is migrated, and the keys of objects are those of the one that
+    /// is read.
+    NewKeys,
     /// The objects of the database are those of a registry, and a row of names is of none of them.
     NoObject,
+    /// The tables of the database have no objects.
+    Empty,
     /// The three tables of the database do not stand first and in order.
     OtherOrder,
+    /// The three tables of the database have their columns, and were made otherwise.
+    OtherTables,
     /// What was added to a table keeps the tables from being read.
     Obstacle,
     /// A file cannot be opened.
@@ -101,8 +114,8 @@ pub enum Place {
 }
 
 impl Trouble {
-    /// The status of the program: 2 at wrong arguments, 3 at wrong settings, 4 if the store failed
-    /// or the desk is stopped, and else 5, also if memory ran out (profile).
+    /// The status of the program: 2 at wrong arguments, 3 at wrong settings, 4 at trouble with the
+    /// database or if the desk is stopped, and else 5, also if memory ran out (profile).
     pub fn status(self) -> u8
         ensures { result ≡ trouble_status self }
     {
@@ -120,13 +133,19 @@ impl Trouble {
             Trouble::Creating(fault) => creating_status(fault),
             Trouble::Opening(fault) => opening_status(fault),
             Trouble::OtherSource
+            | Trouble::OtherSourceRow
             | Trouble::BadObject
-            | Trouble::Unsound
+            | Trouble::Unnamed
+            | Trouble::Overlap
             | Trouble::OtherRows
+            | Trouble::OldKeys
+            | Trouble::NewKeys
             | Trouble::NoObject
+            | Trouble::Empty
             | Trouble::OtherOrder
+            | Trouble::OtherTables
             | Trouble::Obstacle
-            | Trouble::ServedInVain(_) => STORE_FAILED,
+            | Trouble::ServedInVain(_) => DATABASE_TROUBLE,
             Trouble::Submission(fault, _) => submission_status(fault),
             Trouble::Dumping(fault) => dumping_status(fault),
             Trouble::Loading(fault) => loading_status(fault),
@@ -148,11 +167,17 @@ impl Trouble {
             Trouble::Database(_)
             | Trouble::Opening(_)
             | Trouble::OtherSource
+            | Trouble::OtherSourceRow
             | Trouble::BadObject
-            | Trouble::Unsound
+            | Trouble::Unnamed
+            | Trouble::Overlap
             | Trouble::OtherRows
+            | Trouble::OldKeys
+            | Trouble::NewKeys
             | Trouble::NoObject
+            | Trouble::Empty
             | Trouble::OtherOrder
+            | Trouble::OtherTables
             | Trouble::Obstacle
             | Trouble::ServedInVain(_)
             | Trouble::Creating(CreateFault::NotEmpty | CreateFault::Store(_))
@@ -200,7 +225,7 @@ impl Trouble {
         }
     }
 
-    /// The cause that the system gave, if it gave one: `stream` of reading or printing.
+    /// The cause that the system gave, if it gave one: `stream` is that of reading or printing.
     pub fn cause(self, stream: Cause) -> Option<Cause>
         ensures { result ≡ trouble_cause self stream }
     {
@@ -270,7 +295,7 @@ fn database_status(cause: DatabaseCause) -> u8
 {
     match cause {
         DatabaseCause::Memory | DatabaseCause::Refused(Cause::Memory) => FAILED,
-        _ => STORE_FAILED,
+        _ => DATABASE_TROUBLE,
     }
 }
 
@@ -278,7 +303,7 @@ fn creating_status(fault: CreateFault) -> u8
     ensures { result ≡ trouble_status (Trouble.Creating fault) }
 {
     match fault {
-        CreateFault::NotEmpty | CreateFault::Store(_) => STORE_FAILED,
+        CreateFault::NotEmpty | CreateFault::Store(_) => DATABASE_TROUBLE,
         CreateFault::Memory => FAILED,
     }
 }
@@ -287,7 +312,7 @@ fn opening_status(fault: OpenFault) -> u8
     ensures { result ≡ trouble_status (Trouble.Opening fault) }
 {
     match fault {
-        OpenFault::WrongVersion(_) | OpenFault::BadRow | OpenFault::Store(_) => STORE_FAILED,
+        OpenFault::WrongVersion(_) | OpenFault::BadRow | OpenFault::Store(_) => DATABASE_TROUBLE,
         OpenFault::Memory => FAILED,
     }
 }
@@ -296,7 +321,7 @@ fn submission_status(fault: DeskFault) -> u8
     ensures { result ≡ submission_status fault }
 {
     match fault {
-        DeskFault::StoreFault { .. } | DeskFault::Stopped => STORE_FAILED,
+        DeskFault::StoreFault { .. } | DeskFault::Stopped => DATABASE_TROUBLE,
         DeskFault::ReadFault { .. } | DeskFault::WriteFault { .. } | DeskFault::Memory => FAILED,
     }
 }
@@ -305,7 +330,7 @@ fn dumping_status(fault: DeskDumpFault) -> u8
     ensures { result ≡ trouble_status (Trouble.Dumping fault) }
 {
     match fault {
-        DeskDumpFault::Stopped => STORE_FAILED,
+        DeskDumpFault::Stopped => DATABASE_TROUBLE,
         DeskDumpFault::Write | DeskDumpFault::Memory => FAILED,
     }
 }
@@ -314,7 +339,7 @@ fn loading_status(fault: DeskLoadFault) -> u8
     ensures { result ≡ trouble_status (Trouble.Loading fault) }
 {
     match fault {
-        DeskLoadFault::NotEmpty | DeskLoadFault::Store(_) => STORE_FAILED,
+        DeskLoadFault::NotEmpty | DeskLoadFault::Store(_) => DATABASE_TROUBLE,
         DeskLoadFault::Read
         | DeskLoadFault::Endless
         | DeskLoadFault::Text(_)
@@ -333,7 +358,7 @@ fn migrating_status(fault: MigrateFault) -> u8
         MigrateFault::WrongVersion(_)
         | MigrateFault::BadRow
         | MigrateFault::NoRoot
-        | MigrateFault::Store(_) => STORE_FAILED,
+        | MigrateFault::Store(_) => DATABASE_TROUBLE,
         MigrateFault::Memory => FAILED,
     }
 }

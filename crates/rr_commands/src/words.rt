@@ -2,10 +2,10 @@
 
 ghost use Rattle.std.specs.Prelude.{◌≡◌};
 ghost use Rattle.rr_commands.specs.Words.{after_migrated, after_number, after_opened};
-ghost use Rattle.rr_commands.specs.Words.{after_paragraph, before, before_number, creating_words};
-ghost use Rattle.rr_commands.specs.Words.{dumping_words, loading_words, migrating_words};
-ghost use Rattle.rr_commands.specs.Words.{opening_words, reason, refused_words, setting_words};
-ghost use Rattle.rr_commands.specs.Words.{submission_words};
+ghost use Rattle.rr_commands.specs.Words.{after_paragraph, before_cause, before_number};
+ghost use Rattle.rr_commands.specs.Words.{creating_words, dumping_words, loading_words};
+ghost use Rattle.rr_commands.specs.Words.{migrating_words, opening_words, reason, refused_words};
+ghost use Rattle.rr_commands.specs.Words.{setting_words, submission_words};
 
 use crate::cause::DatabaseCause;
 use crate::settings_file::SettingKey;
@@ -20,15 +20,15 @@ const OUT_OF_MEMORY: &str = "out of memory: give the program more";
 const NOT_EMPTY: &str = "the database has a registry already: take a new one";
 
 const NO_TABLES_MADE: &str =
-    "the database refuses the tables of a registry: take a new one, on a disk with room";
+    "the database has other tables, or refuses those of a registry: take a new one";
 
 const OF_VERSION: &str = "the tables of the database are of version ";
 
 const STOPPED: &str = "the database failed before: run the command again";
 
 /// The words before the cause and the number, or all of them.
-pub(crate) fn before(trouble: Trouble) -> &'static str
-    ensures { result.now ≡ before trouble }
+pub(crate) fn before_cause(trouble: Trouble) -> &'static str
+    ensures { result.now ≡ before_cause trouble }
 {
     match trouble {
         Trouble::BadArguments => "`irrdesk help` lists the commands",
@@ -43,22 +43,39 @@ pub(crate) fn before(trouble: Trouble) -> &'static str
         Trouble::Database(cause) => cause.text(),
         Trouble::Creating(fault) => creating_words(fault),
         Trouble::Opening(fault) => opening_words(fault),
-        Trouble::OtherSource =>
-            "the rows of the database are of a registry of another source: correct `source`",
+        Trouble::OtherSource => "most rows of the database are of another source: correct `source`",
+        Trouble::OtherSourceRow =>
+            "the object of the row is of another source: restore a backup, or correct it or \
+            `source`",
         Trouble::BadObject =>
-            "the row is not that of an object of the settings' source: restore a backup, or take \
-            the row out",
-        Trouble::Unsound =>
-            "the object of the row names a maintainer who is not there, or its range overlaps one \
-            before it: restore a backup, or mend the rows",
+            "the row is not as irrdesk writes one: restore a backup, or go by \"A damaged file\" \
+            in docs/BACKUP.md",
+        Trouble::Unnamed =>
+            "the object of the row names a maintainer who is not there: restore a backup, or go by \
+            \"A damaged file\" in docs/BACKUP.md",
+        Trouble::Overlap =>
+            "the object of the row has a range that overlaps one before it: restore a backup, or \
+            take one of the two out of `object` and `named`",
         Trouble::OtherRows =>
             "its rows are not those of a registry: restore a backup, or mend the table",
+        Trouble::OldKeys =>
+            "`meta` says version 2, and the keys are of version 1: restore a backup, or set the \
+            value to 1 in a copy, and migrate that",
+        Trouble::NewKeys =>
+            "`meta` says version 1, and the keys are of version 2: restore a backup, or set the \
+            value to 2 in a copy",
         Trouble::NoObject =>
             "`named` has a row of this class and okey, and `object` has none: restore a backup, or \
             take that row out",
+        Trouble::Empty =>
+            "the database has no objects: restore a backup, or let `store` name another one",
         Trouble::OtherOrder =>
             "the tables of the registry are not first and in order: `umask 077; sqlite3 OLD '.dump \
-            meta' '.dump object' '.dump named' | sqlite3 NEW` lays them so in a new file",
+            meta' '.dump object' '.dump named' | sqlite3 NEW` lays them so; OLD is the database, \
+            NEW the new `store`",
+        Trouble::OtherTables =>
+            "the tables of the registry were not made by irrdesk: \"A damaged file\" in \
+            docs/BACKUP.md makes a registry of their rows",
         Trouble::Obstacle => "it keeps the tables of the registry from being read: take it out",
         Trouble::FileUnopened(_) => "the file cannot be opened: ",
         Trouble::Submission(fault, _) => submission_words(fault),
@@ -272,7 +289,7 @@ fn reason(code: Code) -> &'static str
             mend it",
         Code::E05 =>
             " is not an object: E05, an attribute has a bad value, as `auth` in a dump that is not \
-            full: load a full one, or mend it",
+            full, or is `password` or `delete`, which no dump has: load a full one, or mend it",
         Code::E06 =>
             " is not an object: E06, its `source` is not that of the settings: let both be the \
             same",

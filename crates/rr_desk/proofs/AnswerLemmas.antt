@@ -66,42 +66,42 @@ answer_never_stops : (r : Reg) (limit : ℕ) (text : List ℕ) (answer : Result 
 answer_never_stops r limit text answer h = answer_of_never_stops r limit (query_of text) answer (query_never_stops text) h
 
 -- what a desk that runs answers to a text that is not too long
-running : (clean : Type 0) (r : Reg) (limit : ℕ) (text : List ℕ) (stopped : Bool) (answer : Result (List ℕ) QueryFault) → is_too_long text ≡ false → IsRunningAnswer clean r limit text answer → stopped ≡ stops answer
-    → IsAnswered clean r limit text false stopped answer
-running clean r limit text stopped answer short is stop = record {
-  is_answer = subst (λ b. IsAnswerWhere b false clean r limit text answer) (sym short) is;
+running : (clean : Type 0) (source : List ℕ) (r : Reg) (limit : ℕ) (text : List ℕ) (stopped : Bool) (answer : Result (List ℕ) QueryFault) → is_too_long text ≡ false → IsRunningAnswer clean source r limit text answer → stopped ≡ stops answer
+    → IsAnswered clean source r limit text false stopped answer
+running clean source r limit text stopped answer short is stop = record {
+  is_answer = subst (λ b. IsAnswerWhere b false clean source r limit text answer) (sym short) is;
   stopped = stop;
 }
 
 -- the registry's answer
-pub told : (clean : Type 0) (r : Reg) (limit : ℕ) (text : List ℕ) (answer : Result (List ℕ) QueryFault) → is_too_long text ≡ false → IsAnswerTo r limit text answer → IsAnswered clean r limit text false false answer
-told clean r limit text answer short is = running clean r limit text false answer short (inl is) (sym (answer_never_stops r limit text answer is))
+pub told : (clean : Type 0) (source : List ℕ) (r : Reg) (limit : ℕ) (text : List ℕ) (answer : Result (List ℕ) QueryFault) → is_too_long text ≡ false → IsAnswerTo r limit text answer → IsAnswered clean source r limit text false false answer
+told clean source r limit text answer short is = running clean source r limit text false answer short (inl is) (sym (answer_never_stops r limit text answer is))
 
 -- or that memory ran out
-pub told_fault : (clean : Type 0) (r : Reg) (limit : ℕ) (text : List ℕ) (fault : QueryFault) → is_too_long text ≡ false → (fault ≢ Memory → IsAnswerTo r limit text (Err fault)) → IsAnswered clean r limit text false false (Err fault)
-told_fault clean r limit text Memory short is = running clean r limit text false (Err Memory) short (inr (inr refl)) refl
-told_fault clean r limit text Bad short is = told clean r limit text (Err Bad) short (is (λ same. cc))
-told_fault clean r limit text TooLong short is = told clean r limit text (Err TooLong) short (is (λ same. cc))
-told_fault clean r limit text TooMany short is = told clean r limit text (Err TooMany) short (is (λ same. cc))
-told_fault clean r limit text Store short is = told clean r limit text (Err Store) short (is (λ same. cc))
-told_fault clean r limit text Stopped short is = told clean r limit text (Err Stopped) short (is (λ same. cc))
+pub told_fault : (clean : Type 0) (source : List ℕ) (r : Reg) (limit : ℕ) (text : List ℕ) (fault : QueryFault) → is_too_long text ≡ false → (fault ≢ Memory → IsAnswerTo r limit text (Err fault)) → IsAnswered clean source r limit text false false (Err fault)
+told_fault clean source r limit text Memory short is = running clean source r limit text false (Err Memory) short (inr (inr refl)) refl
+told_fault clean source r limit text Bad short is = told clean source r limit text (Err Bad) short (is (λ same. cc))
+told_fault clean source r limit text TooLong short is = told clean source r limit text (Err TooLong) short (is (λ same. cc))
+told_fault clean source r limit text TooMany short is = told clean source r limit text (Err TooMany) short (is (λ same. cc))
+told_fault clean source r limit text Store short is = told clean source r limit text (Err Store) short (is (λ same. cc))
+told_fault clean source r limit text Stopped short is = told clean source r limit text (Err Stopped) short (is (λ same. cc))
 
 -- a text that is read as a query is answered as the query
 pub as_read : (r : Reg) (limit : ℕ) (text : List ℕ) (read : Result Query QueryFault) (answer : Result (List ℕ) QueryFault) → query_of text ≡ read → IsAnswerOf r limit read answer → IsAnswerTo r limit text answer
 as_read r limit text read answer e h = subst (λ q. IsAnswerOf r limit q answer) (sym e) h
 
 -- what was looked for and not found
-unfound : (clean : Type 0) (r : Reg) (limit : ℕ) (text name : List ℕ) (stopped : Bool) (fault : QueryFault) → is_too_long text ≡ false → query_of text ≡ Ok (Naming name) → IsUnfound fault stopped
-    → IsAnswered clean r limit text false stopped (Err fault)
-unfound clean r limit text name stopped Bad short asks h = absurd h
-unfound clean r limit text name stopped TooLong short asks h = absurd h
-unfound clean r limit text name stopped TooMany short asks h = absurd h
-unfound clean r limit text name stopped Memory short asks h = running clean r limit text stopped (Err Memory) short (inr (inr refl)) h
-unfound clean r limit text name stopped Store short asks h = running clean r limit text stopped (Err Store) short (inr (inl (record { name = name; asks = asks; found = refl }))) h
-unfound clean r limit text name stopped Stopped short asks h = absurd h
+unfound : (clean : Type 0) (source : List ℕ) (r : Reg) (limit : ℕ) (text name : List ℕ) (stopped : Bool) (fault : QueryFault) → is_too_long text ≡ false → query_of text ≡ Ok (Naming name) → IsUnfound fault stopped
+    → IsAnswered clean source r limit text false stopped (Err fault)
+unfound clean source r limit text name stopped Bad short asks h = absurd h
+unfound clean source r limit text name stopped TooLong short asks h = absurd h
+unfound clean source r limit text name stopped TooMany short asks h = absurd h
+unfound clean source r limit text name stopped Memory short asks h = running clean source r limit text stopped (Err Memory) short (inr (inr refl)) h
+unfound clean source r limit text name stopped Store short asks h = running clean source r limit text stopped (Err Store) short (inr (inl (record { name = name; asks = asks; found = refl }))) h
+unfound clean source r limit text name stopped Stopped short asks h = absurd h
 
 -- what was looked for in the tables
-pub looked : (clean : Type 0) (r : Reg) (limit : ℕ) (text name : List ℕ) (stopped : Bool) (answer : Result (List ℕ) QueryFault) → is_too_long text ≡ false → query_of text ≡ Ok (Naming name) → LooksUp clean r name stopped answer
-    → IsAnswered clean r limit text false stopped answer
-looked clean r limit text name stopped (Ok found) short asks h = running clean r limit text stopped (Ok found) short (inr (inl (record { name = name; asks = asks; found = h.1 }))) h.0
-looked clean r limit text name stopped (Err fault) short asks h = unfound clean r limit text name stopped fault short asks h
+pub looked : (clean : Type 0) (source : List ℕ) (r : Reg) (limit : ℕ) (text name : List ℕ) (stopped : Bool) (answer : Result (List ℕ) QueryFault) → is_too_long text ≡ false → query_of text ≡ Ok (Naming name) → LooksUp clean source r name stopped answer
+    → IsAnswered clean source r limit text false stopped answer
+looked clean source r limit text name stopped (Ok found) short asks h = running clean source r limit text stopped (Ok found) short (inr (inl (record { name = name; asks = asks; found = h.1 }))) h.0
+looked clean source r limit text name stopped (Err fault) short asks h = unfound clean source r limit text name stopped fault short asks h

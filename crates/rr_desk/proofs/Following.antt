@@ -29,13 +29,16 @@ use Rattle.rr_confinement.specs.Laws.{LeavesOthers}
 use Rattle.rr_registry.specs.declared.outcome.Outcome.{Outcome}
 use Rattle.rr_registry.specs.declared.outcome.Outcome.TheVariants.{Added, Changed, Unchanged, Deleted, Refused}
 use Rattle.rr_registry.specs.Runs.{IsStep, outcome_of}
+use Rattle.rr_rows.specs.Contents.{KeepsOthers}
 use Rattle.rr_rows.specs.Entries.{TreesOf}
 use Rattle.rr_rows.specs.Maps.{HasRows, Puts, TakesOut}
+use Rattle.rr_rows.proofs.OtherLemmas.{others_itself}
 use Rattle.rr_store.specs.Adding.{AddsTo}
 use Rattle.rr_store.specs.Calls.{IsSettled, Transacts, database}
 use Rattle.rr_desk.specs.Stops.{LeavesStopped, changes}
 use Rattle.rr_desk.specs.Rows.{Holds}
-use Rattle.rr_desk.specs.Private.{Follows, FollowsGain, FollowsIn, FollowsNew, Gains, LeadsTo, puts_one}
+use Rattle.rr_desk.specs.Stocks.{ConnectionLasts}
+use Rattle.rr_desk.specs.Private.{Follows, FollowsGain, FollowsIn, FollowsNew, Gains, LeadsTo, LeavesRest, puts_one}
 
 -- a change is never an addition
 beyond : (b : Bool) (c : Code) (v : Verdict) → (if b then Refuse c else v) ≡ Add → v ≡ Add
@@ -143,6 +146,16 @@ module _ {S X E : Type 0} (g : Ghosts S) (P Q : Database → Database → Type 0
       let made = writes_as writes in
       record { done = made.done; is_open = λ clean on. made.is_open clean; settled = λ before. settled; kept = made.kept; crash = made.crash }
 
+-- where nothing is done, all is left
+pub rest_itself : {S : Type 0} (g : Ghosts S) (h : Held S) → LeavesRest g h h
+rest_itself g h clean on = others_itself (database g h)
+
+-- one transaction that keeps all else leaves it, also where it fails
+pub writes_leave : {S X E : Type 0} (g : Ghosts S) (Change : Database → Database → Type 0) (old new : Held S) (result : Result X E) → Transacts g Change old new result
+    → ((db : Database) → Change (database g old) db → KeepsOthers (database g old) db) → LeavesRest g old new
+writes_leave g change old new (Ok x) writes keeps clean on = keeps (database g new) (writes.done clean)
+writes_leave g change old new (Err e) writes keeps clean on = subst (KeepsOthers (database g old)) (sym (writes.kept clean on)) (others_itself (database g old))
+
 -- where the rows followed the registry, the store holds the rows of the one after the item
 pub still_held : {S X E : Type 0} (g : Ghosts S) (old new : Held S) (before after : Reg) (key : Key) (outcome : Outcome) (x : X) → (HasCleanDisk (state g old) → Holds before (state g old)) → LeadsTo before key outcome after
     → FollowsIn {E = E} g (Follows key outcome after) old new (Ok x) → HasCleanDisk (state g new) → Holds after (state g new)
@@ -150,6 +163,18 @@ still_held g old new before after key outcome x held leading follows clean =
     let was = held (let kept = follows.crash.clean in omega (arith, kept)) in
     let on = follows.is_open clean was.is_open in
     record { is_open = on; rows = follows.done clean before leading was.rows; leaves = follows.settled (λ on_open. was.leaves) on }
+
+-- through an item of a stock whose store held the rows of its registry its connection lasts
+pub item_lasts : {S X E : Type 0} (g : Ghosts S) (Change : Database → Database → Type 0) (old new : Held S) (before : Reg) (result : Result X E) → (HasCleanDisk (state g old) → Holds before (state g old))
+    → FollowsIn g Change old new result → LeavesRest g old new → ConnectionLasts (state g old) (state g new)
+item_lasts g change old new before result held follows others =
+    let survives = follows.crash in
+    let earlier : HasCleanDisk (state g new) → HasCleanDisk (state g old) = λ clean. omega (arith, survives.clean) in
+    record {
+      survives = survives_weaker (state g old) (state g new) _ (λ trees. Unit {0}) (λ clean trees made. tt) survives;
+      was_open = λ clean on. (held (earlier clean)).is_open;
+      others = others;
+    }
 
 -- where they could not follow, those of the registry before the item stand
 pub stops_there : {S X E : Type 0} (g : Ghosts S) (held_before held_after : Held S) (before after : Reg) (secrets : List (List ℕ)) (item : Item) (key : Key) (outcome : Outcome) (e : E) → key ≡ key_about item → IsStep before secrets item outcome after → LeavesOthers before secrets after → changes outcome ≡ true

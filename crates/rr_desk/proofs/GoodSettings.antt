@@ -20,7 +20,7 @@ use Rattle.rr_object.specs.Parts.{AuthParts}
 use Rattle.rr_desk.specs.declared.settings.Setting.{Setting}
 use Rattle.rr_desk.specs.declared.settings.Setting.TheVariants.{Source, Root, Auth, Limit}
 use Rattle.rr_desk.specs.declared.settings.TheConstants.{GREATEST_LIMIT}
-use Rattle.rr_desk.specs.Settings.{IsDigest, IsSettings, SettingsParts, built_in, digest_of, limit_of, needed, or_bad, settings_of}
+use Rattle.rr_desk.specs.Settings.{IsSaltedDigest, IsSettings, SettingsParts, auth_of, built_in, limit_of, needed, or_bad, settings_of}
 
 -- what a setting was read from
 pub record IsRead {X Y : Type 0} (read : X → Option Y) (value : Y) : Type 0 where
@@ -57,7 +57,7 @@ decoded (Ok bytes) digest e = cc
 decoded (Err fault) digest e = cc
 
 salted : (salt digits : List ℕ) (auth : AuthParts) (b : Bool) → is_salt salt ≡ b
-    → cond b (option_map (λ digest. record { salt = salt; digest = digest }) (result_ok (decode_sized digits 32))) None ≡ Some auth → IsDigest auth
+    → cond b (option_map (λ digest. record { salt = salt; digest = digest }) (result_ok (decode_sized digits 32))) None ≡ Some auth → IsSaltedDigest auth
 salted salt digits auth false is e = cc
 salted salt digits auth true is e =
     let parts = optional_digest salt (result_ok (decode_sized digits 32)) auth e in
@@ -70,11 +70,11 @@ salted salt digits auth true is e =
       bytes = bytes.3;
     }
 
-word_digest : (word : List ℕ) (auth : AuthParts) → salted_digest_of word ≡ Some auth → IsDigest auth
+word_digest : (word : List ℕ) (auth : AuthParts) → salted_digest_of word ≡ Some auth → IsSaltedDigest auth
 unfolding salted_digest_of
 word_digest word auth e = salted (before_first is_colon word) (after_first is_colon word) auth (is_salt (before_first is_colon word)) refl e
 
-one_word : (further : List (List ℕ)) (auth : AuthParts) → option_and_then salted_digest_of (only further) ≡ Some auth → IsDigest auth
+one_word : (further : List (List ℕ)) (auth : AuthParts) → option_and_then salted_digest_of (only further) ≡ Some auth → IsSaltedDigest auth
 one_word [] auth e = cc
 one_word (word ∷ []) auth e = word_digest word auth e
 one_word (word ∷ (other ∷ others)) auth e = cc
@@ -84,16 +84,16 @@ well_spelled None auth e = cc
 well_spelled (Some read) auth e = e
 
 of_scheme : (further : List (List ℕ)) (auth : AuthParts) (b : Bool)
-    → meant_by (cond b (option_map Some (option_and_then salted_digest_of (only further))) (Some None)) ≡ Some auth → IsDigest auth
+    → meant_by (cond b (option_map Some (option_and_then salted_digest_of (only further))) (Some None)) ≡ Some auth → IsSaltedDigest auth
 of_scheme further auth false e = cc
 of_scheme further auth true e = one_word further auth (well_spelled (option_and_then salted_digest_of (only further)) auth e)
 
-of_words : (found : List (List ℕ)) (auth : AuthParts) → meant_by (auth_of_words found) ≡ Some auth → IsDigest auth
+of_words : (found : List (List ℕ)) (auth : AuthParts) → meant_by (auth_of_words found) ≡ Some auth → IsSaltedDigest auth
 unfolding auth_of_words
 of_words [] auth e = cc
 of_words (scheme ∷ further) auth e = of_scheme further auth (is_sha256_pw scheme) e
 
-pub digest_read : (value : List ℕ) (auth : AuthParts) → digest_of value ≡ Some auth → IsDigest auth
+pub digest_read : (value : List ℕ) (auth : AuthParts) → auth_of value ≡ Some auth → IsSaltedDigest auth
 digest_read value auth e = of_words (words value) auth e
 
 -- a limit that was read is within its bounds
@@ -107,11 +107,11 @@ limit_read given limit e =
 -- settings that were read are good
 pub good_settings : (source root auth : Option (List ℕ)) (limit : Option ℕ) (settings : SettingsParts)
     → needed Source name_of source ≡ Ok settings.source → needed Root maintainer_name_of root ≡ Ok settings.root
-    → needed Auth digest_of auth ≡ Ok settings.auth → needed Limit limit_of limit ≡ Ok settings.limit → IsSettings settings
+    → needed Auth auth_of auth ≡ Ok settings.auth → needed Limit limit_of limit ≡ Ok settings.limit → IsSettings settings
 good_settings source root auth limit settings es er ea el =
     let s = needed_value Source name_of source settings.source es in
     let r = needed_value Root maintainer_name_of root settings.root er in
-    let a = needed_value Auth digest_of auth settings.auth ea in
+    let a = needed_value Auth auth_of auth settings.auth ea in
     let l = needed_value Limit limit_of limit settings.limit el in
     let kept = kept_maintainer r.text settings.root (is_maintainer_name (upper r.text)) refl r.spelled in
     let bounds = limit_read l.text settings.limit l.spelled in

@@ -65,7 +65,7 @@ module _ {S : Type 0} (g : Ghosts S) where
 
   -- tables with such rows have those of which more is said
   pub makes_as : {P Q : Database → Type 0} (conn made : Held S) → ((db : Database) → P db → Q db) → MakesTables g P conn made → MakesTables g Q conn made
-  makes_as conn made f makes = record { vacant = makes.vacant; tables = makes.tables; crash = left_as _ _ f makes.crash }
+  makes_as conn made f makes = record { vacant = makes.vacant; tables = makes.tables; crash = left_as _ _ f makes.crash; crash_tables = makes.crash_tables }
 
   pub none_as : {P Q : Database → Type 0} (conn left : Held S) → ((db : Database) → P db → Q db) → MakesNone g P conn left → MakesNone g Q conn left
   none_as conn left f none = record { autocommit = none.autocommit; kept = none.kept; crash = left_as _ _ f none.crash }

@@ -16,6 +16,7 @@ use Rattle.rr_store.specs.declared.fault.StoreFault.{StoreFault}
 use Rattle.rr_store.specs.declared.fault.StoreFault.TheVariants as store_fault
 use Rattle.rr_rows.specs.Maps.{HasRows}
 use Rattle.rr_desk.specs.LookupParts.{database_error}
+use Rattle.rr_desk.specs.Private.{ChangesNothing}
 use Rattle.rr_desk.specs.Rows.{OnlyLooks, Holds, KeepsRows}
 use Rattle.rr_desk.specs.Stocks.{Stock, StopsForCause, StoresUntilStopped, stock_of}
 use Rattle.rr_desk.proofs.Listed.{registry_stored}
@@ -85,6 +86,14 @@ pub look_stops : {S X : Type 0} (g : Ghosts S) (source : List ℕ) (r : Reg) (ol
     → OnlyLooks (state g old) (state g new) → IfErr found (FailsToList g source old new) → after ≡ database_error found → StopsForCause g source (stock_of r old before) (stock_of r new after)
 look_stops g source r old new before after found held survives fails told = record {
   caused = λ running stopped of_source error is. look_caused g source r old new found (held running) of_source survives fails error (sym told ∙ is);
+}
+
+-- where nothing is looked for, nothing changes
+pub no_change : (s : State) → ChangesNothing s s
+no_change s = record {
+  only_looks = record { clean = omega arith; shield = λ h. h; counts = omega arith; limit = refl; closes = λ clean h. inl h; crash = λ clean db h. inl h };
+  was_open = λ clean on. on;
+  same = λ clean on. refl;
 }
 
 -- a stock that stays as it is is not stopped by that

@@ -1,5 +1,5 @@
 -- What migration makes of tables of version 1, and why there is none.
-use Rattle.std.proofs.Common.{◌≡◌, ◌⊎◌, inl, inr, ℕ, Bool, false, List, [], ◌∷◌, ◌++◌, Result, Ok, Err, IfOk, IfErr, OnOk, refl, sym, ap, subst, ◌∙◌, arith, IsPermutation}
+use Rattle.std.proofs.Common.{◌≡◌, ◌⊎◌, inl, inr, ℕ, Bool, false, List, [], ◌∷◌, ◌++◌, Result, Ok, Err, IfOk, OnOk, refl, sym, ap, subst, ◌∙◌, arith, IsPermutation}
 use Rattle.std.proofs.lemmas.Bool.{or_from, or_parts}
 use Rattle.std.proofs.lemmas.List.Sorted.{IsPermutation-append_left, IsPermutation-map}
 use Rattle.std.specs.List.{AllByRecursion, list_any}
@@ -31,18 +31,18 @@ use Rattle.rr_store.specs.declared.fault.MigrateFault.{MigrateFault}
 use Rattle.rr_store.specs.declared.fault.MigrateFault.TheVariants as migrate
 use Rattle.sqlite_trees.specs.declared.store.Store.{Ghosts}
 use Rattle.sqlite.specs.Held.{Held, state}
-use Rattle.rr_store.specs.Calls.{OnCleanDisk, database}
-use Rattle.rr_store.specs.Faults.{unread_fault}
-use Rattle.rr_store.specs.Opening.{IsNotOld, IsOfNoneButOld, IsOfRows}
-use Rattle.rr_rows.specs.Tables.{HasTables}
+use Rattle.rr_store.specs.Calls.{database}
+use Rattle.rr_store.specs.Faults.{no_tables, unread_fault}
+use Rattle.rr_store.specs.Opening.{RefusesTables}
+use Rattle.rr_store.specs.declared.version.Version.TheVariants.{Old}
 use Rattle.rr_store.specs.declared.fault.OpenFault.{OpenFault}
 use Rattle.rr_store.specs.declared.fault.OpenFault.TheVariants as opened
 use Rattle.rr_desk.specs.Opened.{MakesNone}
 use Rattle.rr_desk.specs.Rows.{OnlyLooks}
 use Rattle.rr_desk.specs.Stocks.{Stock}
-use Rattle.rr_store.specs.Migrating.{HasNoRoot, HasRoot, IsMigrated, has_mntner, is_mntner_of, upper_block}
+use Rattle.rr_store.specs.Migrating.{HasNoRoot, IsMigrated, has_mntner, is_mntner_of, upper_block}
 use Rattle.rr_store.proofs.CauseLemmas.{caused_then}
-use Rattle.rr_desk.specs.Migrating.{AreRegistry, FailsMigrating, HasNoOldRegistry, HasUpper, IsGrown, IsMigratedBy, IsRootless, MigratesTables, RefusesOldRegistry}
+use Rattle.rr_desk.specs.Migrating.{AreRegistry, FailsMigrating, FailsToMigrateTables, HasNoOldRegistry, HasUpper, IsGrown, IsMigratedBy, IsRootless, MigratesTables, RefusesOldRegistry}
 use Rattle.rr_desk.specs.MigratingParts.{HasLoadFault, HasUpperFault, IsGrowthFault, told_as}
 use Rattle.rr_desk.specs.Settings.{IsSettings, SettingsParts}
 use Rattle.rr_desk.proofs.Grown.{rootless, the_upper_object}
@@ -77,10 +77,6 @@ unowned_growth s os fault sound (inr bad) = subst (IsGrowthFault s os) (sym bad.
 pub each_ok : {X E : Type 0} (r : Result X E) (P Q R : X → Type 0) → IfOk r P → IfOk r Q → ((x : X) → P x → Q x → R x) → IfOk r R
 each_ok (Ok x) P Q R p q f = f x p q
 each_ok (Err e) P Q R p q f = tt
-
-pub each_err : {X E : Type 0} (r : Result X E) (P Q R : E → Type 0) → IfErr r P → IfErr r Q → ((e : E) → P e → Q e → R e) → IfErr r R
-each_err (Ok x) P Q R p q f = tt
-each_err (Err e) P Q R p q f = f e p q
 
 pub each_shown : {X E : Type 0} (r : Result X E) (P : X → Type 0) (Q : Type 0) (R : X → Type 0) → IfOk r P → OnOk r Q → ((x : X) → Q → P x → R x) → IfOk r R
 each_shown (Ok x) P Q R h k f = f x k h
@@ -167,34 +163,37 @@ migrated_rows s r old new grown made =
 
 -- why tables of version 1 are not read is why they are not migrated
 module _ (s : SettingsParts) (db : Database) where
-  pub refused_old : (fault : OpenFault) → ((number : ℕ) → fault ≡ opened.WrongVersion number → IsNotOld number db) → (fault ≡ opened.BadRow → (os : List Obj) → AreOldStored s.source os db → ⊥)
-      → (fault ≡ opened.BadRow → IsOfNoneButOld db) → (IsOfRows fault → HasTables db.schema) → RefusesOldRegistry s db (unread_fault fault)
-  refused_old (opened.WrongVersion n) other bad says tables = record {
-    wrong_version = λ number is. other number (let same : n ≡ number = cc in ap opened.WrongVersion same);
+  pub refused_old : (fault : OpenFault) → RefusesTables Old s.source db fault → RefusesOldRegistry s db (unread_fault fault)
+  refused_old (opened.WrongVersion n) h = record {
+    wrong_version = λ number is. h.wrong_version number (let same : n ≡ number = cc in ap opened.WrongVersion same);
     bad_row = λ is. absurd (cc);
     no_other_said = λ is. absurd (cc);
-    tables = λ of. tables tt;
+    tables = λ of. h.tables tt;
+    untabled = λ none. absurd (none (h.tables tt));
     no_root = λ is. absurd (cc);
   }
-  refused_old opened.BadRow other bad says tables = record {
+  refused_old opened.BadRow h = record {
     wrong_version = λ number is. absurd (cc);
-    bad_row = λ is r of rows. bad refl (values r) rows;
-    no_other_said = λ is. says refl;
-    tables = λ of. tables tt;
+    bad_row = λ is r of rows. h.bad_row refl (values r) rows;
+    no_other_said = λ is. h.no_other_said refl;
+    tables = λ of. h.tables tt;
+    untabled = λ none. absurd (none (h.tables tt));
     no_root = λ is. absurd (cc);
   }
-  refused_old (opened.Store error) other bad says tables = record {
-    wrong_version = λ number is. absurd (cc);
-    bad_row = λ is. absurd (cc);
-    no_other_said = λ is. absurd (cc);
-    tables = λ of. absurd of;
-    no_root = λ is. absurd (cc);
-  }
-  refused_old opened.Memory other bad says tables = record {
+  refused_old (opened.Store error) h = record {
     wrong_version = λ number is. absurd (cc);
     bad_row = λ is. absurd (cc);
     no_other_said = λ is. absurd (cc);
     tables = λ of. absurd of;
+    untabled = λ none. let told = h.untabled none in let same : error ≡ no_tables = cc in ap migrate.Store same;
+    no_root = λ is. absurd (cc);
+  }
+  refused_old opened.Memory h = record {
+    wrong_version = λ number is. absurd (cc);
+    bad_row = λ is. absurd (cc);
+    no_other_said = λ is. absurd (cc);
+    tables = λ of. absurd of;
+    untabled = λ none. absurd (let told = h.untabled none in cc);
     no_root = λ is. absurd (cc);
   }
 
@@ -222,20 +221,24 @@ module _ {S : Type 0} (g : Ghosts S) (s : SettingsParts) (first between : Held S
     crash = migrated_crash stored.store migrates.crash;
   }
 
-  pub none_then : (left : Held S) → MakesNone g (IsMigratedBy s (database g between)) between left → MakesNone g (IsMigratedBy s (database g first)) first left
+  none_then : (left : Held S) → MakesNone g (IsMigratedBy s (database g between)) between left → MakesNone g (IsMigratedBy s (database g first)) first left
   none_then left none = record {
     autocommit = none.autocommit;
     kept = λ clean on. none.kept clean on ∙ as_was (let kept = none.crash.clean in omega (arith, kept));
     crash = migrated_crash left none.crash;
   }
 
-  pub why_then : (left : Held S) (fault : MigrateFault) → MakesNone g (IsMigratedBy s (database g between)) between left → OnCleanDisk g left (RefusesOldRegistry s (database g between) fault) → OnCleanDisk g left (RefusesOldRegistry s (database g first) fault)
-  why_then left fault none why clean = subst (λ db. RefusesOldRegistry s db fault) (as_was (let kept = none.crash.clean in omega (arith, kept))) (why clean)
-
-  pub store_then : (left : Held S) (fault : MigrateFault) → MakesNone g (IsMigratedBy s (database g between)) between left → FailsMigrating g s between left fault → FailsMigrating g s first left fault
+  store_then : (left : Held S) (fault : MigrateFault) → MakesNone g (IsMigratedBy s (database g between)) between left → FailsMigrating g s between left fault → FailsMigrating g s first left fault
   store_then left fault none store error is tidy clean =
       let was = same (let kept = none.crash.clean in omega (arith, kept)) in
       elim (store error is (subst IsTidy (sym was.0.now_is) tidy) clean) [
         | inl caused ↦ inl (caused_then (state g first) (state g between) (state g left) was one error caused)
-        | inr root ↦ inr (subst (HasRoot s.root s.source) was.0.now_is root)
+        | inr grows ↦ inr (record { registry = grows.registry; grown = subst (λ db. IsGrown s db grows.registry) was.0.now_is grows.grown })
       ]
+
+  pub fails_then : (left : Held S) (fault : MigrateFault) → FailsToMigrateTables g s between left fault → FailsToMigrateTables g s first left fault
+  fails_then left fault fails = record {
+    none = none_then left fails.none;
+    why = λ clean. subst (λ db. RefusesOldRegistry s db fault) (as_was (let kept = fails.none.crash.clean in omega (arith, kept))) (fails.why clean);
+    store = store_then left fault fails.none fails.store;
+  }

@@ -21,7 +21,7 @@ use Rattle.rr_text.specs.Bytes.{is_colon}
 use Rattle.rr_object.specs.Auths.{auth_item, auth_of_words, is_salt, salted_digest_of}
 use Rattle.rr_object.specs.Items.{items}
 use Rattle.rr_object.specs.Parts.{AuthParts}
-use Rattle.rr_desk.specs.Settings.{IsDigest}
+use Rattle.rr_desk.specs.Settings.{IsSaltedDigest}
 use Rattle.rr_desk.specs.Opening.{auth_line}
 use Rattle.rr_desk.proofs.PlainTexts.{IsShown, all_follow, both_true, is_plain, plain_blank, plain_item, shown_between, shown_plain, split_after, split_whole}
 
@@ -103,14 +103,14 @@ some_colon : (salt digits : List ℕ) → 0 < length (salt ++ (58 ∷ digits))
 some_colon [] digits = omega arith
 some_colon (b ∷ bs) digits = omega arith
 
-plain_digits : (auth : AuthParts) → IsDigest auth → IsPlainLine (salted_digits auth)
+plain_digits : (auth : AuthParts) → IsSaltedDigest auth → IsPlainLine (salted_digits auth)
 plain_digits auth is = record {
   all = rw (list_all-append is_plain auth.salt (58 ∷ encode_lower auth.digest), salt_plain auth.salt is.salted, digits_plain auth.digest is.bytes) refl;
   some = some_colon auth.salt (encode_lower auth.digest);
 }
 
 -- the line of an `auth` is a line
-pub shown_auth : (auth : AuthParts) → IsDigest auth → IsShown (auth_line auth)
+pub shown_auth : (auth : AuthParts) → IsSaltedDigest auth → IsShown (auth_line auth)
 shown_auth auth is =
     let plain = plain_digits auth is in
     shown_between (codes "SHA256-PW") (32 ∷ []) (salted_digits auth) refl (omega arith) refl plain.all plain.some
@@ -128,7 +128,7 @@ drop_after : (xs : List ℕ) (s : ℕ) (ys : List ℕ) → drop (length xs + 1) 
 drop_after [] s ys = refl
 drop_after (x ∷ xs) s ys = grind (arith, common_steps, drop_after xs s ys)
 
-salted_read : (auth : AuthParts) → IsDigest auth → salted_digest_of (salted_digits auth) ≡ Some auth
+salted_read : (auth : AuthParts) → IsSaltedDigest auth → salted_digest_of (salted_digits auth) ≡ Some auth
 unfolding salted_digest_of
 salted_read auth is =
     let letters = (both_true (nat_le (length auth.salt) 16) (list_all is_ascii_alphanumeric auth.salt) is.salted).1 in
@@ -137,7 +137,7 @@ salted_read auth is =
     let back : after_first is_colon (salted_digits auth) ≡ encode_lower auth.digest = rw place (drop_after auth.salt 58 (encode_lower auth.digest)) in
     rw (prefix, back, is.salted, decode_sized-encode_lower auth.digest 32 is.sized is.bytes) refl
 
-auth_words : (auth : AuthParts) → IsDigest auth → words (auth_line auth) ≡ codes "SHA256-PW" ∷ (salted_digits auth ∷ [])
+auth_words : (auth : AuthParts) → IsSaltedDigest auth → words (auth_line auth) ≡ codes "SHA256-PW" ∷ (salted_digits auth ∷ [])
 unfolding words
 auth_words auth is =
     let plain = plain_digits auth is in
@@ -146,6 +146,6 @@ auth_words auth is =
     rw (whole, full) refl
 
 -- the line of an `auth` is read as it
-pub auth_read : (auth : AuthParts) → IsDigest auth → auth_item (auth_line auth) ≡ Some (Some auth)
+pub auth_read : (auth : AuthParts) → IsSaltedDigest auth → auth_item (auth_line auth) ≡ Some (Some auth)
 unfolding auth_of_words is_keyword
 auth_read auth is = rw (auth_words auth is, salted_read auth is) refl

@@ -31,7 +31,7 @@ use Rattle.rr_object.specs.declared.key.Key.{Key}
 use Rattle.rr_object.specs.declared.key.Key.TheVariants.{Mntner, AsBlock, Inetnum}
 use Rattle.rr_object.specs.declared.kind.Kind.TheVariants.{MntBy, Source, Auth, MntLower, MntRoutes}
 use Rattle.rr_store.specs.Migrating.{upper_block}
-use Rattle.rr_desk.specs.Opening.{AreOpening, addresses_fields, auth_line, numbers_fields, owned, root_fields}
+use Rattle.rr_desk.specs.Opening.{AreOpening, addresses_fields, auth_line, numbers_fields, owner_fields, root_fields}
 use Rattle.rr_desk.specs.Private.{IsParagraphOf, HasObject}
 use Rattle.rr_desk.specs.Settings.{IsSettings, SettingsParts}
 use Rattle.rr_desk.proofs.PlainTexts.{IsShown, shown_line, shown_meaning}
@@ -45,7 +45,7 @@ read_as fields source key read counted spelled own = rw (read, counted, spelled,
 
 -- the attributes of an opening object: its own, and those that it ends in
 abbrev pub span_fields : List ℕ → List ℕ → SettingsParts → List Field
-span_fields name line s = one_line name line ∷ owned s
+span_fields name line s = one_line name line ∷ owner_fields s
 
 root_means : (s : SettingsParts) → IsSettings s → value_meaning (s.root ∷ []) ≡ s.root
 root_means s is = shown_meaning s.root (shown_name s.root is.root.spelled)
@@ -297,9 +297,9 @@ after_fields : (prefix back : List Field) → AreFields prefix → AreFields bac
 after_fields [] back prefix_good back_good = back_good
 after_fields (f ∷ prefix) back prefix_good back_good = (prefix_good.0, after_fields prefix back prefix_good.1 back_good)
 
-pub owned_good : (prefix : List Field) (s : SettingsParts) → AreFields prefix → IsSettings s → AreFields (prefix ++ owned s)
+pub owned_good : (prefix : List Field) (s : SettingsParts) → AreFields prefix → IsSettings s → AreFields (prefix ++ owner_fields s)
 owned_good prefix s good is =
-    after_fields prefix (owned s) good (
+    after_fields prefix (owner_fields s) good (
       named_line (codes "mnt-by") s.root refl refl (shown_name s.root is.root.spelled),
       (named_line (codes "source") s.source refl refl (shown_name s.source is.source.spelled), tt),
     )

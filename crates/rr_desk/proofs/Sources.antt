@@ -90,7 +90,7 @@ module _ {S : Type 0} (g : store.Ghosts S) (source : List ℕ) (old new : Stock 
 
   -- a submission leaves the registry one of its source
   kept_of_source : (start now before after : Told) (result : Result Done DeskFault)
-      → Submits (stock_ledger g) source (record { reader_before = start; reader_after = now; writer_before = before; writer_after = after; before = old.registry; after = new.registry }) old new result
+      → Submits (stock_ledger g) old new source (record { reader_before = start; reader_after = now; writer_before = before; writer_after = after; before = old.registry; after = new.registry }) result
       → IsRegistryOf source old.registry → IsRegistryOf source new.registry
   kept_of_source start now before after (Ok done) h of = items_keep_the_source source (entries h.text) h.items old.registry new.registry h.outcomes of h.are_items h.runs
   kept_of_source start now before after (Err (ReadFault count)) h of = items_keep_the_source source (whole_entries h.text) h.items old.registry new.registry h.outcomes of h.are_items h.runs
@@ -104,13 +104,13 @@ module _ {S : Type 0} (g : store.Ghosts S) (source : List ℕ) (old new : Stock 
 
   -- and so does one that was refused
   submitted_where : (stopped : Bool) (start now before after : Told) (result : Result Done DeskFault) → (stopped ≡ true → new ≡ old)
-      → (stopped ≡ false → Submits (stock_ledger g) source (record { reader_before = start; reader_after = now; writer_before = before; writer_after = after; before = old.registry; after = new.registry }) old new result)
+      → (stopped ≡ false → Submits (stock_ledger g) old new source (record { reader_before = start; reader_after = now; writer_before = before; writer_after = after; before = old.registry; after = new.registry }) result)
       → IsRegistryOf source old.registry → IsRegistryOf source new.registry
   submitted_where true start now before after result same submits of = subst (λ (s : Stock S). IsRegistryOf source s.registry) (sym (same refl)) of
   submitted_where false start now before after result same submits of = kept_of_source start now before after result (submits refl) of
 
   pub submitted_of_source : (start now before after : Told) (result : Result Done DeskFault) → (old.stopped ≡ true → new ≡ old)
-      → (old.stopped ≡ false → Submits (stock_ledger g) source (record { reader_before = start; reader_after = now; writer_before = before; writer_after = after; before = old.registry; after = new.registry }) old new result)
+      → (old.stopped ≡ false → Submits (stock_ledger g) old new source (record { reader_before = start; reader_after = now; writer_before = before; writer_after = after; before = old.registry; after = new.registry }) result)
       → IsRegistryOf source old.registry → IsRegistryOf source new.registry
   submitted_of_source start now before after result same submits of = submitted_where old.stopped start now before after result same submits of
 

@@ -38,61 +38,65 @@ abbrev pub told_number : Result (List ℕ) QueryFault → ℕ
 told_number (Ok text) = 0
 told_number (Err fault) = error_number fault
 
--- a text is that of some objects of one source as they are answered, which has their public forms
+-- a text is that of some objects of the source as they are answered, which has their public forms
 -- and nothing else of them (profile)
-pub record IsPublic (text : List ℕ) : Type 0 where
+pub record IsPublic (source text : List ℕ) : Type 0 where
   pub objects : List Obj
-  pub source : List ℕ
   pub of_source : AllByRecursion (IsObjectOf source) objects
   pub is_text : text ≡ objects_text objects
 
 -- what the tables have of the objects that name a maintainer is public in any case, and where the
 -- disk gives back what was written it is those of the registry (profile)
-pub record HasFound (clean : Type 0) (registry : Reg) (name text : List ℕ) : Type 0 where
-  pub is_public : IsPublic text
+pub record HasFound (clean : Type 0) (source : List ℕ) (registry : Reg) (name text : List ℕ)
+    : Type 0 where
+  pub is_public : IsPublic source text
   pub registered : clean → text ≡ objects_text (asked (Naming name) registry)
 
 -- the objects that name a maintainer, as they are answered; or the store fails (profile)
-abbrev pub IsNamingFound : Type 0 → Reg → List ℕ → Result (List ℕ) QueryFault → Type 0
-IsNamingFound clean registry name (Ok text) = HasFound clean registry name text
-IsNamingFound clean registry name (Err fault) = fault ≡ Store
+abbrev pub IsNamingFound : Type 0 → List ℕ → Reg → List ℕ → Result (List ℕ) QueryFault → Type 0
+IsNamingFound clean source registry name (Ok text) = HasFound clean source registry name text
+IsNamingFound clean source registry name (Err fault) = fault ≡ Store
 
--- the query asks what names a maintainer, which is looked for in the tables (profile)
-pub record IsLookup (clean : Type 0) (registry : Reg) (text : List ℕ)
+-- the query asks which objects name a maintainer, and the answer is what the tables have of them,
+-- or that the store failed (profile)
+pub record IsLookup (clean : Type 0) (source : List ℕ) (registry : Reg) (text : List ℕ)
     (answer : Result (List ℕ) QueryFault) : Type 0 where
   pub name : List ℕ
   pub asks : query_of text ≡ Ok (Naming name)
-  pub found : IsNamingFound clean registry name answer
+  pub found : IsNamingFound clean source registry name answer
 
 -- a desk that runs gives the answer of its registry, or what the tables have, or tells that there
 -- is no memory for it (profile)
-abbrev pub IsRunningAnswer : Type 0 → Reg → ℕ → List ℕ → Result (List ℕ) QueryFault
+abbrev pub IsRunningAnswer : Type 0 → List ℕ → Reg → ℕ → List ℕ → Result (List ℕ) QueryFault
     → Type 0
-IsRunningAnswer clean registry limit text answer =
+IsRunningAnswer clean source registry limit text answer =
     IsAnswerTo registry limit text answer
-    ⊎ (IsLookup clean registry text answer ⊎ (answer ≡ Err Memory))
+    ⊎ (IsLookup clean source registry text answer ⊎ (answer ≡ Err Memory))
 
--- that a query is too long comes before that the desk is stopped, and this before all else
--- (profile)
-abbrev pub IsAnswerWhere : Bool → Bool → Type 0 → Reg → ℕ → List ℕ
+-- the answer, by whether the query is too long, which comes first, and whether the desk is stopped;
+-- otherwise what a desk that runs answers (profile)
+abbrev pub IsAnswerWhere : Bool → Bool → Type 0 → List ℕ → Reg → ℕ → List ℕ
     → Result (List ℕ) QueryFault
     → Type 0
-IsAnswerWhere true stopped clean registry limit text answer = answer ≡ Err TooLong
-IsAnswerWhere false true clean registry limit text answer = answer ≡ Err Stopped
-IsAnswerWhere false false clean registry limit text answer =
-    IsRunningAnswer clean registry limit text answer
+IsAnswerWhere true stopped clean source registry limit text answer = answer ≡ Err TooLong
+IsAnswerWhere false true clean source registry limit text answer = answer ≡ Err Stopped
+IsAnswerWhere false false clean source registry limit text answer =
+    IsRunningAnswer clean source registry limit text answer
 
--- the answer of a desk to the text of a query, by its registry and limit, and whether it is stopped
--- before and after; `clean` says that the disk gives back what was written (profile)
-pub record IsAnswered (clean : Type 0) (registry : Reg) (limit : ℕ) (text : List ℕ)
-    (before after : Bool) (answer : Result (List ℕ) QueryFault) : Type 0 where
-  pub is_answer : IsAnswerWhere (is_too_long text) before clean registry limit text answer
-  pub stopped : after ≡ (before || stops answer)
+-- the answer of a desk to the text of a query, by its source, registry and limit, and whether it is
+-- stopped before and after; `clean` says that the disk gives back what was written (profile)
+pub record IsAnswered (clean : Type 0) (source : List ℕ) (registry : Reg) (limit : ℕ)
+    (text : List ℕ) (was_stopped is_stopped : Bool) (answer : Result (List ℕ) QueryFault)
+    : Type 0 where
+  pub is_answer : IsAnswerWhere (is_too_long text) was_stopped clean source registry limit text
+      answer
+  pub stopped : is_stopped ≡ (was_stopped || stops answer)
 
 -- one such answer was made whole, and then written (profile)
-pub record Answers (clean : Type 0) (registry : Reg) (limit : ℕ) (text : List ℕ)
-    (before after : Bool) (old new : Told) (result : Result Answered WriteFault) : Type 0 where
+pub record Answers (clean : Type 0) (source : List ℕ) (registry : Reg) (limit : ℕ)
+    (text : List ℕ) (was_stopped is_stopped : Bool) (old new : Told)
+    (result : Result Answered WriteFault) : Type 0 where
   pub answer : Result (List ℕ) QueryFault
-  pub answered : IsAnswered clean registry limit text before after answer
+  pub answered : IsAnswered clean source registry limit text was_stopped is_stopped answer
   pub writes : Writes old new (answer_bytes answer) result
   pub told : IfOk result (λ done. done.error ≡ told_number answer)

@@ -45,7 +45,8 @@ pub record LoadsItself (source : List ℕ) (registry : Reg) (start now : Told) :
   pub loaded : (other : Reg) → IsLoaded source start now other → other ≡ registry
   pub fails : (fault : DeskLoadFault) → FailsToLoad source start now fault → IsNotOfText fault
 
--- where a reader has the full dump of a registry that can be read again, that loads itself
+-- where a reader has the full dump of a registry that can be read again (IsDumpable), a load gives
+-- that registry, or its fault is not of the text (profile)
 abbrev pub FullDumpsAreLoaded : Type 0
 FullDumpsAreLoaded =
     (source : List ℕ) (registry : Reg) (start now : Told)
@@ -67,7 +68,7 @@ pub record IsUnhindered (answer : Result (List ℕ) QueryFault) : Type 0 where
   pub has_memory : answer ≢ Err query_fault.Memory
   pub no_fault : answer ≢ Err query_fault.Store
 
--- the disk gives back what was written, in the words that the state of a store has for it (profile)
+-- this flag of a store's state says that the disk gives back what was written (profile)
 abbrev pub IsCleanDisk : Bool → Type 0
 IsCleanDisk clean = doubt clean ≡ 0
 
@@ -77,10 +78,10 @@ abbrev pub DesksKeepSecrets : Type 0
 DesksKeepSecrets =
     (r s : Reg) → IsRead r → IsRead s → LookAlike r s
     → (clean other_clean : Bool) → IsCleanDisk clean → IsCleanDisk other_clean
-    → (limit : ℕ) (text : List ℕ) (stopped after other_after : Bool)
-    → (answer other : Result (List ℕ) QueryFault)
-    → IsAnswered (IsCleanDisk clean) r limit text stopped after answer
-    → IsAnswered (IsCleanDisk other_clean) s limit text stopped other_after other
+    → (source other_source : List ℕ) (limit : ℕ) (text : List ℕ)
+    → (stopped after other_after : Bool) (answer other : Result (List ℕ) QueryFault)
+    → IsAnswered (IsCleanDisk clean) source r limit text stopped after answer
+    → IsAnswered (IsCleanDisk other_clean) other_source s limit text stopped other_after other
     → IsUnhindered answer → IsUnhindered other → answer ≡ other
 
 -- where the bytes of connections to come are told, the first turn is of the first of them, the

@@ -2,6 +2,7 @@ pub mod Opening
 pub mod Rows
 pub mod Stops
 pub mod Stocks
+pub mod Lasting
 pub mod Private
 pub mod Settings
 pub mod Opened

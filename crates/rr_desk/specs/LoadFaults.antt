@@ -10,29 +10,23 @@ use Rattle.rr_desk.specs.declared.loading.DeskLoadFault.TheVariants.{NotEmpty, R
 use Rattle.rr_desk.specs.declared.loading.DeskLoadFault.TheVariants.{Object, Duplicate, Overlap}
 use Rattle.rr_desk.specs.declared.loading.DeskLoadFault.TheVariants.{Unnamed, Store, Memory}
 
--- the fault is not of the store
-abbrev pub IsOfDump : DeskLoadFault → Type 0
-IsOfDump NotEmpty = ⊥
-IsOfDump (Store error) = ⊥
-IsOfDump _ = Unit {0}
+-- the fault of a load whose dump was not read (profile)
+abbrev pub reading_fault : DumpReadFault → DeskLoadFault
+reading_fault dump.Read = Read
+reading_fault dump.Endless = Endless
+reading_fault (dump.Text n) = Text n
+reading_fault (dump.Object n code) = Object n code
+reading_fault dump.Memory = Memory
 
--- a dump that is not read (profile)
-abbrev pub unread : DumpReadFault → DeskLoadFault
-unread dump.Read = Read
-unread dump.Endless = Endless
-unread (dump.Text n) = Text n
-unread (dump.Object n code) = Object n code
-unread dump.Memory = Memory
+-- the fault of a load whose objects are not a registry (profile)
+abbrev pub registry_fault : LoadFault → DeskLoadFault
+registry_fault (list.Duplicate n) = Duplicate n
+registry_fault (list.Overlap n) = Overlap n
+registry_fault (list.Unnamed n) = Unnamed n
+registry_fault list.Memory = Memory
 
--- objects that are not taken as a registry (profile)
-abbrev pub untaken : LoadFault → DeskLoadFault
-untaken (list.Duplicate n) = Duplicate n
-untaken (list.Overlap n) = Overlap n
-untaken (list.Unnamed n) = Unnamed n
-untaken list.Memory = Memory
-
--- a store that is not made (profile)
-abbrev pub unmade : CreateFault → DeskLoadFault
-unmade store.NotEmpty = NotEmpty
-unmade (store.Store error) = Store error
-unmade store.Memory = Memory
+-- the fault of a load whose store was not made (profile)
+abbrev pub making_fault : CreateFault → DeskLoadFault
+making_fault store.NotEmpty = NotEmpty
+making_fault (store.Store error) = Store error
+making_fault store.Memory = Memory

@@ -12,7 +12,9 @@ use Rattle.rr_auth.specs.Registries.{Reg}
 use Rattle.rr_registry.specs.declared.load.LoadFault.{LoadFault}
 use Rattle.rr_registry.specs.declared.load.LoadFault.TheVariants as list
 use Rattle.rr_registry.specs.Loading.{load_fault}
+use Rattle.rr_rows.specs.Made.{IsOccupied}
 use Rattle.rr_rows.specs.Maps.{HasRows}
+use Rattle.rr_store.specs.Calls.{OnCleanDisk, database}
 use Rattle.rr_store.specs.Creating.{FailsOverRow}
 use Rattle.rr_load.specs.Dumps.{IsDumpOf, dump_objects}
 use Rattle.rr_load.specs.Readings.{FailsToRead}
@@ -21,6 +23,7 @@ use Rattle.rr_desk.specs.declared.loading.DeskLoadFault.{DeskLoadFault}
 use Rattle.rr_desk.specs.declared.loading.DeskLoadFault.TheVariants.{NotEmpty, Read, Endless, Text}
 use Rattle.rr_desk.specs.declared.loading.DeskLoadFault.TheVariants.{Object, Duplicate, Overlap}
 use Rattle.rr_desk.specs.declared.loading.DeskLoadFault.TheVariants.{Unnamed, Store, Memory}
+use Rattle.rr_desk.specs.Opened.{LeavesItsTables, MakesNone, TellsOtherTables}
 
 -- a text was read to its end, and is a dump of this registry of the source (profile)
 pub record IsLoaded (source : List ℕ) (start now : Told) (registry : Reg) : Type 0 where
@@ -63,8 +66,14 @@ FailsToLoad source start now (Unnamed n) = IsUntaken source start now (list.Unna
 FailsToLoad source start now (Store error) = HasReadDump source start now
 FailsToLoad source start now Memory = FailsToRead source start now dump.Memory
 
--- where a dump was not loaded for an error of the database, and a table has a row, it has a cause
--- outside the rows (profile)
-abbrev pub FailsLoading : {S : Type 0} → Ghosts S → Held S → Held S → DeskLoadFault → Type 0
-FailsLoading g conn left fault =
-    (error : Error) → fault ≡ Store error → FailsOverRow g conn left error
+-- no tables were made of a dump, and the fault says why; that there is a row is told where one of
+-- the three tables has one, and where one has, an error of the database has a cause outside the
+-- rows; where other tables stand in place of the three, the error says that (profile)
+pub record FailsToLoadTables {S : Type 0} (g : Ghosts S) (source : List ℕ) (start now : Told)
+    (conn left : Held S) (fault : DeskLoadFault) : Type 0 where
+  pub none : MakesNone g (HasLoadedRows source start now) conn left
+  pub crash_tables : LeavesItsTables g conn left
+  pub why : FailsToLoad source start now fault
+  pub not_empty : fault ≡ NotEmpty → OnCleanDisk g left (IsOccupied (database g conn))
+  pub store : (error : Error) → fault ≡ Store error → FailsOverRow g conn left error
+  pub untabled : (error : Error) → fault ≡ Store error → TellsOtherTables (database g conn) error

@@ -28,8 +28,8 @@ pub record IsCutAt (many end : ℕ) {T : Type 0} (cut : Cut T) : Type 0 where
 pub record IsOfInput (input : MemoryInput) {R W : Type 0} (conn : Joined (Cut R) (Cut W))
     (reader : Told) : Type 0 where
   pub bytes : reader.bytes ≡ Some input.bytes.now
-  pub reads : IsCutAt input.step input.reads (joined_reader conn)
-  pub writes : IsCutAt input.step input.writes (joined_writer conn)
+  pub reads : IsCutAt input.step input.reads_end (joined_reader conn)
+  pub writes : IsCutAt input.step input.writes_end (joined_writer conn)
 
 -- the first of the inputs that were left was accepted, and the others are left
 pub record AcceptsNext (before after : List MemoryInput) {R W : Type 0}
@@ -50,7 +50,7 @@ failed_accepts peers = peers.failed_accepts
 abbrev pub is_open : MemoryPeers → Bool
 is_open peers = is_some peers.given
 
--- the bytes that it gives
+-- the bytes that the open connection gives; none where none is open
 abbrev pub open_bytes : MemoryPeers → Option (List ℕ)
 open_bytes peers = option_map (λ given. given.now) peers.given
 

@@ -1,5 +1,5 @@
 -- Tables of version 1 that a desk migrates (profile).
-use Rattle.std.specs.Prelude.{◌≡◌, ℕ, false, List, [], ◌∷◌, ◌++◌}
+use Rattle.std.specs.Prelude.{◌≡◌, ◌⊎◌, ℕ, false, List, [], ◌∷◌, ◌++◌}
 use Rattle.std.specs.FinMap.{values}
 use Rattle.sqlite_trees.specs.declared.store.Store.{Ghosts}
 use Rattle.sqlite.specs.Effect.{Database}
@@ -11,15 +11,19 @@ use Rattle.rr_object.specs.Readings.{ReadsAs}
 use Rattle.rr_auth.specs.Registries.{Reg, Sound}
 use Rattle.rr_auth.specs.Sources.{IsRegistryOf}
 use Rattle.rr_registry.specs.Loading.{IsTaken}
+use Rattle.rr_rows.specs.Contents.{IsTidy}
 use Rattle.rr_rows.specs.Entries.{TreesOf}
 use Rattle.rr_rows.specs.Maps.{AreOldStored}
 use Rattle.rr_rows.specs.Tables.{HasTables}
-use Rattle.rr_store.specs.Calls.{OnCleanDisk, database}
-use Rattle.rr_store.specs.Migrating.{FailsToRead, IsMigrated, IsOfOldRows, has_mntner, upper_block}
-use Rattle.rr_store.specs.Opening.{IsNotOld, IsOfNoneButOld}
+use Rattle.rr_store.specs.Calls.{IsCaused, OnCleanDisk, database}
+use Rattle.rr_store.specs.Faults.{no_tables}
+use Rattle.rr_store.specs.Migrating.{IsMigrated, IsOfOldRows, has_mntner, upper_block}
+use Rattle.rr_store.specs.Opening.{SaysNoOther, SaysOther}
 use Rattle.rr_store.specs.declared.fault.MigrateFault.{MigrateFault}
 use Rattle.rr_store.specs.declared.fault.MigrateFault.TheVariants.{BadRow, NoRoot, Store}
 use Rattle.rr_store.specs.declared.fault.MigrateFault.TheVariants.{WrongVersion}
+use Rattle.rr_store.specs.declared.version.Version.TheVariants.{Old}
+use Rattle.rr_desk.specs.Opened.{MakesNone}
 use Rattle.rr_desk.specs.Settings.{SettingsParts}
 use Rattle.rr_desk.specs.Stocks.{Stock}
 
@@ -44,6 +48,11 @@ pub record IsGrown (settings : SettingsParts) (old : Database) (registry : Reg) 
   pub sound : AreRegistry objects
   pub grown : HasUpper settings objects registry
 
+-- there is such a registry for tables of version 1 (profile)
+pub record CanGrow (settings : SettingsParts) (old : Database) : Type 0 where
+  pub registry : Reg
+  pub grown : IsGrown settings old registry
+
 -- tables of version 1 hold the rows of no registry of the source (profile)
 abbrev pub HasNoOldRegistry : List ℕ → Database → Type 0
 HasNoOldRegistry source db =
@@ -59,22 +68,23 @@ pub record IsRootless (settings : SettingsParts) (old : Database) : Type 0 where
   pub missing : has_mntner settings.root objects ≡ false
 
 -- why tables are not migrated: they are of another version, which comes first; no registry of the
--- source has their rows; or the root is not a maintainer in theirs; each is told of the three
--- tables alone (profile)
+-- source has their rows; or the root is not a maintainer in theirs; of a database without the three
+-- tables, that and nothing else is told (profile)
 pub record RefusesOldRegistry (settings : SettingsParts) (db : Database) (fault : MigrateFault)
     : Type 0 where
-  pub wrong_version : (number : ℕ) → fault ≡ WrongVersion number → IsNotOld number db
+  pub wrong_version : (number : ℕ) → fault ≡ WrongVersion number → SaysOther Old number db
   pub bad_row : fault ≡ BadRow → HasNoOldRegistry settings.source db
-  pub no_other_said : fault ≡ BadRow → IsOfNoneButOld db
+  pub no_other_said : fault ≡ BadRow → SaysNoOther Old db
   pub tables : IsOfOldRows fault → HasTables db.schema
+  pub untabled : ¬ HasTables db.schema → fault ≡ Store no_tables
   pub no_root : fault ≡ NoRoot → IsRootless settings db
 
 -- tables are migrated by settings (profile)
 abbrev pub IsMigratedBy : SettingsParts → Database → Database → Type 0
 IsMigratedBy settings = IsMigrated settings.root settings.source
 
--- tables of version 1 were migrated to those of this registry, and a stop leaves the old ones or
--- the new ones (profile)
+-- tables of version 1 were migrated to those of this registry, and a stop of the process leaves the
+-- old ones or the new ones (profile)
 pub record MigratesTables {S : Type 0} (g : Ghosts S) (settings : SettingsParts) (conn : Held S)
     (stored : Stock S) : Type 0 where
   pub grown : OnCleanDisk g stored.store
@@ -84,9 +94,17 @@ pub record MigratesTables {S : Type 0} (g : Ghosts S) (settings : SettingsParts)
   pub crash : Survives (state g conn) (state g stored.store)
       (TreesOf (IsMigratedBy settings (database g conn)))
 
--- where tables were not migrated for an error of the database, and their rows have numbers of their
--- own, it has a cause outside the rows, or these are such as are written anew (profile)
+-- where the rows have numbers of their own, an error of the database has a cause outside them, or
+-- there is a registry as which they are to be written anew (profile)
 abbrev pub FailsMigrating : {S : Type 0} → Ghosts S → SettingsParts → Held S → Held S
     → MigrateFault → Type 0
-FailsMigrating g settings conn left fault = (error : Error) → fault ≡ Store error
-    → FailsToRead g settings.root settings.source conn left error
+FailsMigrating g settings conn left fault =
+    (error : Error) → fault ≡ Store error → IsTidy (database g conn) → OnCleanDisk g left
+    (IsCaused (state g conn) (state g left) error ⊎ CanGrow settings (database g conn))
+
+-- the tables were not migrated, and the fault says why (profile)
+pub record FailsToMigrateTables {S : Type 0} (g : Ghosts S) (settings : SettingsParts)
+    (conn left : Held S) (fault : MigrateFault) : Type 0 where
+  pub none : MakesNone g (IsMigratedBy settings (database g conn)) conn left
+  pub why : OnCleanDisk g left (RefusesOldRegistry settings (database g conn) fault)
+  pub store : FailsMigrating g settings conn left fault

@@ -12,27 +12,25 @@ use Rattle.rr_store.specs.declared.fault.MigrateFault.TheVariants as migrate
 use Rattle.rr_desk.specs.Settings.{SettingsParts}
 use Rattle.rr_desk.specs.Migrating.{AreRegistry}
 
--- something is the matter with objects as a registry (profile)
+-- something is the matter with objects as a registry
 pub record HasLoadFault (objects : List Obj) : Type 0 where
   pub fault : LoadFault
   pub is_fault : load_fault objects ≡ Some fault
 
 -- something is the matter with the objects and the block of the AS numbers of more than 16 bits
--- (profile)
 pub record HasUpperFault (settings : SettingsParts) (objects : List Obj) : Type 0 where
   pub upper : Obj
   pub read : ReadsAs settings.source (upper_block settings.root settings.source) upper
   pub fault : HasLoadFault (objects ++ upper ∷ [])
 
 -- that memory ran out is told as such, and what else is the matter with objects as this fault
--- (profile)
 abbrev pub told_as : LoadFault → MigrateFault → MigrateFault
 told_as (Duplicate n) told = told
 told_as (Overlap n) told = told
 told_as (Unnamed n) told = told
 told_as Memory told = migrate.Memory
 
--- why there is no registry of the objects and the block (profile)
+-- why there is no registry of the objects and the block
 abbrev pub IsGrowthFault : SettingsParts → List Obj → MigrateFault → Type 0
 IsGrowthFault settings objects (migrate.WrongVersion number) = ⊥
 IsGrowthFault settings objects migrate.BadRow = HasLoadFault objects

@@ -10,30 +10,32 @@ use Rattle.rr_registry.specs.Loading.{IsTaken}
 use Rattle.rr_store.specs.Migrating.{upper_block}
 use Rattle.rr_desk.specs.Settings.{SettingsParts}
 
--- the value of `auth` for a digest: the scheme, a blank, the salt, a colon, and the digest in lower
--- case (profile)
+-- the value of `auth` for a salt and digest: the scheme, a blank, the salt, a colon, and the digest
+-- in lower case (profile)
 abbrev pub auth_line : AuthParts → List ℕ
 auth_line auth = codes "SHA256-PW " ++ (auth.salt ++ (58 ∷ encode_lower auth.digest))
 
--- each opening object is the root maintainer's, and of the settings' source (profile)
-abbrev pub owned : SettingsParts → List Field
-owned settings =
+-- the last two attributes of each opening paragraph: maintained by the root, of the settings'
+-- source (profile)
+abbrev pub owner_fields : SettingsParts → List Field
+owner_fields settings =
     one_line (codes "mnt-by") settings.root ∷ (one_line (codes "source") settings.source ∷ [])
 
--- the root maintainer (profile)
+-- the paragraph of the root maintainer (profile)
 abbrev pub root_fields : SettingsParts → List Field
 root_fields settings =
     one_line (codes "mntner") settings.root
-    ∷ (one_line (codes "auth") (auth_line settings.auth) ∷ owned settings)
+    ∷ (one_line (codes "auth") (auth_line settings.auth) ∷ owner_fields settings)
 
--- the block of all 16-bit AS numbers (profile)
+-- the paragraph of the block of all 16-bit AS numbers (profile)
 abbrev pub numbers_fields : SettingsParts → List Field
-numbers_fields settings = one_line (codes "as-block") (codes "AS0 - AS65535") ∷ owned settings
+numbers_fields settings =
+    one_line (codes "as-block") (codes "AS0 - AS65535") ∷ owner_fields settings
 
--- the span of all addresses (profile)
+-- the paragraph of the span of all addresses (profile)
 abbrev pub addresses_fields : SettingsParts → List Field
 addresses_fields settings =
-    one_line (codes "inetnum") (codes "0.0.0.0 - 255.255.255.255") ∷ owned settings
+    one_line (codes "inetnum") (codes "0.0.0.0 - 255.255.255.255") ∷ owner_fields settings
 
 -- the paragraphs of the opening objects: the root maintainer, the two blocks of AS numbers, the
 -- second of which migration adds too (RFC 6793), and the span of all addresses (profile)

@@ -2,27 +2,31 @@
 use Rattle.std.specs.Prelude.{◌≡◌, None, ℕ, Bool, true, false, IsTrue, List}
 use Rattle.std.specs.Prelude.{Ok, OnErr, OnOk, Result}
 use Rattle.std.specs.FinMap.{get, insert, remove}
+use Rattle.sqlite_trees.specs.declared.store.Store.{Ghosts}
 use Rattle.sqlite.specs.Effect.{Database}
 use Rattle.sqlite.specs.Held.{Held, state}
-use Rattle.sqlite.specs.State.{Survives}
-use Rattle.sqlite_trees.specs.declared.store.Store.{Ghosts}
+use Rattle.sqlite.specs.State.{State, HasCleanDisk, Survives}
+use Rattle.rr_text.specs.Fields.{Field}
 use Rattle.rr_object.specs.declared.key.Key.{Key}
 use Rattle.rr_object.specs.Objects.{Obj}
+use Rattle.rr_object.specs.Readings.{object_of}
 use Rattle.rr_auth.specs.Registries.{Reg}
 use Rattle.rr_registry.specs.declared.outcome.Outcome.{Outcome}
 use Rattle.rr_registry.specs.declared.outcome.Outcome.TheVariants.{Added, Changed}
 use Rattle.rr_registry.specs.declared.outcome.Outcome.TheVariants.{Unchanged, Deleted}
 use Rattle.rr_registry.specs.declared.outcome.Outcome.TheVariants.{Refused}
-use Rattle.rr_rows.specs.Entries.{TreesOf}
-use Rattle.rr_rows.specs.Maps.{HasRows}
-use Rattle.rr_store.specs.Calls.{IsSettled, OnCleanDisk, WhileOpen, database}
 use Rattle.rr_registry.specs.declared.load.LoadFault.{LoadFault}
 use Rattle.rr_registry.specs.declared.load.LoadFault.TheVariants.{Duplicate, Overlap, Unnamed}
 use Rattle.rr_registry.specs.declared.load.LoadFault.TheVariants.{Memory}
+use Rattle.rr_rows.specs.Contents.{KeepsOthers}
+use Rattle.rr_rows.specs.Entries.{TreesOf}
+use Rattle.rr_rows.specs.Maps.{HasRows}
+use Rattle.rr_store.specs.Calls.{IsSettled, OnCleanDisk, WhileOpen, database}
 use Rattle.rr_store.specs.declared.fault.OpenFault.{OpenFault}
 use Rattle.rr_store.specs.declared.fault.OpenFault.TheVariants as opened
-use Rattle.rr_text.specs.Fields.{Field}
-use Rattle.rr_object.specs.Readings.{object_of}
+use Rattle.rr_desk.specs.Rows.{OnlyLooks}
+use Rattle.rr_desk.specs.declared.loading.DeskLoadFault.{DeskLoadFault}
+use Rattle.rr_desk.specs.declared.loading.DeskLoadFault.TheVariants as load
 
 -- one registry is another with an object under this key
 pub record Gains (before : Reg) (key : Key) (after : Reg) : Type 0 where
@@ -68,9 +72,20 @@ abbrev pub Follows : Key → Outcome → Reg → Database → Database → Type 
 Follows key outcome after old new =
     (before : Reg) → LeadsTo before key outcome after → HasRows before old → HasRows after new
 
+-- nothing was committed, and a connection that is open was open and has all as it was
+pub record ChangesNothing (old now : State) : Type 0 where
+  pub only_looks : OnlyLooks old now
+  pub was_open : HasCleanDisk now → IsTrue now.is_open → IsTrue old.is_open
+  pub same : HasCleanDisk now → IsTrue now.is_open → now.now ≡ old.now
+
+-- beside the rows of the three tables all is as it was
+abbrev pub LeavesRest : {S : Type 0} → Ghosts S → Held S → Held S → Type 0
+LeavesRest g old new = WhileOpen g new (KeepsOthers (database g old) (database g new))
+
 -- the rows follow an item by this change, if it is one that changes them, or stay as they are after
--- a fault; a stop leaves one of the two, and where a stop left just the rows that stood before the
--- call, one after it leaves just those that stand then, while the connection is open
+-- a fault; a stop of the process leaves one of the two, and where it left just the rows that stood
+-- before the call, one after the call leaves just those that stand then, while the connection is
+-- open
 pub record FollowsIn {S X E : Type 0} (g : Ghosts S) (Change : Database → Database → Type 0)
     (old new : Held S) (result : Result X E) : Type 0 where
   pub done : OnCleanDisk g new (OnOk result (Change (database g old) (database g new)))
@@ -81,18 +96,23 @@ pub record FollowsIn {S X E : Type 0} (g : Ghosts S) (Change : Database → Data
   pub crash : Survives (state g old) (state g new) (TreesOf (Change (database g old)))
 
 -- rows of objects that are not a registry are bad rows; that memory ran out is told as such
--- (profile)
 abbrev pub opening_fault : LoadFault → OpenFault
 opening_fault (Duplicate n) = opened.BadRow
 opening_fault (Overlap n) = opened.BadRow
 opening_fault (Unnamed n) = opened.BadRow
 opening_fault Memory = opened.Memory
 
--- a paragraph is this object in the registry of a source (profile)
+-- a paragraph is this object in the registry of a source
 pub record IsParagraphOf (source : List ℕ) (fields : List Field) (object : Obj) : Type 0 where
   pub read : object_of fields source ≡ Ok object
 
--- a paragraph is an object in the registry of a source (profile)
+-- a paragraph is an object in the registry of a source
 pub record HasObject (source : List ℕ) (fields : List Field) : Type 0 where
   pub object : Obj
   pub read : object_of fields source ≡ Ok object
+
+-- the fault of a load is not of the store
+abbrev pub IsNotOfStore : DeskLoadFault → Type 0
+IsNotOfStore load.NotEmpty = ⊥
+IsNotOfStore (load.Store error) = ⊥
+IsNotOfStore _ = Unit {0}

@@ -15,8 +15,9 @@ use Rattle.rr_desk.specs.declared.settings.Setting.TheVariants.{Source, Root, Au
 use Rattle.rr_desk.specs.declared.settings.ValueFault.{ValueFault}
 use Rattle.rr_desk.specs.declared.settings.ValueFault.TheVariants.{Bad}
 
--- the source of the registry, the name of its root maintainer, the digest of the root's secret, and
--- the most names that an expansion may reach (profile)
+-- the source of the registry, the name of its root maintainer, the salt and digest of the root's
+-- secret, and the most names that an expansion may reach, and for a route-set the most pairs of a
+-- set and a range (profile)
 pub record SettingsParts : Type 0 where
   pub source : List ℕ
   pub root : List ℕ
@@ -29,7 +30,7 @@ parts source root auth limit =
     record { source = source; root = root; auth = auth; limit = limit }
 
 -- a salt, and a digest of SHA-256 (FIPS 180-4; profile)
-pub record IsDigest (auth : AuthParts) : Type 0 where
+pub record IsSaltedDigest (auth : AuthParts) : Type 0 where
   pub salted : is_salt auth.salt ≡ true
   pub sized : length auth.digest ≡ DIGEST_BYTES
   pub bytes : IsBytes auth.digest
@@ -40,14 +41,14 @@ pub record IsSettings (settings : SettingsParts) : Type 0 where
   pub source : IsUpperName settings.source
   pub root : IsUpperName settings.root
   pub maintainer : is_maintainer_name settings.root ≡ true
-  pub auth : IsDigest settings.auth
+  pub auth : IsSaltedDigest settings.auth
   pub some : 1 ≤ settings.limit
   pub bounded : settings.limit ≤ GREATEST_LIMIT
 
--- the digest that a well-formed value of `auth` of the scheme `SHA256-PW` stands for; it has no
--- comment, and an LF is not a blank in it (profile)
-abbrev pub digest_of : List ℕ → Option AuthParts
-digest_of value = meant_by (auth_item value)
+-- the salt and digest that a well-formed value of `auth` of the scheme `SHA256-PW` stands for; it
+-- has no comment, and an LF is not a blank in it (profile)
+abbrev pub auth_of : List ℕ → Option AuthParts
+auth_of value = meant_by (auth_item value)
 
 -- a limit within its bounds (profile)
 abbrev pub limit_of : ℕ → Option ℕ
@@ -78,7 +79,7 @@ unfoldable pub settings_of : Option (List ℕ) → Option (List ℕ) → Option 
 settings_of source root auth limit =
     and_then (needed Source name_of source) (λ s.
     and_then (needed Root maintainer_name_of root) (λ r.
-    and_then (needed Auth digest_of auth) (λ a.
+    and_then (needed Auth auth_of auth) (λ a.
     and_then (needed Limit limit_of limit) (λ l.
     Ok (record { source = s; root = r; auth = a; limit = l })))))
 
@@ -91,8 +92,8 @@ built_in_digest =
     ∷ (97 ∷ (163 ∷ (150 ∷ (23 ∷ (122 ∷ (156 ∷ (180 ∷ (16 ∷ (255 ∷ (97 ∷ (
     242 ∷ (0 ∷ (21 ∷ (173 ∷ [])))))))))))))))))))))))))))))))
 
--- the settings of the program without arguments: the source `TEST`, and the root `ROOT-MNT`, whose
--- secret is `bc` (profile)
+-- the settings of the program without arguments: the source `TEST`, the root `ROOT-MNT`, whose
+-- secret is `bc`, and the limit 10,000 (profile)
 abbrev pub built_in : SettingsParts
 built_in = record {
   source = codes "TEST";

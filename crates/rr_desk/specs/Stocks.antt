@@ -1,15 +1,17 @@
 -- A registry with the store that keeps its rows, as a ledger (profile).
-use Rattle.std.specs.Prelude.{◌≡◌, ℕ, Bool, true, false, is_some, List, Option, Some, refl}
+use Rattle.std.specs.Prelude.{◌≡◌, ℕ, Bool, true, false, is_some, IsTrue, List, Option, Some, refl}
 use Rattle.std.specs.Coded.{Coded, code_by, coded×, coded_bool, coded_option}
 use Rattle.std.specs.FinMap as map
 use Rattle.sqlite_trees.specs.declared.store.Store as store
 use Rattle.sqlite.specs.declared.error.Error.{Error}
 use Rattle.sqlite.specs.contracts.error.Error as error
 use Rattle.sqlite.specs.Held.{Held, held_code, state}
+use Rattle.sqlite.specs.State.{State, HasCleanDisk, Survives}
 use Rattle.rr_object.specs.contracts.key.Key as key
 use Rattle.rr_object.specs.contracts.object.Object as object
 use Rattle.rr_auth.specs.Registries.{Reg}
 use Rattle.rr_auth.specs.Sources.{IsRegistryOf}
+use Rattle.rr_rows.specs.Contents.{KeepsOthers}
 use Rattle.rr_submission.specs.declared.ledger.Ledger as ledger
 use Rattle.rr_store.specs.Calls.{FailsFor, OnCleanDisk}
 use Rattle.rr_desk.specs.Stops.{LeavesStopped}
@@ -54,11 +56,21 @@ pub record StopsForCause {S : Type 0} (g : store.Ghosts S) (source : List ℕ) (
   pub caused : old.stopped ≡ false → new.stopped ≡ true → IsRegistryOf source old.registry
       → (error : Error) → new.cause ≡ Some error → FailsFor g old.store new.store error
 
--- it keeps its registry, and stops by a fault of the store alone
+-- what lasts of a connection, whatever is committed in between: a disk that is clean was clean, and
+-- the count of its faults did not fall; the limit of steps stays; nothing but a fault of the disk
+-- shuts the connection, and one that is open was open, and has all as it was beside the rows of the
+-- three tables (profile)
+pub record ConnectionLasts (old now : State) : Type 0 where
+  pub survives : Survives old now (λ trees. Unit {0})
+  pub was_open : HasCleanDisk now → IsTrue now.is_open → IsTrue old.is_open
+  pub others : HasCleanDisk now → IsTrue now.is_open → KeepsOthers old.now now.now
+
+-- it keeps its registry, and stops by a fault of the store alone; its connection lasts
 abbrev pub stock_ledger : {S : Type 0} → store.Ghosts S → ledger.Ghosts (Stock S)
 stock_ledger g = record {
   registry = λ s. s.registry;
   is_stopped = λ s. s.stopped;
   Stops = λ old secrets item new. LeavesStopped old.registry secrets item new.registry
       new.stopped (state g old.store) (state g new.store);
+  Lasts = λ old new. ConnectionLasts (state g old.store) (state g new.store);
 }

@@ -32,8 +32,8 @@ pub record IsFresh (reader writer : Told) : Type 0 where
 abbrev pub with_turn : Option (List Turn) → Turn → Option (List Turn)
 with_turn told turn = option_map (λ turns. turns ++ turn ∷ []) told
 
--- where the bytes of connections that are to come are told, the first of them is accepted, if there
--- is one, and the others are still to come; otherwise none can be accepted
+-- the connection accepted, if any, is the first of those to come, and the others are still to come;
+-- where none is to come none is accepted; where they are not told, they stay untold
 abbrev pub IsNext : Option (Option (List ℕ)) → Option (List (List ℕ))
     → Option (List (List ℕ))
     → Type 0

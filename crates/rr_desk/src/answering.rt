@@ -1,18 +1,17 @@
 //! What a desk answers to queries.
 
 ghost use Rattle.std.specs.Prelude.{◌≡◌, ◌≢◌, Err, Ok, false, true, IfErr, IfOk};
-ghost use Rattle.std.specs.Prelude.{MatchResult};
-ghost use Rattle.sqlite.specs.Held.{state};
 ghost use Rattle.sqlite.specs.State.{HasCleanDisk};
 ghost use Rattle.rr_io.specs.Sending.{Writes};
 ghost use Rattle.rr_answer.specs.declared.fault.QueryFault.TheVariants.{Memory};
 ghost use Rattle.rr_answer.specs.Answers.{IsAnswer};
 ghost use Rattle.rr_answer.specs.Queries as queries;
 ghost use Rattle.rr_answer.specs.Texts as texts;
-ghost use Rattle.rr_desk.specs.Desks.{HasAnswer, WritesAnswer};
-ghost use Rattle.rr_desk.specs.LookupParts.{LooksUp};
+ghost use Rattle.rr_desk.specs.Desks.{WritesAnswer, desk_state};
+ghost use Rattle.rr_desk.specs.LookupParts.{HasAnswer, HasLooked};
+ghost use Rattle.rr_desk.specs.Private.{ChangesNothing};
 ghost use Rattle.rr_desk.specs.Rows.{KeepsRows, OnlyLooks};
-ghost use Rattle.rr_desk.specs.Stocks.{StopsForCause, StoresUntilStopped};
+ghost use Rattle.rr_desk.specs.Stocks.{ConnectionLasts, StopsForCause, StoresUntilStopped};
 
 use crate::desk::Desk;
 use rr_answer::{Query, QueryFault, answer, is_too_long, objects_text, read_query};
@@ -37,7 +36,7 @@ pub struct Answered {
 pub struct WriteFault;
 
 impl<S: Alter> Desk<S> {
-    /// Answers a query, the text without the LF that ended it. The answer is made whole and then
+    /// Answers the text of a query, without the LF that ended it. The answer is made whole and then
     /// written: that of the registry, under the limit of the settings, or one line `% error n`. Its
     /// number is 1 if the text is not a query, 2 if it has more than 1,024 bytes, 3 for an
     /// expansion over the limit, 4 if memory ran out, 5 if the store failed, and 6 if the desk is
@@ -45,6 +44,7 @@ impl<S: Alter> Desk<S> {
     /// maintainer is looked for in the tables: a fault of the store is met there alone, and stops
     /// the desk; where its registry is of its source, the fault has a cause outside the rows. After
     /// a write fault the writer has taken the beginning of the answer.
+    #[tactic(auto, using(crate::specs::Lasting::look_lasts))]
     pub fn answer<W: Sink>(
         &mut self,
         alloc: Global,
@@ -60,13 +60,15 @@ impl<S: Alter> Desk<S> {
             self.old.stored self.new.stored }
         ensures rows { StoresUntilStopped S.Store self.new.stored }
         ensures keeps { self.old.stored.stopped ≡ false
-            → KeepsRows self.old.stored.registry (state S.Store self.new.stored.store) }
+            → KeepsRows self.old.stored.registry (desk_state S.Store self.new) }
         ensures only_looks { OnlyLooks
-            (state S.Store self.old.stored.store) (state S.Store self.new.stored.store) }
+            (desk_state S.Store self.old) (desk_state S.Store self.new) }
+        ensures lasts { ConnectionLasts
+            (desk_state S.Store self.old) (desk_state S.Store self.new) }
         ensures aside { W.aside writer.new ≡ W.aside writer.old }
     {
         let made = self.answer_to(alloc, query);
-        // Says that the rows are those of the registry.
+        // Called for its contract: the rows are those of the registry.
         let _ = self.stored.stopped();
         match made {
             Ok(text) => write_answer(writer, &text, 0),
@@ -75,7 +77,7 @@ impl<S: Alter> Desk<S> {
     }
 
     /// The answer to the text of a query.
-    #[tactic(auto, using(crate::proofs::LookupRows::no_stop))]
+    #[tactic(auto, using(crate::proofs::LookupRows::no_stop, crate::proofs::LookupRows::no_change))]
     fn answer_to(&mut self, alloc: Global, text: &[u8]) -> Result<Vec<u8>, QueryFault>
         ensures answered { HasAnswer S.Store self.old self.new text.now result }
         ensures registry { self.new.stored.registry ≡ self.old.stored.registry }
@@ -84,9 +86,9 @@ impl<S: Alter> Desk<S> {
         ensures why { StopsForCause S.Store self.old.settings.source
             self.old.stored self.new.stored }
         ensures keeps { self.old.stored.stopped ≡ false
-            → KeepsRows self.old.stored.registry (state S.Store self.new.stored.store) }
-        ensures only_looks { OnlyLooks
-            (state S.Store self.old.stored.store) (state S.Store self.new.stored.store) }
+            → KeepsRows self.old.stored.registry (desk_state S.Store self.new) }
+        ensures unchanged { ChangesNothing
+            (desk_state S.Store self.old) (desk_state S.Store self.new) }
     {
         let stopped = self.stored.stopped();
         if is_too_long(text) {
@@ -99,19 +101,19 @@ impl<S: Alter> Desk<S> {
     }
 
     /// The answer of a desk that is not stopped.
-    #[tactic(auto, using(crate::proofs::LookupRows::no_stop))]
+    #[tactic(auto, using(crate::proofs::LookupRows::no_stop, crate::proofs::LookupRows::no_change))]
     fn running_answer(&mut self, alloc: Global, text: &[u8]) -> Result<Vec<u8>, QueryFault>
         requires short { queries.is_too_long text.now ≡ false }
         requires running { self.old.stored.stopped ≡ false }
-        requires keeps { KeepsRows self.old.stored.registry (state S.Store self.old.stored.store) }
+        requires keeps { KeepsRows self.old.stored.registry (desk_state S.Store self.old) }
         ensures answered { HasAnswer S.Store self.old self.new text.now result }
         ensures registry { self.new.stored.registry ≡ self.old.stored.registry }
         ensures settings { self.new.settings ≡ self.old.settings }
         ensures why { StopsForCause S.Store self.old.settings.source
             self.old.stored self.new.stored }
-        ensures keeps { KeepsRows self.old.stored.registry (state S.Store self.new.stored.store) }
-        ensures only_looks { OnlyLooks
-            (state S.Store self.old.stored.store) (state S.Store self.new.stored.store) }
+        ensures keeps { KeepsRows self.old.stored.registry (desk_state S.Store self.new) }
+        ensures unchanged { ChangesNothing
+            (desk_state S.Store self.old) (desk_state S.Store self.new) }
     {
         match read_query(alloc, text) {
             Ok(Query::Naming(name)) => self.looked_up(alloc, &name),
@@ -134,18 +136,16 @@ impl<S: Alter> Desk<S> {
     /// The objects that name the maintainer, as they are answered.
     fn looked_up(&mut self, alloc: Global, name: &Name) -> Result<Vec<u8>, QueryFault>
         requires running { self.old.stored.stopped ≡ false }
-        ensures looked { MatchResult result
-            (λ text. LooksUp (HasCleanDisk (state S.Store self.new.stored.store))
-            self.old.stored.registry name.now self.new.stored.stopped (Ok text.items))
-            (λ fault. LooksUp (HasCleanDisk (state S.Store self.new.stored.store))
-            self.old.stored.registry name.now self.new.stored.stopped (Err fault)) }
+        ensures looked { HasLooked (HasCleanDisk (desk_state S.Store self.new))
+            self.old.settings.source self.old.stored.registry name.now
+            self.new.stored.stopped result }
         ensures registry { self.new.stored.registry ≡ self.old.stored.registry }
         ensures settings { self.new.settings ≡ self.old.settings }
         ensures why { StopsForCause S.Store self.old.settings.source
             self.old.stored self.new.stored }
-        ensures keeps { KeepsRows self.old.stored.registry (state S.Store self.new.stored.store) }
-        ensures only_looks { OnlyLooks
-            (state S.Store self.old.stored.store) (state S.Store self.new.stored.store) }
+        ensures keeps { KeepsRows self.old.stored.registry (desk_state S.Store self.new) }
+        ensures unchanged { ChangesNothing
+            (desk_state S.Store self.old) (desk_state S.Store self.new) }
     {
         match self.stored.naming(alloc, self.settings.source(), name) {
             Ok(objects) => Ok(text_of(alloc, &objects)?),

@@ -2,14 +2,11 @@
 
 ghost use Rattle.std.specs.Prelude.{◌≡◌, false, true, IfErr, IfOk, is_some};
 ghost use Rattle.rr_submission.specs.Submissions.{RefusesSubmission, UnlessStoreFault};
-ghost use Rattle.rr_store.specs.declared.fault.CreateFault.TheVariants.{NotEmpty};
-ghost use Rattle.rr_store.specs.Calls.{OnCleanDisk, database};
-ghost use Rattle.rr_desk.specs.Desks.{IsOfItsSource, SubmitsTo};
-ghost use Rattle.rr_desk.specs.Opened.{FailsMaking, FailsOpening, HasOpeningRows, IsOccupied};
-ghost use Rattle.rr_desk.specs.Opened.{MakesNone, MakesTables, OpensNone, OpensTables};
-ghost use Rattle.rr_desk.specs.Opened.{RefusesRegistry, Runs};
+ghost use Rattle.rr_desk.specs.Desks.{IsOfItsSource, SubmitsTo, desk_state};
+ghost use Rattle.rr_desk.specs.Opened.{FailsToMakeTables, FailsToOpenTables, HasOpeningRows};
+ghost use Rattle.rr_desk.specs.Opened.{IsRunning, MakesTables, OpensTables};
 ghost use Rattle.rr_desk.specs.Opening.{IsOpeningRegistry};
-ghost use Rattle.rr_desk.specs.Stocks.{StoresUntilStopped};
+ghost use Rattle.rr_desk.specs.Stocks.{ConnectionLasts, StoresUntilStopped};
 
 use crate::opened::{create_stored, open_stored};
 use crate::opening::opening_registry;
@@ -33,23 +30,23 @@ pub struct Desk<S: Alter> {
 
 impl<S: Alter> Desk<S> {
     /// The desk of the registry that opens with these settings, in a database with nothing in it or
-    /// with the three tables and no row: all of the rows are written in one transaction. The
-    /// connection is in no transaction. After a fault it is given back, with the rows as they were;
-    /// `NotEmpty` says that one of the tables has a row.
+    /// with the three tables and no row: all of the rows are written in one transaction. The caller
+    /// gives a connection that is in no transaction. After a fault it is given back, with the rows
+    /// as they were; a stop of the process leaves these, or the new ones whole. `NotEmpty` says
+    /// that one of the tables has a row. Where other tables stand in place of the three, the error
+    /// of the database says that.
     pub fn create(
         alloc: Global,
         conn: Connection<S>,
         settings: Settings,
     ) -> Result<Desk<S>, (CreateFault, Connection<S>)>
         requires autocommit { conn.in_transaction ≡ false }
-        ensures runs { IfOk result (Runs S.Store settings) }
+        ensures runs { IfOk result (IsRunning S.Store settings) }
         ensures opening { IfOk result (λ desk. IsOpeningRegistry settings desk.stored.registry) }
         ensures makes { IfOk result (λ desk.
             MakesTables S.Store (HasOpeningRows settings) conn desk.stored.store) }
-        ensures fails { IfErr result (λ e. MakesNone S.Store (HasOpeningRows settings) conn e.1) }
-        ensures not_empty { IfErr result (λ e. e.0 ≡ NotEmpty
-            → OnCleanDisk S.Store e.1 (IsOccupied (database S.Store conn))) }
-        ensures store { IfErr result (λ e. FailsMaking S.Store conn e.1 e.0) }
+        ensures fails { IfErr result (λ e.
+            FailsToMakeTables S.Store (HasOpeningRows settings) conn e.1 e.0) }
     {
         let Ok(registry) = opening_registry(alloc, &settings) else {
             return Err((CreateFault::Memory, conn));
@@ -61,21 +58,20 @@ impl<S: Alter> Desk<S> {
     }
 
     /// The desk of the registry whose rows the tables hold, of which the settings say the source.
-    /// The connection is in no transaction. After a fault it is given back, and no row is changed:
-    /// the tables are of another version, which comes first, or their rows are those of no registry
-    /// of the source, or the database refused, or memory ran out.
+    /// The caller gives a connection that is in no transaction. After a fault it is given back, and
+    /// no row is changed: the tables are of another version, which comes first, or their rows are
+    /// those of no registry of the source, or the database refused, or memory ran out. Of a
+    /// database without the three tables, that and nothing else is told.
     pub fn open(
         alloc: Global,
         conn: Connection<S>,
         settings: Settings,
     ) -> Result<Desk<S>, (OpenFault, Connection<S>)>
         requires autocommit { conn.in_transaction ≡ false }
-        ensures runs { IfOk result (Runs S.Store settings) }
+        ensures runs { IfOk result (IsRunning S.Store settings) }
         ensures opens { IfOk result (λ desk. OpensTables S.Store conn desk.stored) }
-        ensures fails { IfErr result (λ e. OpensNone S.Store conn e.1) }
-        ensures why { IfErr result (λ e. OnCleanDisk S.Store e.1
-            (RefusesRegistry settings.source (database S.Store conn) e.0)) }
-        ensures store { IfErr result (λ e. FailsOpening S.Store conn e.1 e.0) }
+        ensures fails { IfErr result (λ e.
+            FailsToOpenTables S.Store settings.source conn e.1 e.0) }
     {
         match open_stored(alloc, conn, settings.source()) {
             Ok(stored) => Ok(Desk { settings, stored }),
@@ -86,12 +82,10 @@ impl<S: Alter> Desk<S> {
     /// Opens the tables again, also after a fault of the store, as [`Desk::open`] does: after a
     /// fault the connection is given back, and no row is changed.
     pub fn reopen(self, alloc: Global) -> Result<Desk<S>, (OpenFault, Connection<S>)>
-        ensures runs { IfOk result (Runs S.Store self.settings) }
+        ensures runs { IfOk result (IsRunning S.Store self.settings) }
         ensures opens { IfOk result (λ desk. OpensTables S.Store self.stored.store desk.stored) }
-        ensures fails { IfErr result (λ e. OpensNone S.Store self.stored.store e.1) }
-        ensures why { IfErr result (λ e. OnCleanDisk S.Store e.1
-            (RefusesRegistry self.settings.source (database S.Store self.stored.store) e.0)) }
-        ensures store { IfErr result (λ e. FailsOpening S.Store self.stored.store e.1 e.0) }
+        ensures fails { IfErr result (λ e.
+            FailsToOpenTables S.Store self.settings.source self.stored.store e.1 e.0) }
     {
         let Desk { settings, stored } = self;
         Desk::open(alloc, stored.close(), settings)
@@ -99,13 +93,16 @@ impl<S: Alter> Desk<S> {
 
     /// Submits what the reader gives, and writes the report. The items are decided one by one, in
     /// order, each with its rows in one transaction before its line is written. If a read fails, or
-    /// there are more reads than 16,777,216, the items that came whole are decided. If a line
-    /// cannot be written, its item and those before it stand, and those after it are not read. If
-    /// memory runs out before the first item, nothing is read; at an item it refuses this one, or
-    /// is a fault of the store. Only such a fault stops the desk: the items before it stand, and a
+    /// the text has no end within 16,777,216 reads, the items that came whole are decided, and a
+    /// last line says so. If a line cannot be written, its item and those before it stand, and
+    /// those after it are not decided, though up to 4,096 bytes after it may have been read. If
+    /// memory runs out before the first item, nothing is read; later it refuses the item, or counts
+    /// as a fault of the store. Only such a fault stops the desk: the items before it stand, and a
     /// stop of the process or machine leaves their rows, or these with that item whole. A stopped
     /// desk reads and writes nothing; until then the rows are those of the registry, which stays
-    /// one of its source. What the holders of a prefix hold is changed by nobody else.
+    /// one of its source. What the holders of a prefix hold is changed by nobody else. However it
+    /// ends, no fault of the disk is forgotten, nothing but such a fault shuts the connection, and
+    /// beside the rows of the three tables the file stays as it was.
     pub fn submit<R: Source, W: Sink>(
         &mut self,
         alloc: Global,
@@ -118,6 +115,8 @@ impl<S: Alter> Desk<S> {
             (R.told reader.old) (R.told reader.new) (W.told writer.old) (W.told writer.new) result }
         ensures running { self.old.stored.stopped ≡ false
             → UnlessStoreFault result (self.new.stored.stopped ≡ false) }
+        ensures lasts { ConnectionLasts
+            (desk_state S.Store self.old) (desk_state S.Store self.new) }
         ensures rows { StoresUntilStopped S.Store self.new.stored }
         ensures settings { self.new.settings ≡ self.old.settings }
         ensures of_source { IsOfItsSource self.old → IsOfItsSource self.new }
@@ -131,7 +130,7 @@ impl<S: Alter> Desk<S> {
             reader,
             writer,
         );
-        // Says that the rows are those of the registry.
+        // Called for its contract: the rows are those of the registry.
         let _ = self.stored.stopped();
         submitted
     }
@@ -165,7 +164,8 @@ impl<S: Alter> Desk<S> {
         self.stored.registry()
     }
 
-    /// The connection, whose rows stay, in no transaction.
+    /// Takes the desk apart and returns its connection, open or shut as it is, in no transaction;
+    /// the rows stay.
     pub fn close(self) -> Connection<S>
         ensures same { result ≡ self.stored.store }
         ensures autocommit { result.in_transaction ≡ false }

@@ -41,9 +41,10 @@ impl From<rr_answer::DumpFault> for DeskDumpFault {
 
 impl<S: Alter> Desk<S> {
     /// Writes a dump of the registry, its objects by class and key, each with an empty line, and a
-    /// last line that counts them; `full` says whether with all their text, or as they are answered
-    /// (profile). It answers their number. After `Write` or `Memory` the writer has taken its
-    /// beginning, and not all of it. A stopped desk answers `Stopped` and writes nothing.
+    /// last line that counts them; `full` prints all their text, otherwise their public forms
+    /// (profile). It answers how many there are. After `Write` or `Memory` the writer has taken the
+    /// beginning of the dump, and not all of it. A stopped desk answers `Stopped` and writes
+    /// nothing.
     pub fn dump<W: Sink>(
         &self,
         alloc: Global,

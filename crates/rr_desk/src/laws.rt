@@ -3,20 +3,21 @@
 ghost use Rattle.rr_desk.specs.Laws.{DesksKeepSecrets, FullDumpsAreLoaded, RowsAreDumpable};
 ghost use Rattle.rr_desk.specs.Laws.{TurnsAreInOrder};
 
-/// The full dump of a registry loads as that registry, and fails for no fault of the dump.
+/// Where a reader has the full dump of a registry that can be read again (`IsDumpable`), a load
+/// gives that registry, or its fault is not of the text.
 pub fn full_dumps_are_loaded()
     ensures { FullDumpsAreLoaded }
 {}
 
-/// The registry whose rows tables hold can be dumped and loaded, if its texts are not too large to
-/// be read.
+/// The registry whose rows tables hold can be dumped and loaded, if none of its canonical texts has
+/// more than 65,536 bytes.
 pub fn rows_are_dumpable()
     ensures { RowsAreDumpable }
 {}
 
-/// Desks whose registries have equal public objects answer each query alike, under the same limit,
-/// if neither memory nor the store keeps back an answer: what is hidden can't be asked for, in the
-/// tables either.
+/// Two desks, both stopped or both not, over clean disks and under the same limit, whose registries
+/// look alike, answer each query alike, unless memory or the store fails: hidden text cannot be
+/// asked for, nor found in the tables.
 pub fn answers_of_desks_keep_secrets()
     ensures { DesksKeepSecrets }
 {}

@@ -27,4 +27,4 @@ pub use rr_store::{CreateFault, MigrateFault, OpenFault};
 pub use rr_submission::{DeskFault, Done};
 pub use service::Service;
 pub use serving::{Served, serve_all};
-pub use settings::{Setting, Settings, ValueFault};
+pub use settings::{GREATEST_LIMIT, Setting, Settings, ValueFault};

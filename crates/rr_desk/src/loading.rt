@@ -2,11 +2,9 @@
 
 ghost use Rattle.std.specs.Prelude.{◌≡◌, false, IfErr, IfOk};
 ghost use Rattle.rr_auth.specs.Sources.{IsRegistryOf};
-ghost use Rattle.rr_store.specs.Calls.{OnCleanDisk, database};
-ghost use Rattle.rr_desk.specs.Loaded.{FailsLoading, FailsToLoad, HasLoadedRows, IsLoaded};
-ghost use Rattle.rr_desk.specs.LoadFaults.{IsOfDump};
-ghost use Rattle.rr_desk.specs.Opened.{IsOccupied, MakesNone, MakesTables, Runs};
-ghost use Rattle.rr_desk.specs.declared.loading.DeskLoadFault.TheVariants.{NotEmpty};
+ghost use Rattle.rr_desk.specs.Loaded.{FailsToLoad, FailsToLoadTables, HasLoadedRows, IsLoaded};
+ghost use Rattle.rr_desk.specs.Opened.{IsRunning, MakesTables};
+ghost use Rattle.rr_desk.specs.Private.{IsNotOfStore};
 
 use crate::desk::Desk;
 use crate::opened::create_stored;
@@ -22,10 +20,10 @@ use sqlite::{Alter, Connection, Error as DatabaseError};
 use std::alloc::Global;
 use thiserror::Error;
 
-/// Why no desk was made from a dump. Entries and objects are counted from 1. A failed read and more
-/// reads than 16,777,216 come first, then the first entry that is not an object of the source, then
-/// the first key that stands twice or span that crosses, then the first name of a maintainer who is
-/// not there; the store is asked last. No row was changed.
+/// Why no desk was made from a dump. Entries and objects are counted from 1. A failed read, or no
+/// end within 16,777,216 reads, comes first, then the first entry that is not an object of the
+/// source, then the first key that stands twice or span that crosses, then the first name of a
+/// maintainer who is not there; the store is asked last. No row was changed.
 #[derive(Clone, Copy, Debug, PartialEq, Eq, Error)]
 pub enum DeskLoadFault {
     /// One of the three tables has a row.
@@ -63,9 +61,9 @@ pub enum DeskLoadFault {
 
 impl From<DumpReadFault> for DeskLoadFault {
     ghost use Rattle.std.specs.Prelude.{◌≡◌};
-    ghost use Rattle.rr_desk.specs.LoadFaults.{unread};
+    ghost use Rattle.rr_desk.specs.LoadFaults.{reading_fault};
 
-    ghost from_gives = { λ refused fault. fault ≡ unread refused };
+    ghost from_gives = { λ refused fault. fault ≡ reading_fault refused };
 
     fn from(refused: DumpReadFault) -> DeskLoadFault {
         match refused {
@@ -80,9 +78,9 @@ impl From<DumpReadFault> for DeskLoadFault {
 
 impl From<LoadFault> for DeskLoadFault {
     ghost use Rattle.std.specs.Prelude.{◌≡◌};
-    ghost use Rattle.rr_desk.specs.LoadFaults.{untaken};
+    ghost use Rattle.rr_desk.specs.LoadFaults.{registry_fault};
 
-    ghost from_gives = { λ refused fault. fault ≡ untaken refused };
+    ghost from_gives = { λ refused fault. fault ≡ registry_fault refused };
 
     fn from(refused: LoadFault) -> DeskLoadFault {
         match refused {
@@ -96,9 +94,9 @@ impl From<LoadFault> for DeskLoadFault {
 
 impl From<CreateFault> for DeskLoadFault {
     ghost use Rattle.std.specs.Prelude.{◌≡◌};
-    ghost use Rattle.rr_desk.specs.LoadFaults.{unmade};
+    ghost use Rattle.rr_desk.specs.LoadFaults.{making_fault};
 
-    ghost from_gives = { λ refused fault. fault ≡ unmade refused };
+    ghost from_gives = { λ refused fault. fault ≡ making_fault refused };
 
     fn from(refused: CreateFault) -> DeskLoadFault {
         match refused {
@@ -111,10 +109,12 @@ impl From<CreateFault> for DeskLoadFault {
 
 impl<S: Alter> Desk<S> {
     /// The desk of the registry whose dump this reader gives, in a database with nothing in it or
-    /// with the three tables and no row: all of the rows are written in one transaction, once the
-    /// dump was read to its end, or none. The dump is any RPSL text whose entries are the objects
-    /// of a sound registry of the settings' source. The connection is in no transaction. After a
-    /// fault it is given back, with the rows as they were.
+    /// with the three tables and no row. Once the dump is read to its end, all of the rows are
+    /// written in one transaction, or none. The dump is any RPSL text whose entries are the objects
+    /// of a sound registry of the settings' source. The caller gives a connection that is in no
+    /// transaction. After a fault it is given back, with the rows as they were; a stop of the
+    /// process leaves these, or the new ones whole. Where other tables stand in place of the three,
+    /// the error of the database says that.
     pub fn load<R: Source>(
         alloc: Global,
         conn: Connection<S>,
@@ -122,18 +122,13 @@ impl<S: Alter> Desk<S> {
         reader: &mut R,
     ) -> Result<Desk<S>, (DeskLoadFault, Connection<S>)>
         requires autocommit { conn.in_transaction ≡ false }
-        ensures runs { IfOk result (Runs S.Store settings) }
+        ensures runs { IfOk result (IsRunning S.Store settings) }
         ensures loaded { IfOk result (λ desk. IsLoaded settings.source
             (R.told reader.old) (R.told reader.new) desk.stored.registry) }
         ensures makes { IfOk result (λ desk. MakesTables S.Store (HasLoadedRows settings.source
             (R.told reader.old) (R.told reader.new)) conn desk.stored.store) }
-        ensures why { IfErr result (λ e. FailsToLoad settings.source
-            (R.told reader.old) (R.told reader.new) e.0) }
-        ensures fails { IfErr result (λ e. MakesNone S.Store (HasLoadedRows settings.source
-            (R.told reader.old) (R.told reader.new)) conn e.1) }
-        ensures not_empty { IfErr result (λ e. e.0 ≡ NotEmpty
-            → OnCleanDisk S.Store e.1 (IsOccupied (database S.Store conn))) }
-        ensures store { IfErr result (λ e. FailsLoading S.Store conn e.1 e.0) }
+        ensures fails { IfErr result (λ e. FailsToLoadTables S.Store settings.source
+            (R.told reader.old) (R.told reader.new) conn e.1 e.0) }
         ensures aside { R.aside reader.new ≡ R.aside reader.old }
     {
         match read_registry(alloc, settings.source(), reader) {
@@ -155,7 +150,7 @@ fn read_registry<R: Source>(
     ensures loaded { IfOk result (IsLoaded source.now (R.told reader.old) (R.told reader.new)) }
     ensures of_source { IfOk result (IsRegistryOf source.now) }
     ensures why { IfErr result (FailsToLoad source.now (R.told reader.old) (R.told reader.new)) }
-    ensures of_dump { IfErr result IsOfDump }
+    ensures not_of_store { IfErr result IsNotOfStore }
     ensures aside { R.aside reader.new ≡ R.aside reader.old }
 {
     let objects = read_dump(alloc, reader, source)?;

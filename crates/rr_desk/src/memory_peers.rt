@@ -17,9 +17,9 @@ pub struct MemoryInput<'a> {
     /// How many bytes pass in a call at most; 0 stands for 1.
     pub step: usize,
     /// After how many bytes each read fails.
-    pub reads: usize,
+    pub reads_end: usize,
     /// After how many bytes each write fails.
-    pub writes: usize,
+    pub writes_end: usize,
 }
 
 impl<'a> MemoryInput<'a> {
@@ -29,14 +29,14 @@ impl<'a> MemoryInput<'a> {
     pub fn whole(bytes: &'a [u8]) -> MemoryInput<'a>
         ensures bytes { result.bytes.now ≡ bytes.now }
         ensures step { result.step ≡ usize.MAX }
-        ensures reads { result.reads ≡ usize.MAX }
-        ensures writes { result.writes ≡ usize.MAX }
+        ensures reads_end { result.reads_end ≡ usize.MAX }
+        ensures writes_end { result.writes_end ≡ usize.MAX }
     {
         MemoryInput {
             bytes,
             step: usize::MAX,
-            reads: usize::MAX,
-            writes: usize::MAX,
+            reads_end: usize::MAX,
+            writes_end: usize::MAX,
         }
     }
 
@@ -48,8 +48,8 @@ impl<'a> MemoryInput<'a> {
             (⟦<MemoryConnection<'static> as Source>⟧.told result) }
     {
         let step = self.step.max(1);
-        let reader = Cut::new(Counted::new(self.bytes), step, self.reads);
-        let writer = Cut::new(Counted::new(Vec::new(alloc)), step, self.writes);
+        let reader = Cut::new(Counted::new(self.bytes), step, self.reads_end);
+        let writer = Cut::new(Counted::new(Vec::new(alloc)), step, self.writes_end);
         Joined::new(reader, writer)
     }
 }
@@ -57,10 +57,11 @@ impl<'a> MemoryInput<'a> {
 /// A connection over memory.
 pub type MemoryConnection<'a> = Joined<Cut<Counted<&'a [u8]>>, Cut<Counted<Vec<u8>>>>;
 
-/// A connection over memory that is closed: the bytes that it gave, and those that it was answered.
+/// A connection over memory that is closed: the bytes that it had to give, and those that it was
+/// answered.
 #[derive(Drop)]
 pub struct MemoryTurn<'a> {
-    /// The bytes that it gave, if they were read.
+    /// The bytes that it had to give, read or not.
     pub given: &'a [u8],
     /// The bytes that were written to it.
     pub answered: Vec<u8>,

@@ -5,10 +5,10 @@ ghost use Rattle.rr_auth.specs.Registries.{Sound};
 ghost use Rattle.rr_auth.specs.Sources.{IsRegistryOf};
 ghost use Rattle.rr_store.specs.Calls.{Looks, OnCleanDisk, database};
 ghost use Rattle.rr_store.specs.declared.fault.MigrateFault.TheVariants.{BadRow, Memory, NoRoot};
-ghost use Rattle.rr_desk.specs.Migrating.{AreRegistry, FailsMigrating, HasUpper, IsGrown};
-ghost use Rattle.rr_desk.specs.Migrating.{IsMigratedBy, MigratesTables, RefusesOldRegistry};
+ghost use Rattle.rr_desk.specs.Migrating.{AreRegistry, FailsMigrating, FailsToMigrateTables};
+ghost use Rattle.rr_desk.specs.Migrating.{HasUpper, IsGrown, MigratesTables, RefusesOldRegistry};
 ghost use Rattle.rr_desk.specs.MigratingParts.{HasLoadFault, HasUpperFault, IsGrowthFault, told_as};
-ghost use Rattle.rr_desk.specs.Opened.{MakesNone, Runs};
+ghost use Rattle.rr_desk.specs.Opened.{IsRunning};
 ghost use Rattle.rr_desk.specs.Stocks.{StoresRows};
 
 use crate::desk::Desk;
@@ -25,23 +25,20 @@ use std::alloc::{AllocError, Global};
 impl<S: Alter> Desk<S> {
     /// The desk of the registry whose rows tables of version 1 hold, written anew as those of
     /// version 2, and of the block of the AS numbers of more than 16 bits, which the root
-    /// maintains (RFC 6793). The settings say the source and the root. The connection is in no
-    /// transaction. After a fault it is given back, with the rows as they were: that the tables are
-    /// of another version comes first, then that their rows are those of no registry, then that the
-    /// root is not registered. Each of these is told only of a file that has the three tables.
+    /// maintains (RFC 6793). The settings say the source and the root. The caller gives a
+    /// connection that is in no transaction. After a fault it is given back, with the rows as they
+    /// were; a stop of the process leaves these, or the new ones whole. That the tables are of
+    /// another version comes first, then that their rows are those of no registry, then that the
+    /// root is not registered. Of a file without the three tables, that and nothing else is told.
     pub fn migrate(
         alloc: Global,
         conn: Connection<S>,
         settings: Settings,
     ) -> Result<Desk<S>, (MigrateFault, Connection<S>)>
         requires autocommit { conn.in_transaction ≡ false }
-        ensures runs { IfOk result (Runs S.Store settings) }
+        ensures runs { IfOk result (IsRunning S.Store settings) }
         ensures migrates { IfOk result (λ desk. MigratesTables S.Store settings conn desk.stored) }
-        ensures fails { IfErr result (λ e.
-            MakesNone S.Store (IsMigratedBy settings (database S.Store conn)) conn e.1) }
-        ensures why { IfErr result (λ e. OnCleanDisk S.Store e.1
-            (RefusesOldRegistry settings (database S.Store conn) e.0)) }
-        ensures store { IfErr result (λ e. FailsMigrating S.Store settings conn e.1 e.0) }
+        ensures fails { IfErr result (λ e. FailsToMigrateTables S.Store settings conn e.1 e.0) }
     {
         match migrate_stored(alloc, conn, &settings) {
             Ok(stored) => Ok(Desk { settings, stored }),
@@ -61,11 +58,7 @@ fn migrate_stored<S: Alter>(
     ensures of_source { IfOk result (λ stored. IsRegistryOf settings.now.source stored.registry) }
     ensures holds { IfOk result (StoresRows S.Store) }
     ensures migrates { IfOk result (MigratesTables S.Store settings.now conn) }
-    ensures fails { IfErr result (λ e.
-        MakesNone S.Store (IsMigratedBy settings.now (database S.Store conn)) conn e.1) }
-    ensures why { IfErr result (λ e. OnCleanDisk S.Store e.1
-        (RefusesOldRegistry settings.now (database S.Store conn) e.0)) }
-    ensures store { IfErr result (λ e. FailsMigrating S.Store settings.now conn e.1 e.0) }
+    ensures fails { IfErr result (λ e. FailsToMigrateTables S.Store settings.now conn e.1 e.0) }
 {
     match migrated_registry(alloc, &mut conn, settings) {
         Ok(registry) => migrate_tables(alloc, conn, settings, registry),
@@ -88,11 +81,7 @@ fn migrate_tables<S: Alter>(
     ensures registry { IfOk result (λ stored. stored.registry ≡ registry) }
     ensures holds { IfOk result (StoresRows S.Store) }
     ensures migrates { IfOk result (MigratesTables S.Store settings.now conn) }
-    ensures fails { IfErr result (λ e.
-        MakesNone S.Store (IsMigratedBy settings.now (database S.Store conn)) conn e.1) }
-    ensures why { IfErr result (λ e. OnCleanDisk S.Store e.1
-        (RefusesOldRegistry settings.now (database S.Store conn) e.0)) }
-    ensures store { IfErr result (λ e. FailsMigrating S.Store settings.now conn e.1 e.0) }
+    ensures fails { IfErr result (λ e. FailsToMigrateTables S.Store settings.now conn e.1 e.0) }
 {
     match Store::migrate(alloc, conn, settings.root(), settings.source()) {
         Ok(store) => Ok(Stored::of(registry, store)),

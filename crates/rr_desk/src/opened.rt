@@ -6,9 +6,8 @@ ghost use Rattle.sqlite.specs.Held.{state};
 ghost use Rattle.rr_auth.specs.Sources.{IsRegistryOf};
 ghost use Rattle.rr_rows.specs.Maps.{HasRows};
 ghost use Rattle.rr_store.specs.Calls.{IsSettled, OnCleanDisk, database};
-ghost use Rattle.rr_store.specs.declared.fault.CreateFault.TheVariants.{NotEmpty};
-ghost use Rattle.rr_desk.specs.Opened.{FailsMaking, FailsOpening, IsOccupied, MakesNone};
-ghost use Rattle.rr_desk.specs.Opened.{MakesTables, OpensNone, OpensTables, RefusesRegistry};
+ghost use Rattle.rr_desk.specs.Opened.{FailsToMakeTables, FailsToOpenTables, MakesTables};
+ghost use Rattle.rr_desk.specs.Opened.{OpensTables};
 ghost use Rattle.rr_desk.specs.Private.{opening_fault};
 ghost use Rattle.rr_desk.specs.Stocks.{StoresRows};
 
@@ -31,10 +30,7 @@ pub(crate) fn open_stored<S: Alter>(
     ensures of_source { IfOk result (λ stored. IsRegistryOf source.now stored.registry) }
     ensures holds { IfOk result (StoresRows S.Store) }
     ensures opens { IfOk result (OpensTables S.Store conn) }
-    ensures fails { IfErr result (λ e. OpensNone S.Store conn e.1) }
-    ensures why { IfErr result (λ e. OnCleanDisk S.Store e.1
-        (RefusesRegistry source.now (database S.Store conn) e.0)) }
-    ensures store { IfErr result (λ e. FailsOpening S.Store conn e.1 e.0) }
+    ensures fails { IfErr result (λ e. FailsToOpenTables S.Store source.now conn e.1 e.0) }
 {
     match Store::open_all(alloc, conn, source) {
         Ok((store, objects)) => match Registry::from_objects(alloc, objects) {
@@ -69,10 +65,8 @@ pub(crate) fn create_stored<S: Alter>(
     ensures holds { IfOk result (StoresRows S.Store) }
     ensures makes { IfOk result (λ stored.
         MakesTables S.Store (HasRows registry) conn stored.store) }
-    ensures fails { IfErr result (λ e. MakesNone S.Store (HasRows registry) conn e.1) }
-    ensures not_empty { IfErr result (λ e. e.0 ≡ NotEmpty
-        → OnCleanDisk S.Store e.1 (IsOccupied (database S.Store conn))) }
-    ensures store { IfErr result (λ e. FailsMaking S.Store conn e.1 e.0) }
+    ensures fails { IfErr result (λ e.
+        FailsToMakeTables S.Store (HasRows registry) conn e.1 e.0) }
 {
     match create_store(alloc, conn, &registry) {
         Ok(store) => Ok(Stored::of(registry, store)),
@@ -93,10 +87,8 @@ fn create_store<S: Alter>(
         OnCleanDisk S.Store store (IsTrue (state S.Store store).is_open)) }
     ensures settled { IfOk result (IsSettled S.Store) }
     ensures makes { IfOk result (MakesTables S.Store (HasRows registry.now) conn) }
-    ensures fails { IfErr result (λ e. MakesNone S.Store (HasRows registry.now) conn e.1) }
-    ensures not_empty { IfErr result (λ e. e.0 ≡ NotEmpty
-        → OnCleanDisk S.Store e.1 (IsOccupied (database S.Store conn))) }
-    ensures store { IfErr result (λ e. FailsMaking S.Store conn e.1 e.0) }
+    ensures fails { IfErr result (λ e.
+        FailsToMakeTables S.Store (HasRows registry.now) conn e.1 e.0) }
 {
     match registry.objects(alloc) {
         Ok(objects) => Store::create(alloc, conn, &objects),

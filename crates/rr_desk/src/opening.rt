@@ -5,8 +5,8 @@ ghost use Rattle.rr_text.specs.Fields.{AreFields, IsField, one_line};
 ghost use Rattle.rr_auth.specs.Sources.{IsRegistryOf};
 ghost use Rattle.rr_store.specs.Migrating.{upper_block};
 ghost use Rattle.rr_desk.specs.Opening.{AreOpening, IsOpeningRegistry, addresses_fields, auth_line};
-ghost use Rattle.rr_desk.specs.Opening.{numbers_fields, owned, root_fields};
-ghost use Rattle.rr_desk.specs.Private.{IsParagraphOf, HasObject};
+ghost use Rattle.rr_desk.specs.Opening.{numbers_fields, owner_fields, root_fields};
+ghost use Rattle.rr_desk.specs.Private.{HasObject, IsParagraphOf};
 
 use crate::settings::Settings;
 use rr_index::IndexedBook;
@@ -55,7 +55,7 @@ pub(crate) fn opening_registry(
     ensures opening { IfOk result (IsOpeningRegistry settings.now) }
     ensures of_source { IfOk result (IsRegistryOf settings.now.source) }
 {
-    // Says that the settings are good, so that the objects have no fault.
+    // Called for its contract: the settings are good, so that the objects have no fault.
     let _ = settings.source();
     let objects = opening_objects(alloc, settings)?;
     match Registry::from_objects(alloc, objects) {
@@ -137,7 +137,7 @@ fn span_paragraph(
 ) -> Result<Paragraph, AllocError>
     requires { IsField (one_line class.now span.now) }
     ensures { IfOk result (λ paragraph.
-        paragraph ≡ one_line class.now span.now ∷ owned settings.now) }
+        paragraph ≡ one_line class.now span.now ∷ owner_fields settings.now) }
 {
     let attributes = Vec::with_capacity(alloc, 3)?;
     let attributes = with_line(alloc, attributes, class, span)?;
@@ -165,7 +165,8 @@ fn owned(
     settings: &Settings,
 ) -> Result<Paragraph, AllocError>
     requires { AreFields attributes.items }
-    ensures { IfOk result (λ paragraph. paragraph ≡ attributes.items ++ owned settings.now) }
+    ensures { IfOk result (λ paragraph.
+        paragraph ≡ attributes.items ++ owner_fields settings.now) }
 {
     let attributes = with_line(alloc, attributes, b"mnt-by", settings.root().as_bytes())?;
     let attributes = with_line(alloc, attributes, b"source", settings.source().as_bytes())?;
@@ -186,7 +187,7 @@ fn with_line(
     Ok(attributes)
 }
 
-/// The value of `auth` for a digest.
+/// The value of `auth` for a salt and digest.
 fn auth_text(alloc: Global, auth: &Auth) -> Result<Vec<u8>, AllocError>
     ensures { IfOk result (λ line. line.items ≡ auth_line auth.now) }
 {

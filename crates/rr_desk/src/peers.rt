@@ -55,6 +55,7 @@ pub trait Peers {
     fn turns(&self) -> u64
         ensures { result ≡ (tally self.now).turns };
 
+    // Where turns are told, as many are told as are counted.
     ghost all_told: { (peers : Self) (turns : List Turn) → (tally peers).told ≡ Some turns
         → length turns ≡ (tally peers).turns };
 }

@@ -1,6 +1,8 @@
 //! What serves connections of a desk.
 
 ghost use Rattle.std.specs.Prelude.{◌≡◌};
+ghost use Rattle.rr_desk.specs.Desks.{desk_state};
+ghost use Rattle.rr_desk.specs.Stocks.{ConnectionLasts};
 ghost use Rattle.rr_desk.specs.Turns.{Serving};
 
 use crate::desk::Desk;
@@ -25,5 +27,7 @@ pub trait Service {
         ensures serves { serves S S.Store desk.old desk.new
             (C.Source.told conn.old) (C.Source.told conn.new)
             (C.Sink.told conn.old) (C.Sink.told conn.new) result }
+        ensures lasts { ConnectionLasts
+            (desk_state S.Store desk.old) (desk_state S.Store desk.new) }
         ensures settings { desk.new.settings ≡ desk.old.settings };
 }

@@ -4,7 +4,7 @@ ghost use Rattle.std.specs.Prelude.{◌≡◌, ◌≢◌, IfErr, IfOk, None, Ok,
 ghost use Rattle.std.specs.Option.{option_copied};
 ghost use Rattle.std.specs.Result.{result_ok};
 ghost use Rattle.rr_number.specs.Names.{maintainer_name_of, name_of};
-ghost use Rattle.rr_desk.specs.Settings.{IsSettings, built_in, digest_of, limit_of};
+ghost use Rattle.rr_desk.specs.Settings.{IsSettings, auth_of, built_in, limit_of};
 ghost use Rattle.rr_desk.specs.Settings.{needed, settings_of};
 ghost use Rattle.rr_desk.specs.declared.settings.ValueFault.TheVariants.{Memory};
 ghost use Rattle.rr_desk.specs.declared.settings.Setting.TheVariants as settings;
@@ -15,7 +15,7 @@ use std::alloc::{AllocError, Global};
 use std::marker::Model;
 use thiserror::Error;
 
-/// The most names that an expansion may be let reach (profile).
+/// The greatest limit of an expansion (profile).
 pub const GREATEST_LIMIT: u64 = 1_000_000;
 
 /// The settings by name.
@@ -27,7 +27,8 @@ pub enum Setting {
     Root,
     /// The `auth` of the root maintainer.
     Auth,
-    /// The most names that an expansion may reach.
+    /// The most names that an expansion may reach, and for a route-set the most pairs of a set and
+    /// a range.
     Limit,
 }
 
@@ -50,8 +51,9 @@ impl From<AllocError> for ValueFault {
     }
 }
 
-/// What a registry opens with: its source, its root maintainer with the digest of its secret; and
-/// the most names, 1 to [`GREATEST_LIMIT`], that an expansion of a set may reach (profile).
+/// What a registry opens with: its source, its root maintainer with the salt and digest of its
+/// secret; and the limit of expansions, 1 to [`GREATEST_LIMIT`]: the most names that one may reach,
+/// and for a route-set the most pairs of a set and a range (profile).
 #[derive(Debug, Drop)]
 pub struct Settings {
     source: Name,
@@ -91,8 +93,8 @@ impl Settings {
         }
     }
 
-    /// The same of values some of which may be missing. The fault is the first setting, in the
-    /// order of `Setting`, that is missing or bad, or that memory ran out.
+    /// The settings that these values are, of which some may be missing. The fault is the first
+    /// setting, in the order of `Setting`, that is missing or bad, or that memory ran out.
     #[tactic(auto, unfolding(crate::specs::Settings::settings_of))]
     pub fn read(
         alloc: Global,
@@ -109,7 +111,7 @@ impl Settings {
     {
         let source = read_source(alloc, source)?;
         let root = read_root(alloc, root)?;
-        let auth = read_digest(alloc, auth)?;
+        let auth = read_auth(alloc, auth)?;
         let limit = read_limit(limit)?;
         Ok(Settings {
             source,
@@ -119,7 +121,8 @@ impl Settings {
         })
     }
 
-    /// The settings of the program without arguments (profile); the error is that memory ran out.
+    /// The settings of the program without arguments: `TEST`, `ROOT-MNT` with the password `bc`,
+    /// and the limit 10,000 (profile); the error is that memory ran out.
     #[tactic(auto, using(crate::proofs::GoodSettings::built_in_read))]
     pub fn built_in(alloc: Global) -> Result<Settings, AllocError>
         ensures { IfOk result (λ settings. settings ≡ built_in) }
@@ -146,14 +149,15 @@ impl Settings {
         &self.root
     }
 
-    /// The digest of the root's secret.
+    /// The salt and digest of the root's secret.
     pub fn auth(&self) -> &Auth
         ensures { result.now ≡ self.now.auth }
     {
         &self.auth
     }
 
-    /// The most names that an expansion may reach, 1 to [`GREATEST_LIMIT`].
+    /// The most names that an expansion may reach, and for a route-set the most pairs of a set and
+    /// a range, 1 to [`GREATEST_LIMIT`].
     pub fn limit(&self) -> u64
         ensures limit { result ≡ self.now.limit }
         ensures good { IsSettings self.now }
@@ -199,12 +203,12 @@ fn read_root(alloc: Global, given: Option<&str>) -> Result<Name, ValueFault>
     }
 }
 
-/// The digest of a secret.
-fn read_digest(alloc: Global, given: Option<&str>) -> Result<Auth, ValueFault>
+/// The salt and digest of a secret.
+fn read_auth(alloc: Global, given: Option<&str>) -> Result<Auth, ValueFault>
     ensures ok { IfOk result (λ auth.
-        needed settings.Auth digest_of (option_copied given.entry) ≡ Ok auth) }
+        needed settings.Auth auth_of (option_copied given.entry) ≡ Ok auth) }
     ensures fault { IfErr result (λ fault. fault ≢ Memory
-        → needed settings.Auth digest_of (option_copied given.entry) ≡ Err fault) }
+        → needed settings.Auth auth_of (option_copied given.entry) ≡ Err fault) }
 {
     let Some(text) = given else {
         return Err(ValueFault::Bad(Setting::Auth));

@@ -12,9 +12,12 @@ ghost use Rattle.rr_rows.specs.Maps.{HasRows, IsObjectOf};
 ghost use Rattle.rr_store.specs.Calls.{IsSettled, OnCleanDisk, Transacts, database};
 ghost use Rattle.rr_desk.specs.Stops.{LeavesStopped, changes};
 ghost use Rattle.rr_desk.specs.LookupParts.{database_error, error_of};
-ghost use Rattle.rr_desk.specs.Private.{Follows, FollowsGain, FollowsIn, FollowsNew, puts_one};
-ghost use Rattle.rr_desk.specs.Rows.{KeepsRows, OnlyLooks};
-ghost use Rattle.rr_desk.specs.Stocks.{StopsForCause, StoresUntilStopped, StoresRows, stock_ledger};
+ghost use Rattle.rr_desk.specs.Private.{ChangesNothing, Follows, FollowsGain, FollowsIn};
+ghost use Rattle.rr_desk.specs.Private.{FollowsNew, LeavesRest, puts_one};
+ghost use Rattle.rr_desk.specs.Rows.{KeepsRows};
+ghost use Rattle.rr_desk.specs.Stocks.{ConnectionLasts, StopsForCause, StoresUntilStopped};
+ghost use Rattle.rr_desk.specs.Stocks.{StoresRows, stock_ledger};
+ghost use Rattle.rr_desk.specs.Lasting.{stock_on, stock_still};
 
 use rr_auth::{Book, Item, Secrets};
 use rr_index::IndexedBook;
@@ -92,9 +95,9 @@ impl<S: Alter> Stored<S> {
         &self.registry
     }
 
-    /// The objects that name the maintainer, by class and key, as the rows of this source have it.
-    /// A fault of the store stops it; where its registry is of this source, the fault has a cause
-    /// outside the rows. Where memory runs out it is not stopped.
+    /// The objects that name the maintainer, by class and key, as the rows of this source have
+    /// them. A fault of the store stops it; where its registry is of this source, the fault has a
+    /// cause outside the rows. Where memory runs out it is not stopped.
     pub(crate) fn naming(
         &mut self,
         alloc: Global,
@@ -111,7 +114,7 @@ impl<S: Alter> Stored<S> {
         ensures why { StopsForCause S.Store source.now self.old self.new }
         ensures registry { self.new.registry ≡ self.old.registry }
         ensures keeps { KeepsRows self.old.registry (state S.Store self.new.store) }
-        ensures only_looks { OnlyLooks
+        ensures unchanged { ChangesNothing
             (state S.Store self.old.store) (state S.Store self.new.store) }
     {
         let found = self.store.naming(alloc, source, name);
@@ -135,6 +138,8 @@ impl<S: Alter> Stored<S> {
         ensures stops { OnErr result (LeavesStopped self.old.registry secrets.old item
             self.new.registry self.new.stopped
             (state S.Store self.old.store) (state S.Store self.new.store)) }
+        ensures lasts { ConnectionLasts
+            (state S.Store self.old.store) (state S.Store self.new.store) }
         ensures same_secrets { secrets.new ≡ secrets.old }
     {
         let outcome = self.registry.apply(alloc, secrets, item);
@@ -147,7 +152,8 @@ impl<S: Alter> Stored<S> {
         }
     }
 
-    /// The connection, whose rows stay, in no transaction.
+    /// Takes it apart and returns the connection, open or shut as it is, in no transaction; the
+    /// rows stay.
     pub fn close(self) -> Connection<S>
         ensures same { result ≡ self.store }
         ensures autocommit { result.in_transaction ≡ false }
@@ -166,8 +172,30 @@ impl<S: Alter> Ledger for Stored<S> {
 
     ghost Stops = { (stock_ledger S.Store).Stops };
 
+    ghost Lasts = { (stock_ledger S.Store).Lasts };
+
+    ghost lasts_still = { stock_still (record {
+      view = S.Store.view;
+      faults = S.Store.faults;
+      recovers = S.Store.recovers;
+      is_shielded = S.Store.is_shielded;
+      is_step = S.Store.is_step;
+      blamed = S.Store.blamed;
+      names = S.Store.names;
+    }) };
+
+    ghost lasts_on = { stock_on (record {
+      view = S.Store.view;
+      faults = S.Store.faults;
+      recovers = S.Store.recovers;
+      is_shielded = S.Store.is_shielded;
+      is_step = S.Store.is_step;
+      blamed = S.Store.blamed;
+      names = S.Store.names;
+    }) };
+
     fn stopped(&self) -> bool {
-        // Says that the registry is sound.
+        // Called for its contract: the registry is sound.
         let _ = self.registry.book();
         self.cause.is_some()
     }
@@ -195,8 +223,7 @@ fn database_error(found: &Result<Vec<Object>, StoreFault>) -> Option<Error>
     }
 }
 
-/// The error of the database that a fault of its store is: of memory it is the one that SQLite has
-/// for it.
+/// A fault of the store as the database's error: `Memory` is SQLite's `OutOfMemory`.
 fn error_of(fault: StoreFault) -> Error
     ensures { result ≡ error_of fault }
 {
@@ -217,6 +244,7 @@ fn copied_key(alloc: Global, item: &Item) -> Result<Key, AllocError>
 }
 
 /// Makes the rows those of the registry after the item about this key that had this outcome.
+#[tactic(auto, using(crate::proofs::Following::rest_itself))]
 fn follow<S: Alter>(
     alloc: Global,
     registry: &Registry<IndexedBook>,
@@ -227,6 +255,7 @@ fn follow<S: Alter>(
     requires { puts_one outcome ≡ true → is_some (get registry.now key.now) ≡ true }
     ensures follows { FollowsIn S.Store (Follows key.now outcome registry.now)
         store.old store.new result }
+    ensures others { LeavesRest S.Store store.old store.new }
     ensures changing { OnErr result (changes outcome ≡ true) }
 {
     match outcome {
@@ -246,6 +275,7 @@ fn add_stored<S: Alter>(
 ) -> Result<(), StoreFault>
     requires { is_some (get registry.now key.now) ≡ true }
     ensures rows { Transacts S.Store (FollowsNew key.now registry.now) store.old store.new result }
+    ensures others { LeavesRest S.Store store.old store.new }
     ensures settled { IsSettled S.Store store.new }
 {
     match registry.book().get(key) {
@@ -263,6 +293,7 @@ fn put_stored<S: Alter>(
 ) -> Result<(), StoreFault>
     requires { is_some (get registry.now key.now) ≡ true }
     ensures rows { Transacts S.Store (FollowsGain key.now registry.now) store.old store.new result }
+    ensures others { LeavesRest S.Store store.old store.new }
     ensures settled { IsSettled S.Store store.new }
 {
     match registry.book().get(key) {

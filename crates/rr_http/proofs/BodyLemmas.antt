@@ -13,7 +13,7 @@ use Rattle.rr_submission.specs.declared.submission.DeskFault.TheVariants as faul
 use Rattle.rr_submission.specs.Handled.{ReadsItems}
 use Rattle.rr_submission.specs.Submissions.{Sides, Submits}
 use Rattle.rr_http.specs.declared.body.Body.{Body}
-use Rattle.rr_http.specs.BodyReaders.{body_aside, body_failed, body_missing, body_reads, body_rest, body_told}
+use Rattle.rr_http.specs.BodyParts.{body_aside, body_failed, body_missing, body_reads, body_rest, body_told}
 use Rattle.rr_http.specs.Answering.{EndsWhole, SubmitsBody, TellsMissing, in_memory}
 
 module _ (body rest : List ℕ) (missing faults reads : ℕ) where
@@ -112,13 +112,13 @@ module _ (body rest : List ℕ) (missing faults reads : ℕ) where
     abbrev sides : Told → Told → Sides
     sides from to = record { reader_before = from; reader_after = to; writer_before = old; writer_after = new; before = g.registry before; after = g.registry after }
 
-    made : (result : Result Done DeskFault) (p : Submits g source (sides plain_start plain_end) before after result) →
+    made : (result : Result Done DeskFault) (p : Submits g before after source (sides plain_start plain_end) result) →
         TellsMissing g source (sides plain_start plain_end) before after rest missing result p → SubmitsBody g source body missing before after old new result
     made result p tells = record { rest = rest; faults = faults; reads = reads; submits = p; tells = tells }
 
     -- what is submitted is a body
     pub submits_body : (result : Result Done DeskFault) → length body ≤ 1048576 → (0 < faults → (0 < missing) × (rest ≡ [])) →
-        Submits g source (sides start end) before after result → SubmitsBody g source body missing before after old new result
+        Submits g before after source (sides start end) result → SubmitsBody g source body missing before after old new result
     submits_body (Ok done) small fails p = made (Ok done) (record {
       text = p.text;
       items = p.items;
@@ -186,7 +186,7 @@ same_told xs ys m n f h r s a b c d =
 -- what is submitted by this reader is a body
 pub body_submitted : {D : Type 0} (g : Ghosts D) (source bytes : List ℕ) (missing : ℕ) (before after : D) (old new : Told) (result : Result Done DeskFault) (fresh used : Body) →
     length bytes ≤ 1048576 → body_rest fresh ≡ bytes → body_missing fresh ≡ missing → body_failed fresh ≡ 0 → body_reads fresh ≡ 0 → body_aside used ≡ body_aside fresh →
-    Submits g source (record { reader_before = body_told fresh; reader_after = body_told used; writer_before = old; writer_after = new; before = g.registry before; after = g.registry after }) before after result →
+    Submits g before after source (record { reader_before = body_told fresh; reader_after = body_told used; writer_before = old; writer_after = new; before = g.registry before; after = g.registry after }) result →
     SubmitsBody g source bytes missing before after old new result
 body_submitted g source bytes missing before after old new result fresh used small rest lacks failed reads aside p =
     let still : body_missing used ≡ missing = ap (λ (told : Told). told.faults) aside ∙ lacks in
@@ -194,5 +194,5 @@ body_submitted g source bytes missing before after old new result fresh used sma
     let last : body_told used ≡ told_with (body_rest used) missing (body_failed used) (body_reads used) = same_told _ _ _ _ _ _ _ _ refl still refl refl in
     submits_body bytes (body_rest used) missing (body_failed used) (body_reads used) g source before after old new result small
     (λ some. let at_end = used.fails_at_end some in ((let lacking : 0 < body_missing used = at_end.0 in omega arith), at_end.1))
-    (subst (λ told. Submits g source (record { reader_before = told; reader_after = told_with (body_rest used) missing (body_failed used) (body_reads used); writer_before = old; writer_after = new; before = g.registry before; after = g.registry after }) before after result) first
-    (subst (λ told. Submits g source (record { reader_before = body_told fresh; reader_after = told; writer_before = old; writer_after = new; before = g.registry before; after = g.registry after }) before after result) last p))
+    (subst (λ told. Submits g before after source (record { reader_before = told; reader_after = told_with (body_rest used) missing (body_failed used) (body_reads used); writer_before = old; writer_after = new; before = g.registry before; after = g.registry after }) result) first
+    (subst (λ told. Submits g before after source (record { reader_before = body_told fresh; reader_after = told; writer_before = old; writer_after = new; before = g.registry before; after = g.registry after }) result) last p))

@@ -1,4 +1,4 @@
--- Lemmas on a desk as what connections ask.
+-- Lemmas on a desk as a registrar.
 use Rattle.std.proofs.Common.{◌≡◌, ℕ, List, Ok, Err, ap, ◌∙◌}
 use Rattle.std.specs.Prelude.{Result}
 use Rattle.sqlite_trees.specs.declared.store.Store as store
@@ -44,18 +44,18 @@ stopped_whole {S} g source entries old new before after count stopped =
     }
 
 -- what a submission does to the registry and the store of a desk, it does to the desk
-pub submits_whole : {S : Type 0} (g : store.Ghosts S) (source : List ℕ) (sides : Sides) (old new : Desk S) (result : Result Done DeskFault) →
-    Submits (stock_ledger g) source sides old.stored new.stored result → Submits (desk_ledger g) source sides old new result
-submits_whole g source sides old new (Ok done) submits = submits
-submits_whole g source sides old new (Err (fault.ReadFault items)) submits = submits
-submits_whole g source sides old new (Err (fault.WriteFault items)) submits = submits
-submits_whole g source sides old new (Err (fault.StoreFault items)) submits = record {
+pub submits_whole : {S : Type 0} (g : store.Ghosts S) (old new : Desk S) (source : List ℕ) (sides : Sides) (result : Result Done DeskFault) →
+    Submits (stock_ledger g) old.stored new.stored source sides result → Submits (desk_ledger g) old new source sides result
+submits_whole g old new source sides (Ok done) submits = submits
+submits_whole g old new source sides (Err (fault.ReadFault items)) submits = submits
+submits_whole g old new source sides (Err (fault.WriteFault items)) submits = submits
+submits_whole g old new source sides (Err (fault.StoreFault items)) submits = record {
   prefix = submits.prefix;
   reads = submits.reads;
   handles = stopped_whole g source _ old new _ _ items submits.handles;
 }
-submits_whole g source sides old new (Err fault.Memory) submits = submits
-submits_whole g source sides old new (Err fault.Stopped) submits = submits
+submits_whole g old new source sides (Err fault.Memory) submits = submits
+submits_whole g old new source sides (Err fault.Stopped) submits = submits
 
 -- a dump that is refused answers no count
 pub no_count : {W P : Type 0} (old new : W) (count : ℕ) → RefusesDump old new (Ok count) → P

@@ -16,7 +16,7 @@ use Rattle.httparse.specs.declared.spans.RequestSpans.{RequestSpans}
 use Rattle.rr_http.specs.declared.heads.Goal.TheVariants.{Line, EmptyLine}
 use Rattle.rr_http.specs.declared.heads.Head.{Head}
 use Rattle.rr_http.specs.declared.heads.Head.TheVariants.{Whois}
-use Rattle.rr_http.specs.Asked.{fields_of}
+use Rattle.rr_http.specs.AskedParts.{fields_of}
 use Rattle.rr_http.specs.Heads.{has_line_feed, head_length}
 use Rattle.rr_http.specs.HeadParts.{BreaksOn, ReadsOn, request_head}
 use Rattle.rr_http.specs.Lines.{line_of, line_speaks_http, speaks_http, whois_query, without_return}

@@ -8,7 +8,7 @@ use Rattle.std.proofs.lemmas.Slice.Eq.{starts_is}
 use Rattle.std.proofs.lemmas.List.Elements.{All-tail}
 use Rattle.httparse.specs.Spans.{IsHeaderWithin, header_bytes}
 use Rattle.httparse.specs.declared.spans.HeaderSpan.{HeaderSpan}
-use Rattle.rr_http.specs.Asked.{fields_of}
+use Rattle.rr_http.specs.AskedParts.{fields_of}
 use Rattle.rr_http.specs.declared.asking.Page.TheVariants as page
 use Rattle.rr_http.specs.Requests.{page_of, is_field_of, values_of}
 

@@ -7,7 +7,8 @@ use Rattle.std.proofs.lemmas.Bool.{le-ltb, lt-ltb, ltb-true, ltb-false}
 use Rattle.rr_bytes.specs.Blanks.{is_line_feed}
 use Rattle.rr_http.specs.declared.heads.Goal.{Goal}
 use Rattle.rr_http.specs.declared.heads.Goal.TheVariants.{Line, EmptyLine}
-use Rattle.rr_http.specs.Heads.{goal_place, head_length, line_end}
+use Rattle.rr_http.specs.HeadParts.{goal_place}
+use Rattle.rr_http.specs.Heads.{head_length, line_end}
 use Rattle.rr_http.proofs.WantLemmas.{head_at, head_after, head_within}
 
 -- a text of no bytes has nothing that it is read for

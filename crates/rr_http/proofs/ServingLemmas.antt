@@ -9,7 +9,8 @@ use Rattle.rr_http.specs.declared.heads.Head.TheVariants.{Whois, Http, Refused}
 use Rattle.rr_http.specs.Answering.{RepliesWithAnswer}
 use Rattle.rr_http.specs.Replies.{refusal_reply}
 use Rattle.rr_http.specs.Requests.{Asks, refused}
-use Rattle.rr_http.specs.Serving.{IsUntouched, Replies, Serves, ServesAsks, ServesHead, ServesWants, visit_of}
+use Rattle.rr_http.specs.Serving.{IsUntouched, Replies, Serves, ServesAsks, ServesWants, visit_of}
+use Rattle.rr_http.specs.ServingParts.{ServesHead}
 use Rattle.rr_http.specs.Wants.{HeadWants, IsHead, ReadsHead, RequestAsks, RequestWants, is_full, whois, http}
 use Rattle.rr_http.proofs.WantLemmas.{wants_kept}
 

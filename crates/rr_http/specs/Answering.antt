@@ -36,7 +36,7 @@ pub record IsHeadCut (old new : Told) (result : ConnEnd) : Type 0 where
   pub cut : TakesPrefix old new ok_head
   pub failed : result ≡ Err conn_fault.Write
 
--- the reply has the text in which the desk answers
+-- the reply is this head, and then the text in which the desk answers
 pub record RepliesWithAnswer {D : Type 0} (Answers : D → List ℕ → List ℕ → D → Type 0)
     (head query : List ℕ) (before after : D) (old new : Told) (result : ConnEnd) : Type 0 where
   pub text : List ℕ
@@ -61,8 +61,9 @@ AnswersQuery Answers stopped query before after old new result =
     IsUnavailable before after old new result
     ⊎ ((stopped ≡ false) × AnswersRunning Answers query before after old new result)
 
--- where memory runs out the body of a dump ends early; the connection is served all the same
--- (profile)
+-- how serving a connection ends, by how its dump did: where memory ran out the reply ends early,
+-- and the connection is served all the same; `Stopped` does not come, since a stopped desk is not
+-- asked (profile)
 abbrev pub dump_end : Result (Unit {0}) DeskDumpFault → ConnEnd
 dump_end (Ok done) = Ok tt
 dump_end (Err dump_fault.Write) = Err conn_fault.Write
@@ -105,7 +106,7 @@ EndsWhole read missing = (whole_part read ≡ read) ⊎ (missing ≡ 0)
 -- where its end was reached, and some where a read failed, after all that came (profile)
 abbrev pub TellsMissing : {D : Type 0} (g : ledger.Ghosts D) (source : List ℕ) (sides : Sides)
     (before after : D) (rest : List ℕ) (missing : ℕ) (result : Result Done DeskFault)
-    → Submits g source sides before after result → Type 0
+    → Submits g before after source sides result → Type 0
 TellsMissing g source sides before after rest missing (Ok done) submits = missing ≡ 0
 TellsMissing g source sides before after rest missing (Err (fault.ReadFault items)) submits =
     (missing ≢ 0) × (rest ≡ [])
@@ -126,16 +127,18 @@ pub record SubmitsBody {D : Type 0} (g : ledger.Ghosts D) (source body : List �
   pub rest : List ℕ
   pub faults : ℕ
   pub reads : ℕ
-  pub submits : Submits g source (body_sides g body rest faults reads before after old new)
-      before after result
+  pub submits : Submits g before after source
+      (body_sides g body rest faults reads before after old new) result
   pub tells : TellsMissing g source (body_sides g body rest faults reads before after old new)
       before after rest missing result submits
 
 -- what a submission leaves of the desk: only a fault of the store stops it, and after any other end
--- the rows are those of its registry; a registry of its source stays one
+-- the rows are those of its registry; what lasts through any items lasts, and a registry of its
+-- source stays one
 pub record KeepsDesk {D : Type 0} (registrar : Ghosts D) (before after : D)
     (result : Result Done DeskFault) : Type 0 where
   pub running : UnlessStoreFault result (registrar.ledger.is_stopped after ≡ false)
+  pub lasts : registrar.ledger.Lasts before after
   pub kept : UnlessStoreFault result (registrar.Kept after)
   pub of_source : IsRegistryOf (registrar.settings before).source (registrar.ledger.registry before)
       → IsRegistryOf (registrar.settings after).source (registrar.ledger.registry after)

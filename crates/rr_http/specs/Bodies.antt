@@ -1,4 +1,4 @@
--- The body of a request: how it is read, and how it is given on.
+-- The body of a request: how it is read.
 use Rattle.std.specs.Prelude.{◌≡◌, ℕ, ◌-◌, ◌<◌, ◌≤◌, List, ◌++◌, length}
 use Rattle.std.specs.Prelude.{take}
 use Rattle.rr_io.specs.Told.{Told}
@@ -6,9 +6,9 @@ use Rattle.rr_io.specs.Receiving.{BreaksOff, Gives, IsSpent}
 use Rattle.rr_http.specs.declared.body_reading.BodyEnd.{BodyEnd}
 use Rattle.rr_http.specs.declared.body_reading.BodyEnd.TheVariants.{Whole, Short, Broken}
 
--- a body of so many bytes begins with those that came with the head; the rest of it was read, and
--- no byte after it: it is whole, or it is short because the input ended, or because a read failed
--- (RFC 9112, 6.2)
+-- a body of so many bytes begins with what came with the head, as far as that is its own; the rest
+-- of it was read, and no byte after it: it is whole, or it is short because the input ended, or
+-- because a read failed (RFC 9112, 6.2)
 abbrev pub ReadsBody : Told → Told → List ℕ → ℕ → List ℕ → BodyEnd → Type 0
 ReadsBody old new buffered size body Whole =
     (more : List ℕ) × Gives old new more × (body ≡ take size (buffered ++ more))

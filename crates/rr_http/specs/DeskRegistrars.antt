@@ -1,42 +1,39 @@
 -- A desk over tables as a registrar.
 use Rattle.std.specs.Prelude.{◌≡◌, ℕ, true, false, List, Result}
-use Rattle.sqlite.specs.Held.{state}
-use Rattle.sqlite.specs.State.{HasCleanDisk}
 use Rattle.sqlite_trees.specs.declared.store.Store as store
 use Rattle.rr_answer.specs.declared.fault.QueryFault.{QueryFault}
 use Rattle.rr_answer.specs.Answers.{answer_bytes}
 use Rattle.rr_answer.specs.Dumps.{dump}
 use Rattle.rr_submission.specs.declared.ledger.Ledger as ledger
 use Rattle.rr_desk.specs.declared.desk.Desk.{Desk}
-use Rattle.rr_desk.specs.Answering as desk_answering
-use Rattle.rr_desk.specs.Rows.{KeepsRows}
+use Rattle.rr_desk.specs.Desks.{GivesAnswer, desk_state}
+use Rattle.rr_desk.specs.Rows.{KeepsRows, OnlyLooks}
 use Rattle.rr_desk.specs.Stocks.{StoresUntilStopped, stock_ledger}
 use Rattle.rr_desk.specs.Turns.{Serving}
 use Rattle.rr_http.specs.declared.registrar.Registrar as registrar
 use Rattle.rr_http.specs.Serving.{Serves, visit_of}
 
--- a desk as a ledger: its registry and its store
+-- a desk as a ledger: its registry and its store, whose connection lasts
 abbrev pub desk_ledger : {S : Type 0} → store.Ghosts S → ledger.Ghosts (Desk S)
 desk_ledger g = record {
   registry = λ desk. desk.stored.registry;
   is_stopped = λ desk. desk.stored.stopped;
   Stops = λ old secrets item new. (stock_ledger g).Stops old.stored secrets item new.stored;
+  Lasts = λ old new. (stock_ledger g).Lasts old.stored new.stored;
 }
 
 -- the text in which a desk answers a query, and what that leaves of the desk: its registry, whether
--- it is stopped, and the rows of its registry, also where a fault of the store stopped it; one that
--- was stopped stays as it is
+-- it is stopped, and the rows of its registry, also where a fault of the store stopped it; nothing
+-- is committed, and a desk that was stopped stays as it is
 pub record IsDeskAnswer {S : Type 0} (g : store.Ghosts S) (before : Desk S) (query text : List ℕ)
     (after : Desk S) : Type 0 where
   pub answer : Result (List ℕ) QueryFault
-  pub answered : desk_answering.IsAnswered (HasCleanDisk (state g after.stored.store))
-      before.stored.registry before.settings.limit query before.stored.stopped
-      after.stored.stopped answer
+  pub answered : GivesAnswer g before after query answer
   pub is : text ≡ answer_bytes answer
   pub same : after.stored.registry ≡ before.stored.registry
-  pub keeps : before.stored.stopped ≡ false
-      → KeepsRows before.stored.registry (state g after.stored.store)
+  pub keeps : before.stored.stopped ≡ false → KeepsRows before.stored.registry (desk_state g after)
   pub still : before.stored.stopped ≡ true → after ≡ before
+  pub only_looks : OnlyLooks (desk_state g before) (desk_state g after)
 
 -- a desk answers queries, gives the public dump of its registry, and takes submissions until it is
 -- stopped

@@ -6,8 +6,9 @@ use Rattle.rr_desk.specs.Turns.{ConnEnd, Visit}
 use Rattle.rr_http.specs.declared.registrar.Registrar.{Ghosts}
 use Rattle.rr_http.specs.Serving.{Serves}
 
--- a connection was served where no call of it failed; otherwise its fault is the read's where a
--- read failed, and where only writes failed the write's (profile)
+-- a connection was served where no call of it failed (≤ says so of its writes, since their count
+-- never falls); otherwise its fault is the read's where a read failed, and where only writes failed
+-- the write's (profile)
 abbrev pub TellsCalls : Told → Told → Told → Told → ConnEnd → Type 0
 TellsCalls reader_old reader_new writer_old writer_new (Ok done) =
     (reader_new.faults ≡ reader_old.faults) × (writer_new.faults ≤ writer_old.faults)

@@ -1,22 +1,30 @@
 -- What private functions that read a head promise each other. No public clause cites these.
 use Rattle.std.specs.Prelude.{◌≡◌, ℕ, ◌<◌, ◌⊎◌, List, ◌++◌, length, Option}
 use Rattle.std.specs.Prelude.{None, Some}
-use Rattle.std.specs.Prelude.{nat_le}
+use Rattle.std.specs.Prelude.{nat_le, position}
+use Rattle.rr_bytes.specs.Blanks.{is_line_feed}
 use Rattle.rr_io.specs.Told.{Told}
 use Rattle.rr_io.specs.Receiving.{BreaksOff, Gives, IsSpent}
 use Rattle.rr_http.specs.declared.heads.Goal.{Goal}
+use Rattle.rr_http.specs.declared.heads.Goal.TheVariants.{Line, EmptyLine}
 use Rattle.rr_http.specs.declared.heads.Head.{Head}
 use Rattle.rr_http.specs.declared.heads.Head.TheVariants.{Http, Refused}
 use Rattle.rr_http.specs.declared.heads.TheConstants.{HEAD_SIZE}
-use Rattle.rr_http.specs.Heads.{goal_place}
+use Rattle.rr_http.specs.Heads.{head_length}
 use Rattle.rr_http.specs.Wants.{unended}
+
+-- where a text has what it is read for, if it does: the LF of its first line, or the end of the
+-- head of a request
+abbrev pub goal_place : Goal → List ℕ → Option ℕ
+goal_place Line text = position is_line_feed text
+goal_place EmptyLine text = head_length text
 
 -- a text does not have what it is read for, and has room for more
 pub record IsUnfinished (goal : Goal) (room : ℕ) (text : List ℕ) : Type 0 where
   pub unreached : goal_place goal text ≡ None
   pub room_left : length text < room
 
--- a read failed while a text was read on, which was not finished then (profile)
+-- a read failed while a text was read on, which was not finished then
 abbrev pub BreaksOn : Goal → ℕ → Told → Told → List ℕ → Type 0
 BreaksOn goal room old new before =
     (more : List ℕ) × BreaksOff old new more × IsUnfinished goal room (before ++ more)

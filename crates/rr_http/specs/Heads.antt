@@ -1,16 +1,14 @@
 -- What is read at the head of a connection: its first line, and the head of a request.
 use Rattle.std.specs.Prelude.{ℕ, ◌+◌, Bool, ◌==◌, ◌&&◌, nat_lt, List, [], ◌∷◌}
 use Rattle.std.specs.Prelude.{Option, None, Some}
-use Rattle.std.specs.Prelude.{if◌then◌else◌, position}
+use Rattle.std.specs.Prelude.{if◌then◌else◌}
 use Rattle.std.specs.List.{list_any}
 use Rattle.std.specs.Option.{option_map}
 use Rattle.rr_bytes.specs.Blanks.{is_line_feed}
 use Rattle.rr_bytes.specs.NameBytes.{begins}
-use Rattle.rr_http.specs.declared.heads.Goal.{Goal}
-use Rattle.rr_http.specs.declared.heads.Goal.TheVariants.{Line, EmptyLine}
 
--- how many bytes of a line end a text begins with: an LF is one, and so is a CR before an LF, of
--- two (RFC 9112, 2.2)
+-- how many bytes the line end has that a text begins with: 1 for an LF, 2 for a CR and an LF, 0 if
+-- there is none (RFC 9112, 2.2)
 abbrev pub line_end : List ℕ → ℕ
 line_end [] = 0
 line_end (b ∷ bs) =
@@ -27,9 +25,3 @@ head_length (b ∷ bs) =
 -- a text has an LF
 abbrev pub has_line_feed : List ℕ → Bool
 has_line_feed text = list_any is_line_feed text
-
--- where a text has what it is read for, if it does: the LF of its first line, or the end of the
--- head of a request (profile)
-abbrev pub goal_place : Goal → List ℕ → Option ℕ
-goal_place Line text = position is_line_feed text
-goal_place EmptyLine text = head_length text

@@ -1,4 +1,5 @@
 pub mod Asked
+pub mod AskedParts
 pub mod Heads
 pub mod Lines
 pub mod HeadParts
@@ -7,9 +8,9 @@ pub mod Replies
 pub mod Wants
 pub mod Bodies
 pub mod BodyParts
-pub mod BodyReaders
 pub mod Answering
 pub mod Serving
+pub mod ServingParts
 pub mod Faults
 pub mod ToldBytes
 pub mod ReplyBytes

@@ -1,4 +1,4 @@
--- The first line of a connection: which protocol it speaks, and what it asks by whois.
+-- The first line of a connection: which protocol it speaks, and what it wants by whois.
 use Rattle.std.specs.Prelude.{ℕ, ◌-◌, Bool, ◌==◌, ◌||◌, List, [], ◌∷◌, length}
 use Rattle.std.specs.Prelude.{take, codes, nat_eq}
 use Rattle.std.specs.Prelude.{if◌then◌else◌}
@@ -29,8 +29,8 @@ abbrev pub without_return : List ℕ → List ℕ
 without_return line =
     if ends_with nat_eq line (13 ∷ []) then take (length line - 1) line else line
 
--- what is asked by whois is the first line without its line end; a CR that no LF follows belongs to
--- it (RFC 3912, 2; profile)
+-- the query by whois is the first line without its line end; a CR that no LF follows belongs to it
+-- (RFC 3912, 2; profile)
 abbrev pub whois_query : List ℕ → List ℕ
 whois_query text =
     if has_line_feed text then without_return (line_of text) else line_of text

@@ -44,8 +44,8 @@ IsDumpSent text (Err Read) answered = ⊥
 IsDumpSent text (Err Write) answered = IsCutOff (ok_head ++ text) answered
 
 -- that the request cannot be served now is answered, and the desk was not asked
-abbrev pub IsRefusalSent : {D : Type 0} → D → D → ConnEnd → List ℕ → Type 0
-IsRefusalSent before after result answered =
+abbrev pub IsUnavailableSent : {D : Type 0} → D → D → ConnEnd → List ℕ → Type 0
+IsUnavailableSent before after result answered =
     IsSent (refusal_reply Unavailable) result answered × (after ≡ before)
 
 -- not even the head of a reply is answered, and the desk was not asked
@@ -62,8 +62,9 @@ pub record IsAnswerSent {D : Type 0} (registrar : Ghosts D) (head text : List �
   pub answers : registrar.Answers before text answer after
   pub sent : IsSent (head ++ answer) result answered
 
--- a body of so many bytes was submitted, which is that of what stands after the head, and its
--- report is answered after the head of a reply, as far as it could be written
+-- a body of so many bytes, that of what stands after the head, was read; the head of a reply and
+-- the report on the body are answered, as far as they could be written: if not even the head could
+-- be, nothing is submitted
 pub record IsReportSent {D : Type 0} (registrar : Ghosts D) (given : List ℕ) (size : ℕ)
     (before after : D) (result : ConnEnd) (answered : List ℕ) : Type 0 where
   pub running : registrar.ledger.is_stopped before ≡ false
@@ -82,38 +83,36 @@ abbrev pub RepliesTo : {D : Type 0} → Ghosts D → List ℕ → Asks → D →
 RepliesTo registrar given (refused refusal) before after result answered =
     IsSent (refusal_reply refusal) result answered × (after ≡ before)
 RepliesTo registrar given (submission size) before after result answered =
-    IsRefusalSent before after result answered
+    IsUnavailableSent before after result answered
     ⊎ IsReportSent registrar given size before after result answered
 RepliesTo registrar given (query escaped) before after result answered =
-    IsRefusalSent before after result answered
+    IsUnavailableSent before after result answered
     ⊎ ((registrar.ledger.is_stopped before ≡ false)
     × (IsHeadCutOff before after result answered
     ⊎ IsAnswerSent registrar ok_head (percent_decode escaped) before after result answered))
 RepliesTo registrar given dump before after result answered =
-    ((registrar.ledger.is_stopped before ≡ true) × IsRefusalSent before after result answered)
+    ((registrar.ledger.is_stopped before ≡ true) × IsUnavailableSent before after result answered)
     ⊎ ((registrar.ledger.is_stopped before ≡ false)
     × IsDumpSent (registrar.dumped before) result answered × (after ≡ before))
 
 -- what a connection is answered that gives these bytes in all, by what it wants
 abbrev pub RepliesToWants : {D : Type 0} → Ghosts D → List ℕ → Wants → D → D → ConnEnd
-    → List ℕ
-    → Type 0
+    → List ℕ → Type 0
 RepliesToWants registrar given (whois text) before after result answered =
     IsAnswerSent registrar [] text before after result answered
 RepliesToWants registrar given (http place asks) before after result answered =
     RepliesTo registrar (drop place given) asks before after result answered
 
 -- what a connection wants that gives these bytes in all is answered
-pub record IsReplied {D : Type 0} (registrar : Ghosts D) (before : D) (given : List ℕ)
-    (result : ConnEnd)
-    (answered : List ℕ) (after : D) : Type 0 where
+pub record IsReplied {D : Type 0} (registrar : Ghosts D) (given : List ℕ) (before after : D)
+    (result : ConnEnd) (answered : List ℕ) : Type 0 where
   pub wants : Wants
   pub is_wanted : IsWanted given wants
   pub replies : RepliesToWants registrar given wants before after result answered
 
 -- a read failed before it was known what the connection wants, and nothing is answered
-pub record IsUnanswered {D : Type 0} (before : D) (given : List ℕ) (result : ConnEnd)
-    (answered : List ℕ) (after : D) : Type 0 where
+pub record IsUnanswered {D : Type 0} (given : List ℕ) (before after : D) (result : ConnEnd)
+    (answered : List ℕ) : Type 0 where
   pub read : List ℕ
   pub rest : List ℕ
   pub is : given ≡ read ++ rest
@@ -122,13 +121,12 @@ pub record IsUnanswered {D : Type 0} (before : D) (given : List ℕ) (result : C
   pub same : after ≡ before
   pub failed : result ≡ Err Read
 
--- the reply to a connection: by the desk, the bytes that it gives in all, and how serving it ended,
--- the bytes that it is answered, and what that leaves of the desk (RFC 3912, RFC 9112; profile)
-abbrev pub IsReply : {D : Type 0} → Ghosts D → D → List ℕ → ConnEnd → List ℕ → D
-    → Type 0
-IsReply registrar before given result answered after =
-    IsUnanswered before given result answered after
-    ⊎ IsReplied registrar before given result answered after
+-- the reply to a connection: by the bytes that it gives in all, the desk before and after, and how
+-- serving it ended, the bytes that it is answered (RFC 3912, RFC 9112; profile)
+abbrev pub IsReply : {D : Type 0} → Ghosts D → List ℕ → D → D → ConnEnd → List ℕ → Type 0
+IsReply registrar given before after result answered =
+    IsUnanswered given before after result answered
+    ⊎ IsReplied registrar given before after result answered
 
 -- each item of a body was decided, in order, and the whole report is answered after the head of a
 -- reply: a line for each item, and the last line (profile)
@@ -159,4 +157,4 @@ AnswersWithItsReply {D} registrar =
     (before after : D) (visit : Visit) (given answered : List ℕ)
     → visit.reader_before.bytes ≡ Some given → visit.writer_before.bytes ≡ Some []
     → visit.writer_after.bytes ≡ Some answered → Serves registrar before after visit
-    → IsReply registrar before given visit.ended answered after
+    → IsReply registrar given before after visit.ended answered

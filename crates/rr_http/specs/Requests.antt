@@ -79,16 +79,16 @@ size_of value =
     else Err PayloadTooLarge)
     else Err BadRequest
 
--- a body has exactly one length (RFC 9110, 8.6; profile)
-abbrev pub sized : List (List ℕ) → Result ℕ Refusal
-sized [] = Err LengthRequired
-sized (value ∷ []) = size_of value
-sized (value ∷ other ∷ rest) = Err BadRequest
+-- the size of a body by its lengths: exactly one is needed (RFC 9110, 8.6; profile)
+abbrev pub body_size : List (List ℕ) → Result ℕ Refusal
+body_size [] = Err LengthRequired
+body_size (value ∷ []) = size_of value
+body_size (value ∷ other ∷ rest) = Err BadRequest
 
--- a body of that size is submitted
-abbrev pub submits : Result ℕ Refusal → Asks
-submits (Ok size) = submission size
-submits (Err refusal) = refused refusal
+-- what is asked with a body of that size, or the refusal
+abbrev pub asks_submission : Result ℕ Refusal → Asks
+asks_submission (Ok size) = submission size
+asks_submission (Err refusal) = refused refusal
 
 -- the one method of each page (RFC 9110, 9.3; profile)
 abbrev pub method_of : Page → List ℕ
@@ -99,7 +99,7 @@ method_of page.Dump = codes "GET"
 -- what is asked of a page by its own method; a query is what stands after `/query/`
 abbrev pub asks_page : List ℕ → List HeadField → Page → Asks
 asks_page path fields page.Submissions =
-    submits (sized (values_of (codes "Content-Length") fields))
+    asks_submission (body_size (values_of (codes "Content-Length") fields))
 asks_page path fields page.Query = query (after_query path)
 asks_page path fields page.Dump = dump
 

@@ -21,12 +21,11 @@ use Rattle.rr_http.specs.Answering.{RepliesWithAnswer, SubmitsBody, WritesReply}
 use Rattle.rr_http.specs.Bodies.{GivesWithin, ReadsBody}
 use Rattle.rr_http.specs.Replies.{ok_head, refusal_reply}
 use Rattle.rr_http.specs.Requests.{Asks, refused, submission, query, dump}
-use Rattle.rr_http.specs.Lines.{speaks_http}
-use Rattle.rr_http.specs.Wants.{HeadWants, IsUndecided, IsWanted, ReadsHead, Wants, is_full}
-use Rattle.rr_http.specs.Wants.{whois, http}
+use Rattle.rr_http.specs.Wants.{IsUndecided, IsWanted, ReadsHead, Wants, whois, http}
 
--- a connection failed where a read of it failed, or a write; an end of input before the body's is
--- not a failed read (profile)
+-- how serving ends, by how the reading of the body did and whether a write failed: a failed read
+-- is its fault, otherwise a failed write; an end of input before the body's is no failed read
+-- (profile)
 abbrev pub end_by : BodyEnd → Bool → ConnEnd
 end_by Broken write_failed = Err conn_fault.Read
 end_by Whole true = Err conn_fault.Write
@@ -85,12 +84,12 @@ pub record IsUntouched {D : Type 0} (before after : D) (visit : Visit) : Type 0 
 abbrev pub Replies : List ℕ → Visit → Type 0
 Replies text visit = WritesReply text visit.writer_before visit.writer_after visit.ended
 
--- the same, of a connection while it was served
-abbrev pub IsRefusedNow : {D : Type 0} → D → D → Visit → Type 0
-IsRefusedNow before after visit =
+-- the reply to a connection is that it cannot be served now, and the desk was not asked
+abbrev pub IsVisitUnavailable : {D : Type 0} → D → D → Visit → Type 0
+IsVisitUnavailable before after visit =
     IsUnavailable before after visit.writer_before visit.writer_after visit.ended
 
--- the body was read and submitted
+-- the body was read, and it is submitted unless the head of the reply could not be written
 pub record IsTakenIn {D : Type 0} (registrar : Ghosts D) (buffered : List ℕ) (size : ℕ)
     (before after : D) (visit : Visit) : Type 0 where
   pub running : registrar.ledger.is_stopped before ≡ false
@@ -105,7 +104,7 @@ pub record MeetsStoppedDesk {D : Type 0} (registrar : Ghosts D) (before after : 
     : Type 0 where
   pub stopped : registrar.ledger.is_stopped before ≡ true
   pub unread : visit.reader_after ≡ visit.reader_before
-  pub unavailable : IsRefusedNow before after visit
+  pub unavailable : IsVisitUnavailable before after visit
 
 -- memory ran out for the body, which is read no further than its size; these of its bytes came
 -- with the head
@@ -113,7 +112,7 @@ pub record MeetsNoMemory {D : Type 0} (registrar : Ghosts D) (buffered : List �
     (before after : D) (visit : Visit) : Type 0 where
   pub running : registrar.ledger.is_stopped before ≡ false
   pub reads : GivesWithin visit.reader_before visit.reader_after (size - length buffered)
-  pub unavailable : IsRefusedNow before after visit
+  pub unavailable : IsVisitUnavailable before after visit
 
 -- a submission that is not taken in
 abbrev pub IsTurnedAway : {D : Type 0} → Ghosts D → List ℕ → ℕ → D → D → Visit
@@ -148,19 +147,12 @@ ServesAsks registrar buffered dump before after visit =
 -- what is done of what a connection wants at whose head these bytes were read
 abbrev pub ServesWants : {D : Type 0} → Ghosts D → List ℕ → Wants → D → D → Visit
     → Type 0
-ServesWants registrar head (whois asked) before after visit =
+ServesWants registrar head (whois text) before after visit =
     (visit.reader_after ≡ visit.reader_before)
-    × RepliesWithAnswer registrar.Answers [] asked before after
+    × RepliesWithAnswer registrar.Answers [] text before after
     visit.writer_before visit.writer_after visit.ended
 ServesWants registrar head (http place asks) before after visit =
     ServesAsks registrar (drop place head) asks before after visit
-
--- what is wanted by the bytes that were read of a connection is done
-pub record ServesHead {D : Type 0} (registrar : Ghosts D) (read : List ℕ) (before after : D)
-    (visit : Visit) : Type 0 where
-  pub wants : Wants
-  pub are_wanted : HeadWants (speaks_http read) read (is_full read) wants
-  pub serves : ServesWants registrar read wants before after visit
 
 -- a connection while it was served, from when its reader told this
 abbrev pub visit_from : Told → Visit → Visit

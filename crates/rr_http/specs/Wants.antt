@@ -17,8 +17,8 @@ use Rattle.rr_http.specs.Heads.{has_line_feed, head_length}
 use Rattle.rr_http.specs.Lines.{speaks_http, whois_query}
 use Rattle.rr_http.specs.Requests.{Asks, asks_of, refused}
 
--- what a connection wants: the answer to a query by whois, or what a request asks whose head has so
--- many bytes
+-- what a connection wants: the answer to a query by whois, or what a request asks, after how many
+-- bytes its head has, 0 if there is no whole head
 pub data Wants : Type 0 where
   whois : List ℕ → Wants
   http : ℕ → Asks → Wants
@@ -37,7 +37,7 @@ abbrev pub head_asks : Option RequestHead → Asks
 head_asks None = refused BadRequest
 head_asks (Some head) = asks_of head.method head.target (map name_and_value head.fields)
 
--- a text that is a head asks this
+-- what a text asks as the head of a request; it is refused if it is none
 abbrev pub RequestAsks : List ℕ → Asks → Type 0
 RequestAsks text asks =
     (parsed : Option RequestHead) × IsParsed text parsed × (asks ≡ head_asks parsed)
@@ -58,7 +58,7 @@ abbrev pub HeadWants : Bool → List ℕ → Bool → Wants → Type 0
 HeadWants false bytes full wants = wants ≡ whois (whois_query bytes)
 HeadWants true bytes full wants = RequestWants (head_length bytes) bytes full wants
 
--- so many bytes are as many as are read of a connection before it is known what it asks
+-- so many bytes are as many as are read of a connection before it is known what it wants
 abbrev pub is_full : List ℕ → Bool
 is_full bytes = nat_le HEAD_SIZE (length bytes)
 

@@ -37,6 +37,7 @@ pub(crate) fn answer_whois<D: Registrar, W: Sink>(
 ) -> Result<(), ConnFault>
     ensures answers { RepliesWithAnswer D.Answers [] query.now desk.old desk.new
         (W.told writer.old) (W.told writer.new) result }
+    ensures lasts { D.ledger.Lasts desk.old desk.new }
     ensures settings { D.settings desk.new ≡ D.settings desk.old }
     ensures aside { W.aside writer.new ≡ W.aside writer.old }
 {
@@ -58,6 +59,7 @@ pub(crate) fn answer_query<D: Registrar, W: Sink>(
     ensures answers { AnswersQuery D.Answers (D.ledger.is_stopped desk.old)
         (percent_decode escaped.now) desk.old desk.new
         (W.told writer.old) (W.told writer.new) result }
+    ensures lasts { D.ledger.Lasts desk.old desk.new }
     ensures settings { D.settings desk.new ≡ D.settings desk.old }
     ensures aside { W.aside writer.new ≡ W.aside writer.old }
 {
@@ -89,6 +91,7 @@ fn give_answer<D: Registrar, W: Sink>(
 ) -> Result<(), ConnFault>
     ensures answers { AnswersRunning D.Answers query.now desk.old desk.new
         (W.told writer.old) (W.told writer.new) result }
+    ensures lasts { D.ledger.Lasts desk.old desk.new }
     ensures settings { D.settings desk.new ≡ D.settings desk.old }
     ensures aside { W.aside writer.new ≡ W.aside writer.old }
 {
@@ -135,8 +138,9 @@ fn dump_end(fault: DeskDumpFault) -> Result<(), ConnFault>
 /// Submits a body of which these bytes came, and `missing` more did not, and writes the report: no
 /// item is decided that misses bytes. A read fault says that bytes are missing: the items that came
 /// whole are decided. After a write fault those up to the one whose line could not be written are,
-/// or all of them; after a fault of the store, which alone stops the desk, those before it; and if
-/// memory ran out before the first item, none. The fault is never that the desk had stopped.
+/// or all of them; after a fault of the store, which alone stops the desk, those before the item at
+/// which it came; and if memory ran out before the first item, none. The fault is never that the
+/// desk had stopped.
 pub(crate) fn submit_body<D: Registrar, W: Sink>(
     alloc: Global,
     desk: &mut D,

@@ -5,10 +5,11 @@ ghost use Rattle.std.specs.Prelude.{All, IfSome};
 ghost use Rattle.std.specs.Prelude.{MatchOption};
 ghost use Rattle.std.specs.Str.{bytes_eq};
 ghost use Rattle.httparse.specs.Spans.{IsHeaderWithin, header_bytes};
-ghost use Rattle.rr_http.specs.Asked.{fields_of, seen};
-ghost use Rattle.rr_http.specs.Requests.{HasSmallSize, asks_of, asks_page, is_length, is_field_of};
-ghost use Rattle.rr_http.specs.Requests.{is_query_path, is_segment, method_of, page_of};
-ghost use Rattle.rr_http.specs.Requests.{size_of, sized, values_of};
+ghost use Rattle.rr_http.specs.Asked.{seen};
+ghost use Rattle.rr_http.specs.AskedParts.{fields_of};
+ghost use Rattle.rr_http.specs.Requests.{HasSmallSize, asks_of, asks_page, body_size};
+ghost use Rattle.rr_http.specs.Requests.{is_field_of, is_length, is_query_path, is_segment};
+ghost use Rattle.rr_http.specs.Requests.{method_of, page_of, size_of, values_of};
 ghost use Rattle.rr_http.specs.Wants.{RequestAsks};
 
 use http::Method;
@@ -84,7 +85,8 @@ fn is_segment(text: &[u8]) -> bool
 pub enum Refusal {
     /// 8,192 bytes have no empty line: 431.
     HeadTooLarge,
-    /// There is no head of a request, or the length of the body is bad or given twice: 400.
+    /// There is no head of a request, it has more than 64 fields, or the length of the body is bad
+    /// or given twice: 400.
     BadRequest,
     /// The body has a transfer coding: 501.
     NotImplemented,
@@ -178,8 +180,8 @@ fn asked_at<'a>(path: &'a [u8], page: Page, head: &[u8], fields: &[HeaderSpan]) 
 /// The size of the body that the fields tell (RFC 9110, 8.6).
 fn read_size(head: &[u8], fields: &[HeaderSpan]) -> Result<usize, Refusal>
     requires { All (IsHeaderWithin (length head.now)) fields.now }
-    ensures sized { result
-        ≡ sized (values_of (codes "Content-Length") (fields_of head.now fields.now)) }
+    ensures size { result
+        ≡ body_size (values_of (codes "Content-Length") (fields_of head.now fields.now)) }
     ensures small { IfOk result (λ size. size ≤ BODY_SIZE) }
 {
     match find_value(head, fields, b"Content-Length") {

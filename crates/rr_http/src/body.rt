@@ -19,8 +19,7 @@ pub(crate) struct Body<'a> {
 }
 
 impl<'a> Body<'a> {
-    ghost use Rattle.std.specs.Prelude.{◌≡◌};
-    ghost use Rattle.rr_http.specs.BodyReaders.{body_failed, body_missing, body_reads, body_rest};
+    ghost use Rattle.rr_http.specs.BodyParts.{body_failed, body_missing, body_reads, body_rest};
 
     /// The body of which these bytes came, and `missing` more did not.
     pub(crate) fn new(bytes: &'a [u8], missing: usize) -> Body<'a>
@@ -39,7 +38,7 @@ impl<'a> Body<'a> {
 }
 
 impl<'a> Source for Body<'a> {
-    ghost use Rattle.rr_http.specs.BodyReaders.{body_aside, body_told};
+    ghost use Rattle.rr_http.specs.BodyParts.{body_aside, body_told};
 
     ghost told = { body_told };
 

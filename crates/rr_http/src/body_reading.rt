@@ -19,9 +19,10 @@ pub enum BodyEnd {
     Broken,
 }
 
-/// Reads the body of a request, of `size` bytes, the first of which are those that came with its
-/// head: gives its bytes, or those that came of it, and how the reading ended. No byte after the
-/// body is asked for. The error is that memory ran out.
+/// Reads the body of a request, of `size` bytes, 1,048,576 at most, the first of which are those
+/// that came with its head: gives its bytes, or those that came of it, and how the reading ended.
+/// No byte after the body is asked for. The error is that memory ran out: no more than the rest of
+/// the body was read.
 pub fn read_body<R: Source>(
     alloc: Global,
     reader: &mut R,

@@ -1,5 +1,6 @@
 //! A desk over tables as a registrar.
 
+ghost use Rattle.rr_desk.specs.Lasting.{connection_still};
 ghost use Rattle.rr_http.specs.DeskRegistrars.{desk_registrar};
 
 use crate::registrar::Registrar;
@@ -18,6 +19,8 @@ impl<S: Alter> Registrar for Desk<S> {
     ghost dumped = { (desk_registrar S.Store).dumped };
 
     ghost Kept = { (desk_registrar S.Store).Kept };
+
+    ghost lasts_still = { λ _. connection_still _ };
 
     fn stopped(&self) -> bool {
         Desk::stopped(self)

@@ -1,9 +1,9 @@
-//! The head of a connection: the bytes by which it says what it asks.
+//! The head of a connection: the bytes by which it says what it wants.
 
 ghost use Rattle.std.specs.Prelude.{◌≡◌, ◌≤◌, None, false, length, take, IfOk, IfSome};
 ghost use Rattle.std.specs.Prelude.{OnErr};
-ghost use Rattle.rr_http.specs.HeadParts.{BreaksOn, ReadsOn, request_head};
-ghost use Rattle.rr_http.specs.Heads.{goal_place, has_line_feed, head_length, line_end};
+ghost use Rattle.rr_http.specs.HeadParts.{BreaksOn, ReadsOn, goal_place, request_head};
+ghost use Rattle.rr_http.specs.Heads.{has_line_feed, head_length, line_end};
 ghost use Rattle.rr_http.specs.Lines.{line_speaks_http, without_return};
 ghost use Rattle.rr_http.specs.Wants.{BreaksHead, FindsHead, IsHead};
 
@@ -12,7 +12,7 @@ use rr_bytes::{ByteSet, place_of, trim_end};
 use rr_io::Source;
 use std::io;
 
-/// How many bytes of a connection are read at most before it is known what it asks (profile).
+/// How many bytes of a connection are read at most before it is known what it wants (profile).
 pub const HEAD_SIZE: usize = 8_192;
 
 /// What stands at the head of a connection.
@@ -181,7 +181,7 @@ fn head_length(text: &[u8]) -> Option<usize>
     None
 }
 
-/// How many bytes of a line end the text begins with (RFC 9112, 2.2).
+/// How many bytes the line end has that the text begins with; 0 if there is none (RFC 9112, 2.2).
 fn line_end(text: &[u8]) -> usize
     ensures value { result ≡ line_end text.now }
     ensures within { result ≤ length text.now }

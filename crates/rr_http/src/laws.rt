@@ -25,7 +25,8 @@ pub fn body_follows_its_head()
 {}
 
 /// A connection that tells its bytes is answered with its reply, by whois or HTTP: whole, or cut
-/// off where a write failed.
+/// off where a write failed, a dump also where memory ran out. Nothing is answered if a read failed
+/// before it was known what is wanted.
 pub fn answers_with_its_reply<D: Registrar>()
     ensures { AnswersWithItsReply D.Registrar }
 {}
@@ -36,8 +37,8 @@ pub fn answers_with_its_report<D: Registrar>()
     ensures { AnswersWithItsReport D.Registrar }
 {}
 
-/// A connection is served well exactly where no read and no write of it failed, and else its fault
-/// says which; so of those that a listener accepts, which of its turns failed.
+/// If one more failed call can be counted on each side, as of a connection that a listener has just
+/// accepted, how serving it ended tells whether a read of it failed or, if none did, a write.
 pub fn ends_tell_failed_calls<D: Registrar>()
     ensures { EndsTellFailedCalls D.Registrar }
 {}

@@ -1,4 +1,4 @@
-//! Connections of whois and HTTP: what each asks, and the bytes that answer it (RFC 3912, RFC
+//! Connections of whois and HTTP: what each wants, and the bytes that answer it (RFC 3912, RFC
 //! 9112).
 #![tactic(auto)]
 
@@ -14,7 +14,7 @@ mod registrar;
 mod replying;
 mod serving;
 
-pub use asking::{Asked, Page, Refusal, read_request};
+pub use asking::{Asked, BODY_SIZE, Page, Refusal, read_request};
 pub use body_reading::{BodyEnd, read_body};
 pub use both::Both;
 pub use heads::{HEAD_SIZE, Head, read_head};

@@ -1,4 +1,4 @@
-//! What connections ask: a desk, or what does as one.
+//! Whom connections ask: a desk, or what does as one.
 
 ghost use Rattle.std.specs.Prelude.{◌≡◌, true, false, ℕ, List};
 ghost use Rattle.rr_io.specs.Sending.{Writes};
@@ -15,14 +15,14 @@ use std::alloc::Global;
 
 /// What answers queries, gives the public dump, and takes submissions, as a desk does.
 pub trait Registrar {
-    // How it decides items, the registry that it keeps, and whether it is stopped: then it takes no
-    // submission and gives no dump.
+    // How it decides items and what lasts of it, the registry that it keeps, and whether it is
+    // stopped: then it takes no submission and gives no dump.
     ghost ledger: { Ghosts Self };
 
     // Its settings.
     ghost settings: { Self → SettingsParts };
 
-    // What it answers to a query, and what that leaves.
+    // From this state it answers this query with this text, and is in this state then.
     ghost Answers: { Self → List ℕ → List ℕ → Self → Type 0 };
 
     // The public dump.
@@ -44,10 +44,12 @@ pub trait Registrar {
     ) -> Result<(), WriteFault>
         ensures answers { (text : List ℕ) × Answers self.old query.now text self.new
             × Writes (W.told writer.old) (W.told writer.new) text result }
+        ensures lasts { ledger.Lasts self.old self.new }
         ensures settings { settings self.new ≡ settings self.old }
         ensures aside { W.aside writer.new ≡ W.aside writer.old };
 
-    /// Writes the public dump, if it is not stopped.
+    /// Writes the public dump. The fault is that it is stopped, and then nothing is written; or a
+    /// write failed or memory ran out, and then a part of the dump is.
     fn dump<W: Sink>(&self, alloc: Global, writer: &mut W) -> Result<(), DeskDumpFault>
         ensures stopped { ledger.is_stopped self.now ≡ true
             → RefusesDump writer.old writer.new result }
@@ -67,10 +69,11 @@ pub trait Registrar {
         ensures stopped { ledger.is_stopped self.old ≡ true → RefusesSubmission
             self.old self.new reader.old reader.new writer.old writer.new result }
         ensures submits { ledger.is_stopped self.old ≡ false
-            → SubmitsText ledger (settings self.old).source (R.told reader.old) (R.told reader.new)
-            (W.told writer.old) (W.told writer.new) self.old self.new result }
+            → SubmitsText ledger self.old self.new (settings self.old).source
+            (R.told reader.old) (R.told reader.new) (W.told writer.old) (W.told writer.new) result }
         ensures running { ledger.is_stopped self.old ≡ false
             → UnlessStoreFault result (ledger.is_stopped self.new ≡ false) }
+        ensures lasts { ledger.Lasts self.old self.new }
         ensures kept { ledger.is_stopped self.old ≡ false
             → UnlessStoreFault result (Kept self.new) }
         ensures of_source { IsRegistryOf (settings self.old).source (ledger.registry self.old)
@@ -78,4 +81,7 @@ pub trait Registrar {
         ensures settings { settings self.new ≡ settings self.old }
         ensures reader_aside { R.aside reader.new ≡ R.aside reader.old }
         ensures writer_aside { W.aside writer.new ≡ W.aside writer.old };
+
+    // What lasts of it lasts where nothing is done.
+    ghost lasts_still: { (registrar : Self) → ledger.Lasts registrar registrar };
 }

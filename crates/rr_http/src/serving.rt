@@ -4,8 +4,8 @@ ghost use Rattle.std.specs.Prelude.{◌≡◌, ◌≤◌, false, length};
 ghost use Rattle.rr_http.specs.Asked.{seen};
 ghost use Rattle.rr_http.specs.Faults.{TellsFaults};
 ghost use Rattle.rr_http.specs.Requests.{HasSmallSize};
-ghost use Rattle.rr_http.specs.Serving.{Serves, ServesAsks, ServesBody, ServesHead, SubmitsRead};
-ghost use Rattle.rr_http.specs.Serving.{end_by, visit};
+ghost use Rattle.rr_http.specs.Serving.{Serves, ServesAsks, ServesBody, SubmitsRead, end_by, visit};
+ghost use Rattle.rr_http.specs.ServingParts.{ServesHead};
 ghost use Rattle.rr_http.specs.Wants.{IsHead};
 
 use crate::answering::{answer_query, answer_whois, give_dump, refuse, submit_body};
@@ -25,7 +25,7 @@ use std::alloc::Global;
 /// bytes. By HTTP a stopped desk is not asked, nor one where memory runs out before that: the reply
 /// is 503. Of submissions only a fault of the store stops the desk; after any other end of one the
 /// rows are those of its registry, which stays one of its source. What the holders of a prefix hold
-/// is changed by nobody else.
+/// is changed by nobody else. However it ends, what is to last of the desk lasts.
 pub fn serve_one<D: Registrar, C: Connection>(
     alloc: Global,
     desk: &mut D,
@@ -34,6 +34,7 @@ pub fn serve_one<D: Registrar, C: Connection>(
     ensures serves { Serves D.Registrar desk.old desk.new
         (visit C.Source C.Sink conn.old conn.new result) }
     ensures faults { TellsFaults (visit C.Source C.Sink conn.old conn.new result) }
+    ensures lasts { D.ledger.Lasts desk.old desk.new }
     ensures settings { D.settings desk.new ≡ D.settings desk.old }
 {
     let mut buf = [0u8; HEAD_SIZE];
@@ -54,6 +55,7 @@ fn serve_head<D: Registrar, C: Connection>(
     requires { IsHead read.now head }
     ensures serves { ServesHead D.Registrar read.now desk.old desk.new
         (visit C.Source C.Sink conn.old conn.new result) }
+    ensures lasts { D.ledger.Lasts desk.old desk.new }
     ensures settings { D.settings desk.new ≡ D.settings desk.old }
 {
     match head {
@@ -77,6 +79,7 @@ fn serve_asked<D: Registrar, C: Connection>(
     requires { HasSmallSize (seen asked) }
     ensures serves { ServesAsks D.Registrar buffered.now (seen asked.entry) desk.old desk.new
         (visit C.Source C.Sink conn.old conn.new result) }
+    ensures lasts { D.ledger.Lasts desk.old desk.new }
     ensures settings { D.settings desk.new ≡ D.settings desk.old }
 {
     match asked {
@@ -98,6 +101,7 @@ fn take_in<D: Registrar, C: Connection>(
     requires { size ≤ BODY_SIZE }
     ensures serves { ServesBody D.Registrar buffered.now size desk.old desk.new
         (visit C.Source C.Sink conn.old conn.new result) }
+    ensures lasts { D.ledger.Lasts desk.old desk.new }
     ensures settings { D.settings desk.new ≡ D.settings desk.old }
 {
     if desk.stopped() {
@@ -125,6 +129,7 @@ fn submit_read<D: Registrar, W: Sink>(
     requires running { D.ledger.is_stopped desk.old ≡ false }
     ensures submits { SubmitsRead D.Registrar body.now size end desk.old desk.new
         (W.told writer.old) (W.told writer.new) result }
+    ensures lasts { D.ledger.Lasts desk.old desk.new }
     ensures settings { D.settings desk.new ≡ D.settings desk.old }
     ensures aside { W.aside writer.new ≡ W.aside writer.old }
 {

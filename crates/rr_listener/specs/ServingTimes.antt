@@ -23,14 +23,14 @@ wait_of left = if left == 0 then None else Some (min left (LONGEST_WAIT * second
 abbrev pub next_wait : ℕ → ℕ → Option ℕ
 next_wait seconds taken = wait_of (seconds * second - taken)
 
--- there is a wait, and it stands as the timeout of the next call; it is told if another one stood
+-- there is a wait, and it stands as the timeout of the next call: it is set, or it stood before
 -- (profile)
-pub record SetsWait (wait before after told : Option ℕ) : Type 0 where
+pub record SetsWait (wait before after set : Option ℕ) : Type 0 where
   pub there_is : is_some wait ≡ true
   pub stands : after ≡ wait
-  pub is_told : (told ≡ wait) ⊎ ((told ≡ None) × (before ≡ wait))
+  pub is_set : (set ≡ wait) ⊎ ((set ≡ None) × (before ≡ wait))
 
--- the same of timeouts (profile)
+-- the same of timeouts, which are durations (profile)
 abbrev pub SetsTimeout : Option ℕ → Option Duration → Option Duration → Option Duration
     → Type 0
 SetsTimeout wait before after set =

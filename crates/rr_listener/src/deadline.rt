@@ -12,9 +12,8 @@ use std::time::Duration;
 /// How many seconds a call waits for a peer at most (profile).
 pub const LONGEST_WAIT: u64 = 10;
 
-/// How much of its time a peer has taken. Time passes while a call waits for the peer, and not
-/// while the desk works, because one peer is served at a time and the others wait in the system's
-/// queue.
+/// How much of its time a peer has taken. Time counts while a call waits for this peer, and not
+/// while the desk works or others are served.
 #[derive(Clone, Copy)]
 pub struct Deadline {
     taken: Duration,
@@ -33,7 +32,7 @@ impl Deadline {
         }
     }
 
-    /// Takes so much of the time.
+    /// Adds this wait to the time taken, which stays at the longest `Duration` once it is there.
     pub fn take(&mut self, waited: Duration)
         ensures taken { as_nanos self.new.taken
             ≡ min (as_nanos self.old.taken + as_nanos waited) max_nanos }
@@ -43,12 +42,14 @@ impl Deadline {
     }
 
     /// The timeout to set before the next call, if the peer is given so many seconds in all; none
-    /// if the one that was set last still serves. The error is that the time is over.
+    /// if the one that was set last still serves. The error is that the time is over; then the
+    /// timeout stays.
     pub fn next_timeout(&mut self, seconds: u64) -> io::Result<Option<Duration>>
         ensures sets { IfOk result
             (λ set. SetsTimeout (next_wait seconds (as_nanos self.old.taken))
             self.old.timeout self.new.timeout set) }
         ensures over { OnErr result (next_wait seconds (as_nanos self.old.taken) ≡ None) }
+        ensures stays { OnErr result (self.new.timeout ≡ self.old.timeout) }
         ensures taken { self.new.taken ≡ self.old.taken }
     {
         match self.next_wait(seconds) {

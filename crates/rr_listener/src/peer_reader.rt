@@ -42,7 +42,7 @@ impl<'a> PeerReader<'a> {
     }
 
     /// Takes in what the peer still sends, to its end, but at most for a second, and at most 2 MiB
-    /// of it. The error is that of a read.
+    /// of it. The error is the system's, or that the time is over.
     pub fn drain(mut self) -> io::Result<()> {
         self.deadline = Deadline::new();
         let mut block = [0u8; READ_SIZE];
@@ -54,7 +54,8 @@ impl<'a> PeerReader<'a> {
         Ok(())
     }
 
-    /// Reads some bytes by one call, if the peer is given so many seconds in all.
+    /// Reads some bytes by one call, of a peer that has so many seconds in all. The error is the
+    /// system's, or that the time is over.
     fn receive(&mut self, buf: &mut [u8], seconds: u64) -> io::Result<usize>
         ensures { ReadsAtMost result buf.new }
     {

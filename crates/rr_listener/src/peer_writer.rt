@@ -89,7 +89,7 @@ impl Write for PeerWriter<'_> {
 
 /// Whether a call waited for the peer until its time was over, or was interrupted by the system, as
 /// when the process is held still and goes on: in both cases no byte passed, and it is to be made
-/// again. So a peer never sees that the program was stopped for a while, and no fault is counted.
+/// again. So a peer does not see that the program was held still, unless that spends all 9 calls.
 fn is_made_again(answer: &io::Result<usize>) -> bool {
     match answer {
         Ok(_) => false,

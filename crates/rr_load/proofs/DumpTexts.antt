@@ -21,7 +21,7 @@ use Rattle.rr_object.specs.Objects.{Obj}
 use Rattle.rr_object.specs.Readings.{object_of}
 use Rattle.rr_object.proofs.Parsed.{kept_its_key, of_any_source}
 use Rattle.rr_answer.specs.Dumps.{dumped, end_line}
-use Rattle.rr_load.specs.Dumps.{before, object_result, objects_from}
+use Rattle.rr_load.specs.Dumps.{object_result, objects_from, with_first}
 
 -- an object that is read again as it is printed
 pub record IsPrinted (source : List ℕ) (o : Obj) : Type 0 where
@@ -100,7 +100,7 @@ dump_entries source os count all = texts_lead source os (end_line count) all ∙
 -- and these read as the objects
 entries_read : (source : List ℕ) (n : ℕ) (os : List Obj) → AllByRecursion (IsPrinted source) os → objects_from source n (entries_of os) ≡ Ok os
 entries_read source n [] all = refl
-entries_read source n (o ∷ os) all = λ i. before (object_result n (all.0.read i)) (entries_read source (n + 1) os all.1 i)
+entries_read source n (o ∷ os) all = λ i. with_first (object_result n (all.0.read i)) (entries_read source (n + 1) os all.1 i)
 
 pub dump_read : (source : List ℕ) (os : List Obj) (count : ℕ) → AllByRecursion (IsPrinted source) os → objects_from source 1 (entries (flat_map (dumped true) os ++ end_line count)) ≡ Ok os
 dump_read source os count all = ap (objects_from source 1) (dump_entries source os count all) ∙ entries_read source 1 os all

@@ -6,7 +6,7 @@ use Rattle.rr_object.specs.Objects.{Obj}
 use Rattle.rr_object.specs.declared.fault.ObjectFault.{ObjectFault}
 use Rattle.rr_object.specs.Faults.{code_of}
 use Rattle.rr_object.specs.Readings.{object_of}
-use Rattle.rr_load.specs.Dumps.{before, entry_object, object_result, objects_from}
+use Rattle.rr_load.specs.Dumps.{entry_object, object_result, objects_from, with_first}
 use Rattle.rr_load.specs.Private.{IsFaultSoFar}
 use Rattle.rr_load.specs.declared.fault.DumpReadFault.{DumpReadFault}
 use Rattle.rr_load.specs.declared.fault.DumpReadFault.TheVariants.{Read, Endless, Text, Object, Memory}
@@ -17,11 +17,11 @@ after (Ok objects) (Ok object) = Ok (objects ++ object ∷ [])
 after (Ok objects) (Err fault) = Err fault
 after (Err fault) later = Err fault
 
-one_alone : (r : Result Obj DumpReadFault) → before r (Ok []) ≡ after (Ok []) r
+one_alone : (r : Result Obj DumpReadFault) → with_first r (Ok []) ≡ after (Ok []) r
 one_alone (Ok object) = refl
 one_alone (Err fault) = refl
 
-one_between : (first : Result Obj DumpReadFault) (objects : Result (List Obj) DumpReadFault) (last : Result Obj DumpReadFault) → before first (after objects last) ≡ after (before first objects) last
+one_between : (first : Result Obj DumpReadFault) (objects : Result (List Obj) DumpReadFault) (last : Result Obj DumpReadFault) → with_first first (after objects last) ≡ after (with_first first objects) last
 one_between (Ok object) (Ok objects) (Ok last) = refl
 one_between (Ok object) (Ok objects) (Err fault) = refl
 one_between (Ok object) (Err fault) last = refl
@@ -32,7 +32,7 @@ with_last source n k [] last at =
     let same : n ≡ k = omega arith in
     one_alone (entry_object source n last) ∙ ap (λ m. after (Ok []) (entry_object source m last)) same
 with_last source n k (e ∷ es) last at =
-    ap (before (entry_object source n e)) (with_last source (n + 1) k es last (omega arith))
+    ap (with_first (entry_object source n e)) (with_last source (n + 1) k es last (omega arith))
     ∙ one_between (entry_object source n e) (objects_from source (n + 1) es) (entry_object source k last)
 
 -- one object more
@@ -72,7 +72,7 @@ fault_of_entry source n (Err why) fault is =
     subst IsOfEntry same tt
 
 fault_of_both : (first : Result Obj DumpReadFault) (later : Result (List Obj) DumpReadFault) (fault : DumpReadFault) → ((f : DumpReadFault) → first ≡ Err f → IsOfEntry f) → ((f : DumpReadFault) → later ≡ Err f → IsOfEntry f)
-    → before first later ≡ Err fault → IsOfEntry fault
+    → with_first first later ≡ Err fault → IsOfEntry fault
 fault_of_both (Ok object) (Ok objects) fault one all is = absurd (cc)
 fault_of_both (Ok object) (Err f) fault one all is = all fault (cc)
 fault_of_both (Err f) later fault one all is = one fault (cc)

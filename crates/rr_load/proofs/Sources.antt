@@ -15,7 +15,7 @@ use Rattle.rr_object.proofs.Parsed.{kept_paragraph, of_any_source}
 use Rattle.rr_auth.specs.Registries.{Reg}
 use Rattle.rr_object.proofs.KeyLaws.{keys_total}
 use Rattle.rr_registry.specs.Loading.{gathered}
-use Rattle.rr_load.specs.Dumps.{before, entry_object, object_result, objects_from}
+use Rattle.rr_load.specs.Dumps.{entry_object, object_result, objects_from, with_first}
 use Rattle.rr_load.specs.Laws.{DumpsAreOfTheirSource}
 use Rattle.rr_load.specs.declared.fault.DumpReadFault.{DumpReadFault}
 
@@ -37,7 +37,7 @@ of_entry source n (Ok fields) o e = of_result source n fields (object_of fields 
 of_entry source n (Err fault) o e = absurd (cc)
 
 of_both : (source : List ℕ) (first : Result Obj DumpReadFault) (later : Result (List Obj) DumpReadFault) (os : List Obj) → ((o : Obj) → first ≡ Ok o → IsOf source o)
-    → ((xs : List Obj) → later ≡ Ok xs → AllByRecursion (IsOf source) xs) → before first later ≡ Ok os → AllByRecursion (IsOf source) os
+    → ((xs : List Obj) → later ≡ Ok xs → AllByRecursion (IsOf source) xs) → with_first first later ≡ Ok os → AllByRecursion (IsOf source) os
 of_both source (Ok o) (Ok xs) os one all e =
     let same : o ∷ xs ≡ os = cc in
     subst (AllByRecursion (IsOf source)) same (one o refl, all xs refl)

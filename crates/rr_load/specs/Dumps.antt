@@ -23,25 +23,24 @@ abbrev pub entry_object : List ℕ → ℕ → Entry → Result Obj DumpReadFaul
 entry_object source n (Ok fields) = object_result n (object_of fields source)
 entry_object source n (Err fault) = Err (Text n)
 
--- an object before others; the fault that comes first is that of all of them
-abbrev pub before : Result Obj DumpReadFault → Result (List Obj) DumpReadFault
+-- the objects with this one first; the fault that comes first is that of all of them
+abbrev pub with_first : Result Obj DumpReadFault → Result (List Obj) DumpReadFault
     → Result (List Obj) DumpReadFault
-before (Ok object) (Ok objects) = Ok (object ∷ objects)
-before (Ok object) (Err fault) = Err fault
-before (Err fault) later = Err fault
+with_first (Ok object) (Ok objects) = Ok (object ∷ objects)
+with_first (Ok object) (Err fault) = Err fault
+with_first (Err fault) later = Err fault
 
 -- the objects of entries, the first of which is the n-th, or the first of their faults (profile)
 abbrev pub objects_from : List ℕ → ℕ → List Entry → Result (List Obj) DumpReadFault
 objects_from source n [] = Ok []
 objects_from source n (entry ∷ later) =
-    before (entry_object source n entry) (objects_from source (n + 1) later)
+    with_first (entry_object source n entry) (objects_from source (n + 1) later)
 
 -- the objects of a dump, or the first of its faults; entries are counted from 1 (profile)
 abbrev pub dump_objects : List ℕ → List ℕ → Result (List Obj) DumpReadFault
 dump_objects source text = objects_from source 1 (entries text)
 
--- a text is a dump of this registry, whose objects are of one source: they are taken as a registry
--- (profile)
+-- the entries of a text are objects of one source, and these are taken as this registry (profile)
 pub record IsDumpOf (source text : List ℕ) (registry : Reg) : Type 0 where
   pub objects : List Obj
   pub are : dump_objects source text ≡ Ok objects

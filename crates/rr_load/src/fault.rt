@@ -7,7 +7,7 @@ use rr_object::Code;
 use std::alloc::{AllocError, AllocFailed};
 use thiserror::Error;
 
-/// Why a dump is not a list of objects of a source. Its entries are counted from 1.
+/// Why a dump was not read. Entries are counted from 1.
 #[derive(Clone, Copy, Debug, PartialEq, Eq, Error)]
 pub enum DumpReadFault {
     /// A read failed.

@@ -9,7 +9,7 @@ pub fn full_dumps_are_read()
     ensures { FullDumpsAreRead }
 {}
 
-/// The registry of a dump that is read in a source is of that source.
+/// A sound registry of which a text is a dump is of the source in which the text is read.
 pub fn dumps_are_of_their_source()
     ensures { DumpsAreOfTheirSource }
 {}

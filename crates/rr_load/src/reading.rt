@@ -21,7 +21,7 @@ use std::alloc::Global;
 /// source. The dump is any RPSL text, read one paragraph at a time, and to its end even after an
 /// entry that is not an object: so a failed read, and too many reads, are told in place of such an
 /// entry. If memory runs out, that may be told in place of an entry's fault, after the whole dump
-/// was read or before any of it was.
+/// was read or before any of it was; no clause says when.
 pub fn read_dump<R: Source>(
     alloc: Global,
     reader: &mut R,

@@ -9,7 +9,7 @@ use Rattle.sqlite.specs.Effect.{Database}
 use Rattle.sqlite.proofs.Callers.{one_permutation}
 use Rattle.rr_rows.specs.Contents.{IsTidy, columns, contents, meta_row, meta_rows, meta_values}
 use Rattle.rr_rows.specs.Entries.{Entry, object_row, named_rows, AreRowsOf, IsAdded}
-use Rattle.rr_rows.specs.Maps.{IsFilled, this_version}
+use Rattle.rr_rows.specs.Maps.{IsFilled, current_version}
 use Rattle.rr_rows.proofs.OtherLemmas.{others_itself, others_then}
 
 pub flat_map-append : {A B : Type 0} (f : A → List B) (xs ys : List A) → flat_map f (xs ++ ys) ≡ flat_map f xs ++ flat_map f ys
@@ -65,8 +65,8 @@ first_meta_row name value old new none same =
 
 -- tables without a row, to which the version is added and then these, hold these and are of version 2
 pub filled_by : (entries : List Entry) (old mid new : Database) → old.trees 0 ≡ [] → old.trees 2 ≡ [] → old.trees 4 ≡ [] → mid.trees 2 ≡ old.trees 2 → mid.trees 4 ≡ old.trees 4
-    → IsPermutation (meta_values (codes "version") this_version ∷ contents (old.trees 0)) (contents (mid.trees 0)) → IsAdded entries mid new → IsFilled entries new
+    → IsPermutation (meta_values (codes "version") current_version ∷ contents (old.trees 0)) (contents (mid.trees 0)) → IsAdded entries mid new → IsFilled entries new
 filled_by entries old mid new meta objects named same_objects same_named version added = record {
   rows = rows_added entries mid new (same_objects ∙ objects) (same_named ∙ named) added;
-  version = ap meta_rows added.meta ∙ first_meta_row (codes "version") this_version old mid meta version;
+  version = ap meta_rows added.meta ∙ first_meta_row (codes "version") current_version old mid meta version;
 }

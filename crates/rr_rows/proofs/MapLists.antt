@@ -21,7 +21,7 @@ use Rattle.rr_object.proofs.KeyLaws.{keys_exact, keys_total, same_key}
 use Rattle.rr_object.proofs.Parsed.{of_any_source}
 use Rattle.rr_rows.specs.Contents.{contents}
 use Rattle.rr_rows.specs.Entries.{AreRowsOf, entry_of, object_row}
-use Rattle.rr_rows.specs.Maps.{AreApart, AreInOrder, AreStored, HasRows, HasVersion, IsKeyed, IsObject, IsObjectOf, this_version}
+use Rattle.rr_rows.specs.Maps.{AreApart, AreInOrder, AreStored, HasRows, HasVersion, IsKeyed, IsObject, IsObjectOf, current_version}
 use Rattle.rr_rows.proofs.MapEntries.{first_part, is_less, second_part, values_with_new}
 use Rattle.rr_rows.proofs.MapRows.{each_value, keys_told, put_keyed, rows_permuted}
 
@@ -87,7 +87,7 @@ list_permuted : (os : List Obj) → AreApart os → IsPermutation os (values (pu
 list_permuted os apart = subst (λ xs. IsPermutation (xs ++ os) (values (put_all empty os))) no_values (values_put_all empty os apart (all_new os))
 
 -- the rows of a list of objects, of which no two have the same key, are those of the map of the list
-pub listed_rows : (os : List Obj) (db : Database) → AllByRecursion IsObject os → AreApart os → AreRowsOf (map entry_of os) db → HasVersion this_version db → HasRows (put_all empty os) db
+pub listed_rows : (os : List Obj) (db : Database) → AllByRecursion IsObject os → AreApart os → AreRowsOf (map entry_of os) db → HasVersion current_version db → HasRows (put_all empty os) db
 listed_rows os db all apart rows version = record {
   keyed = put_all_keyed empty os all empty_keyed;
   rows = rows_permuted _ _ db (IsPermutation-map entry_of os _ (list_permuted os apart)) rows;

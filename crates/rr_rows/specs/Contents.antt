@@ -110,16 +110,16 @@ meets_tests tests params row = list_all (holds (params ∷ (Null ∷ row) ∷ []
 abbrev pub is_object_of : ℕ → List ℕ → Row → Bool
 is_object_of class key = meets_tests object_tests (Int (pos class) ∷ Text key ∷ [])
 
--- and a row of `named`
+-- a row of `named` has the class and the key, as SQL compares them
 abbrev pub is_named_of : ℕ → List ℕ → Row → Bool
 is_named_of class key = meets_tests named_tests (Int (pos class) ∷ Text key ∷ [])
 
--- and one that names this maintainer
+-- a row of `named` has the class and the key, and is of this maintainer
 abbrev pub is_name_of : ℕ → List ℕ → List ℕ → Row → Bool
 is_name_of class key name =
     meets_tests name_tests (Text name ∷ Int (pos class) ∷ Text key ∷ [])
 
--- and one that names one of these
+-- a row of `named` has the class and the key, and is of one of these maintainers
 abbrev pub is_name_among : ℕ → List ℕ → List (List ℕ) → Row → Bool
 is_name_among class key names row = list_any (λ name. is_name_of class key name row) names
 
@@ -136,11 +136,11 @@ pointed name named object = flat_map (λ first. filter (are_joined name first) o
 abbrev pub by_one : Row → Row → Ordering
 by_one = key_cmp 0 (ascending Binary ∷ [])
 
--- and in that of their first two
+-- rows in the order of their first two columns
 abbrev pub by_two : Row → Row → Ordering
 by_two = key_cmp 0 (ascending Binary ∷ ascending Binary ∷ [])
 
--- and in that of their first three
+-- rows in the order of their first three columns
 abbrev pub by_three : Row → Row → Ordering
 by_three = key_cmp 0 (ascending Binary ∷ ascending Binary ∷ ascending Binary ∷ [])
 

@@ -52,7 +52,7 @@ pub record AreRowsOf (entries : List Entry) (db : Database) : Type 0 where
   pub objects : IsPermutation (map object_row entries) (contents (db.trees object_tree))
   pub named : IsPermutation (flat_map named_rows entries) (contents (db.trees named_tree))
 
--- the rows of these are added, and all else stays
+-- the rows of these entries are added, and all else stays
 pub record IsAdded (entries : List Entry) (old new : Database) : Type 0 where
   pub tidy : IsTidy new
   pub objects : IsPermutation (map object_row entries ++ contents (old.trees object_tree))
@@ -62,7 +62,7 @@ pub record IsAdded (entries : List Entry) (old new : Database) : Type 0 where
   pub meta : new.trees meta_tree ≡ old.trees meta_tree
   pub others : KeepsOthers old new
 
--- one takes the place of those with its class and key, and all else stays
+-- the rows of the entry take the place of those with its class and key, and all else stays
 pub record IsPut (entry : Entry) (old new : Database) : Type 0 where
   pub tidy : IsTidy new
   pub objects : IsPermutation (object_row entry
@@ -76,7 +76,7 @@ pub record IsPut (entry : Entry) (old new : Database) : Type 0 where
   pub meta : new.trees meta_tree ≡ old.trees meta_tree
   pub others : KeepsOthers old new
 
--- those with a class and a key are taken out, and all else stays
+-- the rows with this class and key are taken out, and all else stays
 pub record IsTakenOut (class : ℕ) (key : List ℕ) (old new : Database) : Type 0 where
   pub tidy : IsTidy new
   pub objects : contents (new.trees object_tree)
@@ -86,6 +86,6 @@ pub record IsTakenOut (class : ℕ) (key : List ℕ) (old new : Database) : Type
   pub meta : new.trees meta_tree ≡ old.trees meta_tree
   pub others : KeepsOthers old new
 
--- trees of a database of which this is true, which a stop may leave
+-- these are the trees of some database of which this is true
 abbrev pub TreesOf : (Database → Type 0) → Trees → Type 0
 TreesOf P trees = (db : Database) × P db × (trees ≡ db.trees)

@@ -12,7 +12,8 @@ use Rattle.sqlite_schema.specs.declared.schema.Schema.{Schema}
 use Rattle.sqlite_catalog.specs.Change.{created, next_tree}
 use Rattle.sqlite.specs.Effect.{Database}
 use Rattle.rr_rows.specs.Contents.{IsTidy, KeepsOthers}
-use Rattle.rr_rows.specs.Tables.{Rules, meta, meta_tree, named, named_tree, object, object_tree}
+use Rattle.rr_rows.specs.Tables.{HasTables, Rules, meta, meta_tree, named, named_tree, object}
+use Rattle.rr_rows.specs.Tables.{object_tree}
 
 -- no table, no index and no view
 abbrev pub no_schema : Schema
@@ -36,7 +37,7 @@ meta_table = meta (keyed_at (1 ∷ []) [])
 abbrev pub object_table : Table
 object_table = record (object (keyed_at (1 ∷ 2 ∷ []) (is_a_class ∷ []))) { tree = 0 }
 
--- and `named`
+-- `named` as its text defines it, before it has a tree
 abbrev pub named_table : Table
 named_table = record (named (keyed_at (1 ∷ 2 ∷ 3 ∷ []) [])) { tree = 0 }
 
@@ -44,11 +45,11 @@ named_table = record (named (keyed_at (1 ∷ 2 ∷ 3 ∷ []) [])) { tree = 0 }
 abbrev pub with_meta : Schema
 with_meta = created no_schema meta_table
 
--- that of `meta` and `object`
+-- the schema of `meta` and `object`, once they are made
 abbrev pub with_object : Schema
 with_object = created with_meta object_table
 
--- and that of the three tables, made in their order
+-- the schema of the three tables, made in their order
 abbrev pub with_named : Schema
 with_named = created with_object named_table
 
@@ -68,6 +69,10 @@ pub record IsBare (db : Database) : Type 0 where
 -- one of the three tables has a row
 abbrev pub HasSomeRow : Database → Type 0
 HasSomeRow db = db.trees meta_tree ≡ [] → db.trees object_tree ≡ [] → db.trees named_tree ≡ [] → ⊥
+
+-- the three tables are there, and one has a row (profile)
+abbrev pub IsOccupied : Database → Type 0
+IsOccupied db = HasTables db.schema × HasSomeRow db
 
 -- a new store has room here: nothing at all stands in the database, or the three tables without a
 -- row (profile)

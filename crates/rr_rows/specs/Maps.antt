@@ -25,17 +25,18 @@ HasVersion version db = meta_rows (db.trees meta_tree) ≡ meta_row (codes "vers
 
 -- the version of tables whose keys have AS numbers of four octets, in eight hexadecimal digits
 -- (profile)
-abbrev pub this_version : List ℕ
-this_version = codes "2"
+abbrev pub current_version : List ℕ
+current_version = codes "2"
 
--- and of those whose keys have AS numbers of two octets, in four (profile)
+-- the version of tables whose keys have AS numbers of two octets, in four hexadecimal digits
+-- (profile)
 abbrev pub old_version : List ℕ
 old_version = codes "1"
 
--- the tables hold the rows of these and no others, and are of version 2 (profile)
+-- the tables hold the rows of these entries and no others, and are of version 2 (profile)
 pub record IsFilled (entries : List Entry) (db : Database) : Type 0 where
   pub rows : AreRowsOf entries db
-  pub version : HasVersion this_version db
+  pub version : HasVersion current_version db
 
 -- an object as readers make it: of good attributes, and what these read as in a registry of any
 -- source (RFC 2622, 2 to 6; RFC 2725, 10)
@@ -43,7 +44,7 @@ pub record IsObject (object : Obj) : Type 0 where
   pub fields : AreFields object.paragraph
   pub read : obj_of object.paragraph ≡ Ok object
 
--- and here in a registry of one source
+-- an object as readers make it in a registry of this source
 pub record IsObjectOf (source : List ℕ) (object : Obj) : Type 0 where
   pub fields : AreFields object.paragraph
   pub read : ReadsAs source object.paragraph object
@@ -71,7 +72,7 @@ pub record IsKeyed (objects : FinMap key_cmp Obj) : Type 0 where
 pub record HasRows (objects : FinMap key_cmp Obj) (db : Database) : Type 0 where
   pub keyed : IsKeyed objects
   pub rows : AreRowsOf (map entry_of (values objects)) db
-  pub version : HasVersion this_version db
+  pub version : HasVersion current_version db
 
 -- where the tables hold a finite map of objects, they hold it with the object under this key after
 -- the change
@@ -79,7 +80,8 @@ abbrev pub Puts : Key → Obj → Database → Database → Type 0
 Puts key object old new = (objects : FinMap key_cmp Obj) → HasRows objects old
     → HasRows (insert objects key object) new
 
--- and here without the object of this key
+-- where the tables hold a finite map of objects, they hold it without the object of this key after
+-- the change
 abbrev pub TakesOut : Key → Database → Database → Type 0
 TakesOut key old new =
     (objects : FinMap key_cmp Obj) → HasRows objects old → HasRows (remove objects key) new
@@ -100,23 +102,23 @@ KeyForm = Key → Option (List ℕ)
 abbrev pub entry_in : KeyForm → Obj → Entry
 entry_in form object = record (entry_of object) { key = unwrap_or (form object.key) [] }
 
--- the tables hold the rows of a list of objects of one source and no others, with keys in this form
--- and of this version; no two of the objects have the same key (profile)
-pub record AreStoredIn (form : KeyForm) (number : List ℕ) (source : List ℕ) (objects : List Obj)
+-- the tables hold the rows of a list of objects of one source and no others, with keys in this
+-- form, and their version has this text; no two of the objects have the same key (profile)
+pub record AreStoredIn (form : KeyForm) (text : List ℕ) (source : List ℕ) (objects : List Obj)
     (db : Database) : Type 0 where
   pub rows : AreRowsOf (map (entry_in form) objects) db
-  pub version : HasVersion number db
+  pub version : HasVersion text db
   pub formed : AllByRecursion (λ o. is_some (form o.key) ≡ true) objects
   pub of_source : AllByRecursion (IsObjectOf source) objects
   pub apart : AreApart objects
 
 -- every key has a text in tables of version 2 (profile)
-abbrev pub this_form : KeyForm
-this_form key = Some (key_bytes key)
+abbrev pub current_form : KeyForm
+current_form key = Some (key_bytes key)
 
 -- the tables are those of version 2 and hold the rows of these objects, all of one source (profile)
 abbrev pub AreStored : List ℕ → List Obj → Database → Type 0
-AreStored = AreStoredIn this_form this_version
+AreStored = AreStoredIn current_form current_version
 
 -- the tables are those of version 1 and hold the rows of these objects, all of one source (profile)
 abbrev pub AreOldStored : List ℕ → List Obj → Database → Type 0

@@ -13,8 +13,9 @@ use Rattle.sqlite_schema.specs.declared.program.Program.{Program}
 use Rattle.sqlite_schema.specs.declared.command.Source.TheVariants.{Values}
 use Rattle.sqlite_schema.specs.declared.command.Command.{Command}
 use Rattle.sqlite_schema.specs.declared.command.Command.TheVariants.{Insert}
+use Rattle.sqlite.specs.Given.{IsPlain}
 use Rattle.sqlite.specs.Listing.{understood, reads_listing}
-use Rattle.sqlite.proofs.Callers.{IsPlain, command_of}
+use Rattle.sqlite.proofs.Callers.{command_of}
 use Rattle.rr_rows.specs.Tables.{Layout, laid, meta_tree, named_tree, object_tree}
 
 -- a value of a row is that of another row, or a parameter
@@ -35,7 +36,7 @@ select_from from tests shown order = record {
   offset = lit (Int (pos 0));
 }
 
--- the same, of one table
+-- a query of the rows of one table that pass the tests, shown and put in order by these terms
 abbrev pub rows_of : ℕ → List Term → List Term → List Term → Query
 rows_of tree = select_from (inner tree end)
 
@@ -60,11 +61,11 @@ numbered_of tree =
 abbrev pub object_tests : List Term
 object_tests = equals (col 1 1) (col 0 0) ∷ equals (col 1 2) (col 0 1) ∷ []
 
--- and a row of `named`
+-- a row of `named` has the class and the key that are given
 abbrev pub named_tests : List Term
 named_tests = equals (col 1 2) (col 0 0) ∷ equals (col 1 3) (col 0 1) ∷ []
 
--- and the maintainer too
+-- a row of `named` has the maintainer, the class and the key that are given
 abbrev pub name_tests : List Term
 name_tests =
     equals (col 1 1) (col 0 0) ∷ equals (col 1 2) (col 0 1) ∷ equals (col 1 3) (col 0 2) ∷ []

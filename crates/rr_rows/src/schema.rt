@@ -157,8 +157,8 @@ fn are_ours(first: &Table, second: &Table, third: &Table, others: &[Table]) -> b
     is_meta(first) && is_object(second) && is_named(third) && stand_apart(others)
 }
 
-/// Whether the three tables are the first of the schema, in their order, and no other refers to
-/// them.
+/// Whether the schema begins with the three tables, each with its columns and any keys and checks,
+/// and each other table has a later tree than `named` and no foreign key to the three.
 pub fn has_tables(schema: &Schema) -> bool
     ensures is { IsTrue result → HasTables schema.now }
     ensures only { HasTables schema.now → IsTrue result }

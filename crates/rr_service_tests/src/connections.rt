@@ -11,8 +11,8 @@ pub fn ending(bytes: &[u8], step: usize) -> MemoryInput<'_> {
     MemoryInput {
         bytes,
         step,
-        reads: usize::MAX,
-        writes: usize::MAX,
+        reads_end: usize::MAX,
+        writes_end: usize::MAX,
     }
 }
 

@@ -171,8 +171,8 @@ fn connected<D: Registrar>(
     input: MemoryInput<'_>,
 ) -> (Result<(), ConnFault>, Vec<u8>) {
     let step = input.step.max(1);
-    let reader = Cut::new(Counted::new(input.bytes), step, input.reads);
-    let writer = Cut::new(Counted::new(Vec::new(alloc)), step, input.writes);
+    let reader = Cut::new(Counted::new(input.bytes), step, input.reads_end);
+    let writer = Cut::new(Counted::new(Vec::new(alloc)), step, input.writes_end);
     let mut connection = Joined::new(reader, writer);
     let end = serve(alloc, desk, &mut connection);
     let (_, writer) = connection.into_parts();

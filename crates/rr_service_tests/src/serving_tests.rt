@@ -444,7 +444,7 @@ fn a_short_body_counts_up_to_its_last_whole_paragraph(rt: HostRuntime) -> Result
 /// A connection that gives these bytes one by one, and of which each read fails after so many.
 fn breaking(text: &str, reads: usize) -> MemoryInput<'_> {
     MemoryInput {
-        reads,
+        reads_end: reads,
         ..ending(text.as_bytes(), 1)
     }
 }
@@ -509,7 +509,7 @@ impl Trial for Prefixes {
         let reply = self.reply.as_bytes();
         for writes in 0..reply.len() {
             let input = MemoryInput {
-                writes,
+                writes_end: writes,
                 ..ending(self.request.as_bytes(), 7)
             };
             let wanted = Err(ConnFault::Write);

@@ -56,7 +56,7 @@ impl Trial for Turns {
         mut desk: D,
     ) -> Result<(), Fail> {
         let broken = MemoryInput {
-            reads: 0,
+            reads_end: 0,
             ..MemoryInput::whole(EXACT.as_bytes())
         };
         let inputs = [

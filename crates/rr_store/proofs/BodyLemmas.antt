@@ -8,7 +8,7 @@ use Rattle.std.specs.Prelude.{codes}
 use Rattle.rr_rows.specs.Contents.{meta_values}
 use Rattle.rr_rows.specs.Entries.{Entry, IsAdded, IsPut, IsTakenOut, named_rows, object_row}
 use Rattle.rr_rows.specs.Made.{IsBare}
-use Rattle.rr_rows.specs.Maps.{AreNamesOf, AreOfObjects, IsFilled, this_version}
+use Rattle.rr_rows.specs.Maps.{AreNamesOf, AreOfObjects, IsFilled, current_version}
 use Rattle.rr_rows.proofs.AddedLemmas.{append_none, filled_by}
 use Rattle.rr_rows.proofs.ObjectRows.{names_gone}
 use Rattle.rr_rows.proofs.OtherLemmas.{others_then}
@@ -78,5 +78,5 @@ taken_by class key a b c first second = record {
 }
 
 -- the version comes and then the rows of objects, in tables without a row
-pub filled_so : (entries : List Entry) (a b c : Database) → IsBare a → Alters a b 0 (Adds (meta_values (codes "version") this_version ∷ [])) → IsAdded entries b c → IsFilled entries c
+pub filled_so : (entries : List Entry) (a b c : Database) → IsBare a → Alters a b 0 (Adds (meta_values (codes "version") current_version ∷ [])) → IsAdded entries b c → IsFilled entries c
 filled_so entries a b c bare first second = filled_by entries a b c bare.meta bare.object bare.named (first.object two_none) (first.named four_none) first.change second

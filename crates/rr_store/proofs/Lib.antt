@@ -16,6 +16,7 @@ pub mod OrderLemmas
 pub mod PointedLemmas
 pub mod SortedLemmas
 pub mod SettledLemmas
+pub mod StepLemmas
 pub mod ShownLemmas
 pub mod SourceLemmas
 pub mod StoredLemmas

@@ -21,7 +21,7 @@ use Rattle.rr_object.specs.Objects.{Obj}
 use Rattle.rr_object.specs.OldKeys.{old_key_bytes}
 use Rattle.rr_object.specs.Readings.{object_of}
 use Rattle.rr_object.proofs.Parsed.{kept_its_key, of_any_source}
-use Rattle.rr_rows.specs.Maps.{AreOldStored, IsObjectOf, this_form}
+use Rattle.rr_rows.specs.Maps.{AreOldStored, IsObjectOf, current_form}
 use Rattle.rr_store.specs.Migrating.{IsMigrated, has_mntner, upper_block}
 use Rattle.rr_store.specs.MigratingParts.{IsRewritten}
 
@@ -63,7 +63,7 @@ migrated root source objects old new before registered after =
       after = record {
         rows = after.filled.rows;
         version = after.filled.version;
-        formed = all_of (λ o. is_some (this_form o.key) ≡ true) (λ o. refl) (objects ++ after.upper ∷ []);
+        formed = all_of (λ o. is_some (current_form o.key) ≡ true) (λ o. refl) (objects ++ after.upper ∷ []);
         of_source = all-append (IsObjectOf source) objects (after.upper ∷ []) before.of_source (after.of_source, tt);
         apart = ascending-append (λ a b. a.key ≢ b.key) objects (after.upper ∷ []) before.apart (tt, tt)
             (all_weaker (λ o. is_some (old_key_bytes o.key) ≡ true) (λ o. AllByRecursion (λ b. o.key ≢ b.key) (after.upper ∷ [])) (λ o formed. (other_key o after.upper key formed, tt)) objects before.formed);

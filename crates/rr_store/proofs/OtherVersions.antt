@@ -1,5 +1,5 @@
 -- What rows that are stored in tables of a version say of it, and which faults are of rows.
-use Rattle.std.proofs.Common.{◌≡◌, inl, inr, ℕ, ◌<◌, ◌^◌, List, [], ◌∷◌, codes, sym, ap, subst, ◌∙◌, arith}
+use Rattle.std.proofs.Common.{◌≡◌, inl, inr, ℕ, ◌<◌, ◌^◌, List, [], ◌∷◌, codes, refl, sym, ap, subst, ◌∙◌, arith}
 use Rattle.std.specs.Prelude.{decimal, Contains}
 use Rattle.std.proofs.lemmas.Fmt.{decimal_digit, decimal_injective}
 use Rattle.std.proofs.lemmas.List.Elements.{Contains-push_cases}
@@ -9,9 +9,9 @@ use Rattle.rr_object.specs.Objects.{Obj}
 use Rattle.rr_rows.specs.Contents.{meta_row}
 use Rattle.rr_rows.specs.Maps.{AreStoredIn}
 use Rattle.rr_rows.specs.Tables.{HasTables}
-use Rattle.rr_store.specs.Faults.{migrate_fault, unread_fault}
-use Rattle.rr_store.specs.Migrating.{IsOfOldRows}
-use Rattle.rr_store.specs.Opening.{IsOfRows, SaysNoOther}
+use Rattle.rr_store.specs.Faults.{migrate_fault, no_tables, unread_fault}
+use Rattle.rr_store.specs.Migrating.{IsOfOldRows, RefusesOldTables}
+use Rattle.rr_store.specs.Opening.{IsOfRows, RefusesTables, SaysNoOther}
 use Rattle.rr_store.specs.Versions.{form_of, version_number, version_text}
 use Rattle.rr_store.specs.declared.fault.OpenFault.{OpenFault}
 use Rattle.rr_store.specs.declared.fault.OpenFault.TheVariants as opened
@@ -19,16 +19,16 @@ use Rattle.rr_store.specs.declared.fault.MigrateFault.TheVariants as migrated
 use Rattle.rr_store.specs.declared.fault.StoreFault.{StoreFault}
 use Rattle.rr_store.specs.declared.fault.StoreFault.TheVariants as store
 use Rattle.rr_store.specs.declared.version.Version.{Version}
-use Rattle.rr_store.specs.declared.version.Version.TheVariants.{Old, This}
+use Rattle.rr_store.specs.declared.version.Version.TheVariants.{Current, Old}
 
 -- rows that are stored in tables of a version say no other version
 text_is : (version : Version) → version_text version ≡ decimal (version_number version)
 text_is Old = sym (decimal_digit 1 (omega arith))
-text_is This = sym (decimal_digit 2 (omega arith))
+text_is Current = sym (decimal_digit 2 (omega arith))
 
 is_low : (version : Version) → version_number version < 2 ^ 64
 is_low Old = omega arith
-is_low This = omega arith
+is_low Current = omega arith
 
 no_member : {X : Type 0} (x : X) → Contains [] x → ⊥
 no_member x h = omega (arith, h.1)
@@ -68,3 +68,38 @@ unread_store (opened.WrongVersion n) error is = absurd (cc)
 unread_store opened.BadRow error is = absurd (cc)
 unread_store (opened.Store e) error is = let same : e ≡ error = cc in ap opened.Store same
 unread_store opened.Memory error is = absurd (cc)
+
+-- tables of version 1 that are not read are not migrated, and for the same reason
+pub unread_refuses : (root source : List ℕ) (db : Database) (fault : OpenFault) → RefusesTables Old source db fault → RefusesOldTables root source db (unread_fault fault)
+unread_refuses root source db (opened.WrongVersion n) h = record {
+  wrong_version = λ number is. h.wrong_version number (let same : n ≡ number = cc in ap opened.WrongVersion same);
+  bad_row = λ is. absurd (cc);
+  no_other_said = λ is. absurd (cc);
+  tables = λ rows. h.tables tt;
+  untabled = λ none. absurd (none (h.tables tt));
+  no_root = λ is. absurd (cc);
+}
+unread_refuses root source db opened.BadRow h = record {
+  wrong_version = λ number is. absurd (cc);
+  bad_row = λ is. h.bad_row refl;
+  no_other_said = λ is. h.no_other_said refl;
+  tables = λ rows. h.tables tt;
+  untabled = λ none. absurd (none (h.tables tt));
+  no_root = λ is. absurd (cc);
+}
+unread_refuses root source db (opened.Store error) h = record {
+  wrong_version = λ number is. absurd (cc);
+  bad_row = λ is. absurd (cc);
+  no_other_said = λ is. absurd (cc);
+  tables = λ none. absurd none;
+  untabled = λ none. let told = h.untabled none in let same : error ≡ no_tables = cc in ap migrated.Store same;
+  no_root = λ is. absurd (cc);
+}
+unread_refuses root source db opened.Memory h = record {
+  wrong_version = λ number is. absurd (cc);
+  bad_row = λ is. absurd (cc);
+  no_other_said = λ is. absurd (cc);
+  tables = λ none. absurd none;
+  untabled = λ none. absurd (let told = h.untabled none in cc);
+  no_root = λ is. absurd (cc);
+}

@@ -10,11 +10,11 @@ use Rattle.rr_object.specs.declared.key.Key.{Key}
 use Rattle.rr_object.specs.KeyOrders.{key_cmp}
 use Rattle.rr_object.specs.Objects.{Obj, object_names}
 use Rattle.rr_rows.specs.Contents.{contents, pointed}
-use Rattle.rr_rows.specs.Maps.{AreApart, AreStored, IsKeyed, IsObjectOf, this_form}
+use Rattle.rr_rows.specs.Maps.{AreApart, AreStored, IsKeyed, IsObjectOf, current_form}
 use Rattle.rr_rows.proofs.MapLists.{in_order_apart, put_all, stored_rows, values_in_order, values_put_all}
 use Rattle.rr_rows.proofs.MapNaming.{pointed_rows, row_of}
 use Rattle.rr_rows.proofs.MapRows.{each_value}
-use Rattle.rr_store.specs.CheckParts.{HoldsNone, HoldsObjects}
+use Rattle.rr_store.specs.CheckParts.{AreRowsOfNone, HoldsObjects}
 use Rattle.rr_store.specs.ReadingParts.{AreRead}
 use Rattle.rr_store.proofs.ObjectLemmas.{one_list}
 use Rattle.rr_store.proofs.OrderLemmas.{apart_permutes}
@@ -51,17 +51,17 @@ module _ (source name : List ℕ) (os : List Obj) (db : Database) (stored : AreS
     relisted : (listed : List Obj) × IsPermutation naming listed × (rows ≡ map row_of listed)
     relisted = pull_back row_of _ rows (IsPermutation-trans _ _ _ (pointed_rows name (put_all empty os) db (stored_rows source os db stored)) same) naming refl
 
-    relisted_read : AreRead this_form source rows relisted.0
+    relisted_read : AreRead current_form source rows relisted.0
     unfolding relisted
-    relisted_read = subst (λ l. AreRead this_form source l relisted.0) (sym relisted.2) (reads this_form source relisted.0 (all-permutation (IsObjectOf source) naming relisted.0 relisted.1 of_source) (formed_all relisted.0))
+    relisted_read = subst (λ l. AreRead current_form source l relisted.0) (sym relisted.2) (reads current_form source relisted.0 (all-permutation (IsObjectOf source) naming relisted.0 relisted.1 of_source) (formed_all relisted.0))
 
   -- they are rows of objects of the source
-  pub pointed_read : HoldsNone this_form source (pointed name (contents (db.trees 4)) (contents (db.trees 2))) → ⊥
+  pub pointed_read : AreRowsOfNone current_form source (pointed name (contents (db.trees 4)) (contents (db.trees 2))) → ⊥
   pointed_read held = held.none (relisted held.rows held.same).0 (relisted_read held.rows held.same)
 
   -- and those that are read of them have keys of their own
-  pub pointed_apart : (read : List Obj) → HoldsObjects this_form source read (pointed name (contents (db.trees 4)) (contents (db.trees 2))) → AreApart read
+  pub pointed_apart : (read : List Obj) → HoldsObjects current_form source read (pointed name (contents (db.trees 4)) (contents (db.trees 2))) → AreApart read
   unfolding relisted
   pointed_apart read held =
       let l = relisted held.rows held.same in
-      subst AreApart (sym (one_list this_form source held.rows read l.0 held.read (relisted_read held.rows held.same))) ((apart_permutes naming l.0 l.1).1 apart)
+      subst AreApart (sym (one_list current_form source held.rows read l.0 held.read (relisted_read held.rows held.same))) ((apart_permutes naming l.0 l.1).1 apart)

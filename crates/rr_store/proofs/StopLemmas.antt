@@ -29,7 +29,7 @@ use Rattle.rr_store.specs.ReadingParts.{TellsNoVersion}
 use Rattle.rr_store.specs.StreamParts.{FailsToCount, StopsFor}
 use Rattle.rr_store.specs.declared.fault.OpenFault.{OpenFault}
 use Rattle.rr_store.specs.declared.fault.OpenFault.TheVariants.{WrongVersion, BadRow, Store, Memory}
-use Rattle.rr_store.specs.declared.version.Version.TheVariants.{This}
+use Rattle.rr_store.specs.declared.version.Version.TheVariants.{Current}
 use Rattle.rr_store.proofs.CauseLemmas.{IsTold, caused_then, fails_then, tidy_then}
 use Rattle.rr_store.proofs.StreamLemmas.{Begins, HasRead, begun_answer}
 
@@ -125,7 +125,7 @@ module _ {S : Type 0} (g : Ghosts S) (a b c : Held S) (same : HasCleanDisk (stat
   second_reads (Err fault) h = λ error is. tidy_then g a b c same first then error (h error is)
 
 -- objects are listed from tables that hold rows of such, unless the database fails for a cause outside these
-pub lists_fail : {S : Type 0} (g : Ghosts S) (source : List ℕ) (old new : Held S) (fault : OpenFault) → TellsNoVersion fault → (HasCleanDisk (state g new) → fault ≡ BadRow → HoldNone This source (state g old).now)
+pub lists_fail : {S : Type 0} (g : Ghosts S) (source : List ℕ) (old new : Held S) (fault : OpenFault) → TellsNoVersion fault → (HasCleanDisk (state g new) → fault ≡ BadRow → HoldNone Current source (state g old).now)
     → IfStore (FailsOverTidy g old new) fault → FailsToList g source old new (store_fault fault)
 lists_fail g source old new (WrongVersion number) other none cause objects stored error is = absurd (other number refl)
 lists_fail g source old new BadRow other none cause objects stored error is = λ clean. absurd (none clean refl objects stored)

@@ -18,14 +18,15 @@ use Rattle.rr_rows.specs.Contents.{IsTidy, contents, meta_row, meta_rows, object
 use Rattle.rr_rows.specs.Entries.{named_rows, object_row}
 use Rattle.rr_rows.specs.Maps.{AreApart, AreInOrder, AreStoredIn, HasVersion, IsObjectOf, KeyForm, entry_in}
 use Rattle.rr_rows.proofs.MapLists.{in_order_apart}
-use Rattle.rr_store.specs.CheckParts.{HoldsNone, HoldsObjects, IsVersionFault}
+use Rattle.rr_store.specs.CheckParts.{AreRowsOfNone, HoldsObjects, IsVersionFault}
+use Rattle.rr_store.specs.Faults.{no_tables}
 use Rattle.rr_store.specs.Opening.{HoldNone, RefusesTables, SaysNoOther, SaysOther}
 use Rattle.rr_store.specs.ReadingParts.{AreRead}
 use Rattle.rr_store.specs.Versions.{SaysVersion, version_number, version_text}
 use Rattle.rr_store.specs.declared.fault.OpenFault.{OpenFault}
 use Rattle.rr_store.specs.declared.fault.OpenFault.TheVariants.{WrongVersion, BadRow, Store, Memory}
 use Rattle.rr_store.specs.declared.version.Version.{Version}
-use Rattle.rr_store.specs.declared.version.Version.TheVariants.{Old, This}
+use Rattle.rr_store.specs.declared.version.Version.TheVariants.{Current, Old}
 use Rattle.rr_store.proofs.ObjectLemmas.{one_list}
 use Rattle.rr_store.proofs.OrderLemmas.{apart_permutes}
 
@@ -53,13 +54,14 @@ no_other_told version db BadRow told is = record { only = told.no_other }
 no_other_told version db (Store error) told is = absurd (cc)
 no_other_told version db Memory told is = absurd (cc)
 
--- the database's own refusal says nothing of the tables
-pub database_refuses : (version : Version) (source : List ℕ) (db : Database) (error : Error) → RefusesTables version source db (Store error)
-database_refuses version source db error = record {
+-- the database's own refusal says nothing of the tables, if they are there
+pub database_refuses : (version : Version) (source : List ℕ) (db : Database) (error : Error) → (¬ HasTables db.schema → error ≡ no_tables) → RefusesTables version source db (Store error)
+database_refuses version source db error untold = record {
   wrong_version = λ number is. absurd (cc);
   bad_row = λ is. absurd (cc);
   no_other_said = λ is. absurd (cc);
   tables = λ none. absurd none;
+  untabled = λ none. ap Store (untold none);
 }
 
 -- tables whose version is told amiss are refused for that
@@ -69,16 +71,17 @@ version_refuses version source db fault has told = record {
   bad_row = unversioned version source db fault told;
   no_other_said = no_other_told version db fault told;
   tables = λ rows. has;
+  untabled = λ none. absurd (none has);
 }
 
 version_decimal : (version : Version) → version_text version ≡ decimal (version_number version)
 unfolding digits
 version_decimal Old = refl
-version_decimal This = refl
+version_decimal Current = refl
 
 number_low : (version : Version) → version_number version < 2 ^ 64
 number_low Old = omega arith
-number_low This = omega arith
+number_low Current = omega arith
 
 said_alone : (name text other : List ℕ) → Contains (meta_row name text ∷ []) (meta_row name other) → text ≡ other
 said_alone name text other says =
@@ -102,6 +105,7 @@ rows_refuse version source db fault has is no_other bad = record {
   bad_row = bad;
   no_other_said = λ _. only_said version db is;
   tables = λ rows. has;
+  untabled = λ none. absurd (none has);
 }
 
 module _ (form : KeyForm) (source : List ℕ) where
@@ -140,7 +144,7 @@ module _ (form : KeyForm) (source : List ℕ) where
         (reads relisted.0 (all-permutation (IsObjectOf source) objects relisted.0 relisted.1 stored.of_source) (all-permutation (λ o. is_some (form o.key) ≡ true) objects relisted.0 relisted.1 stored.formed))
 
   -- where rows are those of no objects, the tables hold the rows of none
-  pub none_read : (number : List ℕ) (db : Database) → HoldsNone form source (contents (db.trees 2)) → (objects : List Obj) → AreStoredIn form number source objects db → ⊥
+  pub none_read : (number : List ℕ) (db : Database) → AreRowsOfNone form source (contents (db.trees 2)) → (objects : List Obj) → AreStoredIn form number source objects db → ⊥
   none_read number db held objects stored = held.none (relisted number held.rows objects db stored held.same).0 (relisted_read number held.rows objects db stored held.same)
 
   -- where two of the objects that were read have the same key, too

@@ -1,14 +1,10 @@
--- What is done to the rows of one object.
+-- What the added rows of an object do to a map of objects.
 use Rattle.std.specs.Prelude.{◌≡◌, None}
 use Rattle.std.specs.FinMap.{FinMap, get, insert}
 use Rattle.sqlite.specs.Effect.{Database}
 use Rattle.rr_object.specs.declared.key.Key.{Key}
-use Rattle.rr_object.specs.Classes.{class_number}
 use Rattle.rr_object.specs.KeyOrders.{key_cmp}
-use Rattle.rr_object.specs.Keys.{class_of}
-use Rattle.rr_object.specs.KeyTexts.{key_bytes}
 use Rattle.rr_object.specs.Objects.{Obj}
-use Rattle.rr_rows.specs.Entries.{IsTakenOut}
 use Rattle.rr_rows.specs.Maps.{HasRows}
 
 -- where the tables hold a finite map of objects with none under this key, they hold it with the
@@ -16,7 +12,3 @@ use Rattle.rr_rows.specs.Maps.{HasRows}
 abbrev pub AddsTo : Key → Obj → Database → Database → Type 0
 AddsTo key object old new = (objects : FinMap key_cmp Obj) → HasRows objects old
     → get objects key ≡ None → HasRows (insert objects key object) new
-
--- the rows of the object with this key are taken out
-abbrev pub TakesRows : Key → Database → Database → Type 0
-TakesRows key = IsTakenOut (class_number (class_of key)) (key_bytes key)

@@ -12,8 +12,9 @@ use Rattle.sqlite.specs.State.{HasCause, HasCleanDisk, IsUnchanged, State, Survi
 use Rattle.rr_rows.specs.Contents.{IsTidy}
 use Rattle.rr_rows.specs.Entries.{TreesOf}
 
--- the database's error has a cause outside the rows, and names it: memory ran out, the disk failed
--- or refused, which is counted, the connection was shut, or its limit of steps was reached
+-- the database's error names a cause outside the rows: memory ran out, of which nothing shows; the
+-- disk failed or refused, which is counted; the connection was shut; or its limit of steps was
+-- reached
 abbrev pub IsCaused : State → State → Error → Type 0
 IsCaused old new error =
     ((cause : StoreError) × (error ≡ store_error cause) × HasCause old new ⊥ cause)
@@ -24,19 +25,19 @@ module _ {S : Type 0} (g : Ghosts S) where
   abbrev pub database : Held S → Database
   database conn = (state g conn).now
 
-  -- this is true where the disk has returned what was written
+  -- where the disk has returned what was written, this is true
   abbrev pub OnCleanDisk : Held S → Type 0 → Type 0
   OnCleanDisk conn P = HasCleanDisk (state g conn) → P
 
-  -- and here while the connection is open, too
+  -- while the connection is open and the disk has returned what was written, this is true
   abbrev pub WhileOpen : Held S → Type 0 → Type 0
   WhileOpen conn P = HasCleanDisk (state g conn) → IsTrue (state g conn).is_open → P
 
-  -- the database's error has such a cause
+  -- on a clean disk the database's error has a cause outside the rows
   abbrev pub FailsFor : Held S → Held S → Error → Type 0
   FailsFor old new error = OnCleanDisk new (IsCaused (state g old) (state g new) error)
 
-  -- and here where the three tables are there, with numbers of their own for their rows
+  -- where the database was tidy, and on a clean disk, its error has a cause outside the rows
   abbrev pub FailsOverTidy : Held S → Held S → Error → Type 0
   FailsOverTidy old new error = IsTidy (database old) → FailsFor old new error
 
@@ -61,8 +62,8 @@ module _ {S : Type 0} (g : Ghosts S) where
     pub rests : Rests old new
     pub same : OnCleanDisk new (OnOk result (IsUnchanged (state g old) (state g new)))
 
-  -- one transaction makes this change, or fails and leaves the rows as they were; a stop leaves one
-  -- of the two
+  -- one transaction makes this change, or fails and leaves the rows as they were, while the
+  -- connection is open; a stop leaves one of the two
   pub record Transacts {X E : Type 0} (Change : Database → Database → Type 0) (old new : Held S)
       (result : Result X E) : Type 0 where
     pub autocommit : old.in_transaction ≡ false → new.in_transaction ≡ false

@@ -9,7 +9,7 @@ use Rattle.sqlite.specs.Effect.{Database}
 use Rattle.rr_rows.specs.Contents.{AreNumbered, IsInRank, by_one, contents, meta_row}
 use Rattle.rr_rows.specs.Contents.{numbered, pointed}
 use Rattle.rr_rows.specs.Entries.{named_rows}
-use Rattle.rr_rows.specs.Maps.{KeyForm, entry_in, this_form}
+use Rattle.rr_rows.specs.Maps.{KeyForm, entry_in, current_form}
 use Rattle.rr_rows.specs.Tables.{HasTables, meta_tree, named_tree, object_tree}
 use Rattle.rr_store.specs.ReadingParts.{AreNone, AreRead}
 use Rattle.rr_store.specs.Versions.{SaysVersion, form_of, version_number, version_text}
@@ -17,49 +17,49 @@ use Rattle.rr_store.specs.declared.version.Version.{Version}
 use Rattle.rr_store.specs.declared.fault.OpenFault.{OpenFault}
 use Rattle.rr_store.specs.declared.fault.OpenFault.TheVariants.{WrongVersion, BadRow, Store, Memory}
 
--- no row of `meta` says another version of 32 bits, and the rows are not the one that says this
--- (profile)
+-- no row of `meta` says another version of 32 bits than that asked for, and the rows are not the
+-- one that says this
 pub record IsBadVersion (version : Version) (rows : List Row) : Type 0 where
   pub no_other : (n : ℕ) → n < 2 ^ 32 → SaysVersion n rows → n ≡ version_number version
   pub bad : rows ≢ meta_row (codes "version") (version_text version) ∷ []
 
--- a fault of the version is told where the rows of `meta` have it (profile)
+-- a fault of the version is told where the rows of `meta` have it
 abbrev pub IsVersionFault : Version → List Row → OpenFault → Type 0
 IsVersionFault version rows (WrongVersion n) = (n ≢ version_number version) × SaysVersion n rows
 IsVersionFault version rows BadRow = IsBadVersion version rows
 IsVersionFault version rows (Store error) = Unit {0}
 IsVersionFault version rows Memory = Unit {0}
 
--- the three tables are there, and the rows of `meta` have numbers of their own (profile)
+-- the three tables are there, and the rows of `meta` have numbers of their own
 pub record HasNumberedMeta (db : Database) : Type 0 where
   pub tables : HasTables db.schema
   pub numbered : AreNumbered (db.trees meta_tree)
 
--- rows, in some order, are those of the maintainers that the objects name (profile)
+-- rows, in some order, are those of the maintainers that the objects name
 abbrev pub AreNamingRows : Version → List Obj → List Row → Type 0
 AreNamingRows version objects rows =
     IsPermutation (flat_map named_rows (map (entry_in (form_of version)) objects)) rows
 
--- the tables name the maintainers of the objects, and no others (profile)
+-- the tables name the maintainers of the objects, and no others
 abbrev pub NamesAre : Version → List Obj → Database → Type 0
 NamesAre version objects db = AreNamingRows version objects (contents (db.trees named_tree))
 
--- rows, in some order, are those of these objects (profile)
+-- rows, in some order, are those of these objects
 pub record HoldsObjects (form : KeyForm) (source : List ℕ) (objects : List Obj) (held : List Row)
     : Type 0 where
   pub rows : List Row
   pub same : IsPermutation held rows
   pub read : AreRead form source rows objects
 
--- rows, in the order of their numbers, are those of these objects, in turn (profile)
+-- rows, in the order of their numbers, are those of these objects, in turn
 pub record HoldsInTurn (form : KeyForm) (source : List ℕ) (objects : List Obj) (held : List Row)
     : Type 0 where
   pub rows : List Row
   pub ranked : IsInRank by_one (map numbered held) rows
   pub read : AreRead form source (contents rows) objects
 
--- rows, in some order, are those of no objects of the source (profile)
-pub record HoldsNone (form : KeyForm) (source : List ℕ) (held : List Row) : Type 0 where
+-- rows, in some order, are those of no objects of the source
+pub record AreRowsOfNone (form : KeyForm) (source : List ℕ) (held : List Row) : Type 0 where
   pub rows : List Row
   pub same : IsPermutation held rows
   pub none : AreNone form source rows
@@ -77,16 +77,16 @@ TableHoldsInTurn version source objects db =
 -- `object` holds the rows of no objects of the source
 abbrev pub TableHoldsNone : Version → List ℕ → Database → Type 0
 TableHoldsNone version source db =
-    HoldsNone (form_of version) source (contents (db.trees object_tree))
+    AreRowsOfNone (form_of version) source (contents (db.trees object_tree))
 
 -- the objects are those to which `named` points from this maintainer
 abbrev pub NamedPointsTo : List ℕ → List ℕ → List Obj → Database → Type 0
 NamedPointsTo source name objects db =
-    HoldsObjects this_form source objects
+    HoldsObjects current_form source objects
     (pointed name (contents (db.trees named_tree)) (contents (db.trees object_tree)))
 
--- and here those to which it points are the rows of no objects of the source
+-- the rows to which `named` points from this maintainer are those of no objects of the source
 abbrev pub NamedPointsToNone : List ℕ → List ℕ → Database → Type 0
 NamedPointsToNone source name db =
-    HoldsNone this_form source
+    AreRowsOfNone current_form source
     (pointed name (contents (db.trees named_tree)) (contents (db.trees object_tree)))

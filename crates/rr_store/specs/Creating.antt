@@ -1,5 +1,5 @@
 -- What becomes of a call that makes a store.
-use Rattle.std.specs.Prelude.{◌≡◌, false, List, map}
+use Rattle.std.specs.Prelude.{◌≡◌, ◌≢◌, false, List, map}
 use Rattle.std.specs.List.{AllByRecursion}
 use Rattle.sqlite_trees.specs.declared.store.Store.{Ghosts}
 use Rattle.sqlite.specs.declared.error.Error.{Error}
@@ -8,12 +8,13 @@ use Rattle.sqlite.specs.Held.{Held, state}
 use Rattle.sqlite.specs.State.{Survives}
 use Rattle.rr_object.specs.Objects.{Obj}
 use Rattle.rr_rows.specs.Entries.{TreesOf, entry_of}
-use Rattle.rr_rows.specs.Made.{HasItsTables, HasSomeRow, IsVacant}
+use Rattle.rr_rows.specs.Made.{HasItsTables, HasSomeRow, IsOccupied, IsVacant, no_schema}
 use Rattle.rr_rows.specs.Maps.{IsFilled, IsObject}
 use Rattle.rr_rows.specs.Tables.{HasTables}
 use Rattle.rr_store.specs.Calls.{FailsFor, IsOpen, IsSettled, OnCleanDisk, WhileOpen, database}
+use Rattle.rr_store.specs.Faults.{no_tables}
 use Rattle.rr_store.specs.declared.fault.CreateFault.{CreateFault}
-use Rattle.rr_store.specs.declared.fault.CreateFault.TheVariants.{NotEmpty, Store}
+use Rattle.rr_store.specs.declared.fault.CreateFault.TheVariants.{Memory, NotEmpty, Store}
 
 -- the tables hold the rows of these objects, which are such as readers make, and no others, and are
 -- of version 2 (profile)
@@ -38,15 +39,19 @@ module _ {S : Type 0} (g : Ghosts S) (objects : List Obj) (conn : Held S) where
     pub crash_tables : Survives (state g conn) (state g store)
         (TreesOf (HasItsTables (database g conn)))
 
-  -- the rows are as they were; where one stood in the tables, that is the fault, unless it has
-  -- another cause
+  -- the rows are as they were, while the connection is open; where one stood in the tables, that is
+  -- the fault, unless the database failed; where other tables stood, that is the fault
   pub record FailsToMake (left : Held S) (fault : CreateFault) : Type 0 where
     pub autocommit : left.in_transaction ≡ false
     pub kept : WhileOpen g left (database g left ≡ database g conn)
     pub settled : IsSettled g left
     pub not_empty : fault ≡ NotEmpty
-        → OnCleanDisk g left (HasTables (database g conn).schema × HasSomeRow (database g conn))
+        → OnCleanDisk g left (IsOccupied (database g conn))
     pub store : (error : Error) → fault ≡ Store error → FailsOverRow g conn left error
+    pub no_memory : OnCleanDisk g left (fault ≡ Memory
+        → HasTables (database g conn).schema → ¬ HasSomeRow (database g conn))
+    pub untabled : ¬ HasTables (database g conn).schema
+        → (database g conn).schema ≢ no_schema → fault ≡ Store no_tables
     pub crash : Survives (state g conn) (state g left) (TreesOf (IsStoreOf objects))
     pub crash_tables : Survives (state g conn) (state g left)
         (TreesOf (HasItsTables (database g conn)))

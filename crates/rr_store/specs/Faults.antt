@@ -1,8 +1,8 @@
--- Faults of a call on a store, as those of a call that makes or migrates one, and of one that reads
--- tables.
+-- Faults of one kind as those of another: what `?` makes of a fault.
 use Rattle.sqlite.specs.declared.error.Error.{Error}
-use Rattle.sqlite.specs.declared.error.Error.TheVariants.{SqliteFailure}
+use Rattle.sqlite.specs.declared.error.Error.TheVariants.{SqlInputError, SqliteFailure}
 use Rattle.sqlite.specs.declared.error.ErrorCode.TheVariants.{DatabaseCorrupt}
+use Rattle.sqlite_resolve.specs.declared.error.CompileError.TheVariants.{NoSuchTable}
 use Rattle.rr_store.specs.declared.fault.StoreFault.{StoreFault}
 use Rattle.rr_store.specs.declared.fault.StoreFault.TheVariants.{Store, Memory}
 use Rattle.rr_store.specs.declared.fault.CreateFault.{CreateFault}
@@ -21,6 +21,10 @@ create_fault Memory = create.Memory
 abbrev pub migrate_fault : StoreFault → MigrateFault
 migrate_fault (Store error) = migrated.Store error
 migrate_fault Memory = migrated.Memory
+
+-- what is told of a database without the three tables (profile)
+abbrev pub no_tables : Error
+no_tables = SqlInputError NoSuchTable
 
 -- what is told of rows that no store has written
 abbrev pub bad_rows : Error

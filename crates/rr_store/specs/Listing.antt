@@ -12,12 +12,14 @@ use Rattle.rr_store.specs.Calls.{FailsFor, database}
 use Rattle.rr_store.specs.declared.fault.StoreFault.{StoreFault}
 use Rattle.rr_store.specs.declared.fault.StoreFault.TheVariants.{Store}
 
--- these are all objects that the tables hold, in order of class and key
+-- where the tables hold the rows of a finite map of objects, these are its objects, in order of
+-- class and key
 abbrev pub AreAll : Database → List Obj → Type 0
 AreAll db listed =
     (objects : FinMap key_cmp Obj) → HasRows objects db → listed ≡ values objects
 
--- these are all objects of the tables that name the maintainer, in order of class and key
+-- where the tables hold the rows of a finite map of objects, these are its objects that name the
+-- maintainer, in order of class and key
 abbrev pub AreNaming : List ℕ → Database → List Obj → Type 0
 AreNaming name db listed =
     (objects : FinMap key_cmp Obj) → HasRows objects db

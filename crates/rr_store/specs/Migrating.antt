@@ -16,7 +16,8 @@ use Rattle.rr_rows.specs.Entries.{TreesOf}
 use Rattle.rr_rows.specs.Maps.{AreOldStored, AreStored}
 use Rattle.rr_rows.specs.Tables.{HasTables}
 use Rattle.rr_store.specs.Calls.{IsCaused, IsOpen, IsSettled, OnCleanDisk, WhileOpen, database}
-use Rattle.rr_store.specs.Opening.{HoldNone, IsNotOld, IsOfNoneButOld}
+use Rattle.rr_store.specs.Faults.{no_tables}
+use Rattle.rr_store.specs.Opening.{HoldNone, SaysNoOther, SaysOther}
 use Rattle.rr_store.specs.declared.version.Version.TheVariants.{Old}
 use Rattle.rr_store.specs.declared.fault.MigrateFault.{MigrateFault}
 use Rattle.rr_store.specs.declared.fault.MigrateFault.TheVariants.{WrongVersion, BadRow, NoRoot}
@@ -50,7 +51,7 @@ pub record HasNoRoot (root source : List ℕ) (db : Database) : Type 0 where
   pub before : AreOldStored source objects db
   pub missing : has_mntner root objects ≡ false
 
--- and here one is (profile)
+-- tables of version 1 hold objects of the source, the root's mntner among them (profile)
 pub record HasRoot (root source : List ℕ) (db : Database) : Type 0 where
   pub objects : List Obj
   pub before : AreOldStored source objects db
@@ -67,17 +68,18 @@ IsOfOldRows Memory = ⊥
 -- why tables are not migrated (profile)
 pub record RefusesOldTables (root source : List ℕ) (db : Database) (fault : MigrateFault)
     : Type 0 where
-  pub wrong_version : (number : ℕ) → fault ≡ WrongVersion number → IsNotOld number db
+  pub wrong_version : (number : ℕ) → fault ≡ WrongVersion number → SaysOther Old number db
   pub bad_row : fault ≡ BadRow → HoldNone Old source db
-  pub no_other_said : fault ≡ BadRow → IsOfNoneButOld db
+  pub no_other_said : fault ≡ BadRow → SaysNoOther Old db
   pub tables : IsOfOldRows fault → HasTables db.schema
+  pub untabled : ¬ HasTables db.schema → fault ≡ Store no_tables
   pub no_root : fault ≡ NoRoot → HasNoRoot root source db
 
 module _ {S : Type 0} (g : Ghosts S) (root source : List ℕ) (conn : Held S) where
-  -- over rows with numbers of their own, the database's error has a cause outside the rows, or
-  -- these are to be written anew
-  abbrev pub FailsToRead : Held S → Error → Type 0
-  FailsToRead left error = IsTidy (database g conn) → OnCleanDisk g left
+  -- where the rows are tidy, the database's error has a cause outside the rows, or tables of
+  -- version 1 hold the root's mntner: then no clause says why writing them anew failed
+  abbrev pub FailsOverOldRows : Held S → Error → Type 0
+  FailsOverOldRows left error = IsTidy (database g conn) → OnCleanDisk g left
       (IsCaused (state g conn) (state g left) error ⊎ HasRoot root source (database g conn))
 
   -- the tables are migrated, and the store of their objects and the block is open
@@ -88,12 +90,13 @@ module _ {S : Type 0} (g : Ghosts S) (root source : List ℕ) (conn : Held S) wh
     pub crash : Survives (state g conn) (state g store)
         (TreesOf (IsMigrated root source (database g conn)))
 
-  -- the rows are as they were, and the fault says why they are not migrated
+  -- the rows are as they were, while the connection is open, and a fault of the rows says why they
+  -- are not migrated
   pub record FailsToMigrate (left : Held S) (fault : MigrateFault) : Type 0 where
     pub autocommit : left.in_transaction ≡ false
     pub kept : WhileOpen g left (database g left ≡ database g conn)
     pub settled : IsSettled g left
     pub why : OnCleanDisk g left (RefusesOldTables root source (database g conn) fault)
-    pub store : (error : Error) → fault ≡ Store error → FailsToRead left error
+    pub store : (error : Error) → fault ≡ Store error → FailsOverOldRows left error
     pub crash : Survives (state g conn) (state g left)
         (TreesOf (IsMigrated root source (database g conn)))

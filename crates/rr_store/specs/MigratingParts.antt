@@ -8,13 +8,13 @@ use Rattle.rr_rows.specs.Entries.{Entry, entry_of}
 use Rattle.rr_rows.specs.Maps.{IsFilled, IsObjectOf}
 use Rattle.rr_store.specs.Migrating.{upper_block}
 
--- the tables are of version 2 and hold the rows of these and no others, and all else stays
+-- the tables are of version 2 and hold the rows of these entries and no others, and all else stays
 pub record IsReplaced (entries : List Entry) (old new : Database) : Type 0 where
   pub filled : IsFilled entries new
   pub others : KeepsOthers old new
 
 -- the tables are of version 2 and hold the rows of the objects and of the block of the AS numbers
--- of more than 16 bits, and all else stays (profile)
+-- of more than 16 bits, and all else stays
 pub record IsRewritten (root source : List ℕ) (objects : List Obj) (old new : Database)
     : Type 0 where
   pub upper : Obj

@@ -11,14 +11,14 @@ use Rattle.rr_rows.specs.Contents.{meta_rows}
 use Rattle.rr_rows.specs.Maps.{AreInOrder, AreStored, AreStoredIn, IsObjectOf}
 use Rattle.rr_rows.specs.Tables.{HasTables, meta_tree}
 use Rattle.rr_store.specs.Calls.{FailsOverTidy, IsOpen, IsSettled, OnCleanDisk, Rests, database}
+use Rattle.rr_store.specs.Faults.{no_tables}
 use Rattle.rr_store.specs.Versions.{SaysVersion, form_of, version_number, version_text}
 use Rattle.rr_store.specs.declared.fault.OpenFault.{OpenFault}
 use Rattle.rr_store.specs.declared.fault.OpenFault.TheVariants.{WrongVersion, BadRow, Store, Memory}
 use Rattle.rr_store.specs.declared.version.Version.{Version}
-use Rattle.rr_store.specs.declared.version.Version.TheVariants.{Old, This}
+use Rattle.rr_store.specs.declared.version.Version.TheVariants.{Current}
 
--- a row of `meta` says that the tables are of this version, which is another than that asked for
--- (profile)
+-- a row of `meta` says the version of this number, and that is not the version asked for (profile)
 abbrev pub SaysOther : Version → ℕ → Database → Type 0
 SaysOther version number db =
     (number ≢ version_number version) × SaysVersion number (meta_rows (db.trees meta_tree))
@@ -41,22 +41,6 @@ AreStoredAs version = AreStoredIn (form_of version) (version_text version)
 abbrev pub HoldNone : Version → List ℕ → Database → Type 0
 HoldNone version source db = (objects : List Obj) → AreStoredAs version source objects db → ⊥
 
--- a row of `meta` says that the tables are of this version, and it is not 2 (profile)
-abbrev pub IsOtherVersion : ℕ → Database → Type 0
-IsOtherVersion = SaysOther This
-
--- a row of `meta` says that the tables are of this version, and it is not 1 (profile)
-abbrev pub IsNotOld : ℕ → Database → Type 0
-IsNotOld = SaysOther Old
-
--- no row of `meta` says a version that is not 2 (profile)
-abbrev pub IsOfNoOther : Database → Type 0
-IsOfNoOther = SaysNoOther This
-
--- no row of `meta` says a version that is not 1 (profile)
-abbrev pub IsOfNoneButOld : Database → Type 0
-IsOfNoneButOld = SaysNoOther Old
-
 -- the fault is of the rows, and not of the database or of memory
 abbrev pub IsOfRows : OpenFault → Type 0
 IsOfRows (WrongVersion number) = Unit {0}
@@ -68,8 +52,8 @@ IsOfRows Memory = ⊥
 abbrev pub IfStore : (Error → Type 0) → OpenFault → Type 0
 IfStore P fault = (error : Error) → fault ≡ Store error → P error
 
--- why tables are not read as those of this version: another is said, and that is told before bad
--- rows (profile)
+-- why tables are not read as those of the version asked for: another is said, and that is told
+-- before bad rows; where the three are not there, that is told first (profile)
 pub record RefusesTables (version : Version) (source : List ℕ) (db : Database) (fault : OpenFault)
     : Type 0 where
   pub wrong_version : (number : ℕ) → fault ≡ WrongVersion number
@@ -77,6 +61,7 @@ pub record RefusesTables (version : Version) (source : List ℕ) (db : Database)
   pub bad_row : fault ≡ BadRow → HoldNone version source db
   pub no_other_said : fault ≡ BadRow → SaysNoOther version db
   pub tables : IsOfRows fault → HasTables db.schema
+  pub untabled : ¬ HasTables db.schema → fault ≡ Store no_tables
 
 module _ {S : Type 0} (g : Ghosts S) (source : List ℕ) (conn : Held S) where
   -- the store of these objects is open, in order of class and key, with the rows as they were
@@ -90,9 +75,9 @@ module _ {S : Type 0} (g : Ghosts S) (source : List ℕ) (conn : Held S) where
     pub settled : IsSettled g store
     pub crash : Survives (state g conn) (state g store) (λ _. ⊥)
 
-  -- the rows are as they were, and the fault says why they are not read
+  -- the rows are as they were, and a fault of the rows says why they are not read
   pub record FailsToOpen (left : Held S) (fault : OpenFault) : Type 0 where
     pub rests : Rests g conn left
     pub settled : IsSettled g left
-    pub why : OnCleanDisk g left (RefusesTables This source (database g conn) fault)
+    pub why : OnCleanDisk g left (RefusesTables Current source (database g conn) fault)
     pub store : IfStore (FailsOverTidy g conn left) fault

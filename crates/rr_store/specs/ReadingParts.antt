@@ -21,19 +21,19 @@ use Rattle.rr_rows.specs.Maps.{IsObjectOf, KeyForm}
 use Rattle.rr_store.specs.declared.fault.OpenFault.{OpenFault}
 use Rattle.rr_store.specs.declared.fault.OpenFault.TheVariants.{WrongVersion}
 
--- the source that the first attribute `source` names (RFC 2622, 3.1)
+-- the source that the first attribute `source` names, which in an object is the only one
 abbrev pub first_source : List Field → Option (List ℕ)
 first_source fields = option_and_then (λ field. name_of (value_meaning field.lines))
     (find (has_name (kind_name Source)) fields)
 
--- a row is that of an object, whose key has a text in this form (profile)
+-- a row is that of an object, whose key has a text in this form
 pub record IsRowOf (form : KeyForm) (object : Obj) (row : Row) : Type 0 where
   pub key : List ℕ
   pub formed : form object.key ≡ Some key
   pub is : row
       ≡ object_values (class_number (class_of object.key)) key (canonical object.paragraph)
 
--- rows are those of objects of a source, in turn (profile)
+-- rows are those of objects of a source, in turn
 abbrev pub AreRead : KeyForm → List ℕ → List Row → List Obj → Type 0
 AreRead form source [] [] = ⊤
 AreRead form source (row ∷ rows) [] = ⊥
@@ -41,7 +41,7 @@ AreRead form source [] (object ∷ objects) = ⊥
 AreRead form source (row ∷ rows) (object ∷ objects) =
     (IsObjectOf source object × IsRowOf form object row) × AreRead form source rows objects
 
--- rows are those of no objects of a source (profile)
+-- rows are those of no objects of a source
 abbrev pub AreNone : KeyForm → List ℕ → List Row → Type 0
 AreNone form source rows = (objects : List Obj) → AreRead form source rows objects → ⊥
 

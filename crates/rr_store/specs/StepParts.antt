@@ -16,26 +16,22 @@ module _ {S : Type 0} (g : Ghosts S) where
   Made Change old new result = OnCleanDisk g new
       (OnOk result (Change (database g old) (database g new)))
 
-  -- the database was changed so where the connection was open
-  abbrev pub MadeOpen : {X E : Type 0} → (Database → Database → Type 0) → Held S → Held S
-      → Result X E
-      → Type 0
-  MadeOpen Change old new result = OnCleanDisk g new
-      (IsTrue (state g old).is_open → OnOk result (Change (database g old) (database g new)))
+  -- a step of a transaction: the database was changed so, and the transaction goes on; nothing was
+  -- committed, and a stop leaves what it left before
+  pub record Steps {X E : Type 0} (Change : Database → Database → Type 0) (old new : Held S)
+      (result : Result X E) : Type 0 where
+    pub made : OnCleanDisk g new (OnOk result (Change (database g old) (database g new)))
+    pub goes_on : OnCleanDisk g new (OnOk result (RunsOn (state g old) (state g new)))
+    pub kept : OnCleanDisk g new (KeepsCommit (state g old) (state g new))
+    pub survives : Survives (state g old) (state g new) (λ _. ⊥)
 
-  -- the transaction goes on
-  abbrev pub GoesOn : {X E : Type 0} → Held S → Held S → Result X E → Type 0
-  GoesOn old new result = OnCleanDisk g new (OnOk result (RunsOn (state g old) (state g new)))
-
-  -- the transaction goes on where the connection was open
-  abbrev pub GoesOnOpen : {X E : Type 0} → Held S → Held S → Result X E → Type 0
-  GoesOnOpen old new result = OnCleanDisk g new
-      (IsTrue (state g old).is_open → OnOk result (RunsOn (state g old) (state g new)))
-
-  -- nothing was committed
-  abbrev pub CommitsNothing : Held S → Held S → Type 0
-  CommitsNothing old new = OnCleanDisk g new (KeepsCommit (state g old) (state g new))
-
-  -- a stop leaves what it left before
-  abbrev pub LeavesAll : Held S → Held S → Type 0
-  LeavesAll old new = Survives (state g old) (state g new) (λ _. ⊥)
+  -- some steps or none: where the connection was open, the database was changed so, and the
+  -- transaction goes on; nothing was committed, and a stop leaves what it left before
+  pub record StepsWhereOpen {X E : Type 0} (Change : Database → Database → Type 0)
+      (old new : Held S) (result : Result X E) : Type 0 where
+    pub made : OnCleanDisk g new (IsTrue (state g old).is_open
+        → OnOk result (Change (database g old) (database g new)))
+    pub goes_on : OnCleanDisk g new (IsTrue (state g old).is_open
+        → OnOk result (RunsOn (state g old) (state g new)))
+    pub kept : OnCleanDisk g new (KeepsCommit (state g old) (state g new))
+    pub survives : Survives (state g old) (state g new) (λ _. ⊥)

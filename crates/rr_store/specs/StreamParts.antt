@@ -26,7 +26,7 @@ module _ {S : Type 0} (g : Ghosts S) where
       (sql : List ℕ) (params : Row) (given : List Row) → HasGiven g sql params old given
       → HasGiven g sql params new (given ++ more)
 
-  -- and these, which are the rest of its answer
+  -- after what a query gave before, it gave these rows, which are the rest of its answer
   abbrev pub GivesRest : Held S → Held S → List Row → Type 0
   GivesRest old new rest =
       (sql : List ℕ) (params : Row) (given : List Row) → HasGiven g sql params old given

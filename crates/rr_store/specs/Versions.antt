@@ -2,31 +2,31 @@
 use Rattle.std.specs.Prelude.{ℕ, List, Contains, codes, decimal}
 use Rattle.rr_store.specs.declared.version.TheConstants.{OLD_VERSION, VERSION}
 use Rattle.rr_store.specs.declared.version.Version.{Version}
-use Rattle.rr_store.specs.declared.version.Version.TheVariants.{Old, This}
+use Rattle.rr_store.specs.declared.version.Version.TheVariants.{Current, Old}
 use Rattle.rr_object.specs.OldKeys.{old_key_bytes}
-use Rattle.rr_rows.specs.Maps.{KeyForm, old_version, this_form, this_version}
+use Rattle.rr_rows.specs.Maps.{KeyForm, old_version, current_form, current_version}
 use Rattle.sqlite_value.specs.Order.{Row}
 use Rattle.rr_rows.specs.Contents.{meta_row}
 
--- the other one of the two (profile)
+-- of two versions, the one that this is not (profile)
 abbrev pub other_of : Version → Version
-other_of Old = This
-other_of This = Old
+other_of Old = Current
+other_of Current = Old
 
 -- the number of a version (profile)
 abbrev pub version_number : Version → ℕ
 version_number Old = OLD_VERSION
-version_number This = VERSION
+version_number Current = VERSION
 
--- the number as `meta` has it (profile)
+-- the number of a version as `meta` has it (profile)
 abbrev pub version_text : Version → List ℕ
 version_text Old = old_version
-version_text This = this_version
+version_text Current = current_version
 
--- the texts of keys in such tables (profile)
+-- the form of keys in tables of a version (profile)
 abbrev pub form_of : Version → KeyForm
 form_of Old = old_key_bytes
-form_of This = this_form
+form_of Current = current_form
 
 -- some row of `meta` says that the tables are of the version of this number (profile)
 abbrev pub SaysVersion : ℕ → List Row → Type 0

@@ -7,8 +7,7 @@ ghost use Rattle.rr_rows.specs.Entries.{IsAdded, IsPut, IsTakenOut};
 ghost use Rattle.rr_rows.specs.Maps.{AreOfObjects};
 ghost use Rattle.rr_rows.specs.Tables.{named_tree};
 ghost use Rattle.rr_store.specs.Calls.{WhileOpen, database};
-ghost use Rattle.rr_store.specs.StepParts.{CommitsNothing, GoesOn, GoesOnOpen, LeavesAll};
-ghost use Rattle.rr_store.specs.StepParts.{Made, MadeOpen};
+ghost use Rattle.rr_store.specs.StepParts.{Steps, StepsWhereOpen};
 
 use crate::entry::Entry;
 use crate::fault::StoreFault;
@@ -27,13 +26,10 @@ fn add_names<S: Alter>(
 ) -> Result<(), Error>
     requires { WhileOpen S.Store tx.old.conn.now (IsTidy (database S.Store tx.old.conn.now)) }
     ensures same_reference { tx.new.conn.ghost_name ≡ tx.old.conn.ghost_name }
-    ensures ok { MadeOpen S.Store
+    ensures steps { StepsWhereOpen S.Store
         (λ old new. Alters old new named_tree
         (Adds (map (λ name. named_values name class key.now) names.now)))
         tx.old.conn.now tx.new.conn.now result }
-    ensures step { GoesOnOpen S.Store tx.old.conn.now tx.new.conn.now result }
-    ensures kept { CommitsNothing S.Store tx.old.conn.now tx.new.conn.now }
-    ensures survives { LeavesAll S.Store tx.old.conn.now tx.new.conn.now }
 {
     for name in names {
         // the count is not asked for: the clause says which rows changed
@@ -49,10 +45,8 @@ pub(crate) fn add_rows<S: Alter>(
 ) -> Result<(), StoreFault>
     requires { WhileOpen S.Store tx.old.conn.now (IsTidy (database S.Store tx.old.conn.now)) }
     ensures same_reference { tx.new.conn.ghost_name ≡ tx.old.conn.ghost_name }
-    ensures ok { Made S.Store (IsAdded (entry.now ∷ [])) tx.old.conn.now tx.new.conn.now result }
-    ensures step { GoesOn S.Store tx.old.conn.now tx.new.conn.now result }
-    ensures kept { CommitsNothing S.Store tx.old.conn.now tx.new.conn.now }
-    ensures survives { LeavesAll S.Store tx.old.conn.now tx.new.conn.now }
+    ensures steps { Steps S.Store (IsAdded (entry.now ∷ []))
+        tx.old.conn.now tx.new.conn.now result }
 {
     let class = entry.class();
     let key = entry.key();
@@ -71,12 +65,9 @@ fn remove_names<S: Alter>(
 ) -> Result<(), Error>
     requires { WhileOpen S.Store tx.old.conn.now (IsTidy (database S.Store tx.old.conn.now)) }
     ensures same_reference { tx.new.conn.ghost_name ≡ tx.old.conn.ghost_name }
-    ensures ok { MadeOpen S.Store
+    ensures steps { StepsWhereOpen S.Store
         (λ old new. Alters old new named_tree (Removes (is_name_among class key.now names.now)))
         tx.old.conn.now tx.new.conn.now result }
-    ensures step { GoesOnOpen S.Store tx.old.conn.now tx.new.conn.now result }
-    ensures kept { CommitsNothing S.Store tx.old.conn.now tx.new.conn.now }
-    ensures survives { LeavesAll S.Store tx.old.conn.now tx.new.conn.now }
 {
     for name in names {
         // the count is not asked for: the clause says which rows changed
@@ -95,12 +86,9 @@ fn forget_names<S: Alter>(
 ) -> Result<(), StoreFault>
     requires { WhileOpen S.Store tx.old.conn.now (AreOfObjects (database S.Store tx.old.conn.now)) }
     ensures same_reference { tx.new.conn.ghost_name ≡ tx.old.conn.ghost_name }
-    ensures ok { Made S.Store
+    ensures steps { Steps S.Store
         (λ old new. Alters old new named_tree (Removes (is_named_of class key.now)))
         tx.old.conn.now tx.new.conn.now result }
-    ensures step { GoesOn S.Store tx.old.conn.now tx.new.conn.now result }
-    ensures kept { CommitsNothing S.Store tx.old.conn.now tx.new.conn.now }
-    ensures survives { LeavesAll S.Store tx.old.conn.now tx.new.conn.now }
 {
     let rows = rows_of_key(tx, class, key)?;
     let names = names_of_rows(alloc, &rows)?;
@@ -117,10 +105,8 @@ pub(crate) fn remove_rows<S: Alter>(
 ) -> Result<(), StoreFault>
     requires { WhileOpen S.Store tx.old.conn.now (AreOfObjects (database S.Store tx.old.conn.now)) }
     ensures same_reference { tx.new.conn.ghost_name ≡ tx.old.conn.ghost_name }
-    ensures ok { Made S.Store (IsTakenOut class key.now) tx.old.conn.now tx.new.conn.now result }
-    ensures step { GoesOn S.Store tx.old.conn.now tx.new.conn.now result }
-    ensures kept { CommitsNothing S.Store tx.old.conn.now tx.new.conn.now }
-    ensures survives { LeavesAll S.Store tx.old.conn.now tx.new.conn.now }
+    ensures steps { Steps S.Store (IsTakenOut class key.now)
+        tx.old.conn.now tx.new.conn.now result }
 {
     forget_names(tx, alloc, class, key)?;
     // the count is not asked for: the clause says which rows changed
@@ -136,10 +122,7 @@ pub(crate) fn put_rows<S: Alter>(
 ) -> Result<(), StoreFault>
     requires { WhileOpen S.Store tx.old.conn.now (AreOfObjects (database S.Store tx.old.conn.now)) }
     ensures same_reference { tx.new.conn.ghost_name ≡ tx.old.conn.ghost_name }
-    ensures ok { Made S.Store (IsPut entry.now) tx.old.conn.now tx.new.conn.now result }
-    ensures step { GoesOn S.Store tx.old.conn.now tx.new.conn.now result }
-    ensures kept { CommitsNothing S.Store tx.old.conn.now tx.new.conn.now }
-    ensures survives { LeavesAll S.Store tx.old.conn.now tx.new.conn.now }
+    ensures steps { Steps S.Store (IsPut entry.now) tx.old.conn.now tx.new.conn.now result }
 {
     remove_rows(tx, alloc, entry.class(), entry.key())?;
     add_rows(tx, entry)

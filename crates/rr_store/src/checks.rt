@@ -6,7 +6,7 @@ ghost use Rattle.std.specs.Prelude.{IsSorted};
 ghost use Rattle.sqlite.specs.Held.{state};
 ghost use Rattle.sqlite.specs.State.{IsUnchanged};
 ghost use Rattle.rr_rows.specs.Contents.{AreNumbered, by_three, contents, meta_row, meta_rows};
-ghost use Rattle.rr_rows.specs.Maps.{AreInOrder, HasVersion, this_form};
+ghost use Rattle.rr_rows.specs.Maps.{AreInOrder, HasVersion, current_form};
 ghost use Rattle.rr_rows.specs.Tables.{HasTables, meta_tree, named_tree, object_tree};
 ghost use Rattle.rr_store.specs.Calls.{FailsOverTidy, Looks, OnCleanDisk, database};
 ghost use Rattle.rr_store.specs.CheckParts.{AreNamingRows, HoldsObjects, IsVersionFault};
@@ -16,10 +16,10 @@ ghost use Rattle.rr_store.specs.Opening.{AreObjectsOf, HoldNone, IfStore};
 ghost use Rattle.rr_store.specs.ReadingParts.{TellsNoVersion};
 ghost use Rattle.rr_store.specs.Versions.{version_text};
 ghost use Rattle.rr_store.specs.declared.fault.OpenFault.TheVariants.{BadRow, Memory, WrongVersion};
-ghost use Rattle.rr_store.specs.declared.version.Version.TheVariants.{This};
+ghost use Rattle.rr_store.specs.declared.version.Version.TheVariants.{Current};
 
 use crate::fault::{NO_TABLES, OpenFault};
-use crate::meta::{other_version, says_version};
+use crate::meta::{is_version_row_alone, other_version};
 use crate::namings::are_named;
 use crate::objects::in_order;
 use crate::reading::{
@@ -33,7 +33,7 @@ use rr_rows::has_tables;
 use sqlite::{Alter, Connection, Row};
 use std::alloc::Global;
 
-/// Checks that the rows of `meta` are the one that says this version.
+/// Checks that the rows of `meta` are the one that says the version asked for.
 fn judge_version(rows: &[Row], version: Version) -> Result<(), OpenFault>
     ensures ok { OnOk result
         (rows.now ≡ meta_row (codes "version") (version_text version) ∷ []) }
@@ -43,14 +43,14 @@ fn judge_version(rows: &[Row], version: Version) -> Result<(), OpenFault>
     if let Some(number) = other_version(rows, version) {
         return Err(OpenFault::WrongVersion(number));
     }
-    if says_version(rows, version) {
+    if is_version_row_alone(rows, version) {
         Ok(())
     } else {
         Err(OpenFault::BadRow)
     }
 }
 
-/// Checks that the tables are of this version.
+/// Checks that the tables are of the version asked for.
 pub(crate) fn check_version<S: Alter>(
     conn: &mut Connection<S>,
     version: Version,
@@ -104,19 +104,19 @@ pub(crate) fn all_objects<S: Alter>(
     requires autocommit { conn.old.in_transaction ≡ false }
     ensures looks { Looks S.Store conn.old conn.new result }
     ensures read { OnCleanDisk S.Store conn.new (IfOk result (λ objects.
-        HoldsObjects this_form source.now objects.items
+        HoldsObjects current_form source.now objects.items
         (contents ((database S.Store conn.old).trees object_tree)))) }
     ensures in_order { IfOk result (λ objects. AreInOrder objects.items) }
     ensures of_source { IfOk result (λ objects. AreObjectsOf source.now objects.items) }
     ensures bad_row { OnCleanDisk S.Store conn.new (IfErr result (λ fault. fault ≡ BadRow →
-        HoldNone This source.now (database S.Store conn.old))) }
+        HoldNone Current source.now (database S.Store conn.old))) }
     ensures no_other { IfErr result TellsNoVersion }
     ensures cause { IfErr result (IfStore (FailsOverTidy S.Store conn.old conn.new)) }
 {
     if !has_tables(conn.schema()) {
         return Err(OpenFault::Store(NO_TABLES));
     }
-    let objects = check_objects(conn, alloc, source, Version::This)?;
+    let objects = check_objects(conn, alloc, source, Version::Current)?;
     in_order(objects)
 }
 
@@ -141,7 +141,8 @@ fn judge_names(
     }
 }
 
-/// The same of the tables, whose rows are asked for in that order, however they stand.
+/// Checks that the rows of `named` are those that the objects name, asked for in order of
+/// maintainer, class and key.
 fn check_sorted_names<S: Alter>(
     conn: &mut Connection<S>,
     alloc: Global,
@@ -162,7 +163,7 @@ fn check_sorted_names<S: Alter>(
     judge_names(alloc, &rows, objects, version)
 }
 
-/// The same, first with the rows as they stand, then in order.
+/// Checks the rows of `named` as they stand, and only if these differ in order.
 fn check_maintainers<S: Alter>(
     conn: &mut Connection<S>,
     alloc: Global,
@@ -185,7 +186,7 @@ fn check_maintainers<S: Alter>(
     check_sorted_names(conn, alloc, objects, version)
 }
 
-/// The same, and that the rows of `named` have numbers of their own. They stand in the order of the
+/// Checks the rows of `named`, and that each has a rowid of its own. They stand in the order of the
 /// objects unless others wrote them: only then are they asked for once more, and compared in order.
 pub(crate) fn check_named_table<S: Alter>(
     conn: &mut Connection<S>,
@@ -224,7 +225,7 @@ pub(crate) fn naming_objects<S: Alter>(
     ensures in_order { IfOk result (λ objects. AreInOrder objects.items) }
     ensures of_source { IfOk result (λ objects. AreObjectsOf source.now objects.items) }
     ensures bad_row { OnCleanDisk S.Store conn.new (IfErr result (λ fault. fault ≡ BadRow →
-        HoldNone This source.now (database S.Store conn.old))) }
+        HoldNone Current source.now (database S.Store conn.old))) }
     ensures no_other { IfErr result TellsNoVersion }
     ensures cause { IfErr result (IfStore (FailsOverTidy S.Store conn.old conn.new)) }
     ensures memory { OnCleanDisk S.Store conn.new (IfErr result (λ fault. fault ≡ Memory →

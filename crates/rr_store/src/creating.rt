@@ -1,13 +1,14 @@
 //! A new store, made in one transaction.
 
-ghost use Rattle.std.specs.Prelude.{◌≡◌, false, IfErr, OnOk};
+ghost use Rattle.std.specs.Prelude.{◌≡◌, ◌≢◌, false, IfErr, OnOk};
 ghost use Rattle.sqlite.specs.declared.error.Error.{Error};
 ghost use Rattle.rr_rows.specs.Made.{HasItsTables, HasSomeRow, IsBare, IsVacant, no_schema};
 ghost use Rattle.rr_rows.specs.Tables.{HasTables};
 ghost use Rattle.rr_store.specs.Calls.{OnCleanDisk, Transacts, WhileOpen, database};
 ghost use Rattle.rr_store.specs.Creating.{FailsOverRow, IsStoreOf};
+ghost use Rattle.rr_store.specs.Faults.{no_tables};
 ghost use Rattle.rr_object.specs.Objects.{lent};
-ghost use Rattle.rr_store.specs.declared.fault.CreateFault.TheVariants.{NotEmpty, Store};
+ghost use Rattle.rr_store.specs.declared.fault.CreateFault.TheVariants.{Memory, NotEmpty, Store};
 
 use crate::ending::end;
 use crate::fault::{CreateFault, NO_TABLES, StoreFault};
@@ -30,7 +31,7 @@ fn create_in_blank<S: Alter>(
         conn.old conn.new result }
     ensures tables { Transacts S.Store HasItsTables conn.old conn.new result }
 {
-    // outside a transaction the database is as it was last committed
+    // called for its clause alone: outside a transaction the rows are those last committed
     let _settled = conn.is_autocommit();
     let mut tx = conn.transaction();
     let work = make_filled(&mut tx, alloc, objects);
@@ -49,7 +50,7 @@ fn create_in_bare<S: Alter>(
         conn.old conn.new result }
     ensures tables { Transacts S.Store HasItsTables conn.old conn.new result }
 {
-    // outside a transaction the database is as it was last committed
+    // called for its clause alone: outside a transaction the rows are those last committed
     let _settled = conn.is_autocommit();
     let mut tx = conn.transaction();
     let work = fill(&mut tx, alloc, objects);
@@ -71,6 +72,8 @@ fn create_in_tables<S: Alter>(
         (IsBare (database S.Store conn.old))) }
     ensures filled { OnCleanDisk S.Store conn.new (IfErr result (λ fault. fault ≡ NotEmpty →
         HasSomeRow (database S.Store conn.old))) }
+    ensures memory { OnCleanDisk S.Store conn.new (IfErr result (λ fault. fault ≡ Memory →
+        ¬ HasSomeRow (database S.Store conn.old))) }
     ensures cause { IfErr result (λ fault. (error : Error) → fault ≡ Store error →
         FailsOverRow S.Store conn.old conn.new error) }
 {
@@ -95,6 +98,10 @@ pub(crate) fn create_where_vacant<S: Alter>(
         (IsVacant (database S.Store conn.old))) }
     ensures filled { OnCleanDisk S.Store conn.new (IfErr result (λ fault. fault ≡ NotEmpty →
         HasTables conn.old.schema × HasSomeRow (database S.Store conn.old))) }
+    ensures memory { OnCleanDisk S.Store conn.new (IfErr result (λ fault. fault ≡ Memory →
+        HasTables conn.old.schema → ¬ HasSomeRow (database S.Store conn.old))) }
+    ensures untabled { IfErr result (λ fault. ¬ HasTables conn.old.schema →
+        conn.old.schema ≢ no_schema → fault ≡ Store no_tables) }
     ensures cause { IfErr result (λ fault. (error : Error) → fault ≡ Store error →
         FailsOverRow S.Store conn.old conn.new error) }
 {

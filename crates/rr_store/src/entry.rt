@@ -12,7 +12,7 @@ use rr_text::Text;
 use std::alloc::{AllocError, Global};
 use std::marker::Model;
 
-/// What the tables keep of an object: its class, its key, its text, and who it names.
+/// What the tables keep of an object: its class, its key, its text, and whom it names.
 #[derive(Drop)]
 pub(crate) struct Entry {
     class: u8,

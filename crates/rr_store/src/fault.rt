@@ -4,18 +4,19 @@ use sqlite::{Error, ErrorCode};
 use sqlite_resolve::CompileError;
 use std::alloc::AllocError;
 
-/// What is told of a database that has other tables in place of the three.
+/// What is told of a database without the three tables.
 pub(crate) const NO_TABLES: Error = Error::SqlInputError(CompileError::NoSuchTable);
 
 /// What is told of rows that no store has written.
 pub(crate) const BAD_ROWS: Error = Error::SqliteFailure(ErrorCode::DatabaseCorrupt);
 
-/// Why a call on a store failed. It changed no row.
+/// Why a call on a store failed. While the connection is open, its rows are as they were; if it is
+/// shut, a later open finds the rows before or after the call.
 #[derive(Clone, Copy, Debug, PartialEq, Eq)]
 pub enum StoreFault {
-    /// The database refused, or ran out of memory, or its rows are not those of the store.
+    /// SQLite's own error, its lack of memory included; or the rows are not those of a store.
     Store(Error),
-    /// Out of memory.
+    /// Memory for objects and texts ran out.
     Memory,
 }
 
@@ -41,14 +42,16 @@ impl From<Error> for StoreFault {
     }
 }
 
-/// Why no new store was made. No row was changed.
+/// Why no new store was made. While the connection is open, its rows are as they were; if it is
+/// shut, a later open finds the rows before the call or those of the store.
 #[derive(Clone, Copy, Debug, PartialEq, Eq)]
 pub enum CreateFault {
     /// One of the three tables has a row.
     NotEmpty,
-    /// The database refused, or ran out of memory, or has other tables in place of the three.
+    /// SQLite's own error, its lack of memory included; or other tables stand in place of the
+    /// three.
     Store(Error),
-    /// Out of memory.
+    /// Memory for objects and texts ran out.
     Memory,
 }
 
@@ -69,13 +72,15 @@ impl From<StoreFault> for CreateFault {
 /// Why a store was not opened. No row was changed.
 #[derive(Clone, Copy, Debug, PartialEq, Eq)]
 pub enum OpenFault {
-    /// The tables are of the version of this other number.
+    /// A row of `meta` says this version, which is not the one asked for.
     WrongVersion(u32),
-    /// The rows are not those of objects of the source.
+    /// No row of `meta` says another version, and the tables do not hold exactly the rows of
+    /// objects of the source in the version asked for.
     BadRow,
-    /// The database refused, or ran out of memory, or has other tables in place of the three.
+    /// SQLite's own error, its lack of memory included; or other tables stand in place of the
+    /// three.
     Store(Error),
-    /// Out of memory.
+    /// Memory for objects and texts ran out.
     Memory,
 }
 
@@ -118,18 +123,21 @@ impl From<OpenFault> for StoreFault {
     }
 }
 
-/// Why tables were not migrated. No row was changed.
+/// Why tables were not migrated. While the connection is open, its rows are as they were; if it is
+/// shut, a later open finds the rows before the call or the new ones.
 #[derive(Clone, Copy, Debug, PartialEq, Eq)]
 pub enum MigrateFault {
-    /// The tables are of the version of this number, which is not 1.
+    /// A row of `meta` says this version, which is not 1.
     WrongVersion(u32),
-    /// The rows are not those of objects of the source in tables of version 1.
+    /// No row of `meta` says a version other than 1, and the tables do not hold exactly the rows of
+    /// objects of the source in version 1.
     BadRow,
     /// The root's mntner is not among the objects.
     NoRoot,
-    /// The database refused, or ran out of memory, or has other tables in place of the three.
+    /// SQLite's own error, its lack of memory included; or other tables stand in place of the
+    /// three.
     Store(Error),
-    /// Out of memory.
+    /// Memory for objects and texts ran out.
     Memory,
 }
 

@@ -9,8 +9,7 @@ ghost use Rattle.rr_rows.specs.Maps.{IsObject};
 ghost use Rattle.rr_store.specs.Calls.{WhileOpen, database};
 ghost use Rattle.rr_store.specs.Creating.{IsStoreOf};
 ghost use Rattle.rr_object.specs.Objects.{lent};
-ghost use Rattle.rr_store.specs.StepParts.{CommitsNothing, GoesOn, GoesOnOpen, LeavesAll};
-ghost use Rattle.rr_store.specs.StepParts.{Made, MadeOpen};
+ghost use Rattle.rr_store.specs.StepParts.{Made, Steps, StepsWhereOpen};
 
 use crate::bodies::add_rows;
 use crate::entry::Entry;
@@ -30,12 +29,9 @@ pub(crate) fn add_objects<S: Alter>(
 ) -> Result<(), StoreFault>
     requires { WhileOpen S.Store tx.old.conn.now (IsTidy (database S.Store tx.old.conn.now)) }
     ensures same_reference { tx.new.conn.ghost_name ≡ tx.old.conn.ghost_name }
-    ensures ok { MadeOpen S.Store (IsAdded (map entry_of (lent objects.now)))
+    ensures steps { StepsWhereOpen S.Store (IsAdded (map entry_of (lent objects.now)))
         tx.old.conn.now tx.new.conn.now result }
     ensures read { OnOk result (AllByRecursion IsObject (lent objects.now)) }
-    ensures step { GoesOnOpen S.Store tx.old.conn.now tx.new.conn.now result }
-    ensures kept { CommitsNothing S.Store tx.old.conn.now tx.new.conn.now }
-    ensures survives { LeavesAll S.Store tx.old.conn.now tx.new.conn.now }
 {
     for object in objects {
         let entry = Entry::of(alloc, object)?;
@@ -52,15 +48,12 @@ pub(crate) fn fill<S: Alter>(
 ) -> Result<(), StoreFault>
     requires { WhileOpen S.Store tx.old.conn.now (IsBare (database S.Store tx.old.conn.now)) }
     ensures same_reference { tx.new.conn.ghost_name ≡ tx.old.conn.ghost_name }
-    ensures ok { Made S.Store (λ _. IsStoreOf (lent objects.now))
+    ensures steps { Steps S.Store (λ _. IsStoreOf (lent objects.now))
         tx.old.conn.now tx.new.conn.now result }
     ensures others { Made S.Store KeepsOthers tx.old.conn.now tx.new.conn.now result }
-    ensures step { GoesOn S.Store tx.old.conn.now tx.new.conn.now result }
-    ensures kept { CommitsNothing S.Store tx.old.conn.now tx.new.conn.now }
-    ensures survives { LeavesAll S.Store tx.old.conn.now tx.new.conn.now }
 {
     // the count is not asked for: the clause says which rows changed
-    let _version = add_meta_row(tx, b"version", Version::This.text())?;
+    let _version = add_meta_row(tx, b"version", Version::Current.text())?;
     add_objects(tx, alloc, objects)
 }
 
@@ -73,12 +66,9 @@ pub(crate) fn make_filled<S: Alter>(
     requires { WhileOpen S.Store tx.old.conn.now
         ((database S.Store tx.old.conn.now).schema ≡ no_schema) }
     ensures same_reference { tx.new.conn.ghost_name ≡ tx.old.conn.ghost_name }
-    ensures ok { Made S.Store (λ _. IsStoreOf (lent objects.now))
+    ensures steps { Steps S.Store (λ _. IsStoreOf (lent objects.now))
         tx.old.conn.now tx.new.conn.now result }
     ensures tables { Made S.Store HasItsTables tx.old.conn.now tx.new.conn.now result }
-    ensures step { GoesOn S.Store tx.old.conn.now tx.new.conn.now result }
-    ensures kept { CommitsNothing S.Store tx.old.conn.now tx.new.conn.now }
-    ensures survives { LeavesAll S.Store tx.old.conn.now tx.new.conn.now }
 {
     make_tables(tx)?;
     fill(tx, alloc, objects)

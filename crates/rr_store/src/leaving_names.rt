@@ -1,4 +1,4 @@
-//! The maintainers that an object names whose rows go.
+//! The maintainers that an object names, read from its row before its rows are taken out.
 
 ghost use Rattle.std.specs.Prelude.{◌≡◌, ◌≢◌, [], ◌∷◌, IfErr, IfOk, IfSome, IsSome};
 ghost use Rattle.std.specs.List.{AllByRecursion, find};

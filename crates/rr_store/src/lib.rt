@@ -1,4 +1,4 @@
-//! Objects kept in SQLite, and who they name, in tables that always hold exactly their rows.
+//! Objects kept in SQLite, and whom they name, in tables that always hold exactly their rows.
 #![tactic(auto)]
 
 mod bodies;
@@ -28,8 +28,8 @@ mod version;
 mod writes;
 
 pub use fault::{CreateFault, MigrateFault, OpenFault, StoreFault};
-pub use meta::says_version;
+pub use meta::is_version_row_alone;
 pub use objects::lent;
 pub use store::Store;
 pub use upper::upper_object;
-pub use version::{OLD_VERSION, VERSION, Version, number_of};
+pub use version::{OLD_VERSION, VERSION, Version, read_decimal};

@@ -4,7 +4,7 @@ ghost use Rattle.std.specs.Prelude.{◌≡◌, []};
 ghost use Rattle.rr_rows.specs.Made.{Creates, IsBare, meta_table, named_table, no_schema};
 ghost use Rattle.rr_rows.specs.Made.{object_table, with_meta, with_named, with_object};
 ghost use Rattle.rr_store.specs.Calls.{WhileOpen, database};
-ghost use Rattle.rr_store.specs.StepParts.{CommitsNothing, GoesOn, LeavesAll, Made};
+ghost use Rattle.rr_store.specs.StepParts.{Made, Steps};
 
 use sqlite::{Alter, Error, Transaction};
 
@@ -13,11 +13,8 @@ fn create_meta<S: Alter>(tx: &mut Transaction<'_, S>) -> Result<usize, Error>
     requires { WhileOpen S.Store tx.old.conn.now
         ((database S.Store tx.old.conn.now).schema ≡ no_schema) }
     ensures same_reference { tx.new.conn.ghost_name ≡ tx.old.conn.ghost_name }
-    ensures ok { Made S.Store (Creates no_schema meta_table)
+    ensures steps { Steps S.Store (Creates no_schema meta_table)
         tx.old.conn.now tx.new.conn.now result }
-    ensures step { GoesOn S.Store tx.old.conn.now tx.new.conn.now result }
-    ensures kept { CommitsNothing S.Store tx.old.conn.now tx.new.conn.now }
-    ensures survives { LeavesAll S.Store tx.old.conn.now tx.new.conn.now }
 {
     tx.execute(
         "CREATE TABLE IF NOT EXISTS meta (name TEXT NOT NULL PRIMARY KEY, \
@@ -31,11 +28,8 @@ fn create_object<S: Alter>(tx: &mut Transaction<'_, S>) -> Result<usize, Error>
     requires { WhileOpen S.Store tx.old.conn.now
         ((database S.Store tx.old.conn.now).schema ≡ with_meta) }
     ensures same_reference { tx.new.conn.ghost_name ≡ tx.old.conn.ghost_name }
-    ensures ok { Made S.Store (Creates with_meta object_table)
+    ensures steps { Steps S.Store (Creates with_meta object_table)
         tx.old.conn.now tx.new.conn.now result }
-    ensures step { GoesOn S.Store tx.old.conn.now tx.new.conn.now result }
-    ensures kept { CommitsNothing S.Store tx.old.conn.now tx.new.conn.now }
-    ensures survives { LeavesAll S.Store tx.old.conn.now tx.new.conn.now }
 {
     tx.execute(
         "CREATE TABLE IF NOT EXISTS object (class INTEGER NOT NULL \
@@ -45,16 +39,13 @@ fn create_object<S: Alter>(tx: &mut Transaction<'_, S>) -> Result<usize, Error>
     )
 }
 
-/// Makes the table `named`, of who names whom.
+/// Makes the table `named`: which objects name which maintainers.
 fn create_named<S: Alter>(tx: &mut Transaction<'_, S>) -> Result<usize, Error>
     requires { WhileOpen S.Store tx.old.conn.now
         ((database S.Store tx.old.conn.now).schema ≡ with_object) }
     ensures same_reference { tx.new.conn.ghost_name ≡ tx.old.conn.ghost_name }
-    ensures ok { Made S.Store (Creates with_object named_table)
+    ensures steps { Steps S.Store (Creates with_object named_table)
         tx.old.conn.now tx.new.conn.now result }
-    ensures step { GoesOn S.Store tx.old.conn.now tx.new.conn.now result }
-    ensures kept { CommitsNothing S.Store tx.old.conn.now tx.new.conn.now }
-    ensures survives { LeavesAll S.Store tx.old.conn.now tx.new.conn.now }
 {
     tx.execute(
         "CREATE TABLE IF NOT EXISTS named (maintainer TEXT NOT NULL, class INTEGER NOT NULL, \
@@ -68,12 +59,9 @@ pub(crate) fn make_tables<S: Alter>(tx: &mut Transaction<'_, S>) -> Result<(), E
     requires { WhileOpen S.Store tx.old.conn.now
         ((database S.Store tx.old.conn.now).schema ≡ no_schema) }
     ensures same_reference { tx.new.conn.ghost_name ≡ tx.old.conn.ghost_name }
-    ensures ok { Made S.Store (λ _. IsBare) tx.old.conn.now tx.new.conn.now result }
+    ensures steps { Steps S.Store (λ _. IsBare) tx.old.conn.now tx.new.conn.now result }
     ensures schema { Made S.Store (λ _ new. new.schema ≡ with_named)
         tx.old.conn.now tx.new.conn.now result }
-    ensures step { GoesOn S.Store tx.old.conn.now tx.new.conn.now result }
-    ensures kept { CommitsNothing S.Store tx.old.conn.now tx.new.conn.now }
-    ensures survives { LeavesAll S.Store tx.old.conn.now tx.new.conn.now }
 {
     // the counts are not asked for: the clauses say which tables were made
     let _first = create_meta(tx)?;

@@ -7,10 +7,10 @@ ghost use Rattle.rr_rows.specs.Contents.{meta_row};
 ghost use Rattle.rr_store.specs.Versions.{version_number, version_text};
 
 use crate::columns::{is_bare_meta_row, second_text};
-use crate::version::{Version, number_of};
+use crate::version::{Version, read_decimal};
 use sqlite::Row;
 
-/// The number in a row, if that says another version than this one.
+/// The number in a row, if that says another version than the one asked for.
 fn other_number(row: &Row, version: Version) -> Option<u32>
     ensures found { IfSome result (λ n. (n ≢ version_number version) ×
         (row.now ≡ meta_row (codes "version") (decimal n))) }
@@ -18,7 +18,7 @@ fn other_number(row: &Row, version: Version) -> Option<u32>
         row.now ≡ meta_row (codes "version") (decimal n) → result ≡ None → ⊥ }
 {
     let value = second_text(row)?;
-    let number = number_of(value)?;
+    let number = read_decimal(value)?;
     if number != version.number() && is_bare_meta_row(row, b"version", value) {
         Some(number)
     } else {
@@ -26,7 +26,7 @@ fn other_number(row: &Row, version: Version) -> Option<u32>
     }
 }
 
-/// The number of another version than this one that a row says, if one does.
+/// The number of another version than the one asked for that a row says, if one does.
 pub(crate) fn other_version(rows: &[Row], version: Version) -> Option<u32>
     ensures found { IfSome result (λ n. (n ≢ version_number version) ×
         Contains rows.now (meta_row (codes "version") (decimal n))) }
@@ -42,8 +42,9 @@ pub(crate) fn other_version(rows: &[Row], version: Version) -> Option<u32>
     None
 }
 
-/// Whether the rows, each a name and a value of `meta`, are the one that says this version.
-pub fn says_version(rows: &[Row], version: Version) -> bool
+/// Whether the rows, each a name and a value of `meta`, are the one that says the version asked
+/// for.
+pub fn is_version_row_alone(rows: &[Row], version: Version) -> bool
     ensures is { IsTrue result
         → rows.now ≡ meta_row (codes "version") (version_text version) ∷ [] }
     ensures only { rows.now ≡ meta_row (codes "version") (version_text version) ∷ [] →

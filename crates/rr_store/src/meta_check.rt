@@ -1,8 +1,10 @@
 //! Whether a database has the three tables, with numbers of their own for the rows of `meta`.
 
 ghost use Rattle.std.specs.Prelude.{◌≡◌, false, IfErr, OnOk};
+ghost use Rattle.rr_rows.specs.Tables.{HasTables};
 ghost use Rattle.rr_store.specs.Calls.{FailsOverTidy, Looks, OnCleanDisk, database};
 ghost use Rattle.rr_store.specs.CheckParts.{HasNumberedMeta};
+ghost use Rattle.rr_store.specs.Faults.{no_tables};
 
 use crate::fault::NO_TABLES;
 use crate::reading::count_meta;
@@ -15,6 +17,8 @@ pub(crate) fn check_meta<S: Alter>(conn: &mut Connection<S>) -> Result<(), Error
     ensures looks { Looks S.Store conn.old conn.new result }
     ensures meta { OnCleanDisk S.Store conn.new (OnOk result
         (HasNumberedMeta (database S.Store conn.old))) }
+    ensures untabled { IfErr result (λ error.
+        ¬ HasTables conn.old.schema → error ≡ no_tables) }
     ensures cause { IfErr result (FailsOverTidy S.Store conn.old conn.new) }
 {
     if !has_tables(conn.schema()) {

@@ -6,10 +6,11 @@ ghost use Rattle.rr_rows.specs.Entries.{entry_of};
 ghost use Rattle.rr_rows.specs.Made.{IsBare};
 ghost use Rattle.rr_store.specs.Calls.{OnCleanDisk, Transacts, WhileOpen, database};
 ghost use Rattle.rr_object.specs.Objects.{lent};
-ghost use Rattle.rr_store.specs.Migrating.{FailsToRead, IsMigrated, RefusesOldTables, has_mntner};
+ghost use Rattle.rr_store.specs.Migrating.{FailsOverOldRows, IsMigrated, RefusesOldTables};
+ghost use Rattle.rr_store.specs.Migrating.{has_mntner};
 ghost use Rattle.rr_store.specs.MigratingParts.{IsReplaced, IsRewritten};
 ghost use Rattle.rr_store.specs.declared.fault.MigrateFault.TheVariants.{Store};
-ghost use Rattle.rr_store.specs.StepParts.{CommitsNothing, GoesOn, LeavesAll, Made};
+ghost use Rattle.rr_store.specs.StepParts.{Made, Steps};
 
 use crate::ending::end;
 use crate::fault::{BAD_ROWS, MigrateFault, StoreFault};
@@ -28,11 +29,8 @@ use std::alloc::{AllocError, Global};
 fn clear_rows<S: Alter>(tx: &mut Transaction<'_, S>) -> Result<(), Error>
     requires { WhileOpen S.Store tx.old.conn.now (IsTidy (database S.Store tx.old.conn.now)) }
     ensures same_reference { tx.new.conn.ghost_name ≡ tx.old.conn.ghost_name }
-    ensures ok { Made S.Store (λ _. IsBare) tx.old.conn.now tx.new.conn.now result }
+    ensures steps { Steps S.Store (λ _. IsBare) tx.old.conn.now tx.new.conn.now result }
     ensures others { Made S.Store KeepsOthers tx.old.conn.now tx.new.conn.now result }
-    ensures step { GoesOn S.Store tx.old.conn.now tx.new.conn.now result }
-    ensures kept { CommitsNothing S.Store tx.old.conn.now tx.new.conn.now }
-    ensures survives { LeavesAll S.Store tx.old.conn.now tx.new.conn.now }
 {
     // the counts are not asked for: the clauses say which rows changed
     let _meta = clear_meta(tx)?;
@@ -49,11 +47,8 @@ fn refill<S: Alter>(
 ) -> Result<(), StoreFault>
     requires { WhileOpen S.Store tx.old.conn.now (IsTidy (database S.Store tx.old.conn.now)) }
     ensures same_reference { tx.new.conn.ghost_name ≡ tx.old.conn.ghost_name }
-    ensures ok { Made S.Store (IsReplaced (map entry_of (lent objects.now)))
+    ensures steps { Steps S.Store (IsReplaced (map entry_of (lent objects.now)))
         tx.old.conn.now tx.new.conn.now result }
-    ensures step { GoesOn S.Store tx.old.conn.now tx.new.conn.now result }
-    ensures kept { CommitsNothing S.Store tx.old.conn.now tx.new.conn.now }
-    ensures survives { LeavesAll S.Store tx.old.conn.now tx.new.conn.now }
 {
     clear_rows(tx)?;
     fill(tx, alloc, objects)
@@ -70,7 +65,7 @@ fn replace<S: Alter>(
     ensures { Transacts S.Store (IsReplaced (map entry_of (lent objects.now)))
         conn.old conn.new result }
 {
-    // outside a transaction the database is as it was last committed
+    // called for its clause alone: outside a transaction the rows are those last committed
     let _settled = conn.is_autocommit();
     let mut tx = conn.transaction();
     let work = refill(&mut tx, alloc, objects);
@@ -128,7 +123,7 @@ pub(crate) fn migrate_rows<S: Alter>(
     ensures why { OnCleanDisk S.Store conn.new (IfErr result
         (RefusesOldTables root.now source.now (database S.Store conn.old))) }
     ensures cause { IfErr result (λ fault. (error : _) → fault ≡ Store error →
-        FailsToRead S.Store root.now source.now conn.old conn.new error) }
+        FailsOverOldRows S.Store root.now source.now conn.old conn.new error) }
 {
     let objects = stored_objects(conn, alloc, source, Version::Old)?;
     if has_mntner(&objects, root) {

@@ -85,7 +85,7 @@ fn namings(alloc: Global, objects: &[Object], version: Version) -> Result<Vec<Na
     Ok(all)
 }
 
-/// The same in the order of the rows of `named`.
+/// Who names whom, sorted by maintainer, class and key.
 fn sorted_namings(
     alloc: Global,
     objects: &[Object],

@@ -41,7 +41,7 @@ fn look<S: Alter>(
     ensures refused { OnCleanDisk S.Store conn.new (IfErr result (FailsToQuery sql.now
         (bound params.now) (state S.Store conn.old) (state S.Store conn.new))) }
 {
-    // outside a transaction the database is as it was last committed
+    // called for its clause alone: outside a transaction the rows are those last committed
     let _settled = conn.is_autocommit();
     conn.query_all(sql, params)
 }
@@ -125,7 +125,7 @@ pub(crate) fn count_meta<S: Alter>(conn: &mut Connection<S>) -> Result<usize, Er
         count ≡ length ((database S.Store conn.old).trees meta_tree))) }
     ensures cause { IfErr result (FailsOverTidy S.Store conn.old conn.new) }
 {
-    // outside a transaction the database is as it was last committed
+    // called for its clause alone: outside a transaction the rows are those last committed
     let _settled = conn.is_autocommit();
     let mut rows = conn.query("SELECT rowid FROM meta ORDER BY rowid", &[])?;
     count_numbered(&mut rows)
@@ -142,7 +142,7 @@ pub(crate) fn count_object<S: Alter>(conn: &mut Connection<S>) -> Result<usize, 
         count ≡ length ((database S.Store conn.old).trees object_tree))) }
     ensures cause { IfErr result (FailsOverTidy S.Store conn.old conn.new) }
 {
-    // outside a transaction the database is as it was last committed
+    // called for its clause alone: outside a transaction the rows are those last committed
     let _settled = conn.is_autocommit();
     let mut rows = conn.query("SELECT rowid FROM object ORDER BY rowid", &[])?;
     count_numbered(&mut rows)
@@ -159,7 +159,7 @@ pub(crate) fn count_named<S: Alter>(conn: &mut Connection<S>) -> Result<usize, E
         count ≡ length ((database S.Store conn.old).trees named_tree))) }
     ensures cause { IfErr result (FailsOverTidy S.Store conn.old conn.new) }
 {
-    // outside a transaction the database is as it was last committed
+    // called for its clause alone: outside a transaction the rows are those last committed
     let _settled = conn.is_autocommit();
     let mut rows = conn.query("SELECT rowid FROM named ORDER BY rowid", &[])?;
     count_numbered(&mut rows)
@@ -187,7 +187,7 @@ pub(crate) fn read_objects<S: Alter>(
     ensures no_other { IfErr result TellsNoVersion }
     ensures cause { IfErr result (IfStore (FailsOverTidy S.Store conn.old conn.new)) }
 {
-    // outside a transaction the database is as it was last committed
+    // called for its clause alone: outside a transaction the rows are those last committed
     let _settled = conn.is_autocommit();
     let mut rows = conn.query(
         "SELECT rowid, class, okey, body FROM object ORDER BY rowid",
@@ -212,7 +212,7 @@ pub(crate) fn names_in_turn<S: Alter>(
     ensures no_other { IfErr result TellsNoVersion }
     ensures cause { IfErr result (IfStore (FailsOverTidy S.Store conn.old conn.new)) }
 {
-    // outside a transaction the database is as it was last committed
+    // called for its clause alone: outside a transaction the rows are those last committed
     let _settled = conn.is_autocommit();
     let mut rows = conn.query(
         "SELECT rowid, maintainer, class, okey FROM named ORDER BY rowid",
@@ -241,7 +241,7 @@ pub(crate) fn read_naming<S: Alter>(
     ensures memory { OnCleanDisk S.Store conn.new (IfErr result (λ fault. fault ≡ Memory →
         IsUnchanged (state S.Store conn.old) (state S.Store conn.new))) }
 {
-    // outside a transaction the database is as it was last committed
+    // called for its clause alone: outside a transaction the rows are those last committed
     let _settled = conn.is_autocommit();
     let mut rows = conn.query(
         "SELECT o.rowid, o.class, o.okey, o.body FROM named n JOIN object o \
@@ -249,5 +249,5 @@ pub(crate) fn read_naming<S: Alter>(
          ORDER BY o.class, o.okey",
         &[ValueRef::Text(name)],
     )?;
-    take_objects(&mut rows, alloc, 0, source, Version::This)
+    take_objects(&mut rows, alloc, 0, source, Version::Current)
 }

@@ -7,7 +7,7 @@ ghost use Rattle.rr_rows.specs.Contents.{is_name_of, is_object_of, meta_values, 
 ghost use Rattle.rr_rows.specs.Contents.{object_values};
 ghost use Rattle.rr_rows.specs.Tables.{meta_tree, named_tree, object_tree};
 ghost use Rattle.rr_store.specs.Calls.{OnCleanDisk, WhileOpen, database};
-ghost use Rattle.rr_store.specs.StepParts.{CommitsNothing, GoesOn, LeavesAll, Made};
+ghost use Rattle.rr_store.specs.StepParts.{Steps};
 
 use sqlite::{Alter, Error, Row, Transaction};
 use sqlite_value::value::ValueRef;
@@ -20,12 +20,9 @@ pub(crate) fn add_meta_row<'x, S: Alter>(
 ) -> Result<usize, Error>
     requires { WhileOpen S.Store tx.old.conn.now (IsTidy (database S.Store tx.old.conn.now)) }
     ensures same_reference { tx.new.conn.ghost_name ≡ tx.old.conn.ghost_name }
-    ensures ok { Made S.Store
+    ensures steps { Steps S.Store
         (λ old new. Alters old new meta_tree (Adds (meta_values name.now value.now ∷ [])))
         tx.old.conn.now tx.new.conn.now result }
-    ensures step { GoesOn S.Store tx.old.conn.now tx.new.conn.now result }
-    ensures kept { CommitsNothing S.Store tx.old.conn.now tx.new.conn.now }
-    ensures survives { LeavesAll S.Store tx.old.conn.now tx.new.conn.now }
 {
     tx.execute(
         "INSERT INTO meta (name, value) VALUES (?1, ?2)",
@@ -42,12 +39,9 @@ pub(crate) fn add_object<'x, S: Alter>(
 ) -> Result<usize, Error>
     requires { WhileOpen S.Store tx.old.conn.now (IsTidy (database S.Store tx.old.conn.now)) }
     ensures same_reference { tx.new.conn.ghost_name ≡ tx.old.conn.ghost_name }
-    ensures ok { Made S.Store
+    ensures steps { Steps S.Store
         (λ old new. Alters old new object_tree (Adds (object_values class key.now body.now ∷ [])))
         tx.old.conn.now tx.new.conn.now result }
-    ensures step { GoesOn S.Store tx.old.conn.now tx.new.conn.now result }
-    ensures kept { CommitsNothing S.Store tx.old.conn.now tx.new.conn.now }
-    ensures survives { LeavesAll S.Store tx.old.conn.now tx.new.conn.now }
 {
     tx.execute(
         "INSERT INTO object (class, okey, body) VALUES (?1, ?2, ?3)",
@@ -68,12 +62,9 @@ pub(crate) fn add_name<'x, S: Alter>(
 ) -> Result<usize, Error>
     requires { WhileOpen S.Store tx.old.conn.now (IsTidy (database S.Store tx.old.conn.now)) }
     ensures same_reference { tx.new.conn.ghost_name ≡ tx.old.conn.ghost_name }
-    ensures ok { Made S.Store
+    ensures steps { Steps S.Store
         (λ old new. Alters old new named_tree (Adds (named_values name.now class key.now ∷ [])))
         tx.old.conn.now tx.new.conn.now result }
-    ensures step { GoesOn S.Store tx.old.conn.now tx.new.conn.now result }
-    ensures kept { CommitsNothing S.Store tx.old.conn.now tx.new.conn.now }
-    ensures survives { LeavesAll S.Store tx.old.conn.now tx.new.conn.now }
 {
     tx.execute(
         "INSERT INTO named (maintainer, class, okey) VALUES (?1, ?2, ?3)",
@@ -93,12 +84,9 @@ pub(crate) fn remove_object<S: Alter>(
 ) -> Result<usize, Error>
     requires { WhileOpen S.Store tx.old.conn.now (IsTidy (database S.Store tx.old.conn.now)) }
     ensures same_reference { tx.new.conn.ghost_name ≡ tx.old.conn.ghost_name }
-    ensures ok { Made S.Store
+    ensures steps { Steps S.Store
         (λ old new. Alters old new object_tree (Removes (is_object_of class key.now)))
         tx.old.conn.now tx.new.conn.now result }
-    ensures step { GoesOn S.Store tx.old.conn.now tx.new.conn.now result }
-    ensures kept { CommitsNothing S.Store tx.old.conn.now tx.new.conn.now }
-    ensures survives { LeavesAll S.Store tx.old.conn.now tx.new.conn.now }
 {
     tx.execute(
         "DELETE FROM object WHERE class = ?1 AND okey = ?2",
@@ -115,12 +103,9 @@ pub(crate) fn remove_name<'x, S: Alter>(
 ) -> Result<usize, Error>
     requires { WhileOpen S.Store tx.old.conn.now (IsTidy (database S.Store tx.old.conn.now)) }
     ensures same_reference { tx.new.conn.ghost_name ≡ tx.old.conn.ghost_name }
-    ensures ok { Made S.Store
+    ensures steps { Steps S.Store
         (λ old new. Alters old new named_tree (Removes (is_name_of class key.now name.now)))
         tx.old.conn.now tx.new.conn.now result }
-    ensures step { GoesOn S.Store tx.old.conn.now tx.new.conn.now result }
-    ensures kept { CommitsNothing S.Store tx.old.conn.now tx.new.conn.now }
-    ensures survives { LeavesAll S.Store tx.old.conn.now tx.new.conn.now }
 {
     tx.execute(
         "DELETE FROM named WHERE maintainer = ?1 AND class = ?2 AND okey = ?3",
@@ -143,10 +128,7 @@ pub(crate) fn rows_of_key<S: Alter>(
     ensures rows { OnCleanDisk S.Store tx.new.conn.now (IfOk result (λ rows. IsPermutation
         (filter (is_object_of class key.now)
         (contents ((database S.Store tx.old.conn.now).trees object_tree))) rows.items)) }
-    ensures same { Made S.Store (λ old new. new ≡ old) tx.old.conn.now tx.new.conn.now result }
-    ensures step { GoesOn S.Store tx.old.conn.now tx.new.conn.now result }
-    ensures kept { CommitsNothing S.Store tx.old.conn.now tx.new.conn.now }
-    ensures survives { LeavesAll S.Store tx.old.conn.now tx.new.conn.now }
+    ensures steps { Steps S.Store (λ old new. new ≡ old) tx.old.conn.now tx.new.conn.now result }
 {
     tx.query_all(
         "SELECT class, okey, body FROM object WHERE class = ?1 AND okey = ?2",
@@ -158,11 +140,8 @@ pub(crate) fn rows_of_key<S: Alter>(
 pub(crate) fn clear_meta<S: Alter>(tx: &mut Transaction<'_, S>) -> Result<usize, Error>
     requires { WhileOpen S.Store tx.old.conn.now (IsTidy (database S.Store tx.old.conn.now)) }
     ensures same_reference { tx.new.conn.ghost_name ≡ tx.old.conn.ghost_name }
-    ensures ok { Made S.Store (λ old new. Alters old new meta_tree (Removes (λ _. true)))
+    ensures steps { Steps S.Store (λ old new. Alters old new meta_tree (Removes (λ _. true)))
         tx.old.conn.now tx.new.conn.now result }
-    ensures step { GoesOn S.Store tx.old.conn.now tx.new.conn.now result }
-    ensures kept { CommitsNothing S.Store tx.old.conn.now tx.new.conn.now }
-    ensures survives { LeavesAll S.Store tx.old.conn.now tx.new.conn.now }
 {
     tx.execute("DELETE FROM meta", &[])
 }
@@ -171,11 +150,8 @@ pub(crate) fn clear_meta<S: Alter>(tx: &mut Transaction<'_, S>) -> Result<usize,
 pub(crate) fn clear_objects<S: Alter>(tx: &mut Transaction<'_, S>) -> Result<usize, Error>
     requires { WhileOpen S.Store tx.old.conn.now (IsTidy (database S.Store tx.old.conn.now)) }
     ensures same_reference { tx.new.conn.ghost_name ≡ tx.old.conn.ghost_name }
-    ensures ok { Made S.Store (λ old new. Alters old new object_tree (Removes (λ _. true)))
+    ensures steps { Steps S.Store (λ old new. Alters old new object_tree (Removes (λ _. true)))
         tx.old.conn.now tx.new.conn.now result }
-    ensures step { GoesOn S.Store tx.old.conn.now tx.new.conn.now result }
-    ensures kept { CommitsNothing S.Store tx.old.conn.now tx.new.conn.now }
-    ensures survives { LeavesAll S.Store tx.old.conn.now tx.new.conn.now }
 {
     tx.execute("DELETE FROM object", &[])
 }
@@ -184,11 +160,8 @@ pub(crate) fn clear_objects<S: Alter>(tx: &mut Transaction<'_, S>) -> Result<usi
 pub(crate) fn clear_names<S: Alter>(tx: &mut Transaction<'_, S>) -> Result<usize, Error>
     requires { WhileOpen S.Store tx.old.conn.now (IsTidy (database S.Store tx.old.conn.now)) }
     ensures same_reference { tx.new.conn.ghost_name ≡ tx.old.conn.ghost_name }
-    ensures ok { Made S.Store (λ old new. Alters old new named_tree (Removes (λ _. true)))
+    ensures steps { Steps S.Store (λ old new. Alters old new named_tree (Removes (λ _. true)))
         tx.old.conn.now tx.new.conn.now result }
-    ensures step { GoesOn S.Store tx.old.conn.now tx.new.conn.now result }
-    ensures kept { CommitsNothing S.Store tx.old.conn.now tx.new.conn.now }
-    ensures survives { LeavesAll S.Store tx.old.conn.now tx.new.conn.now }
 {
     tx.execute("DELETE FROM named", &[])
 }

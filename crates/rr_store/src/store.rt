@@ -3,12 +3,15 @@
 ghost use Rattle.std.specs.Prelude.{◌≡◌, [], ◌∷◌, false, List, IfErr, IfOk};
 ghost use Rattle.sqlite.specs.Held.{state};
 ghost use Rattle.sqlite.specs.State.{IsUnchanged};
+ghost use Rattle.rr_object.specs.Classes.{class_number};
+ghost use Rattle.rr_object.specs.Keys.{class_of};
 ghost use Rattle.rr_object.specs.KeyOrders.{HasKeyParts, IsKeyValue};
+ghost use Rattle.rr_object.specs.KeyTexts.{key_bytes};
 ghost use Rattle.rr_object.specs.Objects.{Obj, lent};
-ghost use Rattle.rr_rows.specs.Entries.{IsAdded, IsPut, entry_of};
+ghost use Rattle.rr_rows.specs.Entries.{IsAdded, IsPut, IsTakenOut, entry_of};
 ghost use Rattle.rr_rows.specs.Maps.{AreInOrder, AreOldStored, IsObject};
 ghost use Rattle.rr_rows.specs.Maps.{Puts, TakesOut};
-ghost use Rattle.rr_store.specs.Adding.{AddsTo, TakesRows};
+ghost use Rattle.rr_store.specs.Adding.{AddsTo};
 ghost use Rattle.rr_store.specs.Calls.{FailsOverTidy, IsSettled, Looks, OnCleanDisk, Transacts};
 ghost use Rattle.rr_store.specs.Calls.{database};
 ghost use Rattle.rr_store.specs.Creating.{FailsToMake, MakesStore};
@@ -33,7 +36,8 @@ use sqlite::{Alter, Connection};
 use std::alloc::Global;
 use std::marker::Model;
 
-/// The rows of a set of objects, which a contract sees as the connection that keeps them.
+/// A connection whose tables hold the rows of some objects and no others; a contract sees the
+/// connection.
 #[derive(Drop)]
 pub struct Store<S: Alter> {
     conn: Connection<S>,
@@ -54,12 +58,13 @@ impl<S: Alter> Model for Store<S> {
 }
 
 impl<S: Alter> Store<S> {
-    /// Makes the store of the objects, no two of one key, in a database with nothing in it or with
-    /// the three tables and no row, by one transaction. The connection is in no transaction. After
-    /// a fault it is given back, with the rows as they were; `NotEmpty` says that one of the tables
-    /// has a row. Of a database without a row no clause says why it is refused. A stop during the
-    /// call leaves the rows and tables before it or those of the store; one after it, while the
-    /// connection is open, those that stand.
+    /// Makes the store of the objects in a database with nothing in it, or with the three tables
+    /// and no row, by one transaction. Call it only when the connection is in no transaction. No
+    /// clause says whether two objects of one key are refused. After a fault the connection is
+    /// given back, and the rows are as they were, while it is open. `NotEmpty` says that one of the
+    /// three tables has a row. Unless one has, or other tables stand in place of the three, no
+    /// clause says why the call fails. A stop during the call leaves the rows and tables before it
+    /// or those of the store; one after it, while the connection is open, those that stand.
     pub fn create(
         alloc: Global,
         mut conn: Connection<S>,
@@ -70,7 +75,7 @@ impl<S: Alter> Store<S> {
         ensures fails { IfErr result (λ e. FailsToMake S.Store (lent objects.now) conn e.1 e.0) }
     {
         let made = create_where_vacant(&mut conn, alloc, objects);
-        // outside a transaction the database is as it was last committed
+        // called for its clause alone: outside a transaction the rows are those last committed
         let _settled = conn.is_autocommit();
         match made {
             Ok(()) => Ok(Store { conn }),
@@ -79,10 +84,10 @@ impl<S: Alter> Store<S> {
     }
 
     /// Opens the store of the objects of the source that the tables of version 2 hold, and gives
-    /// these in order of class and key. The connection is in no transaction. After a fault, which
-    /// says why the tables are refused, it is given back. No row is changed in either case: a stop
-    /// during the call leaves what one before it left; one after it, while the connection is open,
-    /// the rows that stand.
+    /// these in order of class and key. Call it only when the connection is in no transaction.
+    /// After a fault it is given back; `WrongVersion` and `BadRow` say why the tables are refused.
+    /// No row is changed in either case: a stop during the call leaves what one before it left; one
+    /// after it, while the connection is open, the rows that stand.
     pub fn open_all(
         alloc: Global,
         mut conn: Connection<S>,
@@ -92,8 +97,8 @@ impl<S: Alter> Store<S> {
         ensures opens { IfOk result (λ s. OpensStore S.Store source.now conn s.0 s.1.items) }
         ensures fails { IfErr result (λ e. FailsToOpen S.Store source.now conn e.1 e.0) }
     {
-        let stored = stored_objects(&mut conn, alloc, source, Version::This);
-        // outside a transaction the database is as it was last committed
+        let stored = stored_objects(&mut conn, alloc, source, Version::Current);
+        // called for its clause alone: outside a transaction the rows are those last committed
         let _settled = conn.is_autocommit();
         match stored {
             Ok(objects) => Ok((Store { conn }, objects)),
@@ -119,9 +124,9 @@ impl<S: Alter> Store<S> {
         }
     }
 
-    /// The objects of the source that tables of version 1 hold, in the order of their keys, or why
-    /// the tables are refused. The connection is in no transaction, and nothing changes, nor what a
-    /// stop leaves.
+    /// The objects of the source that tables of version 1 hold, in order of class and key, or why
+    /// they were not read; `WrongVersion` and `BadRow` say why the tables are refused. Call it only
+    /// when the connection is in no transaction. Nothing changes, nor what a stop leaves.
     pub fn old_objects(
         alloc: Global,
         conn: &mut Connection<S>,
@@ -142,10 +147,11 @@ impl<S: Alter> Store<S> {
 
     /// The store of the objects that tables of version 1 hold, written anew as those of version 2,
     /// and of the block of the AS numbers of more than 16 bits, which the root maintains (RFC
-    /// 6793), by one transaction; all else in the file stays. The connection is in no transaction.
-    /// After a fault, which says why the tables are refused, it is given back, with the rows as
-    /// they were. A stop during the call leaves the rows before it or the new ones; one after it,
-    /// while the connection is open, those that stand.
+    /// 6793), by one transaction; all else in the file stays. Call it only when the connection is
+    /// in no transaction. After a fault it is given back, and the rows are as they were, while it
+    /// is open; `WrongVersion`, `BadRow` and `NoRoot` say why the tables are refused. A stop during
+    /// the call leaves the rows before it or the new ones; one after it, while the connection is
+    /// open, those that stand.
     pub fn migrate(
         alloc: Global,
         mut conn: Connection<S>,
@@ -158,7 +164,7 @@ impl<S: Alter> Store<S> {
             FailsToMigrate S.Store root.now source.now conn e.1 e.0) }
     {
         let migrated = migrate_rows(&mut conn, alloc, root, source);
-        // outside a transaction the database is as it was last committed
+        // called for its clause alone: outside a transaction the rows are those last committed
         let _settled = conn.is_autocommit();
         match migrated {
             Ok(()) => Ok(Store { conn }),
@@ -167,16 +173,16 @@ impl<S: Alter> Store<S> {
     }
 
     /// Puts the rows of the object in place of those of its key, and so the object into the map
-    /// that the tables hold, by one transaction. After a fault the rows are as they were. A stop
-    /// during the call leaves the rows before or after it; one after it, while the connection is
-    /// open, those that stand. No clause says why a write is refused.
+    /// that the tables hold, by one transaction. After a fault the rows are as they were, while the
+    /// connection is open. A stop during the call leaves the rows before or after it; one after it,
+    /// while the connection is open, those that stand. No clause says why it fails.
     pub fn put(&mut self, alloc: Global, object: &Object) -> Result<(), StoreFault>
         ensures rows { Transacts S.Store (IsPut (entry_of object.now)) self.old self.new result }
         ensures puts { Transacts S.Store (Puts object.now.key object.now) self.old self.new result }
         ensures settled { IsSettled S.Store self.new }
     {
         let written = self.put_rows_of(alloc, object);
-        // outside a transaction the database is as it was last committed
+        // called for its clause alone: outside a transaction the rows are those last committed
         let _settled = self.conn.is_autocommit();
         written
     }
@@ -191,10 +197,10 @@ impl<S: Alter> Store<S> {
         put_entry(&mut self.conn, alloc, &entry)
     }
 
-    /// Adds the rows of an object whose key no stored one has: those of its key are not looked for,
-    /// as [`Store::put`] does. Where some stand, the primary key of the tables that
-    /// [`Store::create`] makes refuses them. A fault and a stop are what they are at
-    /// [`Store::put`].
+    /// Adds the rows of an object whose key no stored object has. Unlike [`Store::put`] it does not
+    /// look for rows of that key. Where some stand, the primary key of the tables that
+    /// [`Store::create`] makes refuses them. What a fault and a stop leave is as at [`Store::put`].
+    /// No clause says why it fails.
     pub fn add(&mut self, alloc: Global, object: &Object) -> Result<(), StoreFault>
         ensures rows { Transacts S.Store (IsAdded (entry_of object.now ∷ []))
             self.old self.new result }
@@ -203,7 +209,7 @@ impl<S: Alter> Store<S> {
         ensures settled { IsSettled S.Store self.new }
     {
         let written = self.add_rows_of(alloc, object);
-        // outside a transaction the database is as it was last committed
+        // called for its clause alone: outside a transaction the rows are those last committed
         let _settled = self.conn.is_autocommit();
         written
     }
@@ -220,21 +226,25 @@ impl<S: Alter> Store<S> {
     }
 
     /// Takes out the rows of the object with this key, and so the object of the map, if there is
-    /// one. A fault and a stop are what they are at [`Store::put`].
+    /// one. What a fault and a stop leave is as at [`Store::put`]. No clause says why it fails.
     pub fn remove(&mut self, alloc: Global, key: &Key) -> Result<(), StoreFault>
-        ensures rows { Transacts S.Store (TakesRows key.now) self.old self.new result }
+        ensures rows { Transacts S.Store
+            (IsTakenOut (class_number (class_of key.now)) (key_bytes key.now))
+            self.old self.new result }
         ensures takes { Transacts S.Store (TakesOut key.now) self.old self.new result }
         ensures settled { IsSettled S.Store self.new }
     {
         let written = self.remove_rows_of(alloc, key);
-        // outside a transaction the database is as it was last committed
+        // called for its clause alone: outside a transaction the rows are those last committed
         let _settled = self.conn.is_autocommit();
         written
     }
 
     /// Takes out the rows of the object with this key, which has the parts of its class.
     fn remove_rows_of(&mut self, alloc: Global, key: &Key) -> Result<(), StoreFault>
-        ensures rows { Transacts S.Store (TakesRows key.now) self.old self.new result }
+        ensures rows { Transacts S.Store
+            (IsTakenOut (class_number (class_of key.now)) (key_bytes key.now))
+            self.old self.new result }
         ensures parts { HasKeyParts key.now }
     {
         let class = key.class().number();
@@ -242,11 +252,11 @@ impl<S: Alter> Store<S> {
         remove_entry(&mut self.conn, alloc, class, &bytes)
     }
 
-    /// All objects, in order of class and key, each one of the source; a row that is not that of an
-    /// object of the source is a fault of the store. Where the tables hold the rows of objects of
-    /// the source and no others, a fault of the store has a cause outside the rows. Nothing
-    /// changes, nor what a stop during the call leaves; one after it, while the connection is open,
-    /// leaves the rows that stand.
+    /// Where the tables hold a map of objects: all of these, in order of class and key. In any case
+    /// each one given is of the source, and a row that is not that of an object of the source is a
+    /// fault of the store. Where the tables hold the rows of objects of the source and no others, a
+    /// fault of the store has a cause outside the rows. Nothing changes, nor what a stop during the
+    /// call leaves; one after it, while the connection is open, leaves the rows that stand.
     pub fn all(&mut self, alloc: Global, source: &Name) -> Result<Vec<Object>, StoreFault>
         ensures looks { Looks S.Store self.old self.new result }
         ensures all { OnCleanDisk S.Store self.new (IfOk result (λ all.
@@ -256,13 +266,14 @@ impl<S: Alter> Store<S> {
         ensures settled { IsSettled S.Store self.new }
     {
         let objects = all_objects(&mut self.conn, alloc, source);
-        // outside a transaction the database is as it was last committed
+        // called for its clause alone: outside a transaction the rows are those last committed
         let _settled = self.conn.is_autocommit();
         Ok(objects?)
     }
 
-    /// The objects that name the maintainer, as [`Store::all`] gives all, with the same faults and
-    /// what that leaves. A fault of memory leaves the database as it was.
+    /// Where the tables hold a map of objects: those that name the maintainer. Order, faults and
+    /// what a stop leaves are as at [`Store::all`]. A fault of memory leaves the database as it
+    /// was.
     pub fn naming(
         &mut self,
         alloc: Global,
@@ -279,12 +290,12 @@ impl<S: Alter> Store<S> {
         ensures settled { IsSettled S.Store self.new }
     {
         let objects = naming_objects(&mut self.conn, alloc, source, name);
-        // outside a transaction the database is as it was last committed
+        // called for its clause alone: outside a transaction the rows are those last committed
         let _settled = self.conn.is_autocommit();
         Ok(objects?)
     }
 
-    /// The connection, whose rows stay, in no transaction.
+    /// Gives the connection back, in no transaction, with its rows as they are.
     pub fn close(self) -> Connection<S>
         ensures same { result ≡ self }
         ensures autocommit { result.in_transaction ≡ false }

@@ -21,7 +21,7 @@ pub enum Version {
     /// 16-bit AS numbers, in four hexadecimal digits.
     Old,
     /// 32-bit AS numbers, in eight.
-    This,
+    Current,
 }
 
 impl Version {
@@ -30,8 +30,8 @@ impl Version {
         ensures { result ≡ other_of self }
     {
         match self {
-            Version::Old => Version::This,
-            Version::This => Version::Old,
+            Version::Old => Version::Current,
+            Version::Current => Version::Old,
         }
     }
 
@@ -41,7 +41,7 @@ impl Version {
     {
         match self {
             Version::Old => OLD_VERSION,
-            Version::This => VERSION,
+            Version::Current => VERSION,
         }
     }
 
@@ -51,7 +51,7 @@ impl Version {
     {
         match self {
             Version::Old => b"1",
-            Version::This => b"2",
+            Version::Current => b"2",
         }
     }
 
@@ -63,7 +63,7 @@ impl Version {
     {
         match self {
             Version::Old => key.old_bytes(alloc),
-            Version::This => Ok(Some(key.bytes(alloc)?)),
+            Version::Current => Ok(Some(key.bytes(alloc)?)),
         }
     }
 }
@@ -119,7 +119,7 @@ fn number_of_text(bytes: &[u8], text: &str) -> Option<u32>
 }
 
 /// The number of 32 bits that bytes write in decimal digits without leading zeros, if they do.
-pub fn number_of(bytes: &[u8]) -> Option<u32>
+pub fn read_decimal(bytes: &[u8]) -> Option<u32>
     ensures found { IfSome result (λ n. bytes.now ≡ decimal n) }
     ensures only { (n : _) → n < 2 ^ 32 → bytes.now ≡ decimal n → result ≡ Some n }
 {

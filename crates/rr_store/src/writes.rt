@@ -14,7 +14,8 @@ use sqlite::{Alter, Connection};
 use std::alloc::Global;
 
 /// Puts the rows of an object in place of those with its class and key. After an error the rows are
-/// as they were; a stop leaves those that stood before or those with this one.
+/// as they were, while the connection is open; a stop leaves those that stood before or those with
+/// this one.
 pub(crate) fn put_entry<S: Alter>(
     conn: &mut Connection<S>,
     alloc: Global,
@@ -24,15 +25,15 @@ pub(crate) fn put_entry<S: Alter>(
     requires held { WhileOpen S.Store conn.old (AreOfObjects (database S.Store conn.old)) }
     ensures { Transacts S.Store (IsPut entry.now) conn.old conn.new result }
 {
-    // outside a transaction the database is as it was last committed
+    // called for its clause alone: outside a transaction the rows are those last committed
     let _settled = conn.is_autocommit();
     let mut tx = conn.transaction();
     let work = put_rows(&mut tx, alloc, entry);
     end(tx, work)
 }
 
-/// Adds the rows of an object. After an error the rows are as they were; a stop leaves those that
-/// stood before or those with this one.
+/// Adds the rows of an object. After an error the rows are as they were, while the connection is
+/// open; a stop leaves those that stood before or those with this one.
 pub(crate) fn insert_entry<S: Alter>(
     conn: &mut Connection<S>,
     entry: &Entry,
@@ -41,7 +42,7 @@ pub(crate) fn insert_entry<S: Alter>(
     requires tidy { WhileOpen S.Store conn.old (IsTidy (database S.Store conn.old)) }
     ensures { Transacts S.Store (IsAdded (entry.now ∷ [])) conn.old conn.new result }
 {
-    // outside a transaction the database is as it was last committed
+    // called for its clause alone: outside a transaction the rows are those last committed
     let _settled = conn.is_autocommit();
     let mut tx = conn.transaction();
     let work = add_rows(&mut tx, entry);
@@ -49,7 +50,8 @@ pub(crate) fn insert_entry<S: Alter>(
 }
 
 /// Takes out the rows of the object with this class and key, if there is one. After an error the
-/// rows are as they were; a stop leaves those that stood before or those without this one.
+/// rows are as they were, while the connection is open; a stop leaves those that stood before or
+/// those without this one.
 pub(crate) fn remove_entry<S: Alter>(
     conn: &mut Connection<S>,
     alloc: Global,
@@ -60,7 +62,7 @@ pub(crate) fn remove_entry<S: Alter>(
     requires held { WhileOpen S.Store conn.old (AreOfObjects (database S.Store conn.old)) }
     ensures { Transacts S.Store (IsTakenOut class key.now) conn.old conn.new result }
 {
-    // outside a transaction the database is as it was last committed
+    // called for its clause alone: outside a transaction the rows are those last committed
     let _settled = conn.is_autocommit();
     let mut tx = conn.transaction();
     let work = remove_rows(&mut tx, alloc, class, key);

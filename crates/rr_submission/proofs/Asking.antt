@@ -22,7 +22,8 @@ use Rattle.rr_registry.specs.RunLaws.{AreReadIn}
 use Rattle.rr_submission.specs.declared.request.Request.{Request}
 use Rattle.rr_submission.specs.SubmissionItems.{AreItems, ItemRequest, submitted}
 use Rattle.rr_submission.specs.SubmissionItems.AreItems.{at_end, secrets_alone, requested, faulty, unread_for_memory}
-use Rattle.rr_submission.specs.Requests.{IsRequest, IsTied, action_of, request_of, request_of_key, submitted_object, unread}
+use Rattle.rr_submission.specs.ItemParts.{IsTied}
+use Rattle.rr_submission.specs.Requests.{IsRequest, action_of, request_of, request_of_key, submitted_object, unread}
 
 -- with a key that was read
 pub IsRequest-at_key : (source : List ℕ) (fields own : List Field) (key : Key) (action : Result Item Code) → own ≡ own_fields fields → key_of own ≡ Ok key →

@@ -16,7 +16,7 @@ use Rattle.rr_submission.specs.SubmissionTexts.{secrets_of, is_secrets_alone}
 use Rattle.rr_submission.specs.SubmissionItems.{AreItems, ItemRequest}
 use Rattle.rr_submission.specs.SubmissionItems.AreItems.{at_end, secrets_alone, faulty, unread_for_memory}
 use Rattle.rr_submission.specs.Requests.{unread, text_code}
-use Rattle.rr_submission.specs.ItemReaders.{FindsItem, FindsNone}
+use Rattle.rr_submission.specs.ItemParts.{FindsItem, FindsNone}
 
 -- these entries more were given, and none of them is an item
 pub record IsPassing (source : List ℕ) (start now : Told) (p : Paragraphs) (given : List Entry) (before after : List (List ℕ)) : Type 0 where

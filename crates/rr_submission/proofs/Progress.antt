@@ -14,7 +14,7 @@ use Rattle.rr_text.specs.declared.paragraphs.ReaderState.{ReaderState}
 use Rattle.rr_text.specs.declared.paragraphs.ReaderState.TheVariants.{Open, Ended, Broken, Endless}
 use Rattle.rr_text.specs.WholePart.{whole_part}
 use Rattle.rr_text.proofs.ReaderLemmas.{held_few, within_limit}
-use Rattle.rr_submission.specs.ItemReaders.{FindsItem}
+use Rattle.rr_submission.specs.ItemParts.{FindsItem}
 use Rattle.rr_auth.specs.Registries.{Reg, Sound}
 use Rattle.rr_registry.specs.declared.outcome.Outcome.{Outcome}
 use Rattle.rr_registry.specs.Runs.{Decides, Run}
@@ -228,7 +228,7 @@ HandlesThenStops-cut g {source} old between new {before} {middle} start now p af
 pub Handles-cut : {L : Type 0} (g : Ghosts L) {source : List ℕ} {given : List Entry} (old between new : L) {before middle : Told} {secrets : List (List ℕ)} {done : Done}
     (start now : Told) (p : Paragraphs) (after : Told) (then_secrets : List (List ℕ)) (request : Request) (stop : HandlingFault) →
     ComesTo source given (g.registry old) (g.registry between) before middle secrets done → g.is_stopped between ≡ false → FindsItem source start now p given secrets then_secrets request →
-    HandlesOne g then_secrets request done between new middle after (Err stop) → HandlesItems g source start now old new before after (Err stop)
+    HandlesOne g then_secrets request done between new middle after (Err stop) → HandlesItems g old new source start now before after (Err stop)
 Handles-cut g old between new start now p after then_secrets request (Unwritten count) so running found one =
     HandlesSome-cut start now p _ after then_secrets count request one.outcome so found one.decides one.items one.writes
 Handles-cut g old between new start now p after then_secrets request (LedgerStopped count) so running found one =

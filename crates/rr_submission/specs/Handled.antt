@@ -21,7 +21,7 @@ use Rattle.rr_submission.specs.Reports.{item_line, lines_from, stop_lines}
 -- the line of the last item could not be written: it was decided, the items told before it had been
 -- decided and their lines written whole
 pub record HandlesSome (source : List ℕ) (entries : List (Result (List Field) TextFault))
-    (old new : Reg) (before after : Told) (count : ℕ) : Type 0 where
+    (old new : Reg) (writer_old writer_new : Told) (count : ℕ) : Type 0 where
   pub told : List ItemRequest
   pub last : ItemRequest
   pub outcomes : List Outcome
@@ -30,11 +30,11 @@ pub record HandlesSome (source : List ℕ) (entries : List (Result (List Field) 
   pub are_items : AreItems source [] entries (told ++ last ∷ [])
   pub runs : Run old (map submitted (told ++ last ∷ [])) (outcomes ++ outcome ∷ []) new
   pub confined : ConfinesItems old (told ++ last ∷ []) (outcomes ++ outcome ∷ []) new
-  pub writes : Takes before between (lines_from 1 told outcomes)
-  pub cut : TakesPrefix between after (item_line count last.request.key outcome)
+  pub writes : Takes writer_old between (lines_from 1 told outcomes)
+  pub cut : TakesPrefix between writer_new (item_line count last.request.key outcome)
   pub counted : count ≡ length told + 1
 
--- the ledger stopped at what was asked: only an item brings it to that
+-- the ledger stopped at this action, which is an Item: it cannot stop at a refusal as read
 abbrev pub StopsAt : {L : Type 0} → Ghosts L → L → List (List ℕ) → Result Item Code → L
     → Type 0
 StopsAt g old secrets (Ok item) new = g.Stops old secrets item new
@@ -44,7 +44,7 @@ StopsAt g old secrets (Err code) new = ⊥
 -- written whole, and it has its line with the code E91 and the last line after that, as far as they
 -- could be written
 pub record HandlesThenStops {L : Type 0} (g : Ghosts L) (source : List ℕ)
-    (entries : List (Result (List Field) TextFault)) (old new : L) (before after : Told)
+    (entries : List (Result (List Field) TextFault)) (old new : L) (writer_old writer_new : Told)
     (count : ℕ) : Type 0 where
   pub told : List ItemRequest
   pub last : ItemRequest
@@ -56,13 +56,13 @@ pub record HandlesThenStops {L : Type 0} (g : Ghosts L) (source : List ℕ)
   pub confined : ConfinesItems (g.registry old) told outcomes (g.registry middle)
   pub running : g.is_stopped middle ≡ false
   pub stops : StopsAt g middle last.secrets last.request.action new
-  pub writes : Takes before between (lines_from 1 told outcomes)
-  pub ends : TakesSome between after (stop_lines count last.request.key)
+  pub writes : Takes writer_old between (lines_from 1 told outcomes)
+  pub ends : TakesSome between writer_new (stop_lines count last.request.key)
   pub counted : count ≡ length told
 
--- a prefix of the text was read, and at most one block after it, whose bytes are passed unread: the
--- prefix ends with a blank line, so that its entries are the first of the text whatever follows, or
--- with the text (profile)
+-- a prefix of the text was read and used, and at most 4,096 bytes after it were read and not used:
+-- the prefix ends with a blank line, so that its entries are the first of the text whatever
+-- follows, or with the text (profile)
 pub record ReadsItems (start now : Told) (prefix : List ℕ) : Type 0 where
   pub left : List ℕ
   pub gives : Gives start now (prefix ++ left)
@@ -70,16 +70,16 @@ pub record ReadsItems (start now : Told) (prefix : List ℕ) : Type 0 where
   pub apart : (whole_part prefix ≡ prefix) ⊎ ((left ≡ []) × IsSpent now)
   pub few : now.reads ≤ start.reads + read_limit
 
--- a prefix of the text was read, up to the item whose line could not be written
+-- a prefix of the text was used, up to the item whose line could not be written
 pub record HandlesUnwritten (source : List ℕ) (start now : Told) (old new : Reg)
-    (before after : Told) (count : ℕ) : Type 0 where
+    (writer_old writer_new : Told) (count : ℕ) : Type 0 where
   pub prefix : List ℕ
   pub reads : ReadsItems start now prefix
-  pub handles : HandlesSome source (entries prefix) old new before after count
+  pub handles : HandlesSome source (entries prefix) old new writer_old writer_new count
 
--- a prefix of the text was read, up to the item at which the ledger stopped
+-- a prefix of the text was used, up to the item at which the ledger stopped
 pub record HandlesStopped {L : Type 0} (g : Ghosts L) (source : List ℕ) (start now : Told)
-    (old new : L) (before after : Told) (count : ℕ) : Type 0 where
+    (old new : L) (writer_old writer_new : Told) (count : ℕ) : Type 0 where
   pub prefix : List ℕ
   pub reads : ReadsItems start now prefix
-  pub handles : HandlesThenStops g source (entries prefix) old new before after count
+  pub handles : HandlesThenStops g source (entries prefix) old new writer_old writer_new count

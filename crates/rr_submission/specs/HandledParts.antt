@@ -27,36 +27,41 @@ use Rattle.rr_submission.specs.Handled.{StopsAt, HandlesStopped, HandlesUnwritte
 
 -- each item was decided, and its line was written
 pub record HandlesAll (source : List ℕ) (entries : List (Result (List Field) TextFault))
-    (old new : Reg) (before after : Told) (done : Done) : Type 0 where
+    (old new : Reg) (writer_old writer_new : Told) (done : Done) : Type 0 where
   pub items : List ItemRequest
   pub outcomes : List Outcome
   pub are_items : AreItems source [] entries items
   pub runs : Run old (map submitted items) outcomes new
   pub confined : ConfinesItems old items outcomes new
-  pub writes : Takes before after (lines_from 1 items outcomes)
+  pub writes : Takes writer_old writer_new (lines_from 1 items outcomes)
   pub counted : done.items ≡ length items
   pub refused : done.refused ≡ refusals outcomes
 
 -- the text was read to its end, or to a failed read or the limit of reads, and these of its entries
 -- count
 pub record HandlesRead (source : List ℕ) (start now : Told) (end : ReadEnd) (old new : Reg)
-    (before after : Told) (done : Done) : Type 0 where
+    (writer_old writer_new : Told) (done : Done) : Type 0 where
   pub given : List (Result (List Field) TextFault)
   pub ended : HasEnded start now end given
-  pub handles : HandlesAll source given old new before after done
+  pub handles : HandlesAll source given old new writer_old writer_new done
 
 -- all of the items, with what is counted; those up to the one whose line could not be written, with
 -- their number; or those before the one at which the ledger stopped
-abbrev pub HandlesItems : {L : Type 0} → Ghosts L → List ℕ → Told → Told → L → L
-    → Told → Told → Result (Done × ReadEnd) HandlingFault → Type 0
-HandlesItems g source start now old new before after (Ok handled) =
-    HandlesRead source start now handled.1 (g.registry old) (g.registry new) before after handled.0
-HandlesItems g source start now old new before after (Err (Unwritten count)) =
-    HandlesUnwritten source start now (g.registry old) (g.registry new) before after count
-HandlesItems g source start now old new before after (Err (LedgerStopped count)) =
-    HandlesStopped g source start now old new before after count
+abbrev pub HandlesItems : {L : Type 0} → Ghosts L → L → L → List ℕ → Told → Told → Told → Told
+    → Result (Done × ReadEnd) HandlingFault → Type 0
+HandlesItems g old new source reader_old reader_new writer_old writer_new (Ok handled) =
+    HandlesRead source reader_old reader_new handled.1 (g.registry old) (g.registry new)
+    writer_old writer_new handled.0
+HandlesItems g old new source reader_old reader_new writer_old writer_new
+    (Err (Unwritten count)) =
+    HandlesUnwritten source reader_old reader_new (g.registry old) (g.registry new)
+    writer_old writer_new count
+HandlesItems g old new source reader_old reader_new writer_old writer_new
+    (Err (LedgerStopped count)) =
+    HandlesStopped g source reader_old reader_new old new writer_old writer_new count
 
--- a fact that holds unless the ledger stopped
+-- a fact that holds unless the fault is LedgerStopped, that is, unless the ledger stopped at an
+-- item
 abbrev pub UnlessStopped : {T : Type 0} → Result T HandlingFault → Type 0 → Type 0
 UnlessStopped (Ok done) fact = fact
 UnlessStopped (Err (Unwritten count)) fact = fact
@@ -64,37 +69,37 @@ UnlessStopped (Err (LedgerStopped count)) fact = Unit {0}
 
 -- an item was decided and counted, and its line was written
 pub record IsCounted (secrets : List (List ℕ)) (request : Request) (done : Done) (old new : Reg)
-    (before after : Told) (counted : Done) : Type 0 where
+    (writer_old writer_new : Told) (counted : Done) : Type 0 where
   pub outcome : Outcome
   pub decides : Decides old secrets request.action outcome new
   pub items : counted.items ≡ done.items + 1
   pub refused : counted.refused ≡ done.refused + (if is_refusal outcome then 1 else 0)
-  pub writes : Takes before after (item_line counted.items request.key outcome)
+  pub writes : Takes writer_old writer_new (item_line counted.items request.key outcome)
 
 -- an item was decided, and its line could not be written
 pub record IsUntold (secrets : List (List ℕ)) (request : Request) (done : Done) (old new : Reg)
-    (before after : Told) (count : ℕ) : Type 0 where
+    (writer_old writer_new : Told) (count : ℕ) : Type 0 where
   pub outcome : Outcome
   pub decides : Decides old secrets request.action outcome new
   pub items : count ≡ done.items + 1
-  pub writes : TakesPrefix before after (item_line count request.key outcome)
+  pub writes : TakesPrefix writer_old writer_new (item_line count request.key outcome)
 
 -- the ledger stopped at an item, which is not counted
 pub record HasStopped {L : Type 0} (g : Ghosts L) (secrets : List (List ℕ)) (request : Request)
-    (done : Done) (old new : L) (before after : Told) (count : ℕ) : Type 0 where
+    (done : Done) (old new : L) (writer_old writer_new : Told) (count : ℕ) : Type 0 where
   pub stops : StopsAt g old secrets request.action new
   pub items : count ≡ done.items
-  pub writes : TakesSome before after (stop_lines count request.key)
+  pub writes : TakesSome writer_old writer_new (stop_lines count request.key)
 
 -- an item was decided, and its line was written or not, or the ledger stopped
 abbrev pub HandlesOne : {L : Type 0} → Ghosts L → List (List ℕ) → Request → Done → L
     → L → Told → Told → Result Done HandlingFault → Type 0
-HandlesOne g secrets request done old new before after (Ok counted) =
-    IsCounted secrets request done (g.registry old) (g.registry new) before after counted
-HandlesOne g secrets request done old new before after (Err (Unwritten count)) =
-    IsUntold secrets request done (g.registry old) (g.registry new) before after count
-HandlesOne g secrets request done old new before after (Err (LedgerStopped count)) =
-    HasStopped g secrets request done old new before after count
+HandlesOne g secrets request done old new writer_old writer_new (Ok counted) =
+    IsCounted secrets request done (g.registry old) (g.registry new) writer_old writer_new counted
+HandlesOne g secrets request done old new writer_old writer_new (Err (Unwritten count)) =
+    IsUntold secrets request done (g.registry old) (g.registry new) writer_old writer_new count
+HandlesOne g secrets request done old new writer_old writer_new (Err (LedgerStopped count)) =
+    HasStopped g secrets request done old new writer_old writer_new count
 
 -- the fault of a submission whose items could not all be handled
 abbrev pub stop_fault : HandlingFault → DeskFault

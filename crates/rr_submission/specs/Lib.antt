@@ -3,7 +3,7 @@ pub mod SubmissionItems
 pub mod Refusals
 pub mod Endings
 pub mod Reports
-pub mod ItemReaders
+pub mod ItemParts
 pub mod Handled
 pub mod HandledParts
 pub mod Submissions

@@ -1,6 +1,6 @@
 -- What a paragraph of a submission asks (profile).
 use Rattle.std.specs.Prelude.{◌≡◌, ℕ, Bool, true, false, List, Some, None, Result, Ok, Err}
-use Rattle.std.specs.Prelude.{IfOk, IfSome, ◌⊎◌}
+use Rattle.std.specs.Prelude.{IfSome, ◌⊎◌}
 use Rattle.rr_io.specs.declared.receiving.ReadEnd.{ReadEnd}
 use Rattle.rr_io.specs.declared.receiving.ReadEnd.TheVariants as end
 use Rattle.rr_text.specs.Fields.{Field}
@@ -18,8 +18,6 @@ use Rattle.rr_object.specs.Objects.{Obj}
 use Rattle.rr_object.specs.Readings.{object_of}
 use Rattle.rr_auth.specs.declared.item.Item.{Item}
 use Rattle.rr_auth.specs.declared.item.Item.TheVariants.{Submit, Delete}
-use Rattle.rr_auth.specs.Laws.{key_about}
-use Rattle.rr_auth.specs.Sources.{IsReadIn}
 use Rattle.rr_submission.specs.declared.request.Request.{Request}
 use Rattle.rr_submission.specs.SubmissionTexts.{own_fields, asks_deletion}
 
@@ -70,9 +68,3 @@ pub record LacksMemory (fields : List Field) (request : Request) : Type 0 where
 abbrev pub IsRequest : List ℕ → List Field → Request → Type 0
 IsRequest source fields request =
     (request ≡ request_of source fields) ⊎ LacksMemory fields request
-
--- what is asked is tied to what is shown and to the source: the key of an item is the one that is
--- shown, and the item is as it is read in the source
-abbrev pub IsTied : List ℕ → Request → Type 0
-IsTied source request =
-    IfOk request.action (λ item. (request.key ≡ Some (key_about item)) × IsReadIn source item)

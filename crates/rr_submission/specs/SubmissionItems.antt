@@ -45,7 +45,8 @@ pub data AreItems (source : List ℕ) : List (List ℕ) → List (Result (List F
       → AreItems source secrets entries items →
       AreItems source secrets (Err fault ∷ entries)
       (record { secrets = secrets; request = unread code } ∷ items)
-  -- so is one for whose reading as text or secrets memory ran out
+  -- where memory ran out for an entry or its passwords, it is an item refused with E90, and gives
+  -- no secrets
   unread_for_memory : {secrets : List (List ℕ)} {entries : List (Result (List Field) TextFault)}
       {items : List ItemRequest} →
       (entry : Result (List Field) TextFault) → AreItems source secrets entries items →

@@ -18,13 +18,14 @@ ItemsKeepTheSource =
     → Run r (map submitted items) outcomes s → IsRegistryOf source s
 
 -- this run of items answers the holders of a prefix as if nobody else had submitted anything, and
--- leaves what they hold to them
+-- leaves what they hold to them, where each item is foreign or their own
 pub record ConfinesItems (before : Reg) (items : List ItemRequest) (outcomes : List Outcome)
     (after : Reg) : Type 0 where
   pub confines : Confines before (map submitted items) outcomes after
 
 -- from this registry a run of the first items of a text answers the holders of a prefix as if
--- nobody else had submitted anything, and leaves what they hold to them
+-- nobody else had submitted anything, and leaves what they hold to them, where each item is foreign
+-- or their own
 abbrev pub ConfinesTexts : List ℕ → Reg → Type 0
 ConfinesTexts source r =
     (entries : List (Result (List Field) TextFault)) (items later : List ItemRequest) (s : Reg)

@@ -57,8 +57,8 @@ pub record IsDone (source : List ℕ) (sides : Sides) (done : Done) : Type 0 whe
   pub counted : done.items ≡ length items
   pub refused : done.refused ≡ refusals outcomes
 
--- a read failed or too many were made: the items before that were decided and their lines written
--- whole, and the last line was written or cut short
+-- a read failed, or the text had no end within 16,777,216 reads: the items of its whole part were
+-- decided and their lines written, and the last line was written or cut short
 pub record IsReadFault (source : List ℕ) (sides : Sides) (count : ℕ) : Type 0 where
   pub text : List ℕ
   pub end : ReadEnd
@@ -74,8 +74,7 @@ pub record IsReadFault (source : List ℕ) (sides : Sides) (count : ℕ) : Type 
   pub ends : TakesSome between sides.writer_after (last_line ReadFault (length items))
   pub counted : count ≡ length items
 
--- a write failed in the line of an item: the items up to that one were read and decided and no
--- others
+-- a write failed in the line of an item: the items up to that one were decided, and no others
 abbrev pub IsLineFault : List ℕ → Sides → ℕ → Type 0
 IsLineFault source sides count =
     HandlesUnwritten source sides.reader_before sides.reader_after sides.before sides.after
@@ -101,40 +100,39 @@ abbrev pub IsWriteFault : List ℕ → Sides → ℕ → Type 0
 IsWriteFault source sides count =
     IsLineFault source sides count ⊎ IsLastLineFault source sides count
 
--- the ledger stopped at an item: the items before it were decided, and none after it was
--- read
-abbrev pub IsStoreFault : {L : Type 0} → Ghosts L → List ℕ → Sides → L → L → ℕ
-    → Type 0
-IsStoreFault g source sides old new count = HandlesStopped g source sides.reader_before
+-- the ledger stopped at an item: the items before it were decided, and none after it was decided
+abbrev pub IsStoreFault : {L : Type 0} → Ghosts L → L → L → List ℕ → Sides → ℕ → Type 0
+IsStoreFault g old new source sides count = HandlesStopped g source sides.reader_before
     sides.reader_after old new sides.writer_before sides.writer_after count
 
--- memory ran out before the first item: nothing was read or decided
+-- memory ran out before the first item: nothing was read or decided, and the last line was written
+-- or cut short
 pub record IsUnread (sides : Sides) : Type 0 where
   pub unread : sides.reader_after ≡ sides.reader_before
   pub same : sides.after ≡ sides.before
   pub writes : TakesSome sides.writer_before sides.writer_after (last_line Memory 0)
 
--- what a submission that failed did, by its fault; none says that its ledger had been stopped
-abbrev pub FailsBy : {L : Type 0} → Ghosts L → List ℕ → Sides → L → L → DeskFault
+-- what a failed submission did, by its fault; a ledger that runs never answers Stopped
+abbrev pub FailsBy : {L : Type 0} → Ghosts L → L → L → List ℕ → Sides → DeskFault
     → Type 0
-FailsBy g source sides old new (fault.ReadFault items) = IsReadFault source sides items
-FailsBy g source sides old new (fault.WriteFault items) = IsWriteFault source sides items
-FailsBy g source sides old new (fault.StoreFault items) = IsStoreFault g source sides old new items
-FailsBy g source sides old new fault.Memory = IsUnread sides
-FailsBy g source sides old new fault.Stopped = ⊥
+FailsBy g old new source sides (fault.ReadFault items) = IsReadFault source sides items
+FailsBy g old new source sides (fault.WriteFault items) = IsWriteFault source sides items
+FailsBy g old new source sides (fault.StoreFault items) = IsStoreFault g old new source sides items
+FailsBy g old new source sides fault.Memory = IsUnread sides
+FailsBy g old new source sides fault.Stopped = ⊥
 
 -- what a submission to a ledger with a registry of this source does, by its answer
-abbrev pub Submits : {L : Type 0} → Ghosts L → List ℕ → Sides → L → L
+abbrev pub Submits : {L : Type 0} → Ghosts L → L → L → List ℕ → Sides
     → Result Done DeskFault → Type 0
-Submits g source sides old new (Ok done) = IsDone source sides done
-Submits g source sides old new (Err cause) = FailsBy g source sides old new cause
+Submits g old new source sides (Ok done) = IsDone source sides done
+Submits g old new source sides (Err cause) = FailsBy g old new source sides cause
 
 -- what a submission of what this reader gives does, with this writer and this ledger
-abbrev pub SubmitsText : {L : Type 0} → Ghosts L → List ℕ → Told → Told → Told → Told → L → L
+abbrev pub SubmitsText : {L : Type 0} → Ghosts L → L → L → List ℕ → Told → Told → Told → Told
     → Result Done DeskFault → Type 0
-SubmitsText g source reader_old reader_new writer_old writer_new old new result =
-    Submits g source (sides reader_old reader_new writer_old writer_new (g.registry old)
-    (g.registry new)) old new result
+SubmitsText g old new source reader_old reader_new writer_old writer_new result =
+    Submits g old new source (sides reader_old reader_new writer_old writer_new (g.registry old)
+    (g.registry new)) result
 
 -- a submission is refused because its ledger or its desk is stopped, which stays as it is, like the
 -- reader and the writer
@@ -144,7 +142,7 @@ RefusesSubmission old new reader_old reader_new writer_old writer_new result =
     (result ≡ Err fault.Stopped) × (new ≡ old) × (reader_new ≡ reader_old)
     × (writer_new ≡ writer_old)
 
--- a fact that holds unless the ledger stopped
+-- a fact that holds unless the fault is StoreFault, that is, unless the ledger stopped at an item
 abbrev pub UnlessStoreFault : Result Done DeskFault → Type 0 → Type 0
 UnlessStoreFault (Ok done) fact = fact
 UnlessStoreFault (Err (fault.ReadFault items)) fact = fact

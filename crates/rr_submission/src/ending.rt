@@ -8,16 +8,17 @@ use crate::short_text::ShortText;
 use rr_io::{Sink, write_all};
 use std::io;
 
-/// How a submission ended.
+/// How a submission ended, as its last line says. None is written after a write fault in the line
+/// of an item, or where the ledger was stopped before.
 #[derive(Clone, Copy, Debug, PartialEq, Eq)]
 pub enum Ending {
     /// With the end of its text.
     Complete,
-    /// With a failed read, or with more reads than are made.
+    /// With a failed read, or because the text had no end within 16,777,216 reads.
     ReadFault,
     /// Because memory ran out, before its first item.
     Memory,
-    /// With a stop of the ledger at an item, whose line has the code E91.
+    /// Because the ledger stopped at an item, whose line has the code E91.
     Stopped,
 }
 

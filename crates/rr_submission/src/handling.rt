@@ -31,19 +31,23 @@ use std::io;
 
 /// Submits what the reader gives to a ledger with a registry of this source, and writes the report.
 /// The items are read, decided and reported one by one, in order, in memory that grows with the
-/// secrets of the text, and with what is remembered of them, but else not with the text.
+/// secrets of the text and what is remembered of them, and otherwise not.
 ///
-/// - Where a read fails, or there are too many reads, the items before that are decided and
-///   reported.
+/// - Where a read fails, or the text has no end within 16,777,216 reads, the items up to the last
+///   blank line that came are decided and reported, and a last line says so.
 /// - Where the line of an item cannot be written, that item and those before it stand, and those
-///   after it are not read. Where only the last line cannot be written, all items stand.
-/// - Where the ledger stops at an item, those before it stand, the item has a line with the code
-///   E91, and a last line follows. After each other end it is not stopped.
+///   after it are not decided, though up to 4,096 bytes after it may have been read. Where only the
+///   last line cannot be written, all items stand.
+/// - Where the ledger stops at an item, those before it stand, and its line with the code E91 and a
+///   last line are written as far as they can be. After every other end a ledger that ran still
+///   runs.
 /// - Where the ledger was stopped before, nothing is read, decided or written.
-/// - Where memory runs out before the first item, nothing is read or decided.
+/// - Where memory runs out before the first item, nothing is read or decided, and a last line says
+///   so.
 ///
 /// What the holders of a prefix hold is changed by no item of others. Where the ledger stops, this
-/// is said of the items before that one, of which the ledger says what it leaves.
+/// is said of the items before that one, of which the ledger says what it leaves. What lasts of a
+/// ledger through any items lasts, however the submission ends.
 pub fn submit<L: Ledger, R: Source, W: Sink>(
     alloc: Global,
     ledger: &mut L,
@@ -54,10 +58,11 @@ pub fn submit<L: Ledger, R: Source, W: Sink>(
     ensures stopped { L.is_stopped ledger.old ≡ true → RefusesSubmission
         ledger.old ledger.new reader.old reader.new writer.old writer.new result }
     ensures submits { L.is_stopped ledger.old ≡ false
-        → SubmitsText L.Ledger source.now (R.told reader.old) (R.told reader.new)
-        (W.told writer.old) (W.told writer.new) ledger.old ledger.new result }
+        → SubmitsText L.Ledger ledger.old ledger.new source.now
+        (R.told reader.old) (R.told reader.new) (W.told writer.old) (W.told writer.new) result }
     ensures running { L.is_stopped ledger.old ≡ false
         → UnlessStoreFault result (L.is_stopped ledger.new ≡ false) }
+    ensures lasts { L.Lasts ledger.old ledger.new }
     ensures reader_aside { R.aside reader.new ≡ R.aside reader.old }
     ensures writer_aside { W.aside writer.new ≡ W.aside writer.old }
 {
@@ -86,9 +91,10 @@ fn report<L: Ledger, R: Source, W: Sink>(
     requires running { L.is_stopped ledger.old ≡ false }
     requires sound { Sound (L.registry ledger.old) }
     requires unread { HasGiven (R.told reader.old) (R.told reader.old) paragraphs.old [] }
-    ensures submits { SubmitsText L.Ledger source.now (R.told reader.old) (R.told reader.new)
-        (W.told writer.old) (W.told writer.new) ledger.old ledger.new result }
+    ensures submits { SubmitsText L.Ledger ledger.old ledger.new source.now
+        (R.told reader.old) (R.told reader.new) (W.told writer.old) (W.told writer.new) result }
     ensures running { UnlessStoreFault result (L.is_stopped ledger.new ≡ false) }
+    ensures lasts { L.Lasts ledger.old ledger.new }
     ensures reader_aside { R.aside reader.new ≡ R.aside reader.old }
     ensures writer_aside { W.aside writer.new ≡ W.aside writer.old }
 {
@@ -122,9 +128,10 @@ fn handle_items<L: Ledger, R: Source, W: Sink>(
     requires running { L.is_stopped ledger.old ≡ false }
     requires sound { Sound (L.registry ledger.old) }
     requires unread { HasGiven (R.told reader.old) (R.told reader.old) paragraphs.old [] }
-    ensures handles { HandlesItems L.Ledger source.now (R.told reader.old)
-        (R.told reader.new) ledger.old ledger.new (W.told writer.old) (W.told writer.new) result }
+    ensures handles { HandlesItems L.Ledger ledger.old ledger.new source.now
+        (R.told reader.old) (R.told reader.new) (W.told writer.old) (W.told writer.new) result }
     ensures running { UnlessStopped result (L.is_stopped ledger.new ≡ false) }
+    ensures lasts { L.Lasts ledger.old ledger.new }
     ensures reader_aside { R.aside reader.new ≡ R.aside reader.old }
     ensures writer_aside { W.aside writer.new ≡ W.aside writer.old }
 {
@@ -159,6 +166,7 @@ fn handle_item<L: Ledger, W: Sink>(
     ensures handles { HandlesOne L.Ledger secrets.old request done ledger.old ledger.new
         (W.told writer.old) (W.told writer.new) result }
     ensures running { UnlessStopped result (L.is_stopped ledger.new ≡ false) }
+    ensures lasts { L.Lasts ledger.old ledger.new }
     ensures same_secrets { secrets.new ≡ secrets.old }
     ensures aside { W.aside writer.new ≡ W.aside writer.old }
 {
@@ -191,6 +199,7 @@ fn decide<L: Ledger>(
         (L.registry ledger.old) secrets.old action outcome (L.registry ledger.new)) }
     ensures running { OnOk result (L.is_stopped ledger.new ≡ false) }
     ensures stops { OnErr result (StopsAt L.Ledger ledger.old secrets.old action ledger.new) }
+    ensures lasts { L.Lasts ledger.old ledger.new }
     ensures same_secrets { secrets.new ≡ secrets.old }
 {
     match action {

@@ -4,7 +4,7 @@ ghost use Rattle.std.specs.Prelude.{◌≡◌, ◌∷◌, ◌++◌, ◌<◌, [],
 ghost use Rattle.std.specs.Prelude.{OnErr, OnSome};
 ghost use Rattle.rr_io.specs.Told.{Told};
 ghost use Rattle.rr_text.specs.ParagraphReaders.{Entry, HasGiven, left_of};
-ghost use Rattle.rr_submission.specs.ItemReaders.{Finds};
+ghost use Rattle.rr_submission.specs.ItemParts.{Finds};
 ghost use Rattle.rr_submission.specs.Requests.{text_code};
 ghost use Rattle.rr_submission.specs.SubmissionTexts.{secrets_of};
 

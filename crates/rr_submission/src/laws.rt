@@ -8,8 +8,9 @@ pub fn items_keep_the_source()
     ensures { ItemsKeepTheSource }
 {}
 
-/// The items of a text, decided from a sound registry, answer the holders of a prefix as if nobody
-/// else had submitted anything, and leave what they hold to them.
+/// From a sound registry, where each item of a text is foreign to the holders of a prefix or their
+/// own, its items answer these as if nobody else had submitted anything, and leave what they hold
+/// to them.
 pub fn items_are_confined()
     ensures { ItemsAreConfined }
 {}

@@ -5,7 +5,7 @@ ghost use Rattle.rr_auth.specs.Registries.{Reg, Sound};
 ghost use Rattle.rr_auth.specs.declared.item.Item.{Item};
 ghost use Rattle.rr_registry.specs.Runs.{IsStep};
 
-use rr_auth::{Book, Item, Secrets};
+use rr_auth::{Item, Secrets};
 use rr_registry::{Keeper, Outcome, Registry};
 use std::alloc::Global;
 
@@ -25,12 +25,16 @@ pub trait Ledger {
     // after.
     ghost Stops: { Self → List (List ℕ) → Item → Self → Type 0 };
 
-    /// Whether it is stopped. Its registry is sound, also where it is.
+    // What lasts whatever it decides: of the ledger before any items, and the ledger after them.
+    ghost Lasts: { Self → Self → Type 0 };
+
+    /// Whether it is stopped. Its registry is sound, stopped or not.
     fn stopped(&self) -> bool
         ensures is { result ≡ is_stopped self.now }
         ensures sound { Sound (registry self.now) };
 
-    /// Decides an item that was given with these secrets.
+    /// Decides an item that came with these secrets; the ledger must run. The error is that it
+    /// stopped at the item: `Stops` says what that leaves. The secrets stay.
     fn decide(
         &mut self,
         alloc: Global,
@@ -42,10 +46,19 @@ pub trait Ledger {
             (λ outcome. IsStep (registry self.old) secrets.old item outcome (registry self.new)) }
         ensures running { OnOk result (is_stopped self.new ≡ false) }
         ensures stops { OnErr result (Stops self.old secrets.old item self.new) }
+        ensures lasts { Lasts self.old self.new }
         ensures same_secrets { secrets.new ≡ secrets.old };
+
+    // It lasts where nothing is decided.
+    ghost lasts_still: { (ledger : Self) → Lasts ledger ledger };
+
+    // What lasts through some items, and through those after them, lasts through all.
+    ghost lasts_on: { (before between after : Self) → Lasts before between → Lasts between after
+        → Lasts before after };
 }
 
-/// A registry in memory decides each item by itself, and never stops.
+/// A registry in memory decides each item by itself, and never stops. Nothing but the registry is
+/// said of it.
 impl<B: Keeper> Ledger for Registry<B> {
     ghost registry = { λ kept. kept };
 
@@ -53,8 +66,14 @@ impl<B: Keeper> Ledger for Registry<B> {
 
     ghost Stops = { λ before secrets item after. ⊥ };
 
+    ghost Lasts = { λ before after. Unit {0} };
+
+    ghost lasts_still = { λ ledger. tt };
+
+    ghost lasts_on = { λ before between after first second. tt };
+
     fn stopped(&self) -> bool {
-        // Says that the registry is sound.
+        // Called for its contract: the registry is sound.
         let _book = self.book();
         false
     }

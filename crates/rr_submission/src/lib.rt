@@ -18,5 +18,5 @@ mod submission_text;
 pub use ending::Ending;
 pub use handling::submit;
 pub use ledger::{Ledger, Stopped};
-pub use short_text::ShortText;
+pub use short_text::{SHORT_SIZE, ShortText};
 pub use submission::{DeskFault, Done};

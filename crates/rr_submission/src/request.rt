@@ -20,7 +20,8 @@ pub struct Request {
 }
 
 impl Request {
-    ghost use Rattle.rr_submission.specs.Requests.{IsRequest, IsTied, action_of, unread};
+    ghost use Rattle.rr_submission.specs.ItemParts.{IsTied};
+    ghost use Rattle.rr_submission.specs.Requests.{IsRequest, action_of, unread};
 
     /// The request of a paragraph that was refused before its class and key were read.
     pub fn unread(code: Code) -> Request

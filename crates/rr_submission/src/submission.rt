@@ -12,7 +12,7 @@ pub struct Done {
 /// Why a submission was cut short; `items` were decided before that.
 #[derive(Clone, Copy, Debug, PartialEq, Eq)]
 pub enum DeskFault {
-    /// A read failed, or there were more reads than 16,777,216.
+    /// A read failed, or the text had no end within 16,777,216 reads.
     ReadFault {
         /// The items that were decided.
         items: u64,
@@ -29,6 +29,7 @@ pub enum DeskFault {
     },
     /// Memory ran out before the first item.
     Memory,
-    /// The ledger had stopped before the submission, of which nothing was read.
+    /// The ledger was stopped before the submission: nothing was read, decided or written. (The
+    /// ending `Stopped` goes with `StoreFault`.)
     Stopped,
 }

@@ -6,5 +6,6 @@ returns g c = record {
   served = c.serve_all-turns.result.served;
   turns = c.serve_all-turns.ensures.turns;
   settings = c.serve_all-turns.ensures.settings;
+  lasts = c.serve_all-turns.ensures.lasts;
   rows = c.serve_all-turns.ensures.rows;
 }

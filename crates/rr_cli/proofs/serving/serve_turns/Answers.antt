@@ -7,6 +7,7 @@ returns-in-Ok g c = record {
   failed = c.serve_all-served.result.failed;
   turns = c.serve_all-served.ensures.turns;
   settings = c.serve_all-served.ensures.settings;
+  lasts = c.serve_all-served.ensures.lasts;
   rows = c.serve_all-served.ensures.rows;
   ends = inl (c.in-Ok.ensures.writes, c.served_end.ensures);
 }
@@ -17,6 +18,7 @@ returns-in-Err g c = record {
   failed = c.serve_all-served.result.failed;
   turns = c.serve_all-served.ensures.turns;
   settings = c.serve_all-served.ensures.settings;
+  lasts = c.serve_all-served.ensures.lasts;
   rows = c.serve_all-served.ensures.rows;
   ends = inr (c.in-Err.ensures.writes, refl);
 }

@@ -15,7 +15,6 @@ pub returns-in-Err-clause-creates : goal.returns-in-Err-clause-creates
 returns-in-Err-clause-creates g c = inl (record {
   fault = c.in-Err.fault;
   told = refl;
-  none = c.in-Err.ensures.fails;
-  not_empty = c.in-Err.ensures.not_empty;
+  fails = c.in-Err.ensures.fails;
   silent = refl;
 })

@@ -15,8 +15,6 @@ pub returns-in-Err-clause-loads : goal.returns-in-Err-clause-loads
 returns-in-Err-clause-loads g c = inl (record {
   fault = c.in-Err.fault;
   told = refl;
-  fails = c.in-Err.ensures.why;
-  none = c.in-Err.ensures.fails;
-  not_empty = c.in-Err.ensures.not_empty;
+  fails = c.in-Err.ensures.fails;
   silent = refl;
 })

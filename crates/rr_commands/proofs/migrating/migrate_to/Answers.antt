@@ -14,7 +14,6 @@ pub returns-in-Err-clause-migrates : goal.returns-in-Err-clause-migrates
 returns-in-Err-clause-migrates g c = inl (record {
   fault = c.in-Err.fault;
   told = refl;
-  none = c.in-Err.ensures.fails;
-  why = c.in-Err.ensures.why;
+  fails = c.in-Err.ensures.fails;
   silent = refl;
 })

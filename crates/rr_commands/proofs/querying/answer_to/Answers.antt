@@ -15,6 +15,8 @@ returns-in-Ok-clause-asked g c =
       registry = c.in-Ok.ensures.registry;
       settings = c.in-Ok.ensures.settings;
       keeps = c.in-Ok.ensures.keeps c.requires;
+      only_looks = c.in-Ok.ensures.only_looks;
+      lasts = c.in-Ok.ensures.lasts;
     }
 
 pub returns-in-Err-clause-asked : goal.returns-in-Err-clause-asked
@@ -29,4 +31,6 @@ returns-in-Err-clause-asked g c =
       registry = c.in-Err.ensures.registry;
       settings = c.in-Err.ensures.settings;
       keeps = c.in-Err.ensures.keeps c.requires;
+      only_looks = c.in-Err.ensures.only_looks;
+      lasts = c.in-Err.ensures.lasts;
     }

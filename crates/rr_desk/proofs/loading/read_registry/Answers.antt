@@ -1,27 +1,27 @@
 use Rattle.std.proofs.lemmas.Result.{err_from_is_err_and}
 use Rattle.rr_load.proofs.Sources.{dumps_of_source}
-use Rattle.rr_desk.proofs.Loads.{taken_loads, unread_fails, unread_of_dump, untaken_fails, untaken_of_dump}
+use Rattle.rr_desk.proofs.Loads.{reading_fails, reading_not_of_store, registry_fails, registry_not_of_store, taken_loads}
 use Rattle.rr_desk.proofs.loading.read_registry.Goals as goal
 
 pub returns-in_err-objects-clause-why : goal.returns-in_err-objects-clause-why
 returns-in_err-objects-clause-why g c =
     let exit = err_from_is_err_and c.from_residual.result c.from_residual.ensures.1 in
-    rw (exit.1, exit.2) (unread_fails _ _ _ _ c.in_err-objects.ensures.reads)
+    rw (exit.1, exit.2) (reading_fails _ _ _ _ c.in_err-objects.ensures.reads)
 
-pub returns-in_err-objects-clause-of_dump : goal.returns-in_err-objects-clause-of_dump
-returns-in_err-objects-clause-of_dump g c =
+pub returns-in_err-objects-clause-not_of_store : goal.returns-in_err-objects-clause-not_of_store
+returns-in_err-objects-clause-not_of_store g c =
     let exit = err_from_is_err_and c.from_residual.result c.from_residual.ensures.1 in
-    rw (exit.1, exit.2) (unread_of_dump _)
+    rw (exit.1, exit.2) (reading_not_of_store _)
 
 pub returns-in_err-registry-clause-why : goal.returns-in_err-registry-clause-why
 returns-in_err-registry-clause-why g c =
     let exit = err_from_is_err_and c.from_residual-in_err-registry.result c.from_residual-in_err-registry.ensures.1 in
-    rw (exit.1, exit.2) (untaken_fails _ _ _ _ _ c.in_ok-objects.ensures.reads c.in_err-registry.ensures.taken)
+    rw (exit.1, exit.2) (registry_fails _ _ _ _ _ c.in_ok-objects.ensures.reads c.in_err-registry.ensures.taken)
 
-pub returns-in_err-registry-clause-of_dump : goal.returns-in_err-registry-clause-of_dump
-returns-in_err-registry-clause-of_dump g c =
+pub returns-in_err-registry-clause-not_of_store : goal.returns-in_err-registry-clause-not_of_store
+returns-in_err-registry-clause-not_of_store g c =
     let exit = err_from_is_err_and c.from_residual-in_err-registry.result c.from_residual-in_err-registry.ensures.1 in
-    rw (exit.1, exit.2) (untaken_of_dump _)
+    rw (exit.1, exit.2) (registry_not_of_store _)
 
 pub returns-clause-loaded : goal.returns-clause-loaded
 returns-clause-loaded g c = taken_loads _ _ _ _ _ c.in_ok-objects.ensures.reads c.in_ok-registry.ensures.taken

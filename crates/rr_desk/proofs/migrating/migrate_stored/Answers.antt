@@ -3,7 +3,7 @@ use Rattle.std.proofs.lemmas.Result.{IfErr-weaker, IfOk-weaker}
 use Rattle.sqlite.proofs.StateLemmas.{survives_weaker}
 use Rattle.rr_auth.specs.Sources.{IsRegistryOf}
 use Rattle.rr_desk.specs.Migrating.{IsGrown}
-use Rattle.rr_desk.proofs.Migrated.{each_err, migrates_then, none_then, store_then, why_then}
+use Rattle.rr_desk.proofs.Migrated.{fails_then, migrates_then}
 use Rattle.rr_desk.proofs.migrating.migrate_stored.Goals as goal
 
 pub migrate_tables-requires-clause-autocommit : goal.migrate_tables-requires-clause-autocommit
@@ -23,28 +23,16 @@ returns-in-Ok-clause-migrates g c =
 
 pub returns-in-Ok-clause-fails : goal.returns-in-Ok-clause-fails
 returns-in-Ok-clause-fails g c =
-    IfErr-weaker c.migrate_tables.result _ _ (λ e. none_then g.S.Store c.args.settings.now c.args.conn c.migrated_registry.new.conn c.in-Ok.ensures.looks.same c.in-Ok.ensures.looks.rests.crash e.1) c.migrate_tables.ensures.fails
-
-pub returns-in-Ok-clause-why : goal.returns-in-Ok-clause-why
-returns-in-Ok-clause-why g c =
-    each_err c.migrate_tables.result _ _ _ c.migrate_tables.ensures.fails c.migrate_tables.ensures.why
-    (λ e. why_then g.S.Store c.args.settings.now c.args.conn c.migrated_registry.new.conn c.in-Ok.ensures.looks.same c.in-Ok.ensures.looks.rests.crash e.1 e.0)
+    IfErr-weaker c.migrate_tables.result _ _ (λ e. fails_then g.S.Store c.args.settings.now c.args.conn c.migrated_registry.new.conn c.in-Ok.ensures.looks.same c.in-Ok.ensures.looks.rests.crash e.1 e.0) c.migrate_tables.ensures.fails
 
 pub returns-in-Err-clause-fails : goal.returns-in-Err-clause-fails
 returns-in-Err-clause-fails g c =
     let rests = c.migrated_registry.ensures.looks.rests in record {
-      autocommit = rests.autocommit;
-      kept = rests.same;
-      crash = survives_weaker _ _ _ _ (λ clean trees none. absurd none) rests.crash;
+      none = record {
+        autocommit = rests.autocommit;
+        kept = rests.same;
+        crash = survives_weaker _ _ _ _ (λ clean trees none. absurd none) rests.crash;
+      };
+      why = c.in-Err.ensures.why;
+      store = c.in-Err.ensures.store;
     }
-
-pub returns-in-Err-clause-why : goal.returns-in-Err-clause-why
-returns-in-Err-clause-why g c = c.in-Err.ensures.why
-
-pub returns-in-Ok-clause-store : goal.returns-in-Ok-clause-store
-returns-in-Ok-clause-store g c =
-    each_err c.migrate_tables.result _ _ _ c.migrate_tables.ensures.fails c.migrate_tables.ensures.store
-    (λ e. store_then g.S.Store c.args.settings.now c.args.conn c.migrated_registry.new.conn c.in-Ok.ensures.looks.same c.in-Ok.ensures.looks.rests.crash e.1 e.0)
-
-pub returns-in-Err-clause-store : goal.returns-in-Err-clause-store
-returns-in-Err-clause-store g c = c.in-Err.ensures.store

@@ -1,4 +1,4 @@
-use Rattle.std.proofs.Common.{arith}
+use Rattle.std.proofs.Common.{arith, inl, inr}
 use Rattle.std.specs.FinMap.{values}
 use Rattle.rr_desk.proofs.Migrated.{is_rootless, migrated_rows}
 use Rattle.rr_desk.proofs.migrating.migrate_tables.Goals as goal
@@ -38,21 +38,25 @@ returns-in-Ok-clause-migrates g c =
 pub returns-in-Err-clause-fails : goal.returns-in-Err-clause-fails
 returns-in-Err-clause-fails g c =
     let fails = c.in-Err.ensures.fails in record {
-      autocommit = fails.autocommit;
-      kept = fails.kept;
-      crash = rw (← c.root.ensures.root, ← c.source.ensures.source) fails.crash;
+      none = record {
+        autocommit = fails.autocommit;
+        kept = fails.kept;
+        crash = rw (← c.root.ensures.root, ← c.source.ensures.source) fails.crash;
+      };
+      why = λ clean.
+          let kept = fails.crash.clean in
+          let why = rw (c.root.ensures.root, c.source.ensures.source) at (fails.why clean) in record {
+            wrong_version = why.wrong_version;
+            bad_row = λ is registry of rows. why.bad_row is (values registry) rows;
+            no_other_said = why.no_other_said;
+            tables = why.tables;
+            untabled = why.untabled;
+            no_root = λ is. is_rootless c.args.settings.now _ c.args.registry (c.requires.grown (omega (arith, kept))) (why.no_root is);
+          };
+      store = λ error is tidy clean.
+          let kept = fails.crash.clean in
+          elim (fails.store error is tidy clean) [
+            | inl caused ↦ inl caused
+            | inr root ↦ inr (record { registry = c.args.registry; grown = c.requires.grown (omega (arith, kept)) })
+          ];
     }
-
-pub returns-in-Err-clause-why : goal.returns-in-Err-clause-why
-returns-in-Err-clause-why g c = λ clean.
-    let kept = c.in-Err.ensures.fails.crash.clean in
-    let why = rw (c.root.ensures.root, c.source.ensures.source) at (c.in-Err.ensures.fails.why clean) in record {
-      wrong_version = why.wrong_version;
-      bad_row = λ is registry of rows. why.bad_row is (values registry) rows;
-      no_other_said = why.no_other_said;
-      tables = why.tables;
-      no_root = λ is. is_rootless c.args.settings.now _ c.args.registry (c.requires.grown (omega (arith, kept))) (why.no_root is);
-    }
-
-pub returns-in-Err-clause-store : goal.returns-in-Err-clause-store
-returns-in-Err-clause-store g c = rw (← c.root.ensures.root, ← c.source.ensures.source) c.in-Err.ensures.fails.store

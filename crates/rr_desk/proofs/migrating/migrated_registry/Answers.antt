@@ -2,7 +2,8 @@ use Rattle.std.proofs.Common.{inl, subst}
 use Rattle.std.proofs.lemmas.Result.{IfErr-weaker, err_from_is_err_and}
 use Rattle.rr_store.proofs.OtherVersions.{stored_says_it}
 use Rattle.rr_store.specs.Calls.{database}
-use Rattle.rr_store.specs.Opening.{IsOfNoneButOld}
+use Rattle.rr_store.specs.Opening.{SaysNoOther}
+use Rattle.rr_store.specs.declared.version.Version.TheVariants.{Old}
 use Rattle.rr_desk.specs.Migrating.{IsGrown}
 use Rattle.rr_desk.specs.MigratingParts.{IsGrowthFault}
 use Rattle.rr_desk.proofs.Migrated.{always_ok, each_ok, each_shown, grown_of_source, growth_rootless, no_old_registry, refused_old, unread_of_store}
@@ -28,12 +29,13 @@ pub returns-clause-why : goal.returns-clause-why
 returns-clause-why g c clean =
     let os = c.in_ok-objects.objects.items in
     let stored = rw c.source.ensures.source at (c.in_ok-objects.ensures.stored clean) in
-    let says : IsOfNoneButOld (database g.S.Store c.args.conn.now) = stored_says_it _ c.args.settings.now.source os _ stored in
+    let says : SaysNoOther Old (database g.S.Store c.args.conn.now) = stored_says_it _ c.args.settings.now.source os _ stored in
     IfErr-weaker c.grow.result _ _ (λ fault h. record {
       wrong_version = λ number is. absurd (subst (IsGrowthFault c.args.settings.now os) is h);
       bad_row = λ is. no_old_registry c.args.settings.now.source os _ stored (subst (IsGrowthFault c.args.settings.now os) is h);
       no_other_said = λ is. says;
       tables = λ of. stored.rows.tidy.has;
+      untabled = λ none. absurd (none stored.rows.tidy.has);
       no_root = λ is. growth_rootless c.args.settings.now os _ c.source.ensures.good stored (subst (IsGrowthFault c.args.settings.now os) is h);
     }) c.grow.ensures.fault
 
@@ -46,8 +48,7 @@ pub returns-in_err-objects-clause-why : goal.returns-in_err-objects-clause-why
 returns-in_err-objects-clause-why g c =
     let exit = err_from_is_err_and c.from_residual.result c.from_residual.ensures.1 in
     rw (exit.1, exit.2) (λ clean.
-    let why = rw c.source.ensures.source at (c.in_err-objects.ensures.why clean) in
-    refused_old c.args.settings.now _ _ why.wrong_version why.bad_row why.no_other_said why.tables)
+    refused_old c.args.settings.now _ _ (rw c.source.ensures.source at (c.in_err-objects.ensures.why clean)))
 
 pub returns-clause-store : goal.returns-clause-store
 returns-clause-store g c =

@@ -26,9 +26,3 @@ returns-in-Ok-clause-makes g c = rw c.of.ensures.store c.in-Ok.ensures.makes
 
 pub returns-in-Err-clause-fails : goal.returns-in-Err-clause-fails
 returns-in-Err-clause-fails g c = c.in-Err.ensures.fails
-
-pub returns-in-Err-clause-not_empty : goal.returns-in-Err-clause-not_empty
-returns-in-Err-clause-not_empty g c = c.in-Err.ensures.not_empty
-
-pub returns-in-Err-clause-store : goal.returns-in-Err-clause-store
-returns-in-Err-clause-store g c = c.in-Err.ensures.store

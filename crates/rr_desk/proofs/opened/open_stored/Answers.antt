@@ -40,39 +40,34 @@ returns-in-Ok-from_objects-clause-opens g c =
 pub returns-in-Err-from_objects-clause-fails : goal.returns-in-Err-from_objects-clause-fails
 returns-in-Err-from_objects-clause-fails g c =
     let opens = c.in-Ok.ensures.opens in record {
-      autocommit = c.close.ensures.autocommit;
-      kept = rw c.close.ensures.same (λ clean on. opens.same clean);
-      crash = rw c.close.ensures.same opens.crash;
+      none = record {
+        autocommit = c.close.ensures.autocommit;
+        kept = rw c.close.ensures.same (λ clean on. opens.same clean);
+        crash = rw c.close.ensures.same opens.crash;
+      };
+      why = rw (c.refused.ensures, c.close.ensures.same)
+          (λ clean.
+          let stored = rw (opens.same clean) at opens.stored clean in record {
+            wrong_version = λ number is. absurd (no_version c.in-Err-from_objects.fault number is);
+            bad_row = λ is. bad_objects c.args.source.now _ _ _ c.in-Err-from_objects.ensures.taken is stored;
+            no_other_said = λ is. stored_says_it _ c.args.source.now _ _ stored;
+            tables = λ of. stored.rows.tidy.has;
+            untabled = λ none. absurd (none stored.rows.tidy.has);
+          });
+      store = rw c.refused.ensures (λ error is. absurd (no_error c.in-Err-from_objects.fault error is));
     }
-
-pub returns-in-Err-from_objects-clause-why : goal.returns-in-Err-from_objects-clause-why
-returns-in-Err-from_objects-clause-why g c =
-    let opens = c.in-Ok.ensures.opens in
-    rw (c.refused.ensures, c.close.ensures.same)
-    (λ clean.
-    let stored = rw (opens.same clean) at opens.stored clean in record {
-      wrong_version = λ number is. absurd (no_version c.in-Err-from_objects.fault number is);
-      bad_row = λ is. bad_objects c.args.source.now _ _ _ c.in-Err-from_objects.ensures.taken is stored;
-      no_other_said = λ is. stored_says_it _ c.args.source.now _ _ stored;
-      tables = λ of. stored.rows.tidy.has;
-    })
 
 pub returns-in-Err-clause-fails : goal.returns-in-Err-clause-fails
 returns-in-Err-clause-fails g c =
-    let rests = c.in-Err.ensures.fails.rests in
-    record { autocommit = rests.autocommit; kept = rests.same; crash = rests.crash }
-
-pub returns-in-Err-clause-why : goal.returns-in-Err-clause-why
-returns-in-Err-clause-why g c = λ clean.
-    let why = c.in-Err.ensures.fails.why clean in record {
-      wrong_version = why.wrong_version;
-      bad_row = λ is. unreadable_rows c.args.source.now _ (why.bad_row is);
-      no_other_said = why.no_other_said;
-      tables = why.tables;
+    let fails = c.in-Err.ensures.fails in record {
+      none = record { autocommit = fails.rests.autocommit; kept = fails.rests.same; crash = fails.rests.crash };
+      why = λ clean.
+          let why = fails.why clean in record {
+            wrong_version = why.wrong_version;
+            bad_row = λ is. unreadable_rows c.args.source.now _ (why.bad_row is);
+            no_other_said = why.no_other_said;
+            tables = why.tables;
+            untabled = why.untabled;
+          };
+      store = fails.store;
     }
-
-pub returns-in-Err-from_objects-clause-store : goal.returns-in-Err-from_objects-clause-store
-returns-in-Err-from_objects-clause-store g c = rw c.refused.ensures (λ error is. absurd (no_error c.in-Err-from_objects.fault error is))
-
-pub returns-in-Err-clause-store : goal.returns-in-Err-clause-store
-returns-in-Err-clause-store g c = c.in-Err.ensures.fails.store

@@ -1,3 +1,5 @@
+use Rattle.rr_desk.specs.Desks.{desk_state}
+use Rattle.rr_desk.specs.Lasting.{connection_still}
 use Rattle.rr_desk.proofs.TurnLemmas.{failed_turn, served_turn}
 use Rattle.rr_desk.proofs.serving.take_turn.Goals as goal
 
@@ -6,3 +8,9 @@ returns-in-Ok-clause-turn g c = served_turn _ _ _ _ _ _ _ _ _ _ _ _ _ _ c.is_ok.
 
 pub returns-in-Err-clause-turn : goal.returns-in-Err-clause-turn
 returns-in-Err-clause-turn g c = failed_turn _ _ _ _ _ c.in-Err.ensures.refused
+
+pub returns-in-Ok-clause-lasts : goal.returns-in-Ok-clause-lasts
+returns-in-Ok-clause-lasts g c = c.serve-ended.ensures.lasts
+
+pub returns-in-Err-clause-lasts : goal.returns-in-Err-clause-lasts
+returns-in-Err-clause-lasts g c = connection_still (desk_state g.S.Store c.args.desk.now)

@@ -9,6 +9,7 @@ returns-clause-submits g c =
 pub returns-clause-keeps : goal.returns-clause-keeps
 returns-clause-keeps g c = record {
   running = c.submit.ensures.running c.requires.running;
+  lasts = c.submit.ensures.lasts;
   kept = c.submit.ensures.kept c.requires.running;
   of_source = c.submit.ensures.of_source;
 }

@@ -1,7 +1,7 @@
 use Rattle.std.proofs.Common.{◌≡◌, length}
 use Rattle.std.specs.Prelude.{All}
 use Rattle.httparse.specs.Spans.{IsHeaderWithin}
-use Rattle.rr_http.specs.Asked.{fields_of}
+use Rattle.rr_http.specs.AskedParts.{fields_of}
 use Rattle.rr_http.specs.Requests.{values_of}
 use Rattle.rr_http.proofs.asking.find_value.Given as goal
 

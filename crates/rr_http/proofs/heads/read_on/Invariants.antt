@@ -1,6 +1,6 @@
 use Rattle.std.proofs.Common.{◌≡◌, ◌-◌, ◌≤◌, List, ℕ, ◌++◌, length, take}
 use Rattle.rr_io.specs.Receiving.{Gives}
-use Rattle.rr_http.specs.Heads.{goal_place}
+use Rattle.rr_http.specs.HeadParts.{goal_place}
 use Rattle.rr_http.proofs.heads.read_on.Given as goal
 
 -- what was read so far stands after the bytes of before, and has its goal there

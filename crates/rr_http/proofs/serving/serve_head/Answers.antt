@@ -17,3 +17,6 @@ returns-in-Refused-clause-serves g c =
     let law = g.met.C.Connection in
     let unread = sym (law.write_leaves_source c.refuse.new.writer) ∙ (c.refuse.ensures.aside ∙ law.write_leaves_source c.args.conn.now) in
     refusal_served _ _ _ _ _ _ (rw c.in-Refused.is at c.requires) (record { unread = unread; same = refl }) c.refuse.ensures.replies
+
+pub returns-in-Refused-clause-lasts : goal.returns-in-Refused-clause-lasts
+returns-in-Refused-clause-lasts g c = g.met.D.Registrar.lasts_still c.args.desk.now

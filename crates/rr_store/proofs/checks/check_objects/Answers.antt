@@ -1,7 +1,7 @@
 use Rattle.std.proofs.Common.{◌≡◌, IfErr, IfOk, subst, arith}
 use Rattle.sqlite.specs.Effect.{Database}
 use Rattle.rr_rows.specs.Contents.{contents}
-use Rattle.rr_store.specs.CheckParts.{HoldsInTurn, HoldsNone, HoldsObjects}
+use Rattle.rr_store.specs.CheckParts.{AreRowsOfNone, HoldsInTurn, HoldsObjects}
 use Rattle.rr_store.specs.Versions.{form_of}
 use Rattle.rr_store.specs.declared.fault.OpenFault.TheVariants.{BadRow}
 use Rattle.rr_store.proofs.StreamLemmas.{on_any}
@@ -36,7 +36,7 @@ returns-clause-in_turn g c clean =
 pub returns-clause-bad_row : goal.returns-clause-bad_row
 returns-clause-bad_row g c clean =
     let before : HasCleanDisk (state g.S.Store c.count_object.new.conn) = omega (arith, clean, c.read_objects.ensures.looks.rests.crash.clean) in
-    subst (λ (d : Database). IfErr c.read_objects.result (λ fault. fault ≡ BadRow → HoldsNone (form_of c.args.version) c.args.source.now (contents (d.trees 2)))) (c.in_ok-count.ensures.looks.same before).0.now_is (c.read_objects.ensures.bad_row clean)
+    subst (λ (d : Database). IfErr c.read_objects.result (λ fault. fault ≡ BadRow → AreRowsOfNone (form_of c.args.version) c.args.source.now (contents (d.trees 2)))) (c.in_ok-count.ensures.looks.same before).0.now_is (c.read_objects.ensures.bad_row clean)
 
 pub returns-clause-cause : goal.returns-clause-cause
 returns-clause-cause g c =

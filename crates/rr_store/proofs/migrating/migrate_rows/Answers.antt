@@ -7,7 +7,7 @@ use Rattle.rr_store.specs.MigratingParts.{IsRewritten}
 use Rattle.rr_store.proofs.CommitLemmas.{writes_as, writes_failed, writes_ok}
 use Rattle.rr_store.proofs.LookLemmas.{writes_then}
 use Rattle.rr_store.proofs.MigratedLemmas.{migrated}
-use Rattle.rr_store.proofs.OtherVersions.{unread_store}
+use Rattle.rr_store.proofs.OtherVersions.{unread_refuses, unread_store}
 use Rattle.rr_store.proofs.migrating.migrate_rows.Goals as goal
 
 pub returns-in_ok-rewrite-clause-migrates : goal.returns-in_ok-rewrite-clause-migrates
@@ -50,3 +50,8 @@ pub returns-in_err-objects-clause-cause : goal.returns-in_err-objects-clause-cau
 returns-in_err-objects-clause-cause g c =
     let exit = err_from_is_err_and c.from_residual.result c.from_residual.ensures.1 in
     rw (exit.1, exit.2) (λ error is tidy clean. inl (c.in_err-objects.ensures.cause error (unread_store c.in_err-objects.field-0.0 error is) tidy clean))
+
+pub returns-in_err-objects-clause-why : goal.returns-in_err-objects-clause-why
+returns-in_err-objects-clause-why g c clean =
+    let exit = err_from_is_err_and c.from_residual.result c.from_residual.ensures.1 in
+    rw (exit.1, exit.2) (unread_refuses c.args.root.now c.args.source.now (state g.S.Store c.args.conn.now).now c.in_err-objects.field-0.0 (c.in_err-objects.ensures.why clean))

@@ -3,11 +3,12 @@ use Rattle.std.proofs.lemmas.Result.{err_from_is_err_and}
 use Rattle.sqlite.specs.Effect.{Database}
 use Rattle.sqlite.specs.Held.{state}
 use Rattle.sqlite.specs.State.{HasCleanDisk}
+use Rattle.rr_store.specs.Calls.{FailsOverTidy}
 use Rattle.rr_store.specs.CheckParts.{HasNumberedMeta}
 use Rattle.rr_store.specs.Opening.{AreStoredAs, RefusesTables}
 use Rattle.rr_store.proofs.LookLemmas.{looks_failed, looks_then}
 use Rattle.rr_store.proofs.StoredLemmas.{database_refuses}
-use Rattle.rr_store.proofs.StopLemmas.{second_reads}
+use Rattle.rr_store.proofs.StopLemmas.{is_store, second_reads}
 use Rattle.rr_store.proofs.opening.stored_objects.Goals as goal
 
 pub read_tables-requires-clause-meta : goal.read_tables-requires-clause-meta
@@ -33,8 +34,13 @@ returns-clause-why g c clean =
 pub returns-in_err-check_meta-clause-why : goal.returns-in_err-check_meta-clause-why
 returns-in_err-check_meta-clause-why g c clean =
     let exit = err_from_is_err_and c.from_residual.result c.from_residual.ensures.1 in
-    rw (exit.1, exit.2) (database_refuses c.args.version c.args.source.now (state g.S.Store c.args.conn.now).now c.in_err-check_meta.field-0.0)
+    rw (exit.1, exit.2) (database_refuses c.args.version c.args.source.now (state g.S.Store c.args.conn.now).now c.in_err-check_meta.field-0.0 c.in_err-check_meta.ensures.untabled)
 
 pub returns-clause-cause : goal.returns-clause-cause
 returns-clause-cause g c =
     second_reads g.S.Store c.args.conn.now c.check_meta.new.conn c.read_tables.new.conn c.in_ok-check_meta.ensures.looks.same c.in_ok-check_meta.ensures.looks.rests.crash c.read_tables.ensures.looks.rests.crash c.read_tables.result c.read_tables.ensures.cause
+
+pub returns-in_err-check_meta-clause-cause : goal.returns-in_err-check_meta-clause-cause
+returns-in_err-check_meta-clause-cause g c =
+    let exit = err_from_is_err_and c.from_residual.result c.from_residual.ensures.1 in
+    rw (exit.1, exit.2) (is_store (FailsOverTidy g.S.Store c.args.conn.now c.check_meta.new.conn) c.in_err-check_meta.field-0.0 c.in_err-check_meta.ensures.cause)

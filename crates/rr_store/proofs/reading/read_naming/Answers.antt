@@ -2,10 +2,10 @@ use Rattle.std.proofs.Common.{◌≡◌, ◌∙◌, ap, not, rules, arith, IsTru
 use Rattle.std.proofs.lemmas.Result.{IfOk-weaker, err_from_is_err_and}
 use Rattle.sqlite_value.specs.declared.value.Value.TheVariants.{Text}
 use Rattle.rr_rows.specs.Contents.{contents, pointed}
-use Rattle.rr_rows.specs.Maps.{this_form}
+use Rattle.rr_rows.specs.Maps.{current_form}
 use Rattle.sqlite.specs.State.{IsUnchanged}
 use Rattle.sqlite.proofs.Callers.{unchanged_then}
-use Rattle.rr_store.specs.CheckParts.{HoldsNone, HoldsObjects}
+use Rattle.rr_store.specs.CheckParts.{AreRowsOfNone, HoldsObjects}
 use Rattle.rr_store.specs.declared.fault.OpenFault.TheVariants.{BadRow, Memory}
 use Rattle.rr_store.proofs.CheckLemmas.{both_err, each_err}
 use Rattle.sqlite.specs.Held.{state}
@@ -50,7 +50,7 @@ returns-clause-read g c =
     let begun = c.in_ok-rows.rows.conn.now in
     let new = c.take_objects.new.rows.conn.now in
     let b : Begins g.S.Store select_naming (Text c.args.name.now ∷ []) old begun = begins g.S.Store select_naming (Text c.args.name.now ∷ []) old begun (λ clean. plain_of old.schema select_naming _ select_naming_is (c.requires.tables clean)) c.in_ok-rows.ensures.begun c.in_ok-rows.ensures.survives in
-    let told : HasCleanDisk (state g.S.Store new) → IfOk c.take_objects.result (λ objects. HoldsObjects this_form c.args.source.now objects.items (pointed c.args.name.now (contents ((state g.S.Store old).now.trees 4)) (contents ((state g.S.Store old).now.trees 2)))) = λ clean.
+    let told : HasCleanDisk (state g.S.Store new) → IfOk c.take_objects.result (λ objects. HoldsObjects current_form c.args.source.now objects.items (pointed c.args.name.now (contents ((state g.S.Store old).now.trees 4)) (contents ((state g.S.Store old).now.trees 2)))) = λ clean.
     let first : HasCleanDisk (state g.S.Store begun) = omega (arith, clean, c.take_objects.ensures.streams.survives.clean) in
     let tables = c.requires.tables (omega (arith, first, b.survives.clean)) in
     IfOk-weaker c.take_objects.result _ _ (λ objects rest.
@@ -76,7 +76,7 @@ returns-clause-bad_row g c =
     let begun = c.in_ok-rows.rows.conn.now in
     let new = c.take_objects.new.rows.conn.now in
     let b : Begins g.S.Store select_naming (Text c.args.name.now ∷ []) old begun = begins g.S.Store select_naming (Text c.args.name.now ∷ []) old begun (λ clean. plain_of old.schema select_naming _ select_naming_is (c.requires.tables clean)) c.in_ok-rows.ensures.begun c.in_ok-rows.ensures.survives in
-    let told : HasCleanDisk (state g.S.Store new) → IfErr c.take_objects.result (λ fault. fault ≡ BadRow → HoldsNone this_form c.args.source.now (pointed c.args.name.now (contents ((state g.S.Store old).now.trees 4)) (contents ((state g.S.Store old).now.trees 2)))) = λ clean.
+    let told : HasCleanDisk (state g.S.Store new) → IfErr c.take_objects.result (λ fault. fault ≡ BadRow → AreRowsOfNone current_form c.args.source.now (pointed c.args.name.now (contents ((state g.S.Store old).now.trees 4)) (contents ((state g.S.Store old).now.trees 2)))) = λ clean.
     let first : HasCleanDisk (state g.S.Store begun) = omega (arith, clean, c.take_objects.ensures.streams.survives.clean) in
     let tables = c.requires.tables (omega (arith, first, b.survives.clean)) in
     both_err c.take_objects.result _ _ _ (c.take_objects.ensures.bad_row clean) (c.take_objects.ensures.unchanged clean) (λ fault none quiet bad.

@@ -1,7 +1,7 @@
 use Rattle.std.proofs.Common.{◌≡◌, ◌∙◌, ap, not, rules, arith, IsTrue, [], ◌++◌, IfOk, IfErr, map, refl}
 use Rattle.std.proofs.lemmas.Result.{IfOk-weaker}
 use Rattle.rr_rows.specs.Contents.{IsInRank, by_one, contents, numbered}
-use Rattle.rr_store.specs.CheckParts.{HoldsInTurn, HoldsNone, HoldsObjects}
+use Rattle.rr_store.specs.CheckParts.{AreRowsOfNone, HoldsInTurn, HoldsObjects}
 use Rattle.rr_store.specs.Versions.{form_of}
 use Rattle.rr_store.specs.declared.fault.OpenFault.TheVariants.{BadRow}
 use Rattle.rr_store.proofs.CheckLemmas.{both_err}
@@ -78,7 +78,7 @@ returns-clause-bad_row g c =
     let begun = c.in_ok-rows.rows.conn.now in
     let new = c.take_objects.new.rows.conn.now in
     let b : Begins g.S.Store select_object [] old begun = begins g.S.Store select_object [] old begun (λ clean. plain_of old.schema select_object _ select_object_is (c.requires.tables clean)) c.in_ok-rows.ensures.begun c.in_ok-rows.ensures.survives in
-    let told : HasCleanDisk (state g.S.Store new) → IfErr c.take_objects.result (λ fault. fault ≡ BadRow → HoldsNone (form_of c.args.version) c.args.source.now (contents ((state g.S.Store old).now.trees 2))) = λ clean.
+    let told : HasCleanDisk (state g.S.Store new) → IfErr c.take_objects.result (λ fault. fault ≡ BadRow → AreRowsOfNone (form_of c.args.version) c.args.source.now (contents ((state g.S.Store old).now.trees 2))) = λ clean.
     let first : HasCleanDisk (state g.S.Store begun) = omega (arith, clean, c.take_objects.ensures.streams.survives.clean) in
     let tables = c.requires.tables (omega (arith, first, b.survives.clean)) in
     both_err c.take_objects.result _ _ _ (c.take_objects.ensures.bad_row clean) (c.take_objects.ensures.unchanged clean) (λ fault none quiet bad.

@@ -3,12 +3,12 @@ use Rattle.sqlite_value.specs.declared.value.Value.TheVariants.{Text}
 use Rattle.sqlite.specs.Held.{state}
 use Rattle.rr_rows.specs.Texts.{insert_meta}
 use Rattle.rr_rows.proofs.StatementLemmas.{inserts_meta}
-use Rattle.rr_store.proofs.CallLemmas.{did}
+use Rattle.rr_store.proofs.StepLemmas.{statement_steps}
 use Rattle.rr_store.proofs.statements.add_meta_row.Goals as goal
 
-pub returns-clause-ok : goal.returns-clause-ok
-returns-clause-ok g c clean =
+pub returns-clause-steps : goal.returns-clause-steps
+returns-clause-steps g c =
     let old = c.args.tx.now.conn.now in
     let new = c.execute.new.self.conn.now in
-    did g.S.Store old new insert_meta (Text c.args.name.now ∷ Text c.args.value.now ∷ []) c.execute.result c.execute.ensures.ended (λ on. (c.execute.ensures.runs clean on)) _
-    (λ count ran on. inserts_meta c.args.name.now c.args.value.now (state g.S.Store old) (state g.S.Store new) (c.requires (omega (arith, c.execute.ensures.survives.clean)) on) count ran)
+    statement_steps g.S.Store old new insert_meta (Text c.args.name.now ∷ Text c.args.value.now ∷ []) c.execute.result c.execute.ensures.ended c.execute.ensures.runs c.execute.ensures.survives _
+    (λ clean count ran on. inserts_meta c.args.name.now c.args.value.now (state g.S.Store old) (state g.S.Store new) (c.requires (omega (arith, clean, c.execute.ensures.survives.clean)) on) count ran)

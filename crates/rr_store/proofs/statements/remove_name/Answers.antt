@@ -5,13 +5,13 @@ use mir.Val.{to_z, of_z}
 use Rattle.sqlite.specs.Held.{state}
 use Rattle.rr_rows.specs.Texts.{delete_name}
 use Rattle.rr_rows.proofs.StatementLemmas.{deletes_name}
-use Rattle.rr_store.proofs.CallLemmas.{did}
+use Rattle.rr_store.proofs.StepLemmas.{statement_steps}
 use Rattle.rr_store.proofs.statements.remove_name.Goals as goal
 
-pub returns-clause-ok : goal.returns-clause-ok
-returns-clause-ok g c clean =
+pub returns-clause-steps : goal.returns-clause-steps
+returns-clause-steps g c =
     let same : to_z w64 (of_z w64 (pos c.args.class)) ≡ pos c.args.class = to_z-of_z w64 (pos c.args.class) (search rules) in
     let old = c.args.tx.now.conn.now in
     let new = c.execute.new.self.conn.now in
-    did g.S.Store old new delete_name (named_values c.args.name.now c.args.class c.args.key.now) c.execute.result c.execute.ensures.ended (λ on. (rw (c.from.ensures, same) at (c.execute.ensures.runs clean on))) _
-    (λ count ran on. deletes_name c.args.name.now c.args.class c.args.key.now (state g.S.Store old) (state g.S.Store new) (c.requires (omega (arith, c.execute.ensures.survives.clean)) on) count ran)
+    statement_steps g.S.Store old new delete_name (named_values c.args.name.now c.args.class c.args.key.now) c.execute.result c.execute.ensures.ended (λ clean on. (rw (c.from.ensures, same) at (c.execute.ensures.runs clean on))) c.execute.ensures.survives _
+    (λ clean count ran on. deletes_name c.args.name.now c.args.class c.args.key.now (state g.S.Store old) (state g.S.Store new) (c.requires (omega (arith, clean, c.execute.ensures.survives.clean)) on) count ran)

@@ -1,9 +1,10 @@
 use Rattle.std.proofs.Common.{rules, ◌≡◌, w64, pos, IsTrue, arith}
 use Rattle.std.proofs.lemmas.Int.{to_z-of_z}
 use mir.Val.{to_z, of_z}
-use Rattle.sqlite.proofs.Callers.{IsPlain}
+use Rattle.sqlite.specs.Given.{IsPlain}
 use Rattle.sqlite.specs.Held.{state}
 use Rattle.sqlite.specs.Listing.{understood}
+use Rattle.sqlite.specs.State.{HasCleanDisk}
 use Rattle.rr_rows.specs.Texts.{select_of_key}
 use Rattle.rr_rows.proofs.TextLemmas.{select_of_key_is}
 use Rattle.rr_rows.proofs.StatementLemmas.{selects_of_key}
@@ -20,20 +21,15 @@ returns-clause-rows g c clean =
     each_shown c.query_all.result _ _ _ shown (on_each c.query_all.result _ _ shown (λ rows h. shown_open select_of_key _ old new rows.items h))
     (λ rows on h. selects_of_key c.args.class c.args.key.now old new (c.requires (omega (arith, c.query_all.ensures.survives.clean)) on).has rows.items h)
 
-pub returns-clause-same : goal.returns-clause-same
-returns-clause-same g c clean =
+pub returns-clause-steps : goal.returns-clause-steps
+returns-clause-steps g c =
     let old = state g.S.Store c.args.tx.now.conn.now in
-    let plain : IsTrue old.is_open → IsPlain (understood old.now.schema select_of_key) = λ on. plain_of old.now.schema select_of_key _ select_of_key_is (c.requires (omega (arith, c.query_all.ensures.survives.clean)) on).has in
-    then_ok c.query_all.result (asked_same (λ rows. rows.items) select_of_key _ old (state g.S.Store c.query_all.new.self.conn.now) plain c.query_all.result (c.query_all.ensures.ok clean)) (λ same. same.0.now_is)
-
-pub returns-clause-step : goal.returns-clause-step
-returns-clause-step g c clean =
-    let old = state g.S.Store c.args.tx.now.conn.now in
-    let plain : IsTrue old.is_open → IsPlain (understood old.now.schema select_of_key) = λ on. plain_of old.now.schema select_of_key _ select_of_key_is (c.requires (omega (arith, c.query_all.ensures.survives.clean)) on).has in
-    asked_step (λ rows. rows.items) select_of_key _ old (state g.S.Store c.query_all.new.self.conn.now) plain c.query_all.result (c.query_all.ensures.ok clean)
-
-pub returns-clause-kept : goal.returns-clause-kept
-returns-clause-kept g c clean =
-    let old = state g.S.Store c.args.tx.now.conn.now in
-    let plain : IsTrue old.is_open → IsPlain (understood old.now.schema select_of_key) = λ on. plain_of old.now.schema select_of_key _ select_of_key_is (c.requires (omega (arith, c.query_all.ensures.survives.clean)) on).has in
-    asked_keeps (λ rows. rows.items) select_of_key _ old (state g.S.Store c.query_all.new.self.conn.now) plain c.query_all.result (c.query_all.ensures.ok clean) (c.query_all.ensures.err clean)
+    let new = state g.S.Store c.query_all.new.self.conn.now in
+    let plain : HasCleanDisk new → IsTrue old.is_open → IsPlain (understood old.now.schema select_of_key) = λ clean on.
+    plain_of old.now.schema select_of_key _ select_of_key_is (c.requires (omega (arith, clean, c.query_all.ensures.survives.clean)) on).has in
+    record {
+      made = λ clean. then_ok c.query_all.result (asked_same (λ rows. rows.items) select_of_key _ old new (plain clean) c.query_all.result (c.query_all.ensures.ok clean)) (λ same. same.0.now_is);
+      goes_on = λ clean. asked_step (λ rows. rows.items) select_of_key _ old new (plain clean) c.query_all.result (c.query_all.ensures.ok clean);
+      kept = λ clean. asked_keeps (λ rows. rows.items) select_of_key _ old new (plain clean) c.query_all.result (c.query_all.ensures.ok clean) (c.query_all.ensures.err clean);
+      survives = c.query_all.ensures.survives;
+    }

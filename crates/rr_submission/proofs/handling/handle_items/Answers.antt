@@ -5,7 +5,13 @@ use Rattle.rr_submission.proofs.Progress.{ComesTo-start, ComesTo-more, Handles-c
 use Rattle.rr_submission.proofs.handling.handle_items.Goals as goal
 
 pub items-init : goal.items-init
-items-init g c = (([], c.requires.unread, rw c.new-secrets.ensures (ComesTo-start _ _ _ c.requires.sound)), c.requires.running, refl, refl)
+items-init g c = (
+  ([], c.requires.unread, rw c.new-secrets.ensures (ComesTo-start _ _ _ c.requires.sound)),
+  c.requires.running,
+  refl,
+  refl,
+  g.met.L.Ledger.lasts_still c.args.ledger.now,
+)
 
 pub handle_item-requires-clause-items : goal.handle_item-requires-clause-items
 handle_item-requires-clause-items g c =
@@ -24,6 +30,10 @@ returns-in_err-done-in-Ok-Some-clause-handles g c =
     let found = rw c.in-Ok-Some.field-0-is at (c.in-Ok-Some.ensures.finds _ so.0 so.1) in
     rw (exit.1, exit.2) (Handles-cut g.L.Ledger _ _ _ _ _ _ _ _ _ _ so.2 c.items.invariant.1 found c.in_err-done-in-Ok-Some.ensures.handles)
 
+pub returns-in_err-done-in-Ok-Some-clause-lasts : goal.returns-in_err-done-in-Ok-Some-clause-lasts
+returns-in_err-done-in-Ok-Some-clause-lasts g c =
+    g.met.L.Ledger.lasts_on _ _ _ c.items.invariant.4 c.in_err-done-in-Ok-Some.ensures.lasts
+
 pub items-preserved : goal.items-preserved
 items-preserved g c =
     let so = c.items.invariant.0 in
@@ -33,6 +43,7 @@ items-preserved g c =
       c.in_ok-done-in-Ok-Some.ensures.running,
       c.in-Ok-Some.ensures.aside ∙ c.items.invariant.2,
       c.in_ok-done-in-Ok-Some.ensures.aside ∙ c.items.invariant.3,
+      g.met.L.Ledger.lasts_on _ _ _ c.items.invariant.4 c.in_ok-done-in-Ok-Some.ensures.lasts,
     )
 
 pub returns-in-Ok-None-clause-handles : goal.returns-in-Ok-None-clause-handles

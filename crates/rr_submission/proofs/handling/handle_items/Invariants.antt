@@ -11,6 +11,7 @@ invariant-items g l =
     × (g.L.Ledger.is_stopped l.ledger ≡ false)
     × (g.R.Source.aside l.reader ≡ g.R.Source.aside l.initial.reader)
     × (g.W.Sink.aside l.writer ≡ g.W.Sink.aside l.initial.writer)
+    × g.L.Ledger.Lasts l.initial.ledger l.ledger
 
 abbrev pub decreases-items : goal.decreases-items
 decreases-items g l = left_of l.paragraphs

@@ -1,7 +1,7 @@
 use Rattle.std.proofs.lemmas.Result.{err_from_is_err_and}
 use Rattle.rr_io.proofs.Transfers.{TakesPrefix-then, TakesPrefix-more}
 use Rattle.std.proofs.Common.{◌++◌}
-use Rattle.rr_commands.specs.Faults.{fault_line, name_shown, trouble_text}
+use Rattle.rr_commands.specs.Faults.{fault_line, name_on_line, trouble_text}
 use Rattle.rr_commands.proofs.WritingLemmas.{Writes-then}
 use Rattle.rr_commands.proofs.fault.ProgramFault.write_line.Goals as goal
 
@@ -22,5 +22,5 @@ unfolding fault_line
 returns-clause-writes g c =
     let after = Writes-then _ _ (g.E.Sink.told c.write_trouble.new.errors) _ (trouble_text c.args.self.now.trouble c.args.self.now.stream) c.write_trouble.result
     c.in_ok-write_about.ensures.writes c.write_trouble.ensures.writes in
-    Writes-then _ _ (g.E.Sink.told c.write_trouble.new.errors) _ (name_shown c.args.self.now.about ++ trouble_text c.args.self.now.trouble c.args.self.now.stream) c.write_trouble.result
+    Writes-then _ _ (g.E.Sink.told c.write_trouble.new.errors) _ (name_on_line c.args.self.now.about ++ trouble_text c.args.self.now.trouble c.args.self.now.stream) c.write_trouble.result
     c.in_ok-write_all.ensures.writes after

@@ -1,12 +1,15 @@
 use Rattle.std.proofs.Common.{refl}
-use Rattle.rr_desk.proofs.ListRows.{makes_as, none_as, untouched_back}
+use Rattle.rr_desk.proofs.ListRows.{makes_as, none_as, untouched, untouched_back}
 use Rattle.rr_desk.proofs.desk.Desk.create.Goals as goal
 
 pub returns-in_default-clause-fails : goal.returns-in_default-clause-fails
-returns-in_default-clause-fails g c = untouched_back _ _ _ c.requires.autocommit
-
-pub returns-in_default-clause-not_empty : goal.returns-in_default-clause-not_empty
-returns-in_default-clause-not_empty g c = λ is clean. absurd (cc)
+returns-in_default-clause-fails g c = record {
+  none = untouched_back _ _ _ c.requires.autocommit;
+  crash_tables = untouched _ _;
+  not_empty = λ is clean. absurd (cc);
+  store = λ error is. absurd (cc);
+  untabled = λ error is. absurd (cc);
+}
 
 pub create_stored-requires : goal.create_stored-requires
 create_stored-requires g c = record { autocommit = c.requires.autocommit }
@@ -31,13 +34,10 @@ returns-in-Ok-create_stored-clause-makes g c =
 
 pub returns-in-Err-clause-fails : goal.returns-in-Err-clause-fails
 returns-in-Err-clause-fails g c =
-    none_as _ _ _ (λ db rows. record { registry = c.in-Ok.registry; is_opening = c.in-Ok.ensures.opening; rows = rows }) c.in-Err.ensures.fails
-
-pub returns-in-Err-clause-not_empty : goal.returns-in-Err-clause-not_empty
-returns-in-Err-clause-not_empty g c = c.in-Err.ensures.not_empty
-
-pub returns-in_default-clause-store : goal.returns-in_default-clause-store
-returns-in_default-clause-store g c = λ error is. absurd (cc)
-
-pub returns-in-Err-clause-store : goal.returns-in-Err-clause-store
-returns-in-Err-clause-store g c = c.in-Err.ensures.store
+    let fails = c.in-Err.ensures.fails in record {
+      none = none_as _ _ _ (λ db rows. record { registry = c.in-Ok.registry; is_opening = c.in-Ok.ensures.opening; rows = rows }) fails.none;
+      crash_tables = fails.crash_tables;
+      not_empty = fails.not_empty;
+      store = fails.store;
+      untabled = fails.untabled;
+    }

@@ -9,8 +9,7 @@ returns-in_ok-text_of-in-Ok-clause-looked g c =
       record {
         is_public = record {
           objects = c.in-Ok.objects.items;
-          source = c.source.result.now;
-          of_source = c.in-Ok.ensures.of_source;
+          of_source = rw (← c.source.ensures.source) c.in-Ok.ensures.of_source;
           is_text = told;
         };
         registered = λ clean. told ∙ ap objects_text (c.in-Ok.ensures.found clean);

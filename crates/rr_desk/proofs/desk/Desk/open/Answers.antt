@@ -19,10 +19,4 @@ pub returns-in-Ok-clause-opens : goal.returns-in-Ok-clause-opens
 returns-in-Ok-clause-opens g c = c.in-Ok.ensures.opens
 
 pub returns-in-Err-clause-fails : goal.returns-in-Err-clause-fails
-returns-in-Err-clause-fails g c = c.in-Err.ensures.fails
-
-pub returns-in-Err-clause-why : goal.returns-in-Err-clause-why
-returns-in-Err-clause-why g c = rw (← c.source.ensures.source) c.in-Err.ensures.why
-
-pub returns-in-Err-clause-store : goal.returns-in-Err-clause-store
-returns-in-Err-clause-store g c = c.in-Err.ensures.store
+returns-in-Err-clause-fails g c = rw (← c.source.ensures.source) c.in-Err.ensures.fails

@@ -11,9 +11,3 @@ returns-clause-opens g c = rw (← c.close.ensures.same) c.open.ensures.opens
 
 pub returns-clause-fails : goal.returns-clause-fails
 returns-clause-fails g c = rw (← c.close.ensures.same) c.open.ensures.fails
-
-pub returns-clause-why : goal.returns-clause-why
-returns-clause-why g c = rw (← c.close.ensures.same) c.open.ensures.why
-
-pub returns-clause-store : goal.returns-clause-store
-returns-clause-store g c = rw (← c.close.ensures.same) c.open.ensures.store

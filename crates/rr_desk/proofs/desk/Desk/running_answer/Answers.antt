@@ -13,5 +13,5 @@ returns-in-Err-clause-answered g c =
     let clean = HasCleanDisk (state g.S.Store desk.stored.store) in
     let is : c.in-Err.fault ≢ Memory → IsAnswerTo desk.stored.registry desk.settings.limit c.args.text.now (Err c.in-Err.fault) =
     λ other. as_read desk.stored.registry desk.settings.limit c.args.text.now (Err c.in-Err.fault) (Err c.in-Err.fault) (c.in-Err.ensures.fault other) refl in
-    subst (λ (before : Bool). IsAnswered clean desk.stored.registry desk.settings.limit c.args.text.now before before (Err c.in-Err.fault)) (sym c.requires.running)
-    (told_fault clean desk.stored.registry desk.settings.limit c.args.text.now c.in-Err.fault c.requires.short is)
+    subst (λ (before : Bool). IsAnswered clean desk.settings.source desk.stored.registry desk.settings.limit c.args.text.now before before (Err c.in-Err.fault)) (sym c.requires.running)
+    (told_fault clean desk.settings.source desk.stored.registry desk.settings.limit c.args.text.now c.in-Err.fault c.requires.short is)

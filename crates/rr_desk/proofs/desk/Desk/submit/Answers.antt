@@ -14,3 +14,6 @@ returns-clause-of_source g c =
     submitted_of_source g.S.Store c.args.self.now.settings.source c.args.self.now.stored c.submit-submitted.new.ledger _ _ _ _ _
     (λ stopped. (c.submit-submitted.ensures.stopped stopped).1)
     (λ running. rw c.source.ensures.source at (c.submit-submitted.ensures.submits running))
+
+pub returns-clause-lasts : goal.returns-clause-lasts
+returns-clause-lasts g c = c.submit-submitted.ensures.lasts

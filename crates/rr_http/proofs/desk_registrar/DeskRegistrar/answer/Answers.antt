@@ -12,6 +12,7 @@ returns-in-Ok-clause-answers g c =
         same = c.answer.ensures.registry;
         keeps = c.answer.ensures.keeps;
         still = c.answer.ensures.stopped;
+        only_looks = c.answer.ensures.only_looks;
       },
       made.writes,
     )
@@ -27,6 +28,13 @@ returns-in-Err-clause-answers g c =
         same = c.answer.ensures.registry;
         keeps = c.answer.ensures.keeps;
         still = c.answer.ensures.stopped;
+        only_looks = c.answer.ensures.only_looks;
       },
       made.writes,
     )
+
+pub returns-in-Ok-clause-lasts : goal.returns-in-Ok-clause-lasts
+returns-in-Ok-clause-lasts g c = c.answer.ensures.lasts
+
+pub returns-in-Err-clause-lasts : goal.returns-in-Err-clause-lasts
+returns-in-Err-clause-lasts g c = c.answer.ensures.lasts

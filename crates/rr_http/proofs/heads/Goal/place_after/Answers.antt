@@ -1,7 +1,7 @@
 use Rattle.std.proofs.Common.{◌≡◌, ◌-◌, ◌+◌, ◌∙◌, ap, arith, drop, length, sym, take}
 use Rattle.std.specs.Option.{option_map}
 use Rattle.std.proofs.lemmas.List.{length-drop, take_all}
-use Rattle.rr_http.specs.Heads.{goal_place}
+use Rattle.rr_http.specs.HeadParts.{goal_place}
 use Rattle.rr_http.proofs.SeenLemmas.{place_after_seen}
 use Rattle.rr_http.proofs.heads.Goal.place_after.Goals as goal
 

@@ -36,4 +36,6 @@ returns-in-Err-clause-fails g c =
       crash = made.crash;
       crash_tables = c.in-Err.ensures.tables.crash;
       store = c.in-Err.ensures.cause;
+      no_memory = c.in-Err.ensures.memory;
+      untabled = c.in-Err.ensures.untabled;
     }

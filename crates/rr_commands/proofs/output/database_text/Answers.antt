@@ -1,5 +1,0 @@
-use Rattle.std.proofs.Common.{string_bytes}
-use Rattle.rr_commands.proofs.output.database_text.Goals as goal
-
-pub returns : goal.returns
-returns c = (string_bytes c.in_ok-shown.shown, c.in_ok-push_str.ensures.bytes)

@@ -1,0 +1,76 @@
+-- What a look at a database may find whose tables were not opened or not migrated (profile).
+use Rattle.std.specs.Prelude.{◌≡◌, ◌⊎◌, ℕ, ◌==◌, Bool, true, false, IsTrue, nat_lt}
+use Rattle.rr_store.specs.declared.fault.MigrateFault.{MigrateFault}
+use Rattle.rr_store.specs.declared.fault.MigrateFault.TheVariants as migrating
+use Rattle.rr_store.specs.declared.fault.OpenFault.{OpenFault}
+use Rattle.rr_store.specs.declared.fault.OpenFault.TheVariants as opening
+use Rattle.rr_store.specs.declared.version.TheConstants.{OLD_VERSION, VERSION}
+use Rattle.rr_commands.specs.declared.trouble.Trouble.{Trouble}
+use Rattle.rr_commands.specs.declared.trouble.Trouble.TheVariants as trouble
+
+-- what a look at how tables were made may find: another order, other tables, or what was added
+-- (profile)
+abbrev pub is_of_tables : Trouble → Bool
+is_of_tables trouble.OtherOrder = true
+is_of_tables trouble.OtherTables = true
+is_of_tables trouble.Obstacle = true
+is_of_tables _ = false
+
+-- what a look at tables that are not opened may find: that, or a later version (profile)
+abbrev pub is_of_unopened : Trouble → Bool
+is_of_unopened (trouble.Opening (opening.WrongVersion version)) = nat_lt VERSION version
+is_of_unopened found = is_of_tables found
+
+-- what a look at tables that are not migrated may find: the same (profile)
+abbrev pub is_of_unmigrated : Trouble → Bool
+is_of_unmigrated (trouble.Migrating (migrating.WrongVersion version)) = nat_lt VERSION version
+is_of_unmigrated found = is_of_tables found
+
+-- what a look at their rows may find: another source, a row, or what rows say together (profile)
+abbrev pub is_of_rows : Trouble → Bool
+is_of_rows trouble.OtherSource = true
+is_of_rows trouble.OtherSourceRow = true
+is_of_rows trouble.BadObject = true
+is_of_rows trouble.Unnamed = true
+is_of_rows trouble.Overlap = true
+is_of_rows trouble.OtherRows = true
+is_of_rows trouble.OldKeys = true
+is_of_rows trouble.NewKeys = true
+is_of_rows trouble.NoObject = true
+is_of_rows _ = false
+
+-- what a look at tables may find that say this version and are not opened: if it is the one that is
+-- migrated, that `meta` has other rows beside it, or the keys of the one that is read (profile)
+abbrev pub is_of_old : ℕ → Trouble → Bool
+is_of_old version trouble.OtherRows = version == OLD_VERSION
+is_of_old version trouble.NewKeys = version == OLD_VERSION
+is_of_old _ _ = false
+
+-- what a look at tables may find that say this version and are not migrated: if it is the one that
+-- is read, that `meta` has other rows beside it (profile)
+abbrev pub is_of_version : ℕ → Trouble → Bool
+is_of_version version trouble.OtherRows = version == VERSION
+is_of_version _ _ = false
+
+-- what may be found of tables that are not opened: where the database was refused, where its rows
+-- were, and where its version was (profile)
+abbrev pub is_found_unopened : OpenFault → Trouble → Bool
+is_found_unopened (opening.Store error) found = is_of_unopened found
+is_found_unopened opening.BadRow found = is_of_rows found
+is_found_unopened (opening.WrongVersion version) found = is_of_old version found
+is_found_unopened opening.Memory found = false
+
+-- what may be found of tables that are not migrated: where the database was refused, where its rows
+-- were, where its version was, and where the root was missing: that there are no objects (profile)
+abbrev pub is_found : MigrateFault → Trouble → Bool
+is_found (migrating.Store error) found = is_of_unmigrated found
+is_found migrating.BadRow found = is_of_rows found
+is_found (migrating.WrongVersion version) found = is_of_version version found
+is_found migrating.NoRoot trouble.Empty = true
+is_found _ found = false
+
+-- what is told of tables that were not opened for this fault: the fault, or what a look at the
+-- database found (profile)
+abbrev pub IsToldUnopened : OpenFault → Trouble → Type 0
+IsToldUnopened fault told =
+    (told ≡ trouble.Opening fault) ⊎ IsTrue (is_found_unopened fault told)

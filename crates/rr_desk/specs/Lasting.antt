@@ -1,0 +1,62 @@
+-- That a connection lasts where nothing is done, through a look at its tables, and through what is
+-- done after something else.
+use Rattle.std.specs.Prelude.{refl}
+use Rattle.std.proofs.Common.{arith, inl, subst, sym}
+use Rattle.sqlite_trees.specs.declared.store.Store as store
+use Rattle.sqlite.specs.Held.{state}
+use Rattle.sqlite.specs.State.{State, HasCleanDisk}
+use Rattle.sqlite.proofs.StateLemmas.{survives_then, survives_weaker}
+use Rattle.rr_rows.specs.Contents.{KeepsOthers}
+use Rattle.rr_rows.proofs.OtherLemmas.{others_itself, others_then}
+use Rattle.rr_desk.specs.Private.{ChangesNothing}
+use Rattle.rr_desk.specs.Stocks.{ConnectionLasts, Stock, stock_ledger}
+
+-- a connection lasts where nothing is done
+pub connection_still : (s : State) → ConnectionLasts s s
+connection_still s = record {
+  survives = record {
+    clean = omega arith;
+    shield = λ shielded. shielded;
+    counts = omega arith;
+    limit = refl;
+    closes = λ clean on. inl on;
+    crash = λ clean trees may. inl may;
+  };
+  was_open = λ clean on. on;
+  others = λ clean on. others_itself s.now;
+}
+
+-- it lasts through a look that changes nothing
+pub look_lasts : (old now : State) → ChangesNothing old now → ConnectionLasts old now
+look_lasts old now look = record {
+  survives = survives_weaker old now (λ trees. ⊥) (λ trees. Unit {0}) (λ clean trees none. tt)
+      look.only_looks;
+  was_open = look.was_open;
+  others = λ clean on.
+      subst (KeepsOthers old.now) (sym (look.same clean on)) (others_itself old.now);
+}
+
+-- what lasts through something, and through what is done after it, lasts through both
+pub connection_on : (a b c : State) → ConnectionLasts a b → ConnectionLasts b c
+    → ConnectionLasts a c
+connection_on a b c first second =
+    let earlier : HasCleanDisk c → HasCleanDisk b =
+    λ clean. omega (arith, second.survives.clean) in
+    record {
+      survives = survives_then a b c (λ trees. Unit {0}) (λ trees. Unit {0}) (λ trees. Unit {0})
+          (λ clean trees made. tt) (λ clean trees made. tt) first.survives second.survives;
+      was_open = λ clean on. first.was_open (earlier clean) (second.was_open clean on);
+      others = λ clean on. others_then a.now b.now c.now
+          (first.others (earlier clean) (second.was_open clean on)) (second.others clean on);
+    }
+
+-- what lasts of a stock lasts where nothing is decided
+pub stock_still : {S : Type 0} (g : store.Ghosts S) (s : Stock S) → (stock_ledger g).Lasts s s
+stock_still g s = connection_still (state g s.store)
+
+-- and what lasts of it through some items, and through those after them, lasts through all
+pub stock_on : {S : Type 0} (g : store.Ghosts S) (before between after : Stock S) →
+    (stock_ledger g).Lasts before between → (stock_ledger g).Lasts between after
+    → (stock_ledger g).Lasts before after
+stock_on g before between after first second =
+    connection_on (state g before.store) (state g between.store) (state g after.store) first second

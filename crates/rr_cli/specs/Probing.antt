@@ -6,7 +6,7 @@ use Rattle.sqlite_trees.specs.declared.store.Store.{Ghosts}
 use Rattle.rr_io.specs.Sending.{Takes, TakesPrefix}
 use Rattle.rr_io.specs.Told.{Told}
 use Rattle.rr_desk.specs.Desks.{desk_state}
-use Rattle.rr_desk.specs.Stocks.{ConnectionLasts, StoresUntilStopped}
+use Rattle.rr_desk.specs.Stocks.{DatabaseLasts, StoresUntilStopped}
 use Rattle.rr_desk.specs.Turns.{Serving, TakesTurns, Tally}
 use Rattle.rr_desk.specs.declared.desk.Desk.{Desk}
 use Rattle.rr_commands.specs.Commands.{ActsBySettings, AtDesk, Closes, CommandEnd, DeskAction}
@@ -72,7 +72,7 @@ pub record TakesOneTurn {S : Type 0} (g : Ghosts S) (serves : Serving) (tally_be
   pub served : ℕ
   pub turns : TakesTurns g serves 1 before after tally_before tally_after served failed
   pub settings : after.settings ≡ before.settings
-  pub lasts : ConnectionLasts (desk_state g before) (desk_state g after)
+  pub lasts : DatabaseLasts (desk_state g before) (desk_state g after)
   pub rows : StoresUntilStopped g after.stored
 
 -- any free port was listened on, and one turn of what listens on it was taken (profile)

@@ -4,7 +4,7 @@ use Rattle.sqlite_trees.specs.declared.store.Store.{Ghosts}
 use Rattle.rr_io.specs.Sending.{Takes, TakesPrefix}
 use Rattle.rr_io.specs.Told.{Told}
 use Rattle.rr_desk.specs.Desks.{desk_state}
-use Rattle.rr_desk.specs.Stocks.{ConnectionLasts, StoresUntilStopped}
+use Rattle.rr_desk.specs.Stocks.{DatabaseLasts, StoresUntilStopped}
 use Rattle.rr_desk.specs.Turns.{Serving, TakesTurns, Tally, Turn, unaccepted}
 use Rattle.rr_desk.specs.declared.desk.Desk.{Desk}
 use Rattle.rr_commands.specs.declared.cause.Cause.{Cause}
@@ -57,7 +57,7 @@ pub record HasServed {S : Type 0} (g : Ghosts S) (serves : Serving) (count : ℕ
   pub failed : ℕ
   pub turns : TakesTurns g serves count before after tally_before tally_after served failed
   pub settings : after.settings ≡ before.settings
-  pub lasts : ConnectionLasts (desk_state g before) (desk_state g after)
+  pub lasts : DatabaseLasts (desk_state g before) (desk_state g after)
   pub rows : StoresUntilStopped g after.stored
   pub ends : EndsServed tally_after served failed old new ended
 

@@ -7,8 +7,8 @@ use Rattle.rr_io.specs.Told.{Told}
 use Rattle.rr_answer.specs.declared.fault.QueryFault.{QueryFault}
 use Rattle.rr_answer.specs.Answers.{answer_bytes}
 use Rattle.rr_desk.specs.Desks.{GivesAnswer, desk_state}
-use Rattle.rr_desk.specs.Rows.{KeepsRows, OnlyLooks}
-use Rattle.rr_desk.specs.Stocks.{ConnectionLasts}
+use Rattle.rr_desk.specs.Rows.{KeepsRows, CommitsNothing}
+use Rattle.rr_desk.specs.Stocks.{DatabaseLasts}
 use Rattle.rr_desk.specs.declared.desk.Desk.{Desk}
 use Rattle.rr_commands.specs.Commands.{ActsBySettings, AtDesk, Closes, CommandEnd, Gives}
 use Rattle.rr_commands.specs.Commands.{ProgramEnd, Reads}
@@ -36,8 +36,8 @@ pub record HasAsked {S : Type 0} (g : Ghosts S) (text : List ℕ) (old new : Tol
   pub registry : after.stored.registry ≡ before.stored.registry
   pub settings : after.settings ≡ before.settings
   pub keeps : KeepsRows before.stored.registry (desk_state g after)
-  pub only_looks : OnlyLooks (desk_state g before) (desk_state g after)
-  pub lasts : ConnectionLasts (desk_state g before) (desk_state g after)
+  pub commits_nothing : CommitsNothing (desk_state g before) (desk_state g after)
+  pub lasts : DatabaseLasts (desk_state g before) (desk_state g after)
 
 -- what `irrdesk query` does, by its settings file (profile)
 abbrev pub AsksBy : {S : Type 0} → Ghosts S → Gives S → Closes S → Reads → List ℕ → List ℕ

@@ -8,7 +8,7 @@ use Rattle.rr_io.specs.Told.{Told}
 use Rattle.rr_store.specs.declared.fault.OpenFault.{OpenFault}
 use Rattle.rr_desk.specs.declared.desk.Desk.{Desk}
 use Rattle.rr_desk.specs.Opened.{FailsToOpenTables, IsRunning, OpensTables}
-use Rattle.rr_desk.specs.Rows.{OnlyLooks}
+use Rattle.rr_desk.specs.Rows.{CommitsNothing}
 use Rattle.rr_desk.specs.Settings.{SettingsParts}
 use Rattle.rr_commands.specs.Faults.{name_on_line, place_on_line}
 use Rattle.rr_commands.specs.Found.{IsToldUnopened}
@@ -135,7 +135,7 @@ ActsBySettings reads file does old new result =
 -- nothing was committed (profile)
 pub record LooksAt {S : Type 0} (g : Ghosts S) (before after : Held S) : Type 0 where
   pub autocommit : after.in_transaction ≡ false
-  pub only : OnlyLooks (state g before) (state g after)
+  pub only : CommitsNothing (state g before) (state g after)
 
 -- the tables of a database were not opened for this fault; what is told is that, or what a look at
 -- the database found (profile)

@@ -11,7 +11,7 @@ use Rattle.rr_submission.specs.Submissions.{UnlessStoreFault}
 use Rattle.rr_desk.specs.Desks.{IsOfItsSource, SubmitsTo}
 use Rattle.rr_desk.specs.Opening.{IsOpeningRegistry}
 use Rattle.rr_desk.specs.Settings.{built_in}
-use Rattle.rr_desk.specs.Stocks.{ConnectionLasts, StoresUntilStopped}
+use Rattle.rr_desk.specs.Stocks.{DatabaseLasts, StoresUntilStopped}
 use Rattle.rr_desk.specs.declared.desk.Desk.{Desk}
 use Rattle.rr_commands.specs.Causes.{stop_cause}
 use Rattle.rr_commands.specs.Commands.{ActsBySettings, AtDesk, Closes, CommandEnd, DeskAction}
@@ -39,7 +39,7 @@ pub record HasSubmitted {S : Type 0} (g : Ghosts S) (before after : Desk S)
   pub submits : SubmitsTo g before after reader_old reader_new writer_old writer_new result
   pub running : UnlessStoreFault result (after.stored.stopped ≡ false)
   pub told : ended ≡ submission_end result (stop_cause after.stored.cause)
-  pub lasts : ConnectionLasts (state g before.stored.store) (state g after.stored.store)
+  pub lasts : DatabaseLasts (state g before.stored.store) (state g after.stored.store)
   pub rows : StoresUntilStopped g after.stored
   pub settings : after.settings ≡ before.settings
   pub of_source : IsOfItsSource before → IsOfItsSource after

@@ -37,7 +37,7 @@ use Rattle.rr_store.specs.Adding.{AddsTo}
 use Rattle.rr_store.specs.Calls.{IsSettled, Transacts, database}
 use Rattle.rr_desk.specs.Stops.{LeavesStopped, changes}
 use Rattle.rr_desk.specs.Rows.{Holds}
-use Rattle.rr_desk.specs.Stocks.{ConnectionLasts}
+use Rattle.rr_desk.specs.Stocks.{DatabaseLasts}
 use Rattle.rr_desk.specs.Private.{Follows, FollowsGain, FollowsIn, FollowsNew, Gains, LeadsTo, LeavesRest, puts_one}
 
 -- a change is never an addition
@@ -166,7 +166,7 @@ still_held g old new before after key outcome x held leading follows clean =
 
 -- through an item of a stock whose store held the rows of its registry its connection lasts
 pub item_lasts : {S X E : Type 0} (g : Ghosts S) (Change : Database → Database → Type 0) (old new : Held S) (before : Reg) (result : Result X E) → (HasCleanDisk (state g old) → Holds before (state g old))
-    → FollowsIn g Change old new result → LeavesRest g old new → ConnectionLasts (state g old) (state g new)
+    → FollowsIn g Change old new result → LeavesRest g old new → DatabaseLasts (state g old) (state g new)
 item_lasts g change old new before result held follows others =
     let survives = follows.crash in
     let earlier : HasCleanDisk (state g new) → HasCleanDisk (state g old) = λ clean. omega (arith, survives.clean) in

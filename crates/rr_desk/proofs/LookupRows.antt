@@ -17,7 +17,7 @@ use Rattle.rr_store.specs.declared.fault.StoreFault.TheVariants as store_fault
 use Rattle.rr_rows.specs.Maps.{HasRows}
 use Rattle.rr_desk.specs.LookupParts.{database_error}
 use Rattle.rr_desk.specs.Private.{ChangesNothing}
-use Rattle.rr_desk.specs.Rows.{OnlyLooks, Holds, KeepsRows}
+use Rattle.rr_desk.specs.Rows.{CommitsNothing, Holds, KeepsRows}
 use Rattle.rr_desk.specs.Stocks.{Stock, StopsForCause, StoresUntilStopped, stock_of}
 use Rattle.rr_desk.proofs.Listed.{registry_stored}
 
@@ -29,7 +29,7 @@ holds_keeps now r held = record {
 }
 
 -- a look that commits nothing keeps them too
-pub look_keeps : (old new : State) (r : Reg) → (HasCleanDisk old → Holds r old) → (HasCleanDisk new → IsTrue new.is_open → new.now ≡ old.now) → OnlyLooks old new → KeepsRows r new
+pub look_keeps : (old new : State) (r : Reg) → (HasCleanDisk old → Holds r old) → (HasCleanDisk new → IsTrue new.is_open → new.now ≡ old.now) → CommitsNothing old new → KeepsRows r new
 look_keeps old new r held same survives =
     let earlier : HasCleanDisk new → HasCleanDisk old = λ clean. omega (arith, survives.clean) in
     record {
@@ -43,7 +43,7 @@ look_keeps old new r held same survives =
     }
 
 -- where nothing changed, the store holds them still
-unchanged_holds : (old new : State) (r : Reg) → Holds r old → OnlyLooks old new → HasCleanDisk new → IsUnchanged old new → Holds r new
+unchanged_holds : (old new : State) (r : Reg) → Holds r old → CommitsNothing old new → HasCleanDisk new → IsUnchanged old new → Holds r new
 unchanged_holds old new r was survives clean same = record {
   is_open = same.0.is_open;
   rows = subst (HasRows r) (sym same.0.now_is) was.rows;
@@ -55,7 +55,7 @@ unchanged_holds old new r was survives clean same = record {
 }
 
 -- and so it does after a look that the database did not refuse
-pub look_holds : {X : Type 0} (old new : State) (r : Reg) (found : Result X StoreFault) → (HasCleanDisk old → Holds r old) → OnlyLooks old new → (HasCleanDisk new → OnOk found (IsUnchanged old new))
+pub look_holds : {X : Type 0} (old new : State) (r : Reg) (found : Result X StoreFault) → (HasCleanDisk old → Holds r old) → CommitsNothing old new → (HasCleanDisk new → OnOk found (IsUnchanged old new))
     → (HasCleanDisk new → IfErr found (λ fault. fault ≡ store_fault.Memory → IsUnchanged old new)) → is_some (database_error found) ≡ false → HasCleanDisk new → Holds r new
 look_holds old new r (Ok x) held survives same memory kept clean = unchanged_holds old new r (held (omega (arith, survives.clean))) survives clean (same clean)
 look_holds old new r (Err store_fault.Memory) held survives same memory kept clean = unchanged_holds old new r (held (omega (arith, survives.clean))) survives clean (memory clean refl)
@@ -68,12 +68,12 @@ look_same old new (Ok x) same err clean on = (same clean).0.now_is
 look_same old new (Err fault) same err clean on = err clean on
 
 -- a disk that is clean after a look was clean before it
-clean_before : (old new : State) → OnlyLooks old new → HasCleanDisk new → HasCleanDisk old
+clean_before : (old new : State) → CommitsNothing old new → HasCleanDisk new → HasCleanDisk old
 clean_before old new survives clean = omega (arith, survives.clean)
 
 -- the error with which the database refuses a look at the rows of a registry of the source has a cause outside them
 look_caused : {S X : Type 0} (g : Ghosts S) (source : List ℕ) (r : Reg) (old new : Held S) (found : Result X StoreFault) → OnCleanDisk g old (Holds r (state g old)) → IsRegistryOf source r
-    → OnlyLooks (state g old) (state g new) → IfErr found (FailsToList g source old new) → (error : Error) → database_error found ≡ Some error → FailsFor g old new error
+    → CommitsNothing (state g old) (state g new) → IfErr found (FailsToList g source old new) → (error : Error) → database_error found ≡ Some error → FailsFor g old new error
 look_caused g source r old new (Ok x) held of_source survives fails error is = absurd (cc)
 look_caused g source r old new (Err store_fault.Memory) held of_source survives fails error is = absurd (cc)
 look_caused g source r old new (Err (store_fault.Store told)) held of_source survives fails error is = λ clean.
@@ -83,7 +83,7 @@ look_caused g source r old new (Err (store_fault.Store told)) held of_source sur
 
 -- and so it has where it stops a stock
 pub look_stops : {S X : Type 0} (g : Ghosts S) (source : List ℕ) (r : Reg) (old new : Held S) (before after : Option Error) (found : Result X StoreFault) → StoresUntilStopped g (stock_of r old before)
-    → OnlyLooks (state g old) (state g new) → IfErr found (FailsToList g source old new) → after ≡ database_error found → StopsForCause g source (stock_of r old before) (stock_of r new after)
+    → CommitsNothing (state g old) (state g new) → IfErr found (FailsToList g source old new) → after ≡ database_error found → StopsForCause g source (stock_of r old before) (stock_of r new after)
 look_stops g source r old new before after found held survives fails told = record {
   caused = λ running stopped of_source error is. look_caused g source r old new found (held running) of_source survives fails error (sym told ∙ is);
 }
@@ -91,7 +91,7 @@ look_stops g source r old new before after found held survives fails told = reco
 -- where nothing is looked for, nothing changes
 pub no_change : (s : State) → ChangesNothing s s
 no_change s = record {
-  only_looks = record { clean = omega arith; shield = λ h. h; counts = omega arith; limit = refl; closes = λ clean h. inl h; crash = λ clean db h. inl h };
+  commits_nothing = record { clean = omega arith; shield = λ h. h; counts = omega arith; limit = refl; closes = λ clean h. inl h; crash = λ clean db h. inl h };
   was_open = λ clean on. on;
   same = λ clean on. refl;
 }

@@ -38,7 +38,7 @@ use Rattle.rr_store.specs.declared.version.Version.TheVariants.{Old}
 use Rattle.rr_store.specs.declared.fault.OpenFault.{OpenFault}
 use Rattle.rr_store.specs.declared.fault.OpenFault.TheVariants as opened
 use Rattle.rr_desk.specs.Opened.{MakesNone}
-use Rattle.rr_desk.specs.Rows.{OnlyLooks}
+use Rattle.rr_desk.specs.Rows.{CommitsNothing}
 use Rattle.rr_desk.specs.Stocks.{Stock}
 use Rattle.rr_store.specs.Migrating.{HasNoRoot, IsMigrated, has_mntner, is_mntner_of, upper_block}
 use Rattle.rr_store.proofs.CauseLemmas.{caused_then}
@@ -205,7 +205,7 @@ unread_of_store (opened.Store other) error is = cc
 unread_of_store opened.Memory error is = absurd (cc)
 
 -- a look at the tables before they are migrated changes nothing of what a stop leaves
-module _ {S : Type 0} (g : Ghosts S) (s : SettingsParts) (first between : Held S) (same : HasCleanDisk (state g between) → IsUnchanged (state g first) (state g between)) (one : OnlyLooks (state g first) (state g between)) where
+module _ {S : Type 0} (g : Ghosts S) (s : SettingsParts) (first between : Held S) (same : HasCleanDisk (state g between) → IsUnchanged (state g first) (state g between)) (one : CommitsNothing (state g first) (state g between)) where
   as_was : HasCleanDisk (state g between) → database g between ≡ database g first
   as_was clean = (same clean).0.now_is
 

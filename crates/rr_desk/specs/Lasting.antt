@@ -9,11 +9,11 @@ use Rattle.sqlite.proofs.StateLemmas.{survives_then, survives_weaker}
 use Rattle.rr_rows.specs.Contents.{KeepsOthers}
 use Rattle.rr_rows.proofs.OtherLemmas.{others_itself, others_then}
 use Rattle.rr_desk.specs.Private.{ChangesNothing}
-use Rattle.rr_desk.specs.Stocks.{ConnectionLasts, Stock, stock_ledger}
+use Rattle.rr_desk.specs.Stocks.{DatabaseLasts, Stock, stock_ledger}
 
 -- a connection lasts where nothing is done
-pub connection_still : (s : State) → ConnectionLasts s s
-connection_still s = record {
+pub database_still : (s : State) → DatabaseLasts s s
+database_still s = record {
   survives = record {
     clean = omega arith;
     shield = λ shielded. shielded;
@@ -27,19 +27,19 @@ connection_still s = record {
 }
 
 -- it lasts through a look that changes nothing
-pub look_lasts : (old now : State) → ChangesNothing old now → ConnectionLasts old now
+pub look_lasts : (old now : State) → ChangesNothing old now → DatabaseLasts old now
 look_lasts old now look = record {
   survives = survives_weaker old now (λ trees. ⊥) (λ trees. Unit {0}) (λ clean trees none. tt)
-      look.only_looks;
+      look.commits_nothing;
   was_open = look.was_open;
   others = λ clean on.
       subst (KeepsOthers old.now) (sym (look.same clean on)) (others_itself old.now);
 }
 
 -- what lasts through something, and through what is done after it, lasts through both
-pub connection_on : (a b c : State) → ConnectionLasts a b → ConnectionLasts b c
-    → ConnectionLasts a c
-connection_on a b c first second =
+pub database_on : (a b c : State) → DatabaseLasts a b → DatabaseLasts b c
+    → DatabaseLasts a c
+database_on a b c first second =
     let earlier : HasCleanDisk c → HasCleanDisk b =
     λ clean. omega (arith, second.survives.clean) in
     record {
@@ -52,11 +52,11 @@ connection_on a b c first second =
 
 -- what lasts of a stock lasts where nothing is decided
 pub stock_still : {S : Type 0} (g : store.Ghosts S) (s : Stock S) → (stock_ledger g).Lasts s s
-stock_still g s = connection_still (state g s.store)
+stock_still g s = database_still (state g s.store)
 
 -- and what lasts of it through some items, and through those after them, lasts through all
 pub stock_on : {S : Type 0} (g : store.Ghosts S) (before between after : Stock S) →
     (stock_ledger g).Lasts before between → (stock_ledger g).Lasts between after
     → (stock_ledger g).Lasts before after
 stock_on g before between after first second =
-    connection_on (state g before.store) (state g between.store) (state g after.store) first second
+    database_on (state g before.store) (state g between.store) (state g after.store) first second

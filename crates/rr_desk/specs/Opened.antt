@@ -24,7 +24,7 @@ use Rattle.rr_store.specs.declared.fault.OpenFault.TheVariants.{BadRow, WrongVer
 use Rattle.rr_store.specs.declared.version.Version.TheVariants.{Current}
 use Rattle.rr_desk.specs.declared.desk.Desk.{Desk}
 use Rattle.rr_desk.specs.Opening.{IsOpeningRegistry}
-use Rattle.rr_desk.specs.Rows.{OnlyLooks}
+use Rattle.rr_desk.specs.Rows.{CommitsNothing}
 use Rattle.rr_desk.specs.Settings.{SettingsParts}
 use Rattle.rr_desk.specs.Stocks.{Stock, StoresRows}
 
@@ -66,7 +66,7 @@ module _ {S : Type 0} (g : Ghosts S) where
   pub record OpensTables (conn : Held S) (opened : Stock S) : Type 0 where
     pub rows : OnCleanDisk g opened.store (HasRows opened.registry (database g conn))
     pub same : OnCleanDisk g opened.store (database g opened.store ≡ database g conn)
-    pub crash : OnlyLooks (state g conn) (state g opened.store)
+    pub crash : CommitsNothing (state g conn) (state g opened.store)
 
   -- a stop of the process leaves what there was, or the tables of a new store and all else as it
   -- was (profile)

@@ -24,7 +24,7 @@ use Rattle.rr_rows.specs.Maps.{HasRows}
 use Rattle.rr_store.specs.Calls.{IsSettled, OnCleanDisk, WhileOpen, database}
 use Rattle.rr_store.specs.declared.fault.OpenFault.{OpenFault}
 use Rattle.rr_store.specs.declared.fault.OpenFault.TheVariants as opened
-use Rattle.rr_desk.specs.Rows.{OnlyLooks}
+use Rattle.rr_desk.specs.Rows.{CommitsNothing}
 use Rattle.rr_desk.specs.declared.loading.DeskLoadFault.{DeskLoadFault}
 use Rattle.rr_desk.specs.declared.loading.DeskLoadFault.TheVariants as load
 
@@ -74,7 +74,7 @@ Follows key outcome after old new =
 
 -- nothing was committed, and a connection that is open was open and has all as it was
 pub record ChangesNothing (old now : State) : Type 0 where
-  pub only_looks : OnlyLooks old now
+  pub commits_nothing : CommitsNothing old now
   pub was_open : HasCleanDisk now → IsTrue now.is_open → IsTrue old.is_open
   pub same : HasCleanDisk now → IsTrue now.is_open → now.now ≡ old.now
 

@@ -22,5 +22,5 @@ pub record KeepsRows (registry : Reg) (now : State) : Type 0 where
 
 -- nothing was committed: a stop of the process leaves what it left before, no fault of the disk is
 -- forgotten, and nothing but such a fault shuts the connection
-abbrev pub OnlyLooks : State → State → Type 0
-OnlyLooks old now = Survives old now (λ _. ⊥)
+abbrev pub CommitsNothing : State → State → Type 0
+CommitsNothing old now = Survives old now (λ _. ⊥)

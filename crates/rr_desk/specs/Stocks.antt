@@ -60,7 +60,7 @@ pub record StopsForCause {S : Type 0} (g : store.Ghosts S) (source : List ℕ) (
 -- the count of its faults did not fall; the limit of steps stays; nothing but a fault of the disk
 -- shuts the connection, and one that is open was open, and has all as it was beside the rows of the
 -- three tables (profile)
-pub record ConnectionLasts (old now : State) : Type 0 where
+pub record DatabaseLasts (old now : State) : Type 0 where
   pub survives : Survives old now (λ trees. Unit {0})
   pub was_open : HasCleanDisk now → IsTrue now.is_open → IsTrue old.is_open
   pub others : HasCleanDisk now → IsTrue now.is_open → KeepsOthers old.now now.now
@@ -72,5 +72,5 @@ stock_ledger g = record {
   is_stopped = λ s. s.stopped;
   Stops = λ old secrets item new. LeavesStopped old.registry secrets item new.registry
       new.stopped (state g old.store) (state g new.store);
-  Lasts = λ old new. ConnectionLasts (state g old.store) (state g new.store);
+  Lasts = λ old new. DatabaseLasts (state g old.store) (state g new.store);
 }

@@ -10,8 +10,8 @@ ghost use Rattle.rr_answer.specs.Texts as texts;
 ghost use Rattle.rr_desk.specs.Desks.{WritesAnswer, desk_state};
 ghost use Rattle.rr_desk.specs.LookupParts.{HasAnswer, HasLooked};
 ghost use Rattle.rr_desk.specs.Private.{ChangesNothing};
-ghost use Rattle.rr_desk.specs.Rows.{KeepsRows, OnlyLooks};
-ghost use Rattle.rr_desk.specs.Stocks.{ConnectionLasts, StopsForCause, StoresUntilStopped};
+ghost use Rattle.rr_desk.specs.Rows.{KeepsRows, CommitsNothing};
+ghost use Rattle.rr_desk.specs.Stocks.{DatabaseLasts, StopsForCause, StoresUntilStopped};
 
 use crate::desk::Desk;
 use rr_answer::{Query, QueryFault, answer, is_too_long, objects_text, read_query};
@@ -61,9 +61,9 @@ impl<S: Alter> Desk<S> {
         ensures rows { StoresUntilStopped S.Store self.new.stored }
         ensures keeps { self.old.stored.stopped ≡ false
             → KeepsRows self.old.stored.registry (desk_state S.Store self.new) }
-        ensures only_looks { OnlyLooks
+        ensures commits_nothing { CommitsNothing
             (desk_state S.Store self.old) (desk_state S.Store self.new) }
-        ensures lasts { ConnectionLasts
+        ensures lasts { DatabaseLasts
             (desk_state S.Store self.old) (desk_state S.Store self.new) }
         ensures aside { W.aside writer.new ≡ W.aside writer.old }
     {

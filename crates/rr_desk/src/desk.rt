@@ -6,7 +6,7 @@ ghost use Rattle.rr_desk.specs.Desks.{IsOfItsSource, SubmitsTo, desk_state};
 ghost use Rattle.rr_desk.specs.Opened.{FailsToMakeTables, FailsToOpenTables, HasOpeningRows};
 ghost use Rattle.rr_desk.specs.Opened.{IsRunning, MakesTables, OpensTables};
 ghost use Rattle.rr_desk.specs.Opening.{IsOpeningRegistry};
-ghost use Rattle.rr_desk.specs.Stocks.{ConnectionLasts, StoresUntilStopped};
+ghost use Rattle.rr_desk.specs.Stocks.{DatabaseLasts, StoresUntilStopped};
 
 use crate::opened::{create_stored, open_stored};
 use crate::opening::opening_registry;
@@ -115,7 +115,7 @@ impl<S: Alter> Desk<S> {
             (R.told reader.old) (R.told reader.new) (W.told writer.old) (W.told writer.new) result }
         ensures running { self.old.stored.stopped ≡ false
             → UnlessStoreFault result (self.new.stored.stopped ≡ false) }
-        ensures lasts { ConnectionLasts
+        ensures lasts { DatabaseLasts
             (desk_state S.Store self.old) (desk_state S.Store self.new) }
         ensures rows { StoresUntilStopped S.Store self.new.stored }
         ensures settings { self.new.settings ≡ self.old.settings }
@@ -142,9 +142,11 @@ impl<S: Alter> Desk<S> {
         &self.settings
     }
 
-    /// Whether a fault of the store stopped the desk.
+    /// Whether a fault of the store stopped the desk; until then the rows are those of its
+    /// registry.
     pub fn stopped(&self) -> bool
-        ensures { result ≡ self.now.stored.stopped }
+        ensures told { result ≡ self.now.stored.stopped }
+        ensures rows { StoresUntilStopped S.Store self.now.stored }
     {
         self.stored.stopped()
     }

@@ -1,11 +1,10 @@
 //! How a registry and the store of its rows come about: from tables that are there, or with new
 //! ones.
 
-ghost use Rattle.std.specs.Prelude.{◌≡◌, false, IfErr, IfOk, IsTrue};
-ghost use Rattle.sqlite.specs.Held.{state};
+ghost use Rattle.std.specs.Prelude.{◌≡◌, false, IfErr, IfOk};
 ghost use Rattle.rr_auth.specs.Sources.{IsRegistryOf};
 ghost use Rattle.rr_rows.specs.Maps.{HasRows};
-ghost use Rattle.rr_store.specs.Calls.{IsSettled, OnCleanDisk, database};
+ghost use Rattle.rr_store.specs.Calls.{IsOpen, IsSettled, OnCleanDisk, database};
 ghost use Rattle.rr_desk.specs.Opened.{FailsToMakeTables, FailsToOpenTables, MakesTables};
 ghost use Rattle.rr_desk.specs.Opened.{OpensTables};
 ghost use Rattle.rr_desk.specs.Private.{opening_fault};
@@ -83,8 +82,7 @@ fn create_store<S: Alter>(
     requires autocommit { conn.in_transaction ≡ false }
     ensures rows { IfOk result (λ store.
         OnCleanDisk S.Store store (HasRows registry.now (database S.Store store))) }
-    ensures is_open { IfOk result (λ store.
-        OnCleanDisk S.Store store (IsTrue (state S.Store store).is_open)) }
+    ensures is_open { IfOk result (IsOpen S.Store) }
     ensures settled { IfOk result (IsSettled S.Store) }
     ensures makes { IfOk result (MakesTables S.Store (HasRows registry.now) conn) }
     ensures fails { IfErr result (λ e.

@@ -2,7 +2,7 @@
 
 ghost use Rattle.std.specs.Prelude.{◌≡◌};
 ghost use Rattle.rr_desk.specs.Desks.{desk_state};
-ghost use Rattle.rr_desk.specs.Stocks.{ConnectionLasts};
+ghost use Rattle.rr_desk.specs.Stocks.{DatabaseLasts, StoresUntilStopped};
 ghost use Rattle.rr_desk.specs.Turns.{Serving};
 
 use crate::desk::Desk;
@@ -17,7 +17,8 @@ pub trait Service {
     ghost serves: { Serving };
 
     /// Serves a connection: reads what it asks, asks the desk, and writes the reply. The error is
-    /// that a read or a write of the connection failed. The settings of the desk stay.
+    /// that a read or a write of the connection failed. The settings of the desk stay, and unless a
+    /// fault of the store stopped it, its rows are those of its registry.
     fn serve<S: Alter, C: Connection>(
         &self,
         alloc: Global,
@@ -27,7 +28,8 @@ pub trait Service {
         ensures serves { serves S S.Store desk.old desk.new
             (C.Source.told conn.old) (C.Source.told conn.new)
             (C.Sink.told conn.old) (C.Sink.told conn.new) result }
-        ensures lasts { ConnectionLasts
+        ensures lasts { DatabaseLasts
             (desk_state S.Store desk.old) (desk_state S.Store desk.new) }
+        ensures rows { StoresUntilStopped S.Store desk.new.stored }
         ensures settings { desk.new.settings ≡ desk.old.settings };
 }

@@ -2,7 +2,7 @@
 
 ghost use Rattle.std.specs.Prelude.{◌≡◌, ◌+◌, ◌<◌, ◌^◌, false};
 ghost use Rattle.rr_desk.specs.Desks.{desk_state};
-ghost use Rattle.rr_desk.specs.Stocks.{ConnectionLasts, StoresUntilStopped};
+ghost use Rattle.rr_desk.specs.Stocks.{DatabaseLasts, StoresUntilStopped};
 ghost use Rattle.rr_desk.specs.TurnParts.{TakesTurn};
 ghost use Rattle.rr_desk.specs.Turns.{TakesTurns};
 
@@ -35,7 +35,7 @@ pub fn serve_all<S: Alter, P: Peers, V: Service>(
     requires { (P.tally peers.old).turns + count < 2 ^ 64 }
     ensures turns { TakesTurns S.Store V.serves count desk.old desk.new
         (P.tally peers.old) (P.tally peers.new) result.served result.failed }
-    ensures lasts { ConnectionLasts
+    ensures lasts { DatabaseLasts
         (desk_state S.Store desk.old) (desk_state S.Store desk.new) }
     ensures settings { desk.new.settings ≡ desk.old.settings }
     ensures rows { StoresUntilStopped S.Store desk.new.stored }
@@ -64,7 +64,7 @@ fn take_turn<S: Alter, P: Peers, V: Service>(
     requires { (P.tally peers.old).turns + 1 < 2 ^ 64 }
     ensures turn { TakesTurn S.Store V.serves desk.old desk.new
         (P.tally peers.old) (P.tally peers.new) result }
-    ensures lasts { ConnectionLasts
+    ensures lasts { DatabaseLasts
         (desk_state S.Store desk.old) (desk_state S.Store desk.new) }
     ensures settings { desk.new.settings ≡ desk.old.settings }
 {

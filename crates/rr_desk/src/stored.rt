@@ -1,6 +1,6 @@
 //! A registry and the store of its rows, which change together.
 
-ghost use Rattle.std.specs.Prelude.{◌≡◌, false, true, IfOk, IsTrue, OnErr, OnOk, is_some};
+ghost use Rattle.std.specs.Prelude.{◌≡◌, false, true, IfOk, OnErr, OnOk, is_some};
 ghost use Rattle.std.specs.FinMap.{get};
 ghost use Rattle.std.specs.List.{AllByRecursion};
 ghost use Rattle.sqlite.specs.Held.{state};
@@ -9,13 +9,13 @@ ghost use Rattle.rr_answer.specs.Selections.{asked};
 ghost use Rattle.rr_auth.specs.Laws.{key_about};
 ghost use Rattle.rr_registry.specs.Runs.{IsStep};
 ghost use Rattle.rr_rows.specs.Maps.{HasRows, IsObjectOf};
-ghost use Rattle.rr_store.specs.Calls.{IsSettled, OnCleanDisk, Transacts, database};
+ghost use Rattle.rr_store.specs.Calls.{IsOpen, IsSettled, OnCleanDisk, Transacts, database};
 ghost use Rattle.rr_desk.specs.Stops.{LeavesStopped, changes};
 ghost use Rattle.rr_desk.specs.LookupParts.{database_error, error_of};
 ghost use Rattle.rr_desk.specs.Private.{ChangesNothing, Follows, FollowsGain, FollowsIn};
 ghost use Rattle.rr_desk.specs.Private.{FollowsNew, LeavesRest, puts_one};
 ghost use Rattle.rr_desk.specs.Rows.{KeepsRows};
-ghost use Rattle.rr_desk.specs.Stocks.{ConnectionLasts, StopsForCause, StoresUntilStopped};
+ghost use Rattle.rr_desk.specs.Stocks.{DatabaseLasts, StopsForCause, StoresUntilStopped};
 ghost use Rattle.rr_desk.specs.Stocks.{StoresRows, stock_ledger};
 ghost use Rattle.rr_desk.specs.Lasting.{stock_on, stock_still};
 
@@ -54,7 +54,7 @@ impl<S: Alter> Model for Stored<S> {
 impl<S: Alter> Stored<S> {
     /// A registry with a store that holds its rows.
     pub(crate) fn of(registry: Registry<IndexedBook>, store: Store<S>) -> Stored<S>
-        requires is_open { OnCleanDisk S.Store store (IsTrue (state S.Store store).is_open) }
+        requires is_open { IsOpen S.Store store }
         requires settled { IsSettled S.Store store }
         requires rows { OnCleanDisk S.Store store (HasRows registry (database S.Store store)) }
         ensures registry { result.registry ≡ registry }
@@ -138,7 +138,7 @@ impl<S: Alter> Stored<S> {
         ensures stops { OnErr result (LeavesStopped self.old.registry secrets.old item
             self.new.registry self.new.stopped
             (state S.Store self.old.store) (state S.Store self.new.store)) }
-        ensures lasts { ConnectionLasts
+        ensures lasts { DatabaseLasts
             (state S.Store self.old.store) (state S.Store self.new.store) }
         ensures same_secrets { secrets.new ≡ secrets.old }
     {
@@ -174,6 +174,8 @@ impl<S: Alter> Ledger for Stored<S> {
 
     ghost Lasts = { (stock_ledger S.Store).Lasts };
 
+    // The two laws give the record of the store's ghosts part by part, because there `S.Store` is
+    // none.
     ghost lasts_still = { stock_still (record {
       view = S.Store.view;
       faults = S.Store.faults;

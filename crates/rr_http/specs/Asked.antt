@@ -4,8 +4,8 @@ use Rattle.rr_http.specs.declared.asking.Asked.TheVariants as asked
 use Rattle.rr_http.specs.Requests.{Asks, refused, submission, query, dump}
 
 -- what is asked, with the bytes of a query in place of a reference to them
-abbrev pub seen : Asked → Asks
-seen (asked.Refused refusal) = refused refusal
-seen (asked.Submission size) = submission size
-seen (asked.Query escaped) = query escaped.now
-seen asked.Dump = dump
+abbrev pub view_of : Asked → Asks
+view_of (asked.Refused refusal) = refused refusal
+view_of (asked.Submission size) = submission size
+view_of (asked.Query escaped) = query escaped.now
+view_of asked.Dump = dump

@@ -7,7 +7,7 @@ use Rattle.rr_answer.specs.Dumps.{dump}
 use Rattle.rr_submission.specs.declared.ledger.Ledger as ledger
 use Rattle.rr_desk.specs.declared.desk.Desk.{Desk}
 use Rattle.rr_desk.specs.Desks.{GivesAnswer, desk_state}
-use Rattle.rr_desk.specs.Rows.{KeepsRows, OnlyLooks}
+use Rattle.rr_desk.specs.Rows.{KeepsRows, CommitsNothing}
 use Rattle.rr_desk.specs.Stocks.{StoresUntilStopped, stock_ledger}
 use Rattle.rr_desk.specs.Turns.{Serving}
 use Rattle.rr_http.specs.declared.registrar.Registrar as registrar
@@ -33,7 +33,7 @@ pub record IsDeskAnswer {S : Type 0} (g : store.Ghosts S) (before : Desk S) (que
   pub same : after.stored.registry ≡ before.stored.registry
   pub keeps : before.stored.stopped ≡ false → KeepsRows before.stored.registry (desk_state g after)
   pub still : before.stored.stopped ≡ true → after ≡ before
-  pub only_looks : OnlyLooks (desk_state g before) (desk_state g after)
+  pub commits_nothing : CommitsNothing (desk_state g before) (desk_state g after)
 
 -- a desk answers queries, gives the public dump of its registry, and takes submissions until it is
 -- stopped

@@ -27,9 +27,9 @@ pub(crate) fn refuse<W: Sink>(writer: &mut W, refusal: Refusal) -> Result<(), Co
     }
 }
 
-/// Answers a query by whois (RFC 3912, 2). The error is that a write failed: the writer has taken a
-/// part of the answer.
-pub(crate) fn answer_whois<D: Registrar, W: Sink>(
+/// Asks the desk and writes its answer, alone (RFC 3912, 2) or after a head. The error is that a
+/// write failed: the writer has taken a part of the answer.
+pub(crate) fn write_answer<D: Registrar, W: Sink>(
     alloc: Global,
     desk: &mut D,
     query: &[u8],
@@ -96,7 +96,7 @@ fn give_answer<D: Registrar, W: Sink>(
     ensures aside { W.aside writer.new ≡ W.aside writer.old }
 {
     match write_ok_head(writer) {
-        Ok(()) => answer_whois(alloc, desk, query, writer),
+        Ok(()) => write_answer(alloc, desk, query, writer),
         Err(_) => Err(ConnFault::Write),
     }
 }

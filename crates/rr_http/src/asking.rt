@@ -5,7 +5,7 @@ ghost use Rattle.std.specs.Prelude.{All, IfSome};
 ghost use Rattle.std.specs.Prelude.{MatchOption};
 ghost use Rattle.std.specs.Str.{bytes_eq};
 ghost use Rattle.httparse.specs.Spans.{IsHeaderWithin, header_bytes};
-ghost use Rattle.rr_http.specs.Asked.{seen};
+ghost use Rattle.rr_http.specs.Asked.{view_of};
 ghost use Rattle.rr_http.specs.AskedParts.{fields_of};
 ghost use Rattle.rr_http.specs.Requests.{HasSmallSize, asks_of, asks_page, body_size};
 ghost use Rattle.rr_http.specs.Requests.{is_field_of, is_length, is_query_path, is_segment};
@@ -117,8 +117,8 @@ pub enum Asked<'a> {
 
 /// What a request asks whose head is this; what is no head of a request is refused (RFC 9112, 2.1).
 pub fn read_request(head: &[u8]) -> Asked<'_>
-    ensures asks { RequestAsks head.now (seen result) }
-    ensures small { HasSmallSize (seen result) }
+    ensures asks { RequestAsks head.now (view_of result) }
+    ensures small { HasSmallSize (view_of result) }
 {
     let mut fields = [EMPTY_HEADER_SPAN; FIELD_LIMIT];
     match parse_request(head, &mut fields) {
@@ -140,8 +140,8 @@ pub fn read_request(head: &[u8]) -> Asked<'_>
 #[tactic(auto, unfolding(crate::specs::Requests::asks_of))]
 fn asked_of<'a>(method: &[u8], target: &'a [u8], head: &[u8], fields: &[HeaderSpan]) -> Asked<'a>
     requires { All (IsHeaderWithin (length head.now)) fields.now }
-    ensures asks { seen result ≡ asks_of method.now target.now (fields_of head.now fields.now) }
-    ensures small { HasSmallSize (seen result) }
+    ensures asks { view_of result ≡ asks_of method.now target.now (fields_of head.now fields.now) }
+    ensures small { HasSmallSize (view_of result) }
 {
     if find_value(head, fields, b"Transfer-Encoding").is_some() {
         return Asked::Refused(Refusal::NotImplemented);
@@ -164,8 +164,8 @@ fn asked_of<'a>(method: &[u8], target: &'a [u8], head: &[u8], fields: &[HeaderSp
 fn asked_at<'a>(path: &'a [u8], page: Page, head: &[u8], fields: &[HeaderSpan]) -> Asked<'a>
     requires at_page { page_of path.now ≡ Some page }
     requires within { All (IsHeaderWithin (length head.now)) fields.now }
-    ensures asks { seen result ≡ asks_page path.now (fields_of head.now fields.now) page }
-    ensures small { HasSmallSize (seen result) }
+    ensures asks { view_of result ≡ asks_page path.now (fields_of head.now fields.now) page }
+    ensures small { HasSmallSize (view_of result) }
 {
     match page {
         Page::Submissions => match read_size(head, fields) {

@@ -22,6 +22,9 @@ impl Service for Both {
         desk: &mut Desk<S>,
         conn: &mut C,
     ) -> Result<(), ConnFault> {
-        serve_one(alloc, desk, conn)
+        let end = serve_one(alloc, desk, conn);
+        // Called for its contract: the rows are those of the registry.
+        let _ = desk.stopped();
+        end
     }
 }

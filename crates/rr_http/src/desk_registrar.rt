@@ -1,6 +1,6 @@
 //! A desk over tables as a registrar.
 
-ghost use Rattle.rr_desk.specs.Lasting.{connection_still};
+ghost use Rattle.rr_desk.specs.Lasting.{database_still};
 ghost use Rattle.rr_http.specs.DeskRegistrars.{desk_registrar};
 
 use crate::registrar::Registrar;
@@ -20,7 +20,7 @@ impl<S: Alter> Registrar for Desk<S> {
 
     ghost Kept = { (desk_registrar S.Store).Kept };
 
-    ghost lasts_still = { λ _. connection_still _ };
+    ghost lasts_still = { λ _. database_still _ };
 
     fn stopped(&self) -> bool {
         Desk::stopped(self)

@@ -1,14 +1,14 @@
 //! Serving a connection: what it wants is found, done, and answered.
 
 ghost use Rattle.std.specs.Prelude.{◌≡◌, ◌≤◌, false, length};
-ghost use Rattle.rr_http.specs.Asked.{seen};
+ghost use Rattle.rr_http.specs.Asked.{view_of};
 ghost use Rattle.rr_http.specs.Faults.{TellsFaults};
 ghost use Rattle.rr_http.specs.Requests.{HasSmallSize};
 ghost use Rattle.rr_http.specs.Serving.{Serves, ServesAsks, ServesBody, SubmitsRead, end_by, visit};
 ghost use Rattle.rr_http.specs.ServingParts.{ServesHead};
 ghost use Rattle.rr_http.specs.Wants.{IsHead};
 
-use crate::answering::{answer_query, answer_whois, give_dump, refuse, submit_body};
+use crate::answering::{answer_query, give_dump, refuse, submit_body, write_answer};
 use crate::asking::{Asked, BODY_SIZE, Refusal, read_request};
 use crate::body_reading::{BodyEnd, read_body};
 use crate::heads::{HEAD_SIZE, Head, read_head};
@@ -59,7 +59,7 @@ fn serve_head<D: Registrar, C: Connection>(
     ensures settings { D.settings desk.new ≡ D.settings desk.old }
 {
     match head {
-        Head::Whois(count) => answer_whois(alloc, desk, &read[..count], conn),
+        Head::Whois(count) => write_answer(alloc, desk, &read[..count], conn),
         Head::Http(count) => {
             let asked = read_request(&read[..count]);
             serve_asked(alloc, desk, &read[count..], asked, conn)
@@ -76,8 +76,8 @@ fn serve_asked<D: Registrar, C: Connection>(
     asked: Asked<'_>,
     conn: &mut C,
 ) -> Result<(), ConnFault>
-    requires { HasSmallSize (seen asked) }
-    ensures serves { ServesAsks D.Registrar buffered.now (seen asked.entry) desk.old desk.new
+    requires { HasSmallSize (view_of asked) }
+    ensures serves { ServesAsks D.Registrar buffered.now (view_of asked.entry) desk.old desk.new
         (visit C.Source C.Sink conn.old conn.new result) }
     ensures lasts { D.ledger.Lasts desk.old desk.new }
     ensures settings { D.settings desk.new ≡ D.settings desk.old }

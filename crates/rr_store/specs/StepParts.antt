@@ -20,7 +20,7 @@ module _ {S : Type 0} (g : Ghosts S) where
   -- committed, and a stop leaves what it left before
   pub record Steps {X E : Type 0} (Change : Database → Database → Type 0) (old new : Held S)
       (result : Result X E) : Type 0 where
-    pub made : OnCleanDisk g new (OnOk result (Change (database g old) (database g new)))
+    pub made : Made Change old new result
     pub goes_on : OnCleanDisk g new (OnOk result (RunsOn (state g old) (state g new)))
     pub kept : OnCleanDisk g new (KeepsCommit (state g old) (state g new))
     pub survives : Survives (state g old) (state g new) (λ _. ⊥)

@@ -1,5 +1,5 @@
 -- The secrets that attributes give one after the other.
-use Rattle.std.proofs.Common.{◌≡◌, ◌+◌, Bool, true, false, List, [], ◌∷◌, ◌++◌, refl, cond}
+use Rattle.std.proofs.Common.{◌≡◌, Bool, true, false, List, [], ◌∷◌, ◌++◌, refl, cond}
 use Rattle.std.specs.Prelude.{map}
 use Rattle.rr_text.specs.Fields.{Field}
 use Rattle.rr_submission.specs.SubmissionTexts.{is_password, secret_of, secrets_of}

@@ -34,7 +34,7 @@ pub record HandlesSome (source : List ℕ) (entries : List (Result (List Field) 
   pub cut : TakesPrefix between writer_new (item_line count last.request.key outcome)
   pub counted : count ≡ length told + 1
 
--- the ledger stopped at this action, which is an Item: it cannot stop at a refusal as read
+-- the ledger stopped at this action, which is an item: it cannot stop at a refusal
 abbrev pub StopsAt : {L : Type 0} → Ghosts L → L → List (List ℕ) → Result Item Code → L
     → Type 0
 StopsAt g old secrets (Ok item) new = g.Stops old secrets item new

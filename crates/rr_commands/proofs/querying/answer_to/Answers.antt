@@ -15,7 +15,7 @@ returns-in-Ok-clause-asked g c =
       registry = c.in-Ok.ensures.registry;
       settings = c.in-Ok.ensures.settings;
       keeps = c.in-Ok.ensures.keeps c.requires;
-      only_looks = c.in-Ok.ensures.only_looks;
+      commits_nothing = c.in-Ok.ensures.commits_nothing;
       lasts = c.in-Ok.ensures.lasts;
     }
 
@@ -31,6 +31,6 @@ returns-in-Err-clause-asked g c =
       registry = c.in-Err.ensures.registry;
       settings = c.in-Err.ensures.settings;
       keeps = c.in-Err.ensures.keeps c.requires;
-      only_looks = c.in-Err.ensures.only_looks;
+      commits_nothing = c.in-Err.ensures.commits_nothing;
       lasts = c.in-Err.ensures.lasts;
     }

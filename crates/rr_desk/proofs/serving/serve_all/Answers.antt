@@ -1,12 +1,12 @@
 use Rattle.std.proofs.Common.{◌≡◌, ◌+◌, ◌∙◌, arith, if◌then◌else◌, refl}
-use Rattle.rr_desk.specs.Lasting.{connection_on, connection_still}
+use Rattle.rr_desk.specs.Lasting.{database_on, database_still}
 use Rattle.rr_desk.proofs.TurnLemmas.{no_turn, turn_counted}
 use Rattle.rr_desk.proofs.serving.serve_all.Goals as goal
 use Rattle.rr_desk.proofs.serving.serve_all.Goals.{then-take_turn, else-take_turn}
 
 -- none was taken
 pub turns-init : goal.turns-init
-turns-init g c = record { within = omega arith; taken = no_turn _ _ _ _; lasts = connection_still _; settings = refl }
+turns-init g c = record { within = omega arith; taken = no_turn _ _ _ _; lasts = database_still _; settings = refl }
 
 -- one more turn was taken and counted
 pub turns-preserved : goal.turns-preserved
@@ -18,7 +18,7 @@ turns-preserved g c =
           let more : c.if-take_turn.served ≡ c.turns.served + (if c.take_turn.result then 1 else 0) = rw w.if-take_turn.true (omega arith) in record {
             within = omega arith;
             taken = turn_counted _ _ _ _ _ _ _ _ _ _ _ _ c.turns.invariant.taken c.take_turn.ensures.turn before more;
-            lasts = connection_on _ _ _ c.turns.invariant.lasts c.take_turn.ensures.lasts;
+            lasts = database_on _ _ _ c.turns.invariant.lasts c.take_turn.ensures.lasts;
             settings = c.take_turn.ensures.settings ∙ c.turns.invariant.settings;
           }
       | else-take_turn w ↦
@@ -26,7 +26,7 @@ turns-preserved g c =
           let more : c.if-take_turn.served ≡ c.turns.served + (if c.take_turn.result then 1 else 0) = rw w.if-take_turn.false (omega arith) in record {
             within = omega arith;
             taken = turn_counted _ _ _ _ _ _ _ _ _ _ _ _ c.turns.invariant.taken c.take_turn.ensures.turn before more;
-            lasts = connection_on _ _ _ c.turns.invariant.lasts c.take_turn.ensures.lasts;
+            lasts = database_on _ _ _ c.turns.invariant.lasts c.take_turn.ensures.lasts;
             settings = c.take_turn.ensures.settings ∙ c.turns.invariant.settings;
           }
     ]

@@ -1,5 +1,5 @@
 use Rattle.rr_desk.specs.Desks.{desk_state}
-use Rattle.rr_desk.specs.Lasting.{connection_still}
+use Rattle.rr_desk.specs.Lasting.{database_still}
 use Rattle.rr_desk.proofs.TurnLemmas.{failed_turn, served_turn}
 use Rattle.rr_desk.proofs.serving.take_turn.Goals as goal
 
@@ -13,4 +13,4 @@ pub returns-in-Ok-clause-lasts : goal.returns-in-Ok-clause-lasts
 returns-in-Ok-clause-lasts g c = c.serve-ended.ensures.lasts
 
 pub returns-in-Err-clause-lasts : goal.returns-in-Err-clause-lasts
-returns-in-Err-clause-lasts g c = connection_still (desk_state g.S.Store c.args.desk.now)
+returns-in-Err-clause-lasts g c = database_still (desk_state g.S.Store c.args.desk.now)

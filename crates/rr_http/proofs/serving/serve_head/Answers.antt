@@ -5,8 +5,8 @@ use Rattle.rr_http.proofs.serving.serve_head.Goals as goal
 pub returns-in-Whois-clause-serves : goal.returns-in-Whois-clause-serves
 returns-in-Whois-clause-serves g c =
     let law = g.met.C.Connection in
-    let unread = sym (law.write_leaves_source c.answer_whois.new.writer) ∙ (c.answer_whois.ensures.aside ∙ law.write_leaves_source c.args.conn.now) in
-    whois_served _ _ _ _ _ _ (rw c.in-Whois.is at c.requires) unread c.answer_whois.ensures.answers
+    let unread = sym (law.write_leaves_source c.write_answer.new.writer) ∙ (c.write_answer.ensures.aside ∙ law.write_leaves_source c.args.conn.now) in
+    whois_served _ _ _ _ _ _ (rw c.in-Whois.is at c.requires) unread c.write_answer.ensures.answers
 
 pub returns-in-Http-clause-serves : goal.returns-in-Http-clause-serves
 returns-in-Http-clause-serves g c =

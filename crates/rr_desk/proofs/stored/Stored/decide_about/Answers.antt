@@ -2,7 +2,7 @@ use Rattle.std.proofs.Common.{sym, subst, true}
 use Rattle.sqlite.specs.Held.{state}
 use Rattle.rr_desk.specs.Stops.{LeavesStopped}
 use Rattle.rr_desk.specs.Private.{LeadsTo}
-use Rattle.rr_desk.specs.Stocks.{ConnectionLasts}
+use Rattle.rr_desk.specs.Stocks.{DatabaseLasts}
 use Rattle.rr_desk.proofs.Following.{stops_there, leads, stands_after, still_held, item_lasts}
 use Rattle.rr_desk.proofs.stored.Stored.decide_about.Goals as goal
 
@@ -27,11 +27,11 @@ returns-in-Err-clause-stops g c =
 pub returns-in-Ok-clause-lasts : goal.returns-in-Ok-clause-lasts
 returns-in-Ok-clause-lasts g c =
     let running = rw (← c.self.view_is) at c.requires.running in
-    subst (λ s. ConnectionLasts (state g.S.Store s.store) (state g.S.Store c.follow.new.store)) c.self.view_is
+    subst (λ s. DatabaseLasts (state g.S.Store s.store) (state g.S.Store c.follow.new.store)) c.self.view_is
     (item_lasts g.S.Store _ c.self.inside.store c.follow.new.store c.self.inside.registry _ (c.self.invariant running) c.in-Ok.ensures.follows c.follow.ensures.others)
 
 pub returns-in-Err-clause-lasts : goal.returns-in-Err-clause-lasts
 returns-in-Err-clause-lasts g c =
     let running = rw (← c.self.view_is) at c.requires.running in
-    subst (λ s. ConnectionLasts (state g.S.Store s.store) (state g.S.Store c.follow.new.store)) c.self.view_is
+    subst (λ s. DatabaseLasts (state g.S.Store s.store) (state g.S.Store c.follow.new.store)) c.self.view_is
     (item_lasts g.S.Store _ c.self.inside.store c.follow.new.store c.self.inside.registry _ (c.self.invariant running) c.in-Err.ensures.follows c.follow.ensures.others)

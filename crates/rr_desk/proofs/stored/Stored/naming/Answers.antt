@@ -22,4 +22,4 @@ pub returns-clause-unchanged : goal.returns-clause-unchanged
 returns-clause-unchanged g c =
     let rests = c.naming-found.ensures.looks.rests in
     subst (λ s. ChangesNothing (state g.S.Store s.store) (state g.S.Store c.naming-found.new.self)) c.self.view_is
-    (record { only_looks = rests.crash; was_open = rests.opened; same = rests.same })
+    (record { commits_nothing = rests.crash; was_open = rests.opened; same = rests.same })

@@ -12,7 +12,7 @@ returns-in-Ok-clause-answers g c =
         same = c.answer.ensures.registry;
         keeps = c.answer.ensures.keeps;
         still = c.answer.ensures.stopped;
-        only_looks = c.answer.ensures.only_looks;
+        commits_nothing = c.answer.ensures.commits_nothing;
       },
       made.writes,
     )
@@ -28,7 +28,7 @@ returns-in-Err-clause-answers g c =
         same = c.answer.ensures.registry;
         keeps = c.answer.ensures.keeps;
         still = c.answer.ensures.stopped;
-        only_looks = c.answer.ensures.only_looks;
+        commits_nothing = c.answer.ensures.commits_nothing;
       },
       made.writes,
     )

@@ -313,9 +313,12 @@ def answered(script, kind):
         expect("x-content-type-options: nosniff" in reply_head.lower(), True, "whether the reply says nosniff")
         sized = re.search(r"(?i)\r\ncontent-length: ([0-9]+)", reply_head)
         expect(not sized or int(sized[1]) == len(body), True, "whether the length is that of the body")
-        for path, page in [("/", "index.html"), ("/irr.js", "irr.js"), ("/irr.css", "irr.css")]:
+        for page, text in PAGE.items():
+            path = "/" if page == "index.html" else f"/{page}"
             status, reply_head, body = door.get(path, STRANGER + 1)
-            expect((status, body), (200, PAGE[page]), path)
+            expect((status, body), (200, text), path)
+            # A browser takes a script that says nosniff by its type alone.
+            expect("javascript" in reply_head.lower(), page.endswith(".js"), f"whether {path} has the type of a script")
             expect("content-security-policy: default-src 'none'" in reply_head.lower(), True, f"whether {path} has a policy")
         expect(door.get("/nothing", STRANGER + 1)[0], 404, "another path")
         expect(door.get("/query/AS1", STRANGER + 1, method="POST")[0] in (403, 405), True, "whether POST to a query is refused")

@@ -9,12 +9,13 @@ import subprocess
 import sys
 import threading
 import time
+from pathlib import Path
 
 from trial.running import TOP, Failure, write
 from trial.serving import free_port, read_all
 
 HOST = "irr.example.net"
-PAGE = {"index.html": b"<!doctype html>\n<title>registry</title>\n", "irr.js": b"'use strict';\n", "irr.css": b"body { }\n"}
+PAGE = {path.name: path.read_bytes() for path in sorted(Path(TOP, "web").iterdir())}
 # A user of the door, and the hash of the password as crypt(5) has it, of few rounds.
 USER, PASSWORD = "holder", "a word of the door"
 

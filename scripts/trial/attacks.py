@@ -4,10 +4,9 @@ import hashlib
 import itertools
 import socket
 import string
-import subprocess
 
 from trial.running import Failure, expect, write, write_settings
-from trial.serving import GIVEN, free_port, read_all
+from trial.serving import GIVEN, Serving, read_all
 
 MOST_BODY = 1_048_576
 MOST_PARAGRAPH = 65_536
@@ -132,26 +131,12 @@ def posted(body):
     return head % len(body) + body
 
 
-class Registry:
+class Registry(Serving):
     """A registry in a folder of its own, served by a command that begins with these words: none, or what sets a limit."""
 
     def __init__(self, script, folder, *within):
-        self.port, self.folder = free_port(), folder
-        words = ["serve", "s.toml", "--port", str(self.port), "--count", "1000000"]
-        self.process = subprocess.Popen([*within, script.program, *words], cwd=folder, stdin=subprocess.DEVNULL,
-                                        stdout=subprocess.PIPE, stderr=subprocess.PIPE)
-        first = self.process.stdout.readline()
-        if first != b"listening on 127.0.0.1:%d\n" % self.port:
-            _, said = self.process.communicate()
-            raise Failure(f"the first line of serve: {first!r}, saying {said!r}")
-
-    def __enter__(self):
-        return self
-
-    def __exit__(self, *_):
-        if self.process.poll() is None:
-            self.process.kill()
-        self.process.communicate()
+        super().__init__([*within, script.program], folder, 1_000_000)
+        self.folder = folder
 
     def connect(self):
         return socket.create_connection(("127.0.0.1", self.port), LONGEST)

@@ -34,19 +34,19 @@ class Listening:
             self.taken.close()
 
 
-class Server:
-    """The program while it serves so many connections; ended by force where a case ends before it."""
+class Serving:
+    """The program, started by these words, while it serves so many connections; ended by force where a case ends before it."""
 
-    def __init__(self, program, folder, count, stack=None, patience=LONGEST):
-        self.port, self.patience = free_port(), patience
-        self.memory, self.slowest, self.count = 0, 0.0, count
-        self.process = subprocess.Popen([program, "serve", "s.toml", "--port", str(self.port), "--count", str(count)], cwd=folder,
+    def __init__(self, words, folder, count, port=None, **limits):
+        self.port, self.count = port or free_port(), count
+        self.process = subprocess.Popen([*words, "serve", "s.toml", "--port", str(self.port), "--count", str(count)], cwd=folder,
                                         stdin=subprocess.DEVNULL, stdout=subprocess.PIPE, stderr=subprocess.PIPE,
-                                        preexec_fn=limited(stack=stack) if stack else None)
+                                        preexec_fn=limited(**limits) if any(limits.values()) else None)
         first = self.process.stdout.readline()
         if first != b"listening on 127.0.0.1:%d\n" % self.port:
+            said = b"" if first else self.process.stderr.read()
             self.__exit__()
-            raise Failure(f"the first line of serve: {first!r}")
+            raise Failure(f"the first line of serve: {first!r}, saying {said!r}")
 
     def __enter__(self):
         return self
@@ -55,6 +55,14 @@ class Server:
         if self.process.poll() is None:
             self.process.kill()
         self.process.communicate()
+
+
+class Server(Serving):
+    """The same, and what it is asked by peers that send no more then."""
+
+    def __init__(self, program, folder, count, stack=None, patience=LONGEST):
+        super().__init__([program], folder, count, stack=stack)
+        self.patience, self.memory, self.slowest = patience, 0, 0.0
 
     def ask(self, text, cuts=()):
         """What a peer is answered that sends this, cut at these places, and then no more."""
@@ -95,8 +103,9 @@ class Server:
         self.memory = max(self.memory, peak_memory(self.process.pid) or 0)
 
 
-def read_all(peer):
+def read_all(peer, step=65_536, pause=0.0):
     parts = []
-    while part := peer.recv(65_536):
+    while part := peer.recv(step):
         parts.append(part)
+        time.sleep(pause)
     return b"".join(parts)

@@ -10,20 +10,19 @@ ghost use Rattle.rr_commands.specs.Found.{IsToldUnopened, is_of_old, is_of_rows,
 ghost use Rattle.rr_commands.specs.Found.{is_of_unopened, is_of_version};
 ghost use Rattle.rr_commands.specs.Migrated.{IsDiagnosis, LooksAtRefused};
 
-use crate::obstacle::{has_other_tables, push_obstacle, text_at};
-use crate::shown::push_key;
+use crate::object_rows::{
+    RowFault, are_mostly_others, first_with, objects_of, push_numbered, push_row,
+    suit_other_version,
+};
+use crate::obstacle::{has_other_order, has_other_tables, push_obstacle, text_at};
 use crate::trouble::Trouble;
 use rr_desk::{MigrateFault, OpenFault};
 use rr_index::IndexedBook;
 use rr_number::Name;
-use rr_object::{Key, Object, ObjectFault};
 use rr_registry::{LoadFault, Registry};
-use rr_rows::{META_TREE, NAMED_TREE, OBJECT_TREE};
 use rr_store::{OLD_VERSION, VERSION, Version, is_version_row_alone, read_decimal};
-use rr_text::read_canonical;
 use sqlite::{Alter, Connection, Row};
 use sqlite_schema::schema::Schema;
-use sqlite_value::value::ValueRef;
 use std::alloc::{AllocError, Global};
 
 /// What a file has, in its order: each of the three tables is followed by the index of its key. A
@@ -39,17 +38,6 @@ const OBJECTS: &str = "SELECT class, okey, body FROM object ORDER BY class, okey
 /// The first row of names, by class and key, that is of no object.
 const NAMES_ALONE: &str = "SELECT class, okey FROM named EXCEPT SELECT class, okey FROM object \
     ORDER BY class, okey LIMIT 1";
-
-/// Why a row has no object of a registry by its class and key.
-#[derive(Clone, Copy, PartialEq, Eq)]
-enum RowFault {
-    /// Its object is of another source.
-    OtherSource,
-    /// It has none, or one by another class or key.
-    Bad,
-    /// Memory ran out as it was read.
-    Memory,
-}
 
 /// What is the matter with a database whose registry was not opened for this reason. If a row of an
 /// object is, its class and key are put into `found`, if another row is, its table, and if it is
@@ -113,7 +101,7 @@ fn found_in_old<S: Alter>(
         return Some(Trouble::OtherRows);
     }
     match look(conn, OBJECTS) {
-        Ok(rows) if has_new_keys(alloc, rows.as_slice(), source) => {
+        Ok(rows) if suit_other_version(alloc, rows.as_slice(), source, Version::Old) => {
             push_meta(found);
             Some(Trouble::NewKeys)
         }
@@ -121,13 +109,8 @@ fn found_in_old<S: Alter>(
     }
 }
 
-/// Whether these rows are good in the version that is read alone.
-fn has_new_keys(alloc: Global, rows: &[Row], source: &Name) -> bool {
-    !are_good(alloc, rows, source, Version::Old) && are_good(alloc, rows, source, Version::Current)
-}
-
-/// What is the matter with rows that are good in the other version than this one, which `meta`
-/// says.
+/// What is the matter with rows of which more are good in the other version than in this one, which
+/// `meta` says.
 fn keys_beside(version: Version) -> Trouble
     ensures kind { IsTrue (is_of_rows result) }
 {
@@ -280,68 +263,13 @@ fn later_version<S: Alter>(conn: &mut Connection<S>) -> Option<u32>
 
 /// The version among rows of `meta`.
 fn version_in(rows: &[Row]) -> Option<u32> {
-    let row = rows.iter().find(|row| is_named(row, "version"))?;
+    let row = rows
+        .iter()
+        .find(|row| text_at(row, 0) == b"version".as_slice())?;
     let found: Result<String, sqlite::Error> = row.get(1);
     match found {
         Ok(found) => read_decimal(found.as_bytes()),
         Err(_) => None,
-    }
-}
-
-/// Whether the three tables are there, each with the index of its key alone, but do not stand
-/// first, or not in their order.
-fn has_other_order(rows: &[Row]) -> bool {
-    let found = [
-        tree_of("meta", rows),
-        tree_of("object", rows),
-        tree_of("named", rows),
-    ];
-    let are_plain = has_key_alone("meta", rows)
-        && has_key_alone("object", rows)
-        && has_key_alone("named", rows);
-    let trees = [
-        Some(u64::from(META_TREE)),
-        Some(u64::from(OBJECT_TREE)),
-        Some(u64::from(NAMED_TREE)),
-    ];
-    are_plain && found != trees && found.iter().all(Option::is_some)
-}
-
-/// The tree of a table among these rows. A table that was dropped before it leaves a gap.
-fn tree_of(name: &str, rows: &[Row]) -> Option<u64> {
-    let row = rows.iter().find(|row| is_named(row, name)
-        && text_at(row, 1) == b"table".as_slice())?;
-    let listed: Result<u64, sqlite::Error> = row.get(4);
-    listed.ok()?.checked_sub(1)
-}
-
-/// Whether a table has one index that came with it.
-fn has_key_alone(name: &str, rows: &[Row]) -> bool {
-    let mut has_one = false;
-    for row in rows {
-        if is_index_of(row, name) {
-            if has_one {
-                return false;
-            }
-            has_one = true;
-        }
-    }
-    has_one
-}
-
-/// Whether a row lists an index that came with the table of this name: it has no text.
-fn is_index_of(row: &Row, table: &str) -> bool {
-    text_at(row, 1) == b"index".as_slice()
-        && text_at(row, 2) == table.as_bytes()
-        && text_at(row, 3).is_empty()
-}
-
-/// Whether a row has this name.
-fn is_named(row: &Row, name: &str) -> bool {
-    let found: Result<String, sqlite::Error> = row.get(0);
-    match found {
-        Ok(found) => found.as_str() == name,
-        Err(_) => false,
     }
 }
 
@@ -390,9 +318,9 @@ fn look<S: Alter>(conn: &mut Connection<S>, query: &str) -> Result<Vec<Row>, sql
     rows
 }
 
-/// What is the matter with these rows of objects: if most are of another source, that; if all are
-/// good in the other version, that `meta` says this one; otherwise the first that is bad by itself,
-/// or else of another source, and else what is bad of all together.
+/// What is the matter with these rows of objects: if most are of another source, that; if more are
+/// good in the other version than in this one, that `meta` says this one; otherwise the first that
+/// is bad by itself, or else of another source, and else what is bad of all together.
 fn judge_rows<S: Alter>(
     alloc: Global,
     conn: &mut Connection<S>,
@@ -409,7 +337,7 @@ fn judge_rows<S: Alter>(
         return Some(Trouble::OtherSource);
     }
     if let Some(row) = first_with(alloc, rows, source, version, RowFault::Bad) {
-        if are_good(alloc, rows, source, version.other()) {
+        if suit_other_version(alloc, rows, source, version) {
             push_meta(found);
             return Some(keys_beside(version));
         }
@@ -479,130 +407,4 @@ fn judge_names<S: Alter>(conn: &mut Connection<S>, found: &mut String) -> Troubl
     // Without memory for the table, the message names the database alone.
     let _ = found.push_str(", table named");
     Trouble::OtherRows
-}
-
-/// Adds the row of this number, from 1.
-fn push_numbered(found: &mut String, rows: &[Row], number: u64) {
-    if let Some(row) = row_at(rows, number) {
-        // Without memory for the row, the message names the database alone.
-        let _ = push_row(found, row);
-    }
-}
-
-/// The row of this number, from 1.
-fn row_at(rows: &[Row], number: u64) -> Option<&Row> {
-    rows.get(usize::try_from(number).ok()?.checked_sub(1)?)
-}
-
-/// Whether more than half of the rows have objects of another source.
-fn are_mostly_others(alloc: Global, rows: &[Row], source: &Name, version: Version) -> bool {
-    let others = rows
-        .iter()
-        .filter(|row| fault_of(alloc, row, source, version) == Some(RowFault::OtherSource))
-        .count();
-    others > rows.len() / 2
-}
-
-/// The first row with this fault.
-fn first_with<'a>(
-    alloc: Global,
-    rows: &'a [Row],
-    source: &Name,
-    version: Version,
-    fault: RowFault,
-) -> Option<&'a Row> {
-    rows.iter()
-        .find(|row| fault_of(alloc, row, source, version) == Some(fault))
-}
-
-/// Whether each row has an object of the source by its class and key.
-fn are_good(alloc: Global, rows: &[Row], source: &Name, version: Version) -> bool {
-    rows.iter()
-        .all(|row| fault_of(alloc, row, source, version).is_none())
-}
-
-/// The objects of rows.
-fn objects_of(alloc: Global, rows: &[Row], source: &Name, version: Version) -> Option<Vec<Object>> {
-    let mut objects = Vec::new(alloc);
-    for row in rows {
-        objects
-            .push(object_of(alloc, row, source, version).ok()?)
-            .ok()?;
-    }
-    Some(objects)
-}
-
-/// Why a row has no object of the source by its class and key, if it has none.
-fn fault_of(alloc: Global, row: &Row, source: &Name, version: Version) -> Option<RowFault> {
-    object_of(alloc, row, source, version).err()
-}
-
-/// The object of a row.
-fn object_of(
-    alloc: Global,
-    row: &Row,
-    source: &Name,
-    version: Version,
-) -> Result<Object, RowFault> {
-    let body: Result<Vec<u8>, sqlite::Error> = row.get(2);
-    match body {
-        Ok(body) => read_body(alloc, row, body.as_slice(), source, version),
-        Err(_) => Err(RowFault::Bad),
-    }
-}
-
-/// The object of a row with this text.
-fn read_body(
-    alloc: Global,
-    row: &Row,
-    body: &[u8],
-    source: &Name,
-    version: Version,
-) -> Result<Object, RowFault> {
-    match read_canonical(alloc, body) {
-        Ok(Some(paragraph)) => match Object::read(alloc, paragraph, source) {
-            Ok(object) => keyed(alloc, row, object, version),
-            Err(ObjectFault::OtherSource) => Err(RowFault::OtherSource),
-            Err(ObjectFault::Memory) => Err(RowFault::Memory),
-            Err(_) => Err(RowFault::Bad),
-        },
-        Ok(None) => Err(RowFault::Bad),
-        Err(AllocError) => Err(RowFault::Memory),
-    }
-}
-
-/// The object, if the row has its class and key.
-fn keyed(alloc: Global, row: &Row, object: Object, version: Version) -> Result<Object, RowFault> {
-    let class: Result<u64, sqlite::Error> = row.get(0);
-    match class {
-        Ok(class) if class == u64::from(object.key().class().number()) => {
-            if has_key(alloc, row, object.key(), version) {
-                Ok(object)
-            } else {
-                Err(RowFault::Bad)
-            }
-        }
-        _ => Err(RowFault::Bad),
-    }
-}
-
-/// Whether a row has this key; it may if memory runs out.
-fn has_key(alloc: Global, row: &Row, key: &Key, version: Version) -> bool {
-    let found: Result<String, sqlite::Error> = row.get(1);
-    match (found, version.key_bytes(alloc, key)) {
-        (Ok(found), Ok(Some(bytes))) => found.as_bytes() == bytes.as_slice(),
-        (Ok(_), Err(_)) => true,
-        (Ok(_), Ok(None)) | (Err(_), _) => false,
-    }
-}
-
-/// Adds the class and the key of a row, as the tables have them.
-fn push_row(found: &mut String, row: &Row) -> Result<(), AllocError> {
-    match (row.get_ref(0), row.get_ref(1)) {
-        (Ok(ValueRef::Int(class)), Ok(ValueRef::Text(key))) => {
-            write!(found, ", class {class}, okey ")?;
-            push_key(found, key)
-        }
-        _ => Ok(()),
-    }
 }

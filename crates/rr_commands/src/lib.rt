@@ -11,6 +11,7 @@ mod fault;
 mod files;
 mod loading;
 mod migrating;
+mod object_rows;
 mod obstacle;
 mod output;
 mod places;

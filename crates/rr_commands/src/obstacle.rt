@@ -1,7 +1,8 @@
-//! What was added to the tables of a registry and keeps them from being read, for messages alone.
+//! How the tables of a registry were made otherwise than irrdesk makes them, for messages alone: in
+//! another order, or with what keeps them from being read.
 
 use crate::shown::push_key;
-use rr_rows::has_tables;
+use rr_rows::{META_TREE, NAMED_TREE, OBJECT_TREE, has_tables};
 use sqlite::Row;
 use sqlite_schema::schema::{Column, Reference, Schema, Table};
 use sqlite_value::keys::Collation;
@@ -227,4 +228,52 @@ fn key_of_table(table: &Table) -> Option<Obstacle<'_>> {
 
 fn is_to_ours(key: &Reference) -> bool {
     columns_of(key.parent.as_slice()).is_some()
+}
+
+/// Whether the three tables are there, each with the index of its key alone, but do not stand
+/// first, or not in their order.
+pub(crate) fn has_other_order(rows: &[Row]) -> bool {
+    let found = [
+        tree_of("meta", rows),
+        tree_of("object", rows),
+        tree_of("named", rows),
+    ];
+    let are_plain = has_key_alone("meta", rows)
+        && has_key_alone("object", rows)
+        && has_key_alone("named", rows);
+    let trees = [
+        Some(u64::from(META_TREE)),
+        Some(u64::from(OBJECT_TREE)),
+        Some(u64::from(NAMED_TREE)),
+    ];
+    are_plain && found != trees && found.iter().all(Option::is_some)
+}
+
+/// The tree of a table among these rows. A table that was dropped before it leaves a gap.
+fn tree_of(name: &str, rows: &[Row]) -> Option<u64> {
+    let row = rows.iter().find(|row| text_at(row, 0) == name.as_bytes()
+        && text_at(row, 1) == b"table".as_slice())?;
+    let listed: Result<u64, sqlite::Error> = row.get(4);
+    listed.ok()?.checked_sub(1)
+}
+
+/// Whether a table has one index that came with it.
+fn has_key_alone(name: &str, rows: &[Row]) -> bool {
+    let mut has_one = false;
+    for row in rows {
+        if is_index_of(row, name) {
+            if has_one {
+                return false;
+            }
+            has_one = true;
+        }
+    }
+    has_one
+}
+
+/// Whether a row lists an index that came with the table of this name: it has no text.
+fn is_index_of(row: &Row, table: &str) -> bool {
+    text_at(row, 1) == b"index".as_slice()
+        && text_at(row, 2) == table.as_bytes()
+        && text_at(row, 3).is_empty()
 }

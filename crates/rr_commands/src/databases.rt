@@ -19,6 +19,7 @@ use std::alloc::Global;
 use std::fs::OpenOptions;
 use std::io::{ErrorKind, Read};
 use std::os::unix::fs::OpenOptionsExt;
+use std::path::PathBuf;
 use std::{fs, io};
 
 /// Where the header of a database says how its texts are encoded, in four bytes.
@@ -26,6 +27,9 @@ const ENCODING: usize = 56;
 
 /// How many bytes a page of a database has at least, and so a log in which one was committed.
 const LEAST_PAGE: u64 = 512;
+
+/// How many links Linux follows one after another.
+const MOST_LINKS: usize = 40;
 
 /// How the name of a database's log ends.
 const LOG: &str = "-wal";
@@ -128,12 +132,13 @@ pub fn close<D: Databases>(databases: &D, conn: Connection<D::Disk>)
 }
 
 /// Why the database at a path cannot be opened, by the library's error. It is the same for one that
-/// is damaged and for one in UTF-16, and for one with a journal and for one whose log is denied.
+/// is damaged and for one in UTF-16, and for one with a journal and for one whose log or journal is
+/// denied.
 fn cause_at(rt: &HostRuntime, path: &str, error: sqlite::Error) -> DatabaseCause {
     match DatabaseCause::of(error) {
         DatabaseCause::Damaged if is_utf16(rt, path) => DatabaseCause::Encoded,
         DatabaseCause::Unopened if has_journal(rt, path) => DatabaseCause::HasJournal,
-        DatabaseCause::Unopened if is_log_denied(rt, path) => DatabaseCause::Denied,
+        DatabaseCause::Unopened if is_rest_denied(rt, path) => DatabaseCause::Denied,
         cause => cause,
     }
 }
@@ -149,16 +154,21 @@ fn is_utf16(rt: &HostRuntime, path: &str) -> bool {
 /// Whether SQLite's own program left a journal that is to be applied beside the database at a path.
 fn has_journal(rt: &HostRuntime, path: &str) -> bool {
     match beside(rt, path, JOURNAL) {
-        Ok(journal) => is_hot(rt, journal.as_str()),
+        Ok(journal) => {
+            is_file(rt, journal.as_str()) && matches!(is_hot(rt, journal.as_str()), Ok(true))
+        }
         Err(_) => false,
     }
 }
 
-/// Whether the user may not use the log of the database at a path.
-fn is_log_denied(rt: &HostRuntime, path: &str) -> bool {
-    match beside(rt, path, LOG) {
-        Ok(log) => matches!(try_file(rt, log.as_str()), Err(DatabaseCause::Denied)),
-        Err(_) => false,
+/// Whether the user may not use the log of the database at a path, or not read its journal.
+fn is_rest_denied(rt: &HostRuntime, path: &str) -> bool {
+    match (beside(rt, path, LOG), beside(rt, path, JOURNAL)) {
+        (Ok(log), Ok(journal)) => {
+            matches!(try_file(rt, log.as_str()), Err(DatabaseCause::Denied))
+                || matches!(is_hot(rt, journal.as_str()), Err(DatabaseCause::Denied))
+        }
+        _ => false,
     }
 }
 
@@ -167,9 +177,28 @@ fn is_log_denied(rt: &HostRuntime, path: &str) -> bool {
 fn beside(rt: &HostRuntime, path: &str, ending: &str) -> Result<String, DatabaseCause> {
     match fs::canonicalize(rt, path) {
         Ok(found) => joined(rt, found.as_str(), ending),
-        Err(error) if error.kind() == ErrorKind::NotFound => joined(rt, path, ending),
+        Err(error) if error.kind() == ErrorKind::NotFound => match target_of(rt, path) {
+            Ok(target) => joined(rt, target.as_str(), ending),
+            Err(error) => Err(refused(&error)),
+        },
         Err(error) => Err(refused(&error)),
     }
+}
+
+/// Where a path leads to no file: a link leads on from its own folder.
+fn target_of(rt: &HostRuntime, path: &str) -> io::Result<PathBuf> {
+    let mut target = PathBuf::from_str(rt.alloc(), path)?;
+    for _ in 0..MOST_LINKS {
+        match fs::read_link(rt, target.as_str()) {
+            Ok(next) => {
+                target.pop();
+                target.push(next.as_str())?;
+            }
+            // It is no link.
+            Err(_) => return Ok(target),
+        }
+    }
+    Ok(target)
 }
 
 fn joined(rt: &HostRuntime, path: &str, ending: &str) -> Result<String, DatabaseCause> {
@@ -244,29 +273,46 @@ fn refused(error: &io::Error) -> DatabaseCause {
 fn refuse_rest(rt: &HostRuntime, path: &str, cause: DatabaseCause) -> Result<(), DatabaseCause> {
     let log = beside(rt, path, LOG)?;
     let journal = beside(rt, path, JOURNAL)?;
-    if has_commits(rt, log.as_str()) || is_hot(rt, journal.as_str()) {
+    if has_commits(rt, log.as_str())? || is_hot(rt, journal.as_str())? {
         Err(cause)
     } else {
         Ok(())
     }
 }
 
-/// Whether the log at a path may have what was committed: one that was only begun has not.
-fn has_commits(rt: &HostRuntime, log: &str) -> bool {
-    match fs::metadata(rt, log) {
-        Ok(found) => found.is_file() && found.len() >= LEAST_PAGE,
-        Err(_) => false,
+/// Whether the log at a path may have what was committed: one that was only begun has not, if it
+/// may be used. What is no file counts as such a log, because the library refuses it.
+fn has_commits(rt: &HostRuntime, log: &str) -> Result<bool, DatabaseCause> {
+    match fs::symlink_metadata(rt, log) {
+        Ok(found) if found.is_file() && found.len() < LEAST_PAGE => {
+            try_file(rt, log)?;
+            Ok(false)
+        }
+        Ok(_) => Ok(true),
+        Err(error) if error.kind() == ErrorKind::NotFound => Ok(false),
+        Err(error) => Err(refused(&error)),
     }
 }
 
 /// Whether the journal at a path is to be applied: one that is empty or begins with a zero is not.
-fn is_hot(rt: &HostRuntime, journal: &str) -> bool {
-    match fs::metadata(rt, journal) {
+/// What is no file counts as such a journal, because the library refuses it.
+fn is_hot(rt: &HostRuntime, journal: &str) -> Result<bool, DatabaseCause> {
+    match fs::symlink_metadata(rt, journal) {
         Ok(found) if found.is_file() => match read_first(rt, journal, 1) {
-            Ok(first) => !matches!(first.as_slice(), [] | [0]),
-            Err(_) => false,
+            Ok(first) => Ok(!matches!(first.as_slice(), [] | [0])),
+            Err(error) => Err(refused(&error)),
         },
-        _ => false,
+        Ok(_) => Ok(true),
+        Err(error) if error.kind() == ErrorKind::NotFound => Ok(false),
+        Err(error) => Err(refused(&error)),
+    }
+}
+
+/// Whether a file is at a path, and not a link to one.
+fn is_file(rt: &HostRuntime, path: &str) -> bool {
+    match fs::symlink_metadata(rt, path) {
+        Ok(found) => found.is_file(),
+        Err(_) => false,
     }
 }
 

@@ -1,6 +1,7 @@
 //! The texts of answers.
 
-ghost use Rattle.std.specs.Prelude.{◌≡◌, ◌++◌, IfOk, OnOk};
+ghost use Rattle.std.specs.Prelude.{◌≡◌, ◌++◌, IfOk, OnOk, OnErr};
+ghost use Rattle.std.specs.Io.{StartsWith};
 ghost use Rattle.std.specs.List.{flat_map};
 ghost use Rattle.rr_number.specs.Applied.{range_text};
 ghost use Rattle.rr_number.specs.AsNumbers.{as_number_text};
@@ -43,7 +44,8 @@ fn public_texts(alloc: Global, objects: &[&Object]) -> Result<Vec<u8>, AllocErro
 
 /// Appends an object as it is answered.
 pub(crate) fn push_public(text: &mut Vec<u8>, object: &Object) -> Result<(), AllocError>
-    ensures { OnOk result (text.new.items ≡ text.old.items ++ texts.public_text object.now) }
+    ensures ok { OnOk result (text.new.items ≡ text.old.items ++ texts.public_text object.now) }
+    ensures err { OnErr result (StartsWith text.new.items text.old.items) }
 {
     print_public(text, object)?;
     text.push(b'\n')?;
@@ -52,7 +54,8 @@ pub(crate) fn push_public(text: &mut Vec<u8>, object: &Object) -> Result<(), All
 
 /// Appends the canonical text of a paragraph and an empty line.
 pub(crate) fn push_paragraph(text: &mut Vec<u8>, paragraph: &Paragraph) -> Result<(), AllocError>
-    ensures { OnOk result (text.new.items ≡ text.old.items ++ ended (canonical paragraph.now)) }
+    ensures ok { OnOk result (text.new.items ≡ text.old.items ++ ended (canonical paragraph.now)) }
+    ensures err { OnErr result (StartsWith text.new.items text.old.items) }
 {
     print_onto(text, paragraph)?;
     text.push(b'\n')?;
@@ -61,7 +64,8 @@ pub(crate) fn push_paragraph(text: &mut Vec<u8>, paragraph: &Paragraph) -> Resul
 
 /// Appends a line with the LF that ends it.
 fn push_line(text: &mut Vec<u8>, line: &[u8]) -> Result<(), AllocError>
-    ensures { OnOk result (text.new.items ≡ text.old.items ++ ended line.now) }
+    ensures ok { OnOk result (text.new.items ≡ text.old.items ++ ended line.now) }
+    ensures err { OnErr result (StartsWith text.new.items text.old.items) }
 {
     text.extend_from_slice(line)?;
     text.push(b'\n')?;
@@ -140,8 +144,9 @@ fn range_lines(alloc: Global, found: &[Range]) -> Result<Vec<u8>, AllocError>
 
 /// Appends the lines of names that are missing.
 fn push_missing(text: &mut Vec<u8>, missing: &[SetName]) -> Result<(), AllocError>
-    ensures { OnOk result
+    ensures ok { OnOk result
         (text.new.items ≡ text.old.items ++ flat_map texts.missing_line missing.now) }
+    ensures err { OnErr result (StartsWith text.new.items text.old.items) }
 {
     for name in missing {
         text.extend_from_slice(b"% missing ")?;

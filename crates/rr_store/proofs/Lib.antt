@@ -20,7 +20,7 @@ pub mod StepLemmas
 pub mod ShownLemmas
 pub mod SourceLemmas
 pub mod StoredLemmas
-pub mod StopLemmas
+pub mod FailureLemmas
 pub mod StreamLemmas
 pub mod TidyLemmas
 pub mod UpperLemmas

@@ -48,7 +48,7 @@ module _ {S : Type 0} (g : Ghosts S) (objects : List Obj) (conn : Held S) where
     pub not_empty : fault ≡ NotEmpty
         → OnCleanDisk g left (IsOccupied (database g conn))
     pub store : (error : Error) → fault ≡ Store error → FailsOverRow g conn left error
-    pub no_memory : OnCleanDisk g left (fault ≡ Memory
+    pub memory : OnCleanDisk g left (fault ≡ Memory
         → HasTables (database g conn).schema → ¬ HasSomeRow (database g conn))
     pub untabled : ¬ HasTables (database g conn).schema
         → (database g conn).schema ≢ no_schema → fault ≡ Store no_tables

@@ -26,7 +26,7 @@ migrate_fault Memory = migrated.Memory
 abbrev pub no_tables : Error
 no_tables = SqlInputError NoSuchTable
 
--- what is told of rows that no store has written
+-- what is told of rows that no store has written (profile)
 abbrev pub bad_rows : Error
 bad_rows = SqliteFailure DatabaseCorrupt
 

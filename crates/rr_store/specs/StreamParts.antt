@@ -34,15 +34,15 @@ module _ {S : Type 0} (g : Ghosts S) where
       × Shown sql params (state g mid) (state g new) (given ++ rest)
 
   -- after rows that changed nothing, the query failed for this
-  abbrev pub StopsFor : Held S → Held S → Error → Type 0
-  StopsFor old new error =
+  abbrev pub FailsAfterRows : Held S → Held S → Error → Type 0
+  FailsAfterRows old new error =
       (sql : List ℕ) (params : Row) (given : List Row) → HasGiven g sql params old given
       → (mid : Held S) × IsUnchanged (state g old) (state g mid)
       × Survives (state g old) (state g mid) (λ _. ⊥)
       × FailsToQuery sql params (state g mid) (state g new) error
 
   -- it gave rows that, whatever comes after them, have no numbers of their own in order
-  pub record StopsAt (old new : Held S) : Type 0 where
+  pub record GivesUnnumbered (old new : Held S) : Type 0 where
     pub same : IsUnchanged (state g old) (state g new)
     pub more : List Row
     pub gives : GivesMore old new more
@@ -51,7 +51,7 @@ module _ {S : Type 0} (g : Ghosts S) where
   -- numbers are not counted: memory ran out, the query failed, or a row has none that is due
   abbrev pub FailsToCount : Held S → Held S → Error → Type 0
   FailsToCount old new error =
-      (error ≡ SqliteFailure OutOfMemory) ⊎ (StopsFor old new error ⊎ StopsAt old new)
+      (error ≡ SqliteFailure OutOfMemory) ⊎ (FailsAfterRows old new error ⊎ GivesUnnumbered old new)
 
   -- rows were read, and nothing changed but what a failure took back
   pub record Streams {X E : Type 0} (old new : Held S) (result : Result X E) : Type 0 where

@@ -31,8 +31,8 @@ fn create_in_blank<S: Alter>(
         conn.old conn.new result }
     ensures tables { Transacts S.Store HasItsTables conn.old conn.new result }
 {
-    // called for its clause alone: outside a transaction the rows are those last committed
-    let _settled = conn.is_autocommit();
+    // Called for its contract: outside a transaction the rows are those last committed.
+    let _ = conn.is_autocommit();
     let mut tx = conn.transaction();
     let work = make_filled(&mut tx, alloc, objects);
     end(tx, work)
@@ -50,8 +50,8 @@ fn create_in_bare<S: Alter>(
         conn.old conn.new result }
     ensures tables { Transacts S.Store HasItsTables conn.old conn.new result }
 {
-    // called for its clause alone: outside a transaction the rows are those last committed
-    let _settled = conn.is_autocommit();
+    // Called for its contract: outside a transaction the rows are those last committed.
+    let _ = conn.is_autocommit();
     let mut tx = conn.transaction();
     let work = fill(&mut tx, alloc, objects);
     end(tx, work)

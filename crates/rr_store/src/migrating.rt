@@ -65,8 +65,8 @@ fn replace<S: Alter>(
     ensures { Transacts S.Store (IsReplaced (map entry_of (lent objects.now)))
         conn.old conn.new result }
 {
-    // called for its clause alone: outside a transaction the rows are those last committed
-    let _settled = conn.is_autocommit();
+    // Called for its contract: outside a transaction the rows are those last committed.
+    let _ = conn.is_autocommit();
     let mut tx = conn.transaction();
     let work = refill(&mut tx, alloc, objects);
     end(tx, work)

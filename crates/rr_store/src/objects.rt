@@ -121,12 +121,11 @@ pub(crate) fn take_object(
     ensures no_store { IfErr result (IfStore (λ _. ⊥)) }
     ensures no_other { IfErr result TellsNoVersion }
 {
-    match read_object(alloc, row, source, version) {
-        Ok(Some(object)) => match objects.push(object) {
-            Ok(()) => Ok(()),
-            Err(_) => Err(OpenFault::Memory),
-        },
-        Ok(None) => Err(OpenFault::BadRow),
+    let Some(object) = read_object(alloc, row, source, version)? else {
+        return Err(OpenFault::BadRow);
+    };
+    match objects.push(object) {
+        Ok(()) => Ok(()),
         Err(_) => Err(OpenFault::Memory),
     }
 }
@@ -190,14 +189,10 @@ pub(crate) fn in_order(objects: Vec<Object>) -> Result<Vec<Object>, OpenFault>
     if are_in_order(&objects) {
         return Ok(objects);
     }
-    match sorted(objects) {
-        Ok(sorted) => {
-            if are_in_order(&sorted) {
-                Ok(sorted)
-            } else {
-                Err(OpenFault::BadRow)
-            }
-        }
-        Err(_) => Err(OpenFault::Memory),
+    let sorted = sorted(objects)?;
+    if are_in_order(&sorted) {
+        Ok(sorted)
+    } else {
+        Err(OpenFault::BadRow)
     }
 }

@@ -41,8 +41,8 @@ fn look<S: Alter>(
     ensures refused { OnCleanDisk S.Store conn.new (IfErr result (FailsToQuery sql.now
         (bound params.now) (state S.Store conn.old) (state S.Store conn.new))) }
 {
-    // called for its clause alone: outside a transaction the rows are those last committed
-    let _settled = conn.is_autocommit();
+    // Called for its contract: outside a transaction the rows are those last committed.
+    let _ = conn.is_autocommit();
     conn.query_all(sql, params)
 }
 
@@ -125,8 +125,8 @@ pub(crate) fn count_meta<S: Alter>(conn: &mut Connection<S>) -> Result<usize, Er
         count ≡ length ((database S.Store conn.old).trees meta_tree))) }
     ensures cause { IfErr result (FailsOverTidy S.Store conn.old conn.new) }
 {
-    // called for its clause alone: outside a transaction the rows are those last committed
-    let _settled = conn.is_autocommit();
+    // Called for its contract: outside a transaction the rows are those last committed.
+    let _ = conn.is_autocommit();
     let mut rows = conn.query("SELECT rowid FROM meta ORDER BY rowid", &[])?;
     count_numbered(&mut rows)
 }
@@ -142,8 +142,8 @@ pub(crate) fn count_object<S: Alter>(conn: &mut Connection<S>) -> Result<usize, 
         count ≡ length ((database S.Store conn.old).trees object_tree))) }
     ensures cause { IfErr result (FailsOverTidy S.Store conn.old conn.new) }
 {
-    // called for its clause alone: outside a transaction the rows are those last committed
-    let _settled = conn.is_autocommit();
+    // Called for its contract: outside a transaction the rows are those last committed.
+    let _ = conn.is_autocommit();
     let mut rows = conn.query("SELECT rowid FROM object ORDER BY rowid", &[])?;
     count_numbered(&mut rows)
 }
@@ -159,8 +159,8 @@ pub(crate) fn count_named<S: Alter>(conn: &mut Connection<S>) -> Result<usize, E
         count ≡ length ((database S.Store conn.old).trees named_tree))) }
     ensures cause { IfErr result (FailsOverTidy S.Store conn.old conn.new) }
 {
-    // called for its clause alone: outside a transaction the rows are those last committed
-    let _settled = conn.is_autocommit();
+    // Called for its contract: outside a transaction the rows are those last committed.
+    let _ = conn.is_autocommit();
     let mut rows = conn.query("SELECT rowid FROM named ORDER BY rowid", &[])?;
     count_numbered(&mut rows)
 }
@@ -187,8 +187,8 @@ pub(crate) fn read_objects<S: Alter>(
     ensures no_other { IfErr result TellsNoVersion }
     ensures cause { IfErr result (IfStore (FailsOverTidy S.Store conn.old conn.new)) }
 {
-    // called for its clause alone: outside a transaction the rows are those last committed
-    let _settled = conn.is_autocommit();
+    // Called for its contract: outside a transaction the rows are those last committed.
+    let _ = conn.is_autocommit();
     let mut rows = conn.query(
         "SELECT rowid, class, okey, body FROM object ORDER BY rowid",
         &[],
@@ -212,8 +212,8 @@ pub(crate) fn names_in_turn<S: Alter>(
     ensures no_other { IfErr result TellsNoVersion }
     ensures cause { IfErr result (IfStore (FailsOverTidy S.Store conn.old conn.new)) }
 {
-    // called for its clause alone: outside a transaction the rows are those last committed
-    let _settled = conn.is_autocommit();
+    // Called for its contract: outside a transaction the rows are those last committed.
+    let _ = conn.is_autocommit();
     let mut rows = conn.query(
         "SELECT rowid, maintainer, class, okey FROM named ORDER BY rowid",
         &[],
@@ -241,8 +241,8 @@ pub(crate) fn read_naming<S: Alter>(
     ensures memory { OnCleanDisk S.Store conn.new (IfErr result (λ fault. fault ≡ Memory →
         IsUnchanged (state S.Store conn.old) (state S.Store conn.new))) }
 {
-    // called for its clause alone: outside a transaction the rows are those last committed
-    let _settled = conn.is_autocommit();
+    // Called for its contract: outside a transaction the rows are those last committed.
+    let _ = conn.is_autocommit();
     let mut rows = conn.query(
         "SELECT o.rowid, o.class, o.okey, o.body FROM named n JOIN object o \
          ON o.class = n.class AND o.okey = n.okey WHERE n.maintainer = ?1 \

@@ -75,8 +75,8 @@ impl<S: Alter> Store<S> {
         ensures fails { IfErr result (λ e. FailsToMake S.Store (lent objects.now) conn e.1 e.0) }
     {
         let made = create_where_vacant(&mut conn, alloc, objects);
-        // called for its clause alone: outside a transaction the rows are those last committed
-        let _settled = conn.is_autocommit();
+        // Called for its contract: outside a transaction the rows are those last committed.
+        let _ = conn.is_autocommit();
         match made {
             Ok(()) => Ok(Store { conn }),
             Err(fault) => Err((fault, conn)),
@@ -98,8 +98,8 @@ impl<S: Alter> Store<S> {
         ensures fails { IfErr result (λ e. FailsToOpen S.Store source.now conn e.1 e.0) }
     {
         let stored = stored_objects(&mut conn, alloc, source, Version::Current);
-        // called for its clause alone: outside a transaction the rows are those last committed
-        let _settled = conn.is_autocommit();
+        // Called for its contract: outside a transaction the rows are those last committed.
+        let _ = conn.is_autocommit();
         match stored {
             Ok(objects) => Ok((Store { conn }, objects)),
             Err(fault) => Err((fault, conn)),
@@ -164,8 +164,8 @@ impl<S: Alter> Store<S> {
             FailsToMigrate S.Store root.now source.now conn e.1 e.0) }
     {
         let migrated = migrate_rows(&mut conn, alloc, root, source);
-        // called for its clause alone: outside a transaction the rows are those last committed
-        let _settled = conn.is_autocommit();
+        // Called for its contract: outside a transaction the rows are those last committed.
+        let _ = conn.is_autocommit();
         match migrated {
             Ok(()) => Ok(Store { conn }),
             Err(fault) => Err((fault, conn)),
@@ -182,8 +182,8 @@ impl<S: Alter> Store<S> {
         ensures settled { IsSettled S.Store self.new }
     {
         let written = self.put_rows_of(alloc, object);
-        // called for its clause alone: outside a transaction the rows are those last committed
-        let _settled = self.conn.is_autocommit();
+        // Called for its contract: outside a transaction the rows are those last committed.
+        let _ = self.conn.is_autocommit();
         written
     }
 
@@ -209,8 +209,8 @@ impl<S: Alter> Store<S> {
         ensures settled { IsSettled S.Store self.new }
     {
         let written = self.add_rows_of(alloc, object);
-        // called for its clause alone: outside a transaction the rows are those last committed
-        let _settled = self.conn.is_autocommit();
+        // Called for its contract: outside a transaction the rows are those last committed.
+        let _ = self.conn.is_autocommit();
         written
     }
 
@@ -235,8 +235,8 @@ impl<S: Alter> Store<S> {
         ensures settled { IsSettled S.Store self.new }
     {
         let written = self.remove_rows_of(alloc, key);
-        // called for its clause alone: outside a transaction the rows are those last committed
-        let _settled = self.conn.is_autocommit();
+        // Called for its contract: outside a transaction the rows are those last committed.
+        let _ = self.conn.is_autocommit();
         written
     }
 
@@ -266,8 +266,8 @@ impl<S: Alter> Store<S> {
         ensures settled { IsSettled S.Store self.new }
     {
         let objects = all_objects(&mut self.conn, alloc, source);
-        // called for its clause alone: outside a transaction the rows are those last committed
-        let _settled = self.conn.is_autocommit();
+        // Called for its contract: outside a transaction the rows are those last committed.
+        let _ = self.conn.is_autocommit();
         Ok(objects?)
     }
 
@@ -290,8 +290,8 @@ impl<S: Alter> Store<S> {
         ensures settled { IsSettled S.Store self.new }
     {
         let objects = naming_objects(&mut self.conn, alloc, source, name);
-        // called for its clause alone: outside a transaction the rows are those last committed
-        let _settled = self.conn.is_autocommit();
+        // Called for its contract: outside a transaction the rows are those last committed.
+        let _ = self.conn.is_autocommit();
         Ok(objects?)
     }
 

@@ -13,8 +13,8 @@ ghost use Rattle.rr_rows.specs.Maps.{entry_in};
 ghost use Rattle.rr_store.specs.Calls.{IsOpen, OnCleanDisk};
 ghost use Rattle.rr_store.specs.Opening.{AreObjectsOf, IfStore};
 ghost use Rattle.rr_store.specs.ReadingParts.{AreNone, AreRead, TellsNoVersion};
-ghost use Rattle.rr_store.specs.StreamParts.{FailsToCount, GivesMore, GivesRest, IsNotNext};
-ghost use Rattle.rr_store.specs.StreamParts.{StopsFor, Streams};
+ghost use Rattle.rr_store.specs.StreamParts.{FailsAfterRows, FailsToCount, GivesMore, GivesRest};
+ghost use Rattle.rr_store.specs.StreamParts.{IsNotNext, Streams};
 ghost use Rattle.rr_store.specs.Versions.{form_of};
 ghost use Rattle.rr_store.specs.declared.fault.OpenFault.TheVariants.{BadRow};
 
@@ -93,8 +93,8 @@ pub(crate) fn take_objects<S: Alter>(
         IfStore (λ _. ⊥) fault →
         IsUnchanged (state S.Store rows.old.conn.now) (state S.Store rows.new.conn.now))) }
     ensures no_other { IfErr result TellsNoVersion }
-    ensures stops { OnCleanDisk S.Store rows.new.conn.now (IfErr result (IfStore
-        (StopsFor S.Store rows.old.conn.now rows.new.conn.now))) }
+    ensures fails { OnCleanDisk S.Store rows.new.conn.now (IfErr result (IfStore
+        (FailsAfterRows S.Store rows.old.conn.now rows.new.conn.now))) }
 {
     let mut objects = Vec::with_capacity(alloc, count)?;
     'rows: for _ in 0..u64::MAX {
@@ -120,8 +120,8 @@ fn take_names<S: Alter>(
     ensures are { OnCleanDisk S.Store rows.new.conn.now (IfOk result (λ are. IsTrue are →
         (more : List Values) × GivesMore S.Store rows.old.conn.now rows.new.conn.now more ×
         (contents more ≡ map (λ name. named_values name class key.now) names.now))) }
-    ensures stops { OnCleanDisk S.Store rows.new.conn.now (IfErr result
-        (StopsFor S.Store rows.old.conn.now rows.new.conn.now)) }
+    ensures fails { OnCleanDisk S.Store rows.new.conn.now (IfErr result
+        (FailsAfterRows S.Store rows.old.conn.now rows.new.conn.now)) }
 {
     for name in names {
         rows.advance()?;
@@ -150,8 +150,8 @@ fn take_names_of<S: Alter>(
         (contents more ≡ named_rows (entry_in (form_of version) object.now)))) }
     ensures no_bad_row { IfErr result (λ fault. fault ≡ BadRow → ⊥) }
     ensures no_other { IfErr result TellsNoVersion }
-    ensures stops { OnCleanDisk S.Store rows.new.conn.now (IfErr result (IfStore
-        (StopsFor S.Store rows.old.conn.now rows.new.conn.now))) }
+    ensures fails { OnCleanDisk S.Store rows.new.conn.now (IfErr result (IfStore
+        (FailsAfterRows S.Store rows.old.conn.now rows.new.conn.now))) }
 {
     let names = maintainers_of(alloc, object)?;
     let key = key_text(alloc, object.key(), version)?;
@@ -174,8 +174,8 @@ pub(crate) fn take_all_names<S: Alter>(
         (contents rest ≡ flat_map named_rows (map (entry_in (form_of version)) objects.now)))) }
     ensures no_bad_row { IfErr result (λ fault. fault ≡ BadRow → ⊥) }
     ensures no_other { IfErr result TellsNoVersion }
-    ensures stops { OnCleanDisk S.Store rows.new.conn.now (IfErr result (IfStore
-        (StopsFor S.Store rows.old.conn.now rows.new.conn.now))) }
+    ensures fails { OnCleanDisk S.Store rows.new.conn.now (IfErr result (IfStore
+        (FailsAfterRows S.Store rows.old.conn.now rows.new.conn.now))) }
 {
     for object in objects {
         if !take_names_of(rows, alloc, object, version)? {

@@ -25,8 +25,8 @@ pub(crate) fn put_entry<S: Alter>(
     requires held { WhileOpen S.Store conn.old (AreOfObjects (database S.Store conn.old)) }
     ensures { Transacts S.Store (IsPut entry.now) conn.old conn.new result }
 {
-    // called for its clause alone: outside a transaction the rows are those last committed
-    let _settled = conn.is_autocommit();
+    // Called for its contract: outside a transaction the rows are those last committed.
+    let _ = conn.is_autocommit();
     let mut tx = conn.transaction();
     let work = put_rows(&mut tx, alloc, entry);
     end(tx, work)
@@ -42,8 +42,8 @@ pub(crate) fn insert_entry<S: Alter>(
     requires tidy { WhileOpen S.Store conn.old (IsTidy (database S.Store conn.old)) }
     ensures { Transacts S.Store (IsAdded (entry.now ∷ [])) conn.old conn.new result }
 {
-    // called for its clause alone: outside a transaction the rows are those last committed
-    let _settled = conn.is_autocommit();
+    // Called for its contract: outside a transaction the rows are those last committed.
+    let _ = conn.is_autocommit();
     let mut tx = conn.transaction();
     let work = add_rows(&mut tx, entry);
     end(tx, work)
@@ -62,8 +62,8 @@ pub(crate) fn remove_entry<S: Alter>(
     requires held { WhileOpen S.Store conn.old (AreOfObjects (database S.Store conn.old)) }
     ensures { Transacts S.Store (IsTakenOut class key.now) conn.old conn.new result }
 {
-    // called for its clause alone: outside a transaction the rows are those last committed
-    let _settled = conn.is_autocommit();
+    // Called for its contract: outside a transaction the rows are those last committed.
+    let _ = conn.is_autocommit();
     let mut tx = conn.transaction();
     let work = remove_rows(&mut tx, alloc, class, key);
     end(tx, work)

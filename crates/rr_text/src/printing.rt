@@ -75,7 +75,8 @@ pub(crate) fn push_opening(out: &mut Vec<u8>, name: &[u8], line: &[u8]) -> Resul
 }
 
 fn push_lowered(out: &mut Vec<u8>, name: &[u8]) -> Result<(), AllocError>
-    ensures { OnOk result (out.new.items ≡ out.old.items ++ lowered name.now) }
+    ensures ok { OnOk result (out.new.items ≡ out.old.items ++ lowered name.now) }
+    ensures err { OnErr result (StartsWith out.new.items out.old.items) }
 {
     for byte in name {
         out.push(byte.to_ascii_lowercase())?;
@@ -85,8 +86,9 @@ fn push_lowered(out: &mut Vec<u8>, name: &[u8]) -> Result<(), AllocError>
 
 /// The same of a name in any letter case.
 fn push_lowered_opening(out: &mut Vec<u8>, name: &[u8], line: &[u8]) -> Result<(), AllocError>
-    ensures { OnOk result (out.new.items
+    ensures ok { OnOk result (out.new.items
         ≡ out.old.items ++ canon.ended (canon.opening_line (lowered name.now) line.now)) }
+    ensures err { OnErr result (StartsWith out.new.items out.old.items) }
 {
     push_lowered(out, name)?;
     push_value(out, name.len(), line)
@@ -109,7 +111,8 @@ fn push_further(out: &mut Vec<u8>, line: &[u8]) -> Result<(), AllocError>
 
 /// What a line of a block adds to the canonical text.
 pub(crate) fn push_line(out: &mut Vec<u8>, line: &[u8], kind: LineKind) -> Result<(), AllocError>
-    ensures { OnOk result (out.new.items ≡ out.old.items ++ printed_by line.now kind) }
+    ensures ok { OnOk result (out.new.items ≡ out.old.items ++ printed_by line.now kind) }
+    ensures err { OnErr result (StartsWith out.new.items out.old.items) }
 {
     match kind {
         LineKind::Blank | LineKind::Skipped => Ok(()),

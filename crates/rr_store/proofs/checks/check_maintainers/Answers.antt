@@ -8,7 +8,7 @@ use Rattle.rr_store.specs.declared.fault.OpenFault.TheVariants.{BadRow}
 use Rattle.sqlite.specs.Held.{state}
 use Rattle.sqlite.specs.State.{HasCleanDisk}
 use Rattle.rr_store.proofs.LookLemmas.{looks_failed, looks_then, tables_then}
-use Rattle.rr_store.proofs.StopLemmas.{second_reads}
+use Rattle.rr_store.proofs.FailureLemmas.{second_reads}
 use Rattle.rr_store.proofs.checks.check_maintainers.Goals as goal
 
 pub check_sorted_names-requires-clause-tables : goal.check_sorted_names-requires-clause-tables

@@ -9,7 +9,7 @@ use Rattle.rr_store.proofs.StreamLemmas.{on_any}
 use Rattle.sqlite.specs.Held.{state}
 use Rattle.sqlite.specs.State.{HasCleanDisk}
 use Rattle.rr_store.proofs.LookLemmas.{looks_failed, looks_then, tables_then}
-use Rattle.rr_store.proofs.StopLemmas.{second_reads}
+use Rattle.rr_store.proofs.FailureLemmas.{second_reads}
 use Rattle.rr_store.proofs.checks.check_named_table.Goals as goal
 
 pub check_maintainers-requires-clause-tables : goal.check_maintainers-requires-clause-tables

@@ -10,7 +10,7 @@ use Rattle.rr_store.proofs.creating.create_in_blank.Goals as goal
 pub returns-clause-makes : goal.returns-clause-makes
 returns-clause-makes g c =
     let old = c.args.conn.now in
-    let settled : IsTrue (state g.S.Store old).is_open → (state g.S.Store old).now ≡ (state g.S.Store old).committed = c.is_autocommit-settled.ensures.settled (c.is_autocommit-settled.ensures.value ∙ ap not c.requires.autocommit) in
+    let settled : IsTrue (state g.S.Store old).is_open → (state g.S.Store old).now ≡ (state g.S.Store old).committed = c.is_autocommit.ensures.settled (c.is_autocommit.ensures.value ∙ ap not c.requires.autocommit) in
     let made : Transacts g.S.Store (λ _. IsStoreOf (lent c.args.objects.now)) old c.end.new.tx.0 c.end.result =
     ended_writes g.S.Store old c.transaction-tx.result.conn.now c.make_filled-work.new.tx.conn.now c.end.new.tx.0 c.make_filled-work.result c.end.result (λ _. IsStoreOf (lent c.args.objects.now)) c.transaction-tx.ensures.begun c.make_filled-work.ensures.steps.made c.end.ensures.survives
     c.make_filled-work.ensures.steps.survives c.make_filled-work.ensures.steps.kept settled c.end.ensures.autocommit c.end.ensures.done c.end.ensures.ok c.end.ensures.is_open c.end.ensures.was_open c.end.ensures.err in
@@ -19,7 +19,7 @@ returns-clause-makes g c =
 pub returns-clause-tables : goal.returns-clause-tables
 returns-clause-tables g c =
     let old = c.args.conn.now in
-    let settled : IsTrue (state g.S.Store old).is_open → (state g.S.Store old).now ≡ (state g.S.Store old).committed = c.is_autocommit-settled.ensures.settled (c.is_autocommit-settled.ensures.value ∙ ap not c.requires.autocommit) in
+    let settled : IsTrue (state g.S.Store old).is_open → (state g.S.Store old).now ≡ (state g.S.Store old).committed = c.is_autocommit.ensures.settled (c.is_autocommit.ensures.value ∙ ap not c.requires.autocommit) in
     let made : Transacts g.S.Store HasItsTables old c.end.new.tx.0 c.end.result =
     ended_writes g.S.Store old c.transaction-tx.result.conn.now c.make_filled-work.new.tx.conn.now c.end.new.tx.0 c.make_filled-work.result c.end.result HasItsTables c.transaction-tx.ensures.begun c.make_filled-work.ensures.tables c.end.ensures.survives
     c.make_filled-work.ensures.steps.survives c.make_filled-work.ensures.steps.kept settled c.end.ensures.autocommit c.end.ensures.done c.end.ensures.ok c.end.ensures.is_open c.end.ensures.was_open c.end.ensures.err in

@@ -11,7 +11,7 @@ use Rattle.rr_store.specs.declared.fault.OpenFault.TheVariants.{BadRow}
 use Rattle.rr_store.proofs.CheckLemmas.{both_err}
 use Rattle.rr_store.proofs.LookLemmas.{looks_failed, looks_then}
 use Rattle.rr_store.proofs.StoredLemmas.{rows_refuse, version_refuses}
-use Rattle.rr_store.proofs.StopLemmas.{second_reads}
+use Rattle.rr_store.proofs.FailureLemmas.{second_reads}
 use Rattle.rr_store.proofs.opening.read_tables.Goals as goal
 
 pub check_version-requires-clause-tables : goal.check_version-requires-clause-tables

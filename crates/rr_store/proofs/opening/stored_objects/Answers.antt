@@ -8,7 +8,7 @@ use Rattle.rr_store.specs.CheckParts.{HasNumberedMeta}
 use Rattle.rr_store.specs.Opening.{AreStoredAs, RefusesTables}
 use Rattle.rr_store.proofs.LookLemmas.{looks_failed, looks_then}
 use Rattle.rr_store.proofs.StoredLemmas.{database_refuses}
-use Rattle.rr_store.proofs.StopLemmas.{is_store, second_reads}
+use Rattle.rr_store.proofs.FailureLemmas.{is_store, second_reads}
 use Rattle.rr_store.proofs.opening.stored_objects.Goals as goal
 
 pub read_tables-requires-clause-meta : goal.read_tables-requires-clause-meta

@@ -13,7 +13,7 @@ use Rattle.rr_store.proofs.StreamLemmas.{Begins, begins, streamed, whole_answer}
 use Rattle.std.proofs.lemmas.Result.{IfOk-weaker, err_from_is_err_and}
 use Rattle.rr_store.specs.Calls.{FailsOverTidy}
 use Rattle.rr_store.proofs.CauseLemmas.{named_numbers_told}
-use Rattle.rr_store.proofs.StopLemmas.{ask_fails, counts_fail}
+use Rattle.rr_store.proofs.FailureLemmas.{ask_fails, counts_fail}
 use Rattle.rr_store.proofs.reading.count_named.Goals as goal
 
 pub returns-in_err-rows-clause-looks : goal.returns-in_err-rows-clause-looks
@@ -21,7 +21,7 @@ returns-in_err-rows-clause-looks g c =
     let old = c.args.conn.now in
     let new = c.query.follows.lender-at-none in
     let refused = rw c.in_err-rows.was at c.query.follows.holds-at-none in
-    let settled : IsTrue (state g.S.Store old).is_open → (state g.S.Store old).now ≡ (state g.S.Store old).committed = c.is_autocommit-settled.ensures.settled (c.is_autocommit-settled.ensures.value ∙ ap not c.requires.autocommit) in
+    let settled : IsTrue (state g.S.Store old).is_open → (state g.S.Store old).now ≡ (state g.S.Store old).committed = c.is_autocommit.ensures.settled (c.is_autocommit.ensures.value ∙ ap not c.requires.autocommit) in
     looks_failed g.S.Store old new c.from_residual.result c.from_residual.ensures.0
     (rests_failed g.S.Store named_numbers [] old new (λ clean. plain_of old.schema named_numbers _ named_numbers_is (c.requires.tables clean)) settled (refused.mode c.requires.autocommit)
     (λ clean. (c.in_err-rows.field-0.0, refused.err clean)) refused.survives)
@@ -35,7 +35,7 @@ pub returns-clause-looks : goal.returns-clause-looks
 returns-clause-looks g c =
     let old = c.args.conn.now in
     let b : Begins g.S.Store named_numbers [] old c.in_ok-rows.rows.conn.now = begins g.S.Store named_numbers [] old c.in_ok-rows.rows.conn.now (λ clean. plain_of old.schema named_numbers _ named_numbers_is (c.requires.tables clean)) c.in_ok-rows.ensures.begun c.in_ok-rows.ensures.survives in
-    let settled : IsTrue (state g.S.Store old).is_open → (state g.S.Store old).now ≡ (state g.S.Store old).committed = c.is_autocommit-settled.ensures.settled (c.is_autocommit-settled.ensures.value ∙ ap not c.requires.autocommit) in
+    let settled : IsTrue (state g.S.Store old).is_open → (state g.S.Store old).now ≡ (state g.S.Store old).committed = c.is_autocommit.ensures.settled (c.is_autocommit.ensures.value ∙ ap not c.requires.autocommit) in
     let looked : Looks g.S.Store old c.count_numbered.new.rows.conn.now c.count_numbered.result = streamed g.S.Store c.count_numbered.result old c.in_ok-rows.rows.conn.now c.count_numbered.new.rows.conn.now b.same b.survives c.count_numbered.ensures.streams (c.in_ok-rows.ensures.mode c.requires.autocommit) settled in
     search rules
 

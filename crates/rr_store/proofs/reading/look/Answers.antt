@@ -9,7 +9,7 @@ returns-clause-looks g c =
     let old = state g.S.Store c.args.conn.now in
     let new = state g.S.Store c.query_all.new.self in
     let given = bound c.args.params.now in
-    let settled : IsTrue old.is_open → old.now ≡ old.committed = c.is_autocommit-settled.ensures.settled (c.is_autocommit-settled.ensures.value ∙ ap not c.requires.autocommit) in
+    let settled : IsTrue old.is_open → old.now ≡ old.committed = c.is_autocommit.ensures.settled (c.is_autocommit.ensures.value ∙ ap not c.requires.autocommit) in
     record {
       rests = record {
         autocommit = c.query_all.ensures.mode c.requires.autocommit;

@@ -5,7 +5,7 @@ use Rattle.rr_rows.proofs.TextLemmas.{select_meta_is}
 use Rattle.rr_rows.proofs.StatementLemmas.{selects_meta}
 use Rattle.rr_store.proofs.LookLemmas.{plain_of, shown_of}
 use Rattle.rr_store.proofs.CauseLemmas.{select_meta_told}
-use Rattle.rr_store.proofs.StopLemmas.{asks_fail}
+use Rattle.rr_store.proofs.FailureLemmas.{asks_fail}
 use Rattle.rr_store.proofs.reading.meta_rows.Goals as goal
 
 pub look-requires-clause-plain : goal.look-requires-clause-plain

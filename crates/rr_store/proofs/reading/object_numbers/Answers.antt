@@ -5,7 +5,7 @@ use Rattle.rr_rows.proofs.TextLemmas.{object_numbers_is}
 use Rattle.rr_rows.proofs.StatementLemmas.{numbers_object}
 use Rattle.rr_store.proofs.LookLemmas.{plain_of, shown_of}
 use Rattle.rr_store.proofs.CauseLemmas.{object_numbers_told}
-use Rattle.rr_store.proofs.StopLemmas.{asks_fail}
+use Rattle.rr_store.proofs.FailureLemmas.{asks_fail}
 use Rattle.rr_store.proofs.reading.object_numbers.Goals as goal
 
 pub look-requires-clause-plain : goal.look-requires-clause-plain

@@ -17,7 +17,7 @@ use Rattle.rr_store.specs.Calls.{FailsOverTidy, Looks}
 use Rattle.rr_store.specs.Opening.{IfStore}
 use Rattle.rr_store.proofs.CauseLemmas.{select_naming_told}
 use Rattle.rr_store.proofs.LookLemmas.{looks_failed, plain_of, rests_failed}
-use Rattle.rr_store.proofs.StopLemmas.{ask_fails, is_store, reads_fail}
+use Rattle.rr_store.proofs.FailureLemmas.{ask_fails, is_store, reads_fail}
 use Rattle.rr_store.proofs.StreamLemmas.{Begins, begins, streamed, begun_answer, whole_answer}
 use Rattle.rr_store.proofs.reading.read_naming.Goals as goal
 
@@ -26,7 +26,7 @@ returns-in_err-rows-clause-looks g c =
     let old = c.args.conn.now in
     let new = c.query.follows.lender-at-none in
     let refused = rw c.in_err-rows.was at c.query.follows.holds-at-none in
-    let settled : IsTrue (state g.S.Store old).is_open → (state g.S.Store old).now ≡ (state g.S.Store old).committed = c.is_autocommit-settled.ensures.settled (c.is_autocommit-settled.ensures.value ∙ ap not c.requires.autocommit) in
+    let settled : IsTrue (state g.S.Store old).is_open → (state g.S.Store old).now ≡ (state g.S.Store old).committed = c.is_autocommit.ensures.settled (c.is_autocommit.ensures.value ∙ ap not c.requires.autocommit) in
     looks_failed g.S.Store old new c.from_residual.result c.from_residual.ensures.0
     (rests_failed g.S.Store select_naming (Text c.args.name.now ∷ []) old new (λ clean. plain_of old.schema select_naming _ select_naming_is (c.requires.tables clean)) settled (refused.mode c.requires.autocommit)
     (λ clean. (c.in_err-rows.field-0.0, refused.err clean)) refused.survives)
@@ -40,7 +40,7 @@ pub returns-clause-looks : goal.returns-clause-looks
 returns-clause-looks g c =
     let old = c.args.conn.now in
     let b : Begins g.S.Store select_naming (Text c.args.name.now ∷ []) old c.in_ok-rows.rows.conn.now = begins g.S.Store select_naming (Text c.args.name.now ∷ []) old c.in_ok-rows.rows.conn.now (λ clean. plain_of old.schema select_naming _ select_naming_is (c.requires.tables clean)) c.in_ok-rows.ensures.begun c.in_ok-rows.ensures.survives in
-    let settled : IsTrue (state g.S.Store old).is_open → (state g.S.Store old).now ≡ (state g.S.Store old).committed = c.is_autocommit-settled.ensures.settled (c.is_autocommit-settled.ensures.value ∙ ap not c.requires.autocommit) in
+    let settled : IsTrue (state g.S.Store old).is_open → (state g.S.Store old).now ≡ (state g.S.Store old).committed = c.is_autocommit.ensures.settled (c.is_autocommit.ensures.value ∙ ap not c.requires.autocommit) in
     let looked : Looks g.S.Store old c.take_objects.new.rows.conn.now c.take_objects.result = streamed g.S.Store c.take_objects.result old c.in_ok-rows.rows.conn.now c.take_objects.new.rows.conn.now b.same b.survives c.take_objects.ensures.streams (c.in_ok-rows.ensures.mode c.requires.autocommit) settled in
     search rules
 
@@ -101,5 +101,5 @@ returns-clause-cause g c =
     let new = c.take_objects.new.rows.conn.now in
     let b : Begins g.S.Store select_naming (Text c.args.name.now ∷ []) old begun = begins g.S.Store select_naming (Text c.args.name.now ∷ []) old begun (λ clean. plain_of old.schema select_naming _ select_naming_is (c.requires.tables clean)) c.in_ok-rows.ensures.begun c.in_ok-rows.ensures.survives in
     let told : IfErr c.take_objects.result (IfStore (FailsOverTidy g.S.Store old new)) =
-    reads_fail g.S.Store select_naming (Text c.args.name.now ∷ []) (select_naming_told c.args.name.now) old new begun b c.take_objects.ensures.streams.survives c.take_objects.result c.take_objects.ensures.stops in
+    reads_fail g.S.Store select_naming (Text c.args.name.now ∷ []) (select_naming_told c.args.name.now) old new begun b c.take_objects.ensures.streams.survives c.take_objects.result c.take_objects.ensures.fails in
     search rules

@@ -18,7 +18,7 @@ use Rattle.std.proofs.lemmas.Result.{err_from_is_err_and}
 use Rattle.rr_store.specs.Calls.{FailsOverTidy}
 use Rattle.rr_store.specs.Opening.{IfStore}
 use Rattle.rr_store.proofs.CauseLemmas.{select_object_told}
-use Rattle.rr_store.proofs.StopLemmas.{ask_fails, is_store, reads_fail}
+use Rattle.rr_store.proofs.FailureLemmas.{ask_fails, is_store, reads_fail}
 use Rattle.rr_store.proofs.reading.read_objects.Goals as goal
 
 pub returns-in_err-rows-clause-looks : goal.returns-in_err-rows-clause-looks
@@ -26,7 +26,7 @@ returns-in_err-rows-clause-looks g c =
     let old = c.args.conn.now in
     let new = c.query.follows.lender-at-none in
     let refused = rw c.in_err-rows.was at c.query.follows.holds-at-none in
-    let settled : IsTrue (state g.S.Store old).is_open → (state g.S.Store old).now ≡ (state g.S.Store old).committed = c.is_autocommit-settled.ensures.settled (c.is_autocommit-settled.ensures.value ∙ ap not c.requires.autocommit) in
+    let settled : IsTrue (state g.S.Store old).is_open → (state g.S.Store old).now ≡ (state g.S.Store old).committed = c.is_autocommit.ensures.settled (c.is_autocommit.ensures.value ∙ ap not c.requires.autocommit) in
     looks_failed g.S.Store old new c.from_residual.result c.from_residual.ensures.0
     (rests_failed g.S.Store select_object [] old new (λ clean. plain_of old.schema select_object _ select_object_is (c.requires.tables clean)) settled (refused.mode c.requires.autocommit)
     (λ clean. (c.in_err-rows.field-0.0, refused.err clean)) refused.survives)
@@ -40,7 +40,7 @@ pub returns-clause-looks : goal.returns-clause-looks
 returns-clause-looks g c =
     let old = c.args.conn.now in
     let b : Begins g.S.Store select_object [] old c.in_ok-rows.rows.conn.now = begins g.S.Store select_object [] old c.in_ok-rows.rows.conn.now (λ clean. plain_of old.schema select_object _ select_object_is (c.requires.tables clean)) c.in_ok-rows.ensures.begun c.in_ok-rows.ensures.survives in
-    let settled : IsTrue (state g.S.Store old).is_open → (state g.S.Store old).now ≡ (state g.S.Store old).committed = c.is_autocommit-settled.ensures.settled (c.is_autocommit-settled.ensures.value ∙ ap not c.requires.autocommit) in
+    let settled : IsTrue (state g.S.Store old).is_open → (state g.S.Store old).now ≡ (state g.S.Store old).committed = c.is_autocommit.ensures.settled (c.is_autocommit.ensures.value ∙ ap not c.requires.autocommit) in
     let looked : Looks g.S.Store old c.take_objects.new.rows.conn.now c.take_objects.result = streamed g.S.Store c.take_objects.result old c.in_ok-rows.rows.conn.now c.take_objects.new.rows.conn.now b.same b.survives c.take_objects.ensures.streams (c.in_ok-rows.ensures.mode c.requires.autocommit) settled in
     search rules
 
@@ -102,5 +102,5 @@ returns-clause-cause g c =
     let new = c.take_objects.new.rows.conn.now in
     let b : Begins g.S.Store select_object [] old begun = begins g.S.Store select_object [] old begun (λ clean. plain_of old.schema select_object _ select_object_is (c.requires.tables clean)) c.in_ok-rows.ensures.begun c.in_ok-rows.ensures.survives in
     let told : IfErr c.take_objects.result (IfStore (FailsOverTidy g.S.Store old new)) =
-    reads_fail g.S.Store select_object [] select_object_told old new begun b c.take_objects.ensures.streams.survives c.take_objects.result c.take_objects.ensures.stops in
+    reads_fail g.S.Store select_object [] select_object_told old new begun b c.take_objects.ensures.streams.survives c.take_objects.result c.take_objects.ensures.fails in
     search rules

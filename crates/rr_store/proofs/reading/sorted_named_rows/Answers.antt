@@ -5,7 +5,7 @@ use Rattle.rr_rows.proofs.TextLemmas.{select_sorted_named_is}
 use Rattle.rr_rows.proofs.StatementLemmas.{selects_sorted_named}
 use Rattle.rr_store.proofs.LookLemmas.{plain_of, shown_of}
 use Rattle.rr_store.proofs.CauseLemmas.{select_sorted_named_told}
-use Rattle.rr_store.proofs.StopLemmas.{asks_fail}
+use Rattle.rr_store.proofs.FailureLemmas.{asks_fail}
 use Rattle.rr_store.proofs.reading.sorted_named_rows.Goals as goal
 
 pub look-requires-clause-plain : goal.look-requires-clause-plain

@@ -9,7 +9,7 @@ use Rattle.sqlite_value.specs.Order.{Row}
 use Rattle.rr_rows.specs.Contents.{AreNumbered, by_one}
 use Rattle.std.proofs.Common.{IsSorted}
 use Rattle.rr_store.proofs.NextLemmas.{IsLast, none_next}
-use Rattle.rr_store.proofs.StopLemmas.{stopped}
+use Rattle.rr_store.proofs.FailureLemmas.{failed_after}
 use Rattle.rr_store.proofs.StreamLemmas.{HasRead, none_read, read_all, read_more}
 use Rattle.rr_store.proofs.streams.count_numbered.Goals as goal
 
@@ -39,7 +39,7 @@ returns-in_default-clause-numbered g c clean =
 pub returns-in_err-advance-clause-fails : goal.returns-in_err-advance-clause-fails
 returns-in_err-advance-clause-fails g c clean =
     let exit = err_from_is_err_and c.from_residual.result c.from_residual.ensures.1 in
-    rw (exit.1, exit.2) (inr (inl (stopped g.S.Store c.args.rows.now.conn.now c.rows.rows.conn.now c.advance.new.self.conn.now (λ rows. IsRun c.rows.last rows × IsLast c.rows.last rows × (c.rows.count ≡ length rows)) c.rows.invariant.1
+    rw (exit.1, exit.2) (inr (inl (failed_after g.S.Store c.args.rows.now.conn.now c.rows.rows.conn.now c.advance.new.self.conn.now (λ rows. IsRun c.rows.last rows × IsLast c.rows.last rows × (c.rows.count ≡ length rows)) c.rows.invariant.1
     (omega (arith, clean, c.advance.ensures.survives.clean)) c.in_err-advance.field-0.0 (c.in_err-advance.ensures.err clean))))
 
 pub returns-in_err-next_number-clause-fails : goal.returns-in_err-next_number-clause-fails

@@ -11,8 +11,8 @@ use Rattle.rr_rows.specs.Maps.{entry_in}
 use Rattle.rr_store.specs.Versions.{form_of}
 use Rattle.rr_store.proofs.StreamLemmas.{read_all, read_then}
 use Rattle.std.proofs.lemmas.Result.{err_from_is_err_and}
-use Rattle.rr_store.specs.StreamParts.{StopsFor}
-use Rattle.rr_store.proofs.StopLemmas.{is_store, stopped, stopped_within}
+use Rattle.rr_store.specs.StreamParts.{FailsAfterRows}
+use Rattle.rr_store.proofs.FailureLemmas.{is_store, failed_after, failed_within}
 use Rattle.rr_store.proofs.streams.take_all_names.Goals as goal
 
 pub loop-object-preserved : goal.loop-object-preserved
@@ -43,18 +43,18 @@ returns-in-None-clause-are g c clean on =
     c.advance.ensures.mode c.advance.ensures.survives clean (subst (Advances g.S.Store c.loop-object.rows.conn.now c.advance.new.self.conn.now) none (c.in_ok-advance.ensures.ok clean)) in
     (all.0, all.1, all.2 ∙ ap (λ os. flat_map named_rows (map entry os)) (ap (λ n. take n objects) last ∙ take-length objects))
 
-pub returns-in_err-take_names_of-clause-stops : goal.returns-in_err-take_names_of-clause-stops
-returns-in_err-take_names_of-clause-stops g c clean =
+pub returns-in_err-take_names_of-clause-fails : goal.returns-in_err-take_names_of-clause-fails
+returns-in_err-take_names_of-clause-fails g c clean =
     let exit = err_from_is_err_and c.from_residual.result c.from_residual.ensures.1 in
-    rw (exit.1, exit.2) (λ error is. stopped_within g.S.Store c.args.rows.now.conn.now c.loop-object.rows.conn.now c.take_names_of.new.rows.conn.now
+    rw (exit.1, exit.2) (λ error is. failed_within g.S.Store c.args.rows.now.conn.now c.loop-object.rows.conn.now c.take_names_of.new.rows.conn.now
     (λ rows. contents rows ≡ flat_map named_rows (map (entry_in (form_of c.args.version)) (take c.loop-object.object-index c.args.objects.now))) c.loop-object.invariant.1
-    (omega (arith, clean, c.in_err-take_names_of.ensures.streams.survives.clean)) error (c.in_err-take_names_of.ensures.stops clean error is))
+    (omega (arith, clean, c.in_err-take_names_of.ensures.streams.survives.clean)) error (c.in_err-take_names_of.ensures.fails clean error is))
 
-pub returns-in_err-advance-clause-stops : goal.returns-in_err-advance-clause-stops
-returns-in_err-advance-clause-stops g c clean =
+pub returns-in_err-advance-clause-fails : goal.returns-in_err-advance-clause-fails
+returns-in_err-advance-clause-fails g c clean =
     let old = c.args.rows.now.conn.now in
     let new = c.advance.new.self.conn.now in
     let exit = err_from_is_err_and c.from_residual-in_err-advance.result c.from_residual-in_err-advance.ensures.1 in
-    rw (exit.1, exit.2) (is_store (StopsFor g.S.Store old new) c.in_err-advance.field-0.0
-    (stopped g.S.Store old c.loop-object.rows.conn.now new (λ rows. contents rows ≡ flat_map named_rows (map (entry_in (form_of c.args.version)) (take c.loop-object.object-index c.args.objects.now))) c.loop-object.invariant.1
+    rw (exit.1, exit.2) (is_store (FailsAfterRows g.S.Store old new) c.in_err-advance.field-0.0
+    (failed_after g.S.Store old c.loop-object.rows.conn.now new (λ rows. contents rows ≡ flat_map named_rows (map (entry_in (form_of c.args.version)) (take c.loop-object.object-index c.args.objects.now))) c.loop-object.invariant.1
     (omega (arith, clean, c.advance.ensures.survives.clean)) c.in_err-advance.field-0.0 (c.in_err-advance.ensures.err clean)))

@@ -6,7 +6,7 @@ use Rattle.sqlite.specs.Given.{Advances, row_if}
 use Rattle.rr_rows.specs.Contents.{columns, contents, named_values}
 use Rattle.rr_store.proofs.StreamLemmas.{read_more}
 use Rattle.std.proofs.lemmas.Result.{err_from_is_err_and}
-use Rattle.rr_store.proofs.StopLemmas.{stopped}
+use Rattle.rr_store.proofs.FailureLemmas.{failed_after}
 use Rattle.rr_store.proofs.streams.take_names.Goals as goal
 
 pub loop-name-preserved : goal.loop-name-preserved
@@ -28,8 +28,8 @@ loop-name-preserved g c =
           (λ rows told. map-append columns rows (values ∷ []) ∙ ((λ i. told i ++ is i ∷ []) ∙ sym grown)),
     )
 
-pub returns-in_err-advance-clause-stops : goal.returns-in_err-advance-clause-stops
-returns-in_err-advance-clause-stops g c clean =
+pub returns-in_err-advance-clause-fails : goal.returns-in_err-advance-clause-fails
+returns-in_err-advance-clause-fails g c clean =
     let exit = err_from_is_err_and c.from_residual.result c.from_residual.ensures.1 in
-    rw (exit.1, exit.2) (stopped g.S.Store c.args.rows.now.conn.now c.loop-name.rows.conn.now c.advance.new.self.conn.now (λ rows. contents rows ≡ map (λ n. named_values n c.args.class c.args.key.now) (take c.loop-name.name-index c.args.names.now)) c.loop-name.invariant.1
+    rw (exit.1, exit.2) (failed_after g.S.Store c.args.rows.now.conn.now c.loop-name.rows.conn.now c.advance.new.self.conn.now (λ rows. contents rows ≡ map (λ n. named_values n c.args.class c.args.key.now) (take c.loop-name.name-index c.args.names.now)) c.loop-name.invariant.1
     (omega (arith, clean, c.advance.ensures.survives.clean)) c.in_err-advance.field-0.0 (c.in_err-advance.ensures.err clean))

@@ -12,8 +12,8 @@ use Rattle.rr_store.proofs.ObjectLemmas as objects
 use Rattle.sqlite_value.specs.Order.{Row}
 use Rattle.sqlite.specs.Given.{Advances, row_if}
 use Rattle.rr_store.proofs.StreamLemmas.{HasRead, none_read, read_all, read_more}
-use Rattle.rr_store.specs.StreamParts.{StopsFor}
-use Rattle.rr_store.proofs.StopLemmas.{is_store, stopped}
+use Rattle.rr_store.specs.StreamParts.{FailsAfterRows}
+use Rattle.rr_store.proofs.FailureLemmas.{is_store, failed_after}
 use Rattle.rr_store.proofs.streams.take_objects.Goals as goal
 
 pub rows-init : goal.rows-init
@@ -61,11 +61,11 @@ returns-in_err-take_object-clause-bad_row g c clean =
           c.in_err-take_object.ensures.bad_row bad it.0 it.1 it.2,
     ))
 
-pub returns-in_err-advance-clause-stops : goal.returns-in_err-advance-clause-stops
-returns-in_err-advance-clause-stops g c clean =
+pub returns-in_err-advance-clause-fails : goal.returns-in_err-advance-clause-fails
+returns-in_err-advance-clause-fails g c clean =
     let old = c.args.rows.now.conn.now in
     let new = c.advance.new.self.conn.now in
     let exit = err_from_is_err_and c.from_residual-in_err-advance.result c.from_residual-in_err-advance.ensures.1 in
-    rw (exit.1, exit.2) (is_store (StopsFor g.S.Store old new) c.in_err-advance.field-0.0
-    (stopped g.S.Store old c.rows.rows.conn.now new (λ rows. AreRead (form_of c.args.version) c.args.source.now (contents rows) c.rows.objects.items) c.rows.invariant.1
+    rw (exit.1, exit.2) (is_store (FailsAfterRows g.S.Store old new) c.in_err-advance.field-0.0
+    (failed_after g.S.Store old c.rows.rows.conn.now new (λ rows. AreRead (form_of c.args.version) c.args.source.now (contents rows) c.rows.objects.items) c.rows.invariant.1
     (omega (arith, clean, c.advance.ensures.survives.clean)) c.in_err-advance.field-0.0 (c.in_err-advance.ensures.err clean)))

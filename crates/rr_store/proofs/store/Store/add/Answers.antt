@@ -15,4 +15,4 @@ returns-clause-adds g c =
 pub returns-clause-settled : goal.returns-clause-settled
 returns-clause-settled g c =
     subst (IsSettled g.S.Store) c.self.view_is
-    (settles g.S.Store g.met.S.Store.settled c.self.inside.conn (c.is_autocommit-settled.ensures.settled (c.is_autocommit-settled.ensures.value ∙ ap not c.self.invariant.autocommit)))
+    (settles g.S.Store g.met.S.Store.settled c.self.inside.conn (c.is_autocommit.ensures.settled (c.is_autocommit.ensures.value ∙ ap not c.self.invariant.autocommit)))

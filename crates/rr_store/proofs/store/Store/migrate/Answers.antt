@@ -17,7 +17,7 @@ returns-in-Ok-clause-migrates g c =
     let migrated = c.in-Ok.ensures.migrates in record {
       migrated = migrated.done;
       is_open = migrated.is_open;
-      settled = settles g.S.Store g.met.S.Store.settled c.migrate_rows-migrated.new.conn (c.is_autocommit-settled.ensures.settled (c.is_autocommit-settled.ensures.value ∙ ap not (migrated.autocommit c.requires.autocommit)));
+      settled = settles g.S.Store g.met.S.Store.settled c.migrate_rows-migrated.new.conn (c.is_autocommit.ensures.settled (c.is_autocommit.ensures.value ∙ ap not (migrated.autocommit c.requires.autocommit)));
       crash = migrated.crash;
     }
 
@@ -26,7 +26,7 @@ returns-in-Err-clause-fails g c =
     let migrated = c.in-Err.ensures.migrates in record {
       autocommit = migrated.autocommit c.requires.autocommit;
       kept = migrated.kept;
-      settled = settles g.S.Store g.met.S.Store.settled c.migrate_rows-migrated.new.conn (c.is_autocommit-settled.ensures.settled (c.is_autocommit-settled.ensures.value ∙ ap not (migrated.autocommit c.requires.autocommit)));
+      settled = settles g.S.Store g.met.S.Store.settled c.migrate_rows-migrated.new.conn (c.is_autocommit.ensures.settled (c.is_autocommit.ensures.value ∙ ap not (migrated.autocommit c.requires.autocommit)));
       why = c.in-Err.ensures.why;
       crash = migrated.crash;
       store = c.in-Err.ensures.cause;

@@ -2,7 +2,7 @@ use Rattle.std.proofs.Common.{not, ap, ◌∙◌}
 use Rattle.std.proofs.lemmas.Result.{err_from_is_err_and}
 use Rattle.rr_store.proofs.ShownLemmas.{those_told}
 use Rattle.rr_store.proofs.SettledLemmas.{settles}
-use Rattle.rr_store.proofs.StopLemmas.{lists_fail}
+use Rattle.rr_store.proofs.FailureLemmas.{lists_fail}
 use Rattle.rr_store.proofs.store.Store.naming.Goals as goal
 
 pub returns-clause-naming : goal.returns-clause-naming
@@ -11,11 +11,11 @@ returns-clause-naming g c clean objects has =
 
 pub returns-clause-settled : goal.returns-clause-settled
 returns-clause-settled g c =
-    settles g.S.Store g.met.S.Store.settled c.naming_objects-objects.new.conn (c.is_autocommit-settled.ensures.settled (c.is_autocommit-settled.ensures.value ∙ ap not c.naming_objects-objects.ensures.looks.rests.autocommit))
+    settles g.S.Store g.met.S.Store.settled c.naming_objects-objects.new.conn (c.is_autocommit.ensures.settled (c.is_autocommit.ensures.value ∙ ap not c.naming_objects-objects.ensures.looks.rests.autocommit))
 
 pub returns-in_err-objects-clause-settled : goal.returns-in_err-objects-clause-settled
 returns-in_err-objects-clause-settled g c =
-    settles g.S.Store g.met.S.Store.settled c.naming_objects-objects.new.conn (c.is_autocommit-settled.ensures.settled (c.is_autocommit-settled.ensures.value ∙ ap not c.naming_objects-objects.ensures.looks.rests.autocommit))
+    settles g.S.Store g.met.S.Store.settled c.naming_objects-objects.new.conn (c.is_autocommit.ensures.settled (c.is_autocommit.ensures.value ∙ ap not c.naming_objects-objects.ensures.looks.rests.autocommit))
 
 pub returns-in_err-objects-clause-cause : goal.returns-in_err-objects-clause-cause
 returns-in_err-objects-clause-cause g c =

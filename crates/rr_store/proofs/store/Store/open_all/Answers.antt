@@ -18,14 +18,14 @@ returns-in-Ok-clause-opens g c = record {
   of_source = c.in-Ok.ensures.of_source;
   same = search rules;
   is_open = search rules;
-  settled = settles g.S.Store g.met.S.Store.settled c.stored_objects-stored.new.conn (c.is_autocommit-settled.ensures.settled (c.is_autocommit-settled.ensures.value ∙ ap not c.in-Ok.ensures.looks.rests.autocommit));
+  settled = settles g.S.Store g.met.S.Store.settled c.stored_objects-stored.new.conn (c.is_autocommit.ensures.settled (c.is_autocommit.ensures.value ∙ ap not c.in-Ok.ensures.looks.rests.autocommit));
   crash = c.in-Ok.ensures.looks.rests.crash;
 }
 
 pub returns-in-Err-clause-fails : goal.returns-in-Err-clause-fails
 returns-in-Err-clause-fails g c = record {
   rests = c.in-Err.ensures.looks.rests;
-  settled = settles g.S.Store g.met.S.Store.settled c.stored_objects-stored.new.conn (c.is_autocommit-settled.ensures.settled (c.is_autocommit-settled.ensures.value ∙ ap not c.in-Err.ensures.looks.rests.autocommit));
+  settled = settles g.S.Store g.met.S.Store.settled c.stored_objects-stored.new.conn (c.is_autocommit.ensures.settled (c.is_autocommit.ensures.value ∙ ap not c.in-Err.ensures.looks.rests.autocommit));
   why = c.in-Err.ensures.why;
   store = c.in-Err.ensures.cause;
 }

@@ -1,4 +1,4 @@
--- Why a reading of rows one at a time stopped.
+-- Why a reading of rows one at a time failed.
 use Rattle.std.proofs.Common.{◌≡◌, ◌≢◌, inl, inr, ℕ, true, List, [], ◌∷◌, ◌++◌, Ok, Err, Result, IfErr, map, refl, sym, ap, subst, arith, IsPermutation}
 use Rattle.std.proofs.lemmas.List.Sorted.{IsPermutation-map, IsPermutation-sym}
 use Rattle.std.specs.List.{AllByRecursion}
@@ -26,7 +26,7 @@ use Rattle.rr_store.specs.Faults.{store_fault}
 use Rattle.rr_store.specs.Listing.{FailsToList}
 use Rattle.rr_store.specs.Opening.{HoldNone, IfStore}
 use Rattle.rr_store.specs.ReadingParts.{TellsNoVersion}
-use Rattle.rr_store.specs.StreamParts.{FailsToCount, StopsFor}
+use Rattle.rr_store.specs.StreamParts.{FailsToCount, FailsAfterRows}
 use Rattle.rr_store.specs.declared.fault.OpenFault.{OpenFault}
 use Rattle.rr_store.specs.declared.fault.OpenFault.TheVariants.{WrongVersion, BadRow, Store, Memory}
 use Rattle.rr_store.specs.declared.version.Version.TheVariants.{Current}
@@ -53,14 +53,14 @@ keyed_answer rows answer same keyed =
 module _ {S : Type 0} (g : Ghosts S) where
   module _ (old mid new : Held S) (P : List Row → Type 0) (had : HasRead g old mid P) (clean : HasCleanDisk (state g mid)) (error : Error) where
     -- the move to the next row failed
-    pub stopped : FailsToAdvance g mid new error → StopsFor g old new error
-    stopped failed sql params given was =
+    pub failed_after : FailsToAdvance g mid new error → FailsAfterRows g old new error
+    failed_after failed sql params given was =
         let r = had.rows clean in
         (mid, had.same clean, had.survives, failed sql params (given ++ r.0) (r.1 sql params given was))
 
     -- or the reading of some rows
-    pub stopped_within : StopsFor g mid new error → StopsFor g old new error
-    stopped_within failed sql params given was =
+    pub failed_within : FailsAfterRows g mid new error → FailsAfterRows g old new error
+    failed_within failed sql params given was =
         let r = had.rows clean in
         let it = failed sql params (given ++ r.0) (r.1 sql params given was) in (
           it.0,
@@ -70,10 +70,10 @@ module _ {S : Type 0} (g : Ghosts S) where
         )
 
   module _ (text : List ℕ) (params : Row) (told : IsTold text params) (old now new : Held S) (b : Begins g text params old now) (clean : HasCleanDisk (state g now)) (tables : HasTables old.schema) (error : Error) where
-    -- a query on the three tables stops for a cause outside the rows
-    pub stops_caused : StopsFor g now new error → IsCaused (state g old) (state g new) error
-    stops_caused stops =
-        let it = stops text params [] (b.given clean) in
+    -- a query on the three tables fails for a cause outside the rows
+    pub failure_caused : FailsAfterRows g now new error → IsCaused (state g old) (state g new) error
+    failure_caused failed =
+        let it = failed text params [] (b.given clean) in
         let same : IsUnchanged (state g old) (state g it.0) = unchanged_then (state g old) (state g now) (state g it.0) (b.same clean) it.1 in
         let first : Survives (state g old) (state g it.0) (λ _. ⊥) = survives_then (state g old) (state g now) (state g it.0) (λ _. ⊥) (λ _. ⊥) (λ _. ⊥) (λ _ db h. h) (λ _ db h. h) b.survives it.2 in
         caused_then (state g old) (state g it.0) (state g new) same first error
@@ -84,7 +84,7 @@ module _ {S : Type 0} (g : Ghosts S) where
         → ((a b : State) → HasTables a.now.schema → (rows : List Row) → Shown text params a b rows → IsInRank by_one (map number (a.now.trees tree)) rows)
         → AreNumbered ((state g old).now.trees tree) → FailsToCount g now new error → IsCaused (state g old) (state g new) error
     count_caused query names means none tree tells keyed (inl memory) = inl (OutOfMemory, memory, tt)
-    count_caused query names means none tree tells keyed (inr (inl stops)) = stops_caused stops
+    count_caused query names means none tree tells keyed (inr (inl failed)) = failure_caused failed
     count_caused query names means none tree tells keyed (inr (inr at)) =
         let answer = begun_answer g text params query names means none old now new b clean tables at.same (λ db rows. IsInRank by_one (map number (db.trees tree)) rows) tells at.more at.gives in
         absurd (at.none answer.0 (keyed_answer _ _ answer.1.same keyed) answer.1.sorted)
@@ -99,9 +99,9 @@ module _ {S : Type 0} (g : Ghosts S) where
     ask_fails error h tidy clean = told (state g old) (state g new) tidy.has error (h clean)
 
     module _ (now : Held S) (b : Begins g text params old now) (then : Survives (state g now) (state g new) (λ _. ⊥)) where
-      pub reads_fail : {X : Type 0} (r : Result X OpenFault) → (HasCleanDisk (state g new) → IfErr r (IfStore (StopsFor g now new))) → IfErr r (IfStore (FailsOverTidy g old new))
+      pub reads_fail : {X : Type 0} (r : Result X OpenFault) → (HasCleanDisk (state g new) → IfErr r (IfStore (FailsAfterRows g now new))) → IfErr r (IfStore (FailsOverTidy g old new))
       reads_fail (Ok x) h = tt
-      reads_fail (Err fault) h = λ error is tidy clean. stops_caused text params told old now new b (omega (arith, clean, then.clean)) tidy.has error (h clean error is)
+      reads_fail (Err fault) h = λ error is tidy clean. failure_caused text params told old now new b (omega (arith, clean, then.clean)) tidy.has error (h clean error is)
 
       pub counts_fail : {X : Type 0} (r : Result X Error) (query : Program) (names : List (List ℕ)) → ((l : Layout) → Means l text (Select query names)) → lets_of query ≡ [] → (tree : ℕ)
           → ((a b : State) → HasTables a.now.schema → (rows : List Row) → Shown text params a b rows → IsInRank by_one (map number (a.now.trees tree)) rows)

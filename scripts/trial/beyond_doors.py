@@ -320,6 +320,7 @@ def answered(script, kind):
             # A browser takes a script that says nosniff by its type alone.
             expect("javascript" in reply_head.lower(), page.endswith(".js"), f"whether {path} has the type of a script")
             expect("content-security-policy: default-src 'none'" in reply_head.lower(), True, f"whether {path} has a policy")
+            expect("cache-control: no-cache\r\n" in f"{reply_head.lower()}\r\n", True, f"whether a browser asks for {path} again")
         expect(door.get("/nothing", STRANGER + 1)[0], 404, "another path")
         expect(door.get("/query/AS1", STRANGER + 1, method="POST")[0] in (403, 405), True, "whether POST to a query is refused")
         for host in ["evil.example", "127.0.0.1"]:

@@ -1,3 +1,3 @@
 """The tool `irr`: what people and other systems want of a registry, asked over its public formats."""
 
-VERSION = "1.2.3"
+VERSION = "1.2.8"

@@ -88,6 +88,9 @@ def bad_servers(script, tool):
             ran = tool("query", "-s", url, "AS1")
             expect_line(ran, 5 if "listens" in words or "known" in words and ran.status == 5 else 2, f"[^\n]*{words}", url)
             expect(b"secret" in ran.said, False, "whether a password of an address is shown")
+        for given, words in (["-s", ""], "-s: the address is empty; give one.*"), ([], "IRR_SERVER: the address is empty; give one.*"):
+            for command in [("query", *given, "AS1"), ("submit", *given, place)]:
+                expect_line(tool.at(IRR_SERVER="")(*command), 2, words, f"{command} with an empty address")
     return f"{len(strange)} servers asked by {len(asked)} commands, {len(cuts)} answers and {len(reports)} reports cut off"
 
 

@@ -14,12 +14,14 @@ PUBLIC, PRIVATE = 0o644, 0o600
 
 @contextlib.contextmanager
 def written(path: str | os.PathLike[str], mode: int = PUBLIC) -> Iterator[BinaryIO]:
-    """A new file beside `path` that takes its place in one step, once all is written and on the disk. If anything fails before,
-    `path` stays as it was. Only the owner reads the file until then. What is no file, such as /dev/null, is never replaced."""
-    target = Path(path)
+    """A new file that takes the place of `path` in one step, once all is written and on the disk. If anything fails before,
+    `path` stays as it was. Only the owner reads the file until then. A link stays, and the file that it leads to is replaced. What is no
+    file, such as /dev/null, is never replaced."""
     if not str(path):
         raise Failure("", "the name of the file to write is empty; give its path", ARGUMENTS)
-    if os.path.exists(path) and not os.path.isfile(path) or os.path.realpath(target.parent) == "/dev":
+    target = Path(os.path.realpath(path))
+    is_file = os.path.isfile(target) or not os.path.lexists(target)
+    if not is_file or os.path.realpath(Path(path).parent) == "/dev":
         raise Failure(str(path), "it is not a file that can be replaced; give the path of another one")
     try:
         number, name = tempfile.mkstemp(prefix=f".{target.name}.", dir=target.parent)
@@ -41,6 +43,17 @@ def written(path: str | os.PathLike[str], mode: int = PUBLIC) -> Iterator[Binary
         raise
 
 
+@contextlib.contextmanager
+def named(path: str | os.PathLike[str]) -> Iterator[None]:
+    """Has a fault of the system that names no file name this one."""
+    try:
+        yield
+    except OSError as error:
+        if error.filename is None:
+            error.filename = str(path)
+        raise
+
+
 def put(path: str | os.PathLike[str], pieces: bytes | Iterable[bytes], mode: int = PUBLIC) -> None:
     """Writes a whole file in one step."""
     with written(path, mode) as out:
@@ -52,7 +65,8 @@ def sync_folder(path: str | os.PathLike[str]) -> None:
     """Lets what was renamed in a folder be on the disk."""
     number = os.open(path, os.O_RDONLY | os.O_DIRECTORY)
     try:
-        os.fsync(number)
+        with named(path):
+            os.fsync(number)
     finally:
         os.close(number)
 

@@ -175,18 +175,15 @@ class Repository:
             yield text + b"\n"
 
 
-def read_key(words: list[str]) -> Key:
-    """The key that words spell, whose class may be left out where it is clear."""
-    text = " ".join(words)
+def read_keys(words: list[str]) -> list[Key]:
+    """The keys that words spell: one in the class that they begin with, otherwise one in each class that reads them. A maintainer may be
+    called as an AS number is."""
+    text, kinds = " ".join(words), list(CLASSES)
     if words[0] in CLASSES and len(words) > 1:
         kinds, words = [words[0]], words[1:]
-    else:
-        kinds = list(CLASSES)
-    for kind in kinds:
-        parts = words if kind == "route" else [" ".join(words)]
-        key = keys.read_key(kind, *parts) if len(parts) in (1, 2) else None
-        if key:
-            return key
+    found = [keys.read_key(kind, *(words if kind == "route" else [" ".join(words)])) for kind in kinds if kind != "route" or len(words) == 2]
+    if any(found):
+        return [key for key in found if key]
     raise Failure(text, "this is not a class and a key; write it as a report prints it, such as route 192.0.2.0/24 AS64496", ARGUMENTS)
 
 

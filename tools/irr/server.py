@@ -96,8 +96,11 @@ class Server:
 
     @classmethod
     def from_options(cls, url: str | None, plain: bool = False) -> "Server":
-        """The server of `-s URL`, else of IRR_SERVER, else the default one."""
-        return cls(url or os.environ.get("IRR_SERVER") or DEFAULT, plain)
+        """The server of `-s URL`, else of IRR_SERVER, else the default one. An empty address is that of a variable that a script lacks."""
+        given = os.environ.get("IRR_SERVER", DEFAULT) if url is None else url
+        if not given:
+            raise Failure("IRR_SERVER" if url is None else "-s", "the address is empty; give one, or leave this out", ARGUMENTS)
+        return cls(given, plain)
 
     def query(self, *words: str | bytes) -> answers.Answer:
         """The answer to a query, whose words are joined by one space."""

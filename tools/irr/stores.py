@@ -1,30 +1,39 @@
 """Registries of this machine by their settings: held alone or held still while their files are copied, and opened from copies."""
 import contextlib
+import errno
 import fcntl
 import filecmp
 import os
 import re
 import select
-import shutil
 import signal
 import struct
 import subprocess
+import tempfile
 import time
 from pathlib import Path
-from typing import Iterable, Iterator, NamedTuple
+from typing import BinaryIO, Iterable, Iterator, NamedTuple
 
-from irr import keys, rpsl, scratch
+from irr import files, keys, rpsl, scratch
 from irr.errors import DATABASE, SETTINGS, Failure, system_words
 
 DEFAULT = "/etc/irrdesk/irr.toml"
 # The bytes of a database, and of its log, that a program which has it open locks (SQLite).
 LOCKED, LOCKED_LENGTH = 0x4000_0000, 512
+# What SQLite puts after a database's name for its log, and for the journal of a program that keeps none.
+LOG, JOURNAL = "-wal", "-journal"
 # A log without a whole record has fewer bytes: its head, and the head of a record.
 EMPTY_LOG = 32 + 24
 # Clones a file where the file system can.
 FICLONE = 0x4004_9409
 AUTH = re.compile("[ !#-Z^-~]+")
 END = re.compile(rb"% end [0-9]+\n")
+# What `irrdesk load` says of an object that it can't read at its length.
+TOO_LONG = re.compile(rb": nothing is loaded, because paragraph [0-9]+ is not RPSL, or over 65536 bytes: mend it\n$")
+
+
+class TooLong(Failure):
+    """An object is too long for `irrdesk load`, or no RPSL."""
 
 
 class Settings(NamedTuple):
@@ -56,7 +65,7 @@ class Settings(NamedTuple):
         for name, is_good in [("source", keys.read_source(source)), ("root", keys.read_maintainer(root)), ("auth", AUTH.fullmatch(auth))]:
             if not is_good:
                 raise Failure(path, f"`{name}` is not what irrdesk takes; correct it, see irr.toml(5)", SETTINGS)
-        return cls(Path(path).resolve(), source, root, auth, limit, Path(os.path.abspath(store)))
+        return cls(Path(path).resolve(), source, root, auth, limit, real(store))
 
     def text(self) -> str:
         """The same settings for a database beside them."""
@@ -64,17 +73,28 @@ class Settings(NamedTuple):
 
     @property
     def log(self) -> Path:
-        return self.store.with_name(self.store.name + "-wal")
+        return beside(self.store, LOG)
+
+
+def real(path: str) -> Path:
+    """A database by its own path. SQLite keeps the log beside what a link leads to, not beside the link."""
+    return Path(os.path.realpath(path))
+
+
+def beside(store: Path, suffix: str) -> Path:
+    return store.with_name(store.name + suffix)
 
 
 class Copy:
-    """A registry in a folder of its own, `irr.toml` and `irr.db`, run by the installed `irrdesk`."""
+    """A registry in a folder of its own, `irr.toml` and `irr.db`, run by the installed `irrdesk`. What that says of the database is said
+    of the one that it is a copy of, if that is given."""
 
-    def __init__(self, folder: Path, settings: str) -> None:
-        self.program, self.folder = scratch.find_program(), folder
-        self.store, self.log = folder / "irr.db", folder / "irr.db-wal"
+    def __init__(self, folder: Path, settings: str, original: Path | None = None) -> None:
+        self.program, self.folder, self.original = scratch.find_program(), folder, original or folder
+        self.store = folder / "irr.db"
         folder.mkdir(mode=0o700, exist_ok=True)
-        (folder / "irr.toml").write_text(settings, encoding="ascii")
+        with files.named(folder / "irr.toml"):
+            (folder / "irr.toml").write_text(settings, encoding="ascii")
 
     def run(self, command: str, *words: str | os.PathLike[str], output: Path | None = None) -> None:
         """Runs a command of `irrdesk` whose output goes into a new file; a Failure with the program's words if it fails."""
@@ -83,7 +103,9 @@ class Copy:
             done = subprocess.run([self.program, command, "irr.toml", *words], cwd=self.folder, stdin=subprocess.DEVNULL, stdout=out,
                                   stderr=subprocess.PIPE, check=False, preexec_fn=scratch.own_files)
         if done.returncode:
-            raise Failure(str(self.folder), f"irrdesk {command}: {scratch.said(done)}", DATABASE)
+            kind = TooLong if TOO_LONG.search(done.stderr) else Failure
+            is_original = done.returncode == DATABASE and b": the disk " not in done.stderr
+            raise kind(str(self.original if is_original else self.folder), f"irrdesk {command}: {scratch.said(done)}", DATABASE)
 
     def load(self, dump: Path) -> None:
         self.run("load", dump.resolve())
@@ -94,18 +116,41 @@ class Copy:
 
 def copied(source: Path, target: Path) -> None:
     """A new file with the bytes of another one, by a clone where the file system can."""
-    with open(source, "rb") as old, open(target, "xb") as new:
+    with open(source, "rb") as old, files.named(target), open(target, "xb") as new:
         try:
             fcntl.ioctl(new.fileno(), FICLONE, old.fileno())
         except OSError:
-            shutil.copyfileobj(old, new, 1 << 20)
+            while piece := read(old, source):
+                new.write(piece)
 
 
-def copied_store(store: Path, log: Path, copy: Copy) -> None:
-    """The files of a database beside one another, as they stand."""
-    copied(store, copy.store)
-    if log.exists():
-        copied(log, copy.log)
+def read(file: BinaryIO, path: Path) -> bytes:
+    with files.named(path):
+        return file.read(1 << 20)
+
+
+@contextlib.contextmanager
+def working(place: Path, prefix: str) -> Iterator[Path]:
+    """A folder in another one, which goes with the block. What fails in it is said of the other one."""
+    inside = os.path.abspath(place / prefix)
+    try:
+        with tempfile.TemporaryDirectory(prefix=prefix, dir=place) as work:
+            yield Path(work)
+    except OSError as error:
+        if not os.path.abspath(str(error.filename)).startswith(inside):
+            raise
+        raise Failure(str(place), f"it cannot be written: {system_words(error)}; make room, or look at its disk") from None
+    except Failure as failure:
+        if not os.path.abspath(failure.thing).startswith(inside):
+            raise
+        raise Failure(str(place), failure.what, failure.status) from None
+
+
+def copied_store(store: Path, copy: Copy) -> None:
+    """The files of a database beside one another, as they stand. With a journal, which `irrdesk` refuses, it is none without it."""
+    for suffix in "", LOG, JOURNAL:
+        if not suffix or beside(store, suffix).exists():
+            copied(beside(store, suffix), beside(copy.store, suffix))
 
 
 @contextlib.contextmanager
@@ -119,7 +164,8 @@ def lock(path: Path, stack: contextlib.ExitStack) -> bool:
     try:
         number = os.open(path, os.O_RDWR | os.O_CLOEXEC)
     except OSError as error:
-        raise Failure(str(path), f"the database cannot be opened: {system_words(error)}; correct `store`", DATABASE) from None
+        remedy = "give it to `irr backup` by --copy" if error.errno == errno.EROFS else "correct `store`"
+        raise Failure(str(path), f"the database cannot be opened: {system_words(error)}; {remedy}", DATABASE) from None
     stack.callback(os.close, number)
     try:
         fcntl.fcntl(number, fcntl.F_OFD_SETLK, struct.pack("hhqqi4x", fcntl.F_WRLCK, os.SEEK_SET, LOCKED, LOCKED_LENGTH, 0))
@@ -220,18 +266,20 @@ def is_still(number: int) -> bool:
         return False
 
 
-def sqlite_copy(source: Path, target: Path) -> None:
-    """One file with all that a database and its log have, made and looked through by SQLite."""
+def sqlite_copy(source: Path, target: Path, name: str) -> None:
+    """One file with all that a database and its log have, made and looked through by SQLite. The name is that of the registry's database,
+    of which these are copies."""
     import sqlite3
     try:
         with contextlib.closing(sqlite3.connect(source)) as old, contextlib.closing(sqlite3.connect(target)) as new:
             old.backup(new)
             found = new.execute("PRAGMA integrity_check").fetchall()
     except sqlite3.Error as error:
-        raise Failure(str(source), f"SQLite finds no whole database in the copy: {error}; see BACKUP.md, 'Failures'",
-                      DATABASE) from None
+        if getattr(error, "sqlite_errorcode", sqlite3.SQLITE_ERROR) & 0xff in (sqlite3.SQLITE_FULL, sqlite3.SQLITE_IOERR):
+            raise Failure(str(target), f"SQLite cannot copy the database: {error}; make room, or look at its disk", DATABASE) from None
+        raise Failure(name, f"SQLite finds no whole database in the copy: {error}; see BACKUP.md, 'Failures'", DATABASE) from None
     if found != [("ok",)]:
-        raise Failure(str(source), f"SQLite finds the database damaged: {found[0][0]}; see BACKUP.md, 'Failures'", DATABASE)
+        raise Failure(name, f"SQLite finds the database damaged: {found[0][0]}; see BACKUP.md, 'Failures'", DATABASE)
 
 
 def blocks_of(path: Path) -> Iterator[bytes]:

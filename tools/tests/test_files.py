@@ -52,6 +52,35 @@ class Files(unittest.TestCase):
         self.assertEqual(sorted(os.listdir(self.folder)), ["link", "pipe"])
         self.assertTrue(pipe.is_fifo() and link.is_symlink())
 
+    def test_put_through_links(self):
+        """A link stays, and what it leads to is replaced in one step, also where that is not there yet."""
+        there, here = self.folder / "there", self.folder / "here"
+        for folder in there, here:
+            folder.mkdir()
+        link, second = here / "link", here / "second"
+        link.symlink_to("../there/file")
+        second.symlink_to("link")
+        for path, text in (link, b"a"), (second, b"b"):
+            files.put(path, text)
+            self.assertEqual((path.is_symlink(), (there / "file").read_bytes()), (True, text))
+        beside = []
+
+        def pieces():
+            beside.append([len(os.listdir(there)), len(os.listdir(here))])
+            yield b"c"
+        files.put(link, pieces())
+        self.assertEqual((beside, os.listdir(there)), ([[2, 2]], ["file"]))
+        (here / "loop").symlink_to("loop")
+        with self.assertRaisesRegex(Failure, "not a file that can be replaced; give"):
+            files.put(here / "loop", b"x")
+        self.assertTrue((here / "loop").is_symlink())
+
+    def test_named(self):
+        for given, wanted in (None, "/x"), ("/y", "/y"):
+            with self.assertRaises(OSError) as raised, files.named("/x"):
+                raise OSError(28, "No space left on device", given)
+            self.assertEqual(raised.exception.filename, wanted)
+
     def test_put_nowhere(self):
         with self.assertRaisesRegex(Failure, "^the name of the file to write is empty; give its path$") as raised:
             files.put("", b"x")
@@ -134,6 +163,23 @@ class Addresses(unittest.TestCase):
                     "http://irr.example.net", "http://127.0.0.1.example.net"]:
             self.assertRaises(Failure, Server, url)
         self.assertFalse(Server("http://irr.example.net", plain=True).is_private)
+
+    def test_empty(self):
+        """An empty address is not one that was not given."""
+        environment = {name: value for name, value in os.environ.items() if name != "IRR_SERVER"}
+        for given, variable, wanted in [(None, None, "http://127.0.0.1:4343"), (None, "http://127.0.0.2", "http://127.0.0.2"),
+                                        ("http://127.0.0.3", "", "http://127.0.0.3"), ("", "http://127.0.0.2", "-s"), ("", None, "-s"),
+                                        (None, "", "IRR_SERVER")]:
+            set_here = {} if variable is None else {"IRR_SERVER": variable}
+            with mock.patch.dict(os.environ, environment | set_here, clear=True):
+                if wanted.startswith("http"):
+                    self.assertEqual(Server.from_options(given).url, wanted)
+                else:
+                    with self.assertRaisesRegex(Failure, f"^{wanted}: the address is empty; give one") as raised:
+                        Server.from_options(given)
+                    self.assertEqual(raised.exception.status, 2)
+
+    def test_shown(self):
         self.assertEqual(shown_url("https://u:p@irr.example.net/x?y"), "https://irr.example.net/x")
         self.assertEqual(shown_url("https://u:p/q@irr.example.net/x"), "https://irr.example.net/x")
 

@@ -1,5 +1,9 @@
 """Settings, databases held, dumps pressed, and the states of a history."""
+import contextlib
+import errno
 import os
+import resource
+import sqlite3
 import subprocess
 import sys
 import tempfile
@@ -7,15 +11,38 @@ import time
 import unittest
 from pathlib import Path
 from types import SimpleNamespace
+from unittest import mock
 
 from irr import past, readers, rpsl, stores
-from irr.commands import reset
+from irr.commands import backup, history, reset
 from irr.errors import SETTINGS, Failure
 from irr.keys import Key
 from irr.stores import Settings
 
 AUTH = "SHA256-PW a:" + "0" * 64
 TEXT = f'source = "TEST"\nroot = "ROOT-MNT"\nauth = "{AUTH}"\nlimit = 10\nstore = "irr.db"\n'
+
+
+@contextlib.contextmanager
+def program(words):
+    """A program in the place of irrdesk, which is these words of the shell."""
+    with tempfile.TemporaryDirectory() as folder:
+        path = Path(folder) / "irrdesk"
+        path.write_text(f"#!/bin/sh\n{words}\n")
+        path.chmod(0o755)
+        with mock.patch.dict(os.environ, {"IRRDESK": str(path)}):
+            yield
+
+
+@contextlib.contextmanager
+def limited(most):
+    """Lets no file grow above so many bytes."""
+    was = resource.getrlimit(resource.RLIMIT_FSIZE)
+    resource.setrlimit(resource.RLIMIT_FSIZE, (most, was[1]))
+    try:
+        yield
+    finally:
+        resource.setrlimit(resource.RLIMIT_FSIZE, was)
 
 
 class Folder(unittest.TestCase):
@@ -44,6 +71,103 @@ class Stores(Folder):
             with self.assertRaises(Failure) as raised:
                 Settings.read(str(self.file("bad.toml", bad)))
             self.assertEqual(raised.exception.status, SETTINGS)
+
+    def test_link(self):
+        """The log is beside the database that a link leads to."""
+        (self.folder / "real").mkdir()
+        store, link = self.file("real/irr.db", b"rows"), self.folder / "irr.db"
+        link.symlink_to(store)
+        found = Settings.read(str(self.file("irr.toml", TEXT.replace('"irr.db"', f'"{link}"').encode())))
+        self.assertEqual((found.store, found.log), (store, self.folder / "real/irr.db-wal"))
+
+    def test_copied(self):
+        for name, text in ("irr.db", b"rows"), ("irr.db-wal", b"log"), ("irr.db-journal", b"journal"):
+            self.file(name, text)
+        with program(""):
+            stores.copied_store(self.folder / "irr.db", stores.Copy(self.folder / "copy", TEXT))
+        self.assertEqual({path.name: path.read_bytes() for path in (self.folder / "copy").iterdir() if path.name != "irr.toml"},
+                         {"irr.db": b"rows", "irr.db-wal": b"log", "irr.db-journal": b"journal"})
+
+    def test_copied_onto_a_full_disk(self):
+        """The fault names the file that can't be written."""
+        large = self.file("large", b"x" * (1 << 17))
+        with limited(1 << 16), self.assertRaises(OSError) as raised:
+            stores.copied(large, self.folder / "copy")
+        self.assertEqual(raised.exception.filename, str(self.folder / "copy"))
+
+    def test_sqlite_copy(self):
+        """What the disk lacks is not damage."""
+        store, target = self.folder / "irr.db", self.folder / "work" / "copy.db"
+        target.parent.mkdir()
+        with contextlib.closing(sqlite3.connect(store)) as made:
+            made.execute("CREATE TABLE t AS SELECT hex(zeroblob(100000)) AS x")
+            made.commit()
+        with limited(1 << 16), self.assertRaisesRegex(Failure, "^.*/work/copy.db: SQLite cannot copy the database: .*; make room, or look at"):
+            stores.sqlite_copy(store, target, "NAME")
+        target.unlink()
+        stores.sqlite_copy(store, target, "NAME")
+        with self.assertRaisesRegex(Failure, "^NAME: SQLite finds no whole database in the copy: file is not a database; see BACKUP.md"):
+            stores.sqlite_copy(self.file("none.db", b"x" * 4_096), self.folder / "work" / "other.db", "NAME")
+
+    def test_working(self):
+        """What fails in the folder is said of the one that it is in, and what fails elsewhere is not."""
+        words = "it cannot be written: no space left on device; make room, or look at its disk"
+        for raised, wanted in (OSError(28, "No space left on device"), words), (Failure("", "it failed"), "it failed"):
+            with self.assertRaisesRegex(Failure, f"^{self.folder}: {wanted}$"), stores.working(self.folder, ".new-") as work:
+                raised.filename = raised.thing = str(work / "x/irr.db")
+                raise raised
+        with self.assertRaises(OSError), stores.working(self.folder, ".new-"):
+            raise OSError(28, "No space left on device", "/elsewhere")
+        with self.assertRaisesRegex(Failure, "^/elsewhere: it failed$"), stores.working(self.folder, ".new-"):
+            raise Failure("/elsewhere", "it failed")
+        self.assertEqual(os.listdir(self.folder), [])
+
+    def test_read_only(self):
+        with mock.patch("os.open", side_effect=OSError(errno.EROFS, "Read-only file system")):
+            with self.assertRaisesRegex(Failure, "irr.db: .*: read-only file system; give it to `irr backup` by --copy$"):
+                with stores.alone(self.settings()):
+                    pass
+
+    def test_refused(self):
+        """Which words of the program say that an object is too long, and what they are said of."""
+        long = "is not RPSL, or over 65536 bytes: mend it"
+        for said, status, kind, thing in [
+                (f"dump.rpsl, line 9: nothing is loaded, because paragraph 2 {long}", 5, stores.TooLong, "copy"),
+                ("dump.rpsl, line 9, aut-num AS1: nothing is loaded, because paragraph 2 has the key of one before it: ..", 5, Failure, "copy"),
+                ("dump.rpsl: out of memory: give the program more", 5, Failure, "copy"), ("irr.db: the disk is full: make room", 4, Failure, "copy"),
+                ("irr.db: a program of SQLite left a journal", 4, Failure, "irr.db")]:
+            with program(f"echo 'irrdesk: {said}' >&2; exit {status}"):
+                copy = stores.Copy(self.folder / "copy", TEXT, self.folder / "irr.db")
+                with self.assertRaises(Failure) as raised:
+                    copy.load(self.folder / "dump.rpsl")
+            self.assertEqual((type(raised.exception), raised.exception.thing), (kind, str(self.folder / thing)), said)
+
+    def test_tried(self):
+        """A backup has no dump only if an object is too long for it; what else stops `load` stops the backup."""
+        settings, fault = self.settings(), "nothing is loaded, because paragraph 1 is not RPSL, or over 65536 bytes: mend it"
+        short, long = b"mntner:         A-MNT\n\n", b"mntner:         A-MNT\ndescr:          %s\n\n" % (b"x" * rpsl.LARGEST)
+        for text, said, is_backup in (long, fault, True), (short, fault, False), (long, "out of memory: give the program more", False):
+            full = self.file("full.rpsl", text + b"% end 1\n")
+            with tempfile.TemporaryDirectory(dir=self.folder) as work, \
+                    program(f"[ $1 = load ] || exec cat {full}; echo \"irrdesk: dump.rpsl: {said}\" >&2; exit 5"):
+                made = stores.Copy(Path(work) / "made", TEXT)
+                made.store.write_bytes(b"rows")
+                (Path(work) / "full.rpsl").write_bytes(full.read_bytes())
+                if is_backup:
+                    self.assertEqual((backup.tried(Path(work), settings, made), sorted(os.listdir(made.folder))), (fault, ["irr.db", "irr.toml"]))
+                else:
+                    with self.assertRaisesRegex(Failure, f"loaded: irrdesk load: dump.rpsl: {said}$"):
+                        backup.tried(Path(work), settings, made)
+
+    def test_outdated(self):
+        """A backup without a dump takes the place of none that has one."""
+        for number in range(1, 6):
+            (self.folder / f"2026010{number}T000000Z").mkdir()
+            if number in (1, 2, 4):
+                self.file(f"2026010{number}T000000Z/dump.rpsl", b"")
+        for keep, is_whole, gone in [(1, True, [1, 2, 3]), (2, True, [1]), (3, True, []), (1, False, [3]), (2, False, [])]:
+            found = sorted(int(path.name[7]) for path in backup.outdated(self.folder, keep, is_whole))
+            self.assertEqual(found, gone, keep)
 
     def test_alone(self):
         settings = self.settings()
@@ -129,6 +253,23 @@ class Stores(Folder):
             self.assertFalse(reset.lets_in(bad))
 
 
+    def test_handed_over(self):
+        """A new password that was saved goes again, unless the new database is in place."""
+        for is_in_place in False, True:
+            single, save = self.file("single.db", b""), self.folder / f"password-{is_in_place}"
+            with self.assertRaises(KeyboardInterrupt), reset.handed_over(SimpleNamespace(save=str(save), ask=False), "word", single):
+                self.assertEqual(save.read_bytes(), b"password: word\n")
+                if is_in_place:
+                    single.unlink()
+                raise KeyboardInterrupt
+            self.assertEqual(save.exists(), is_in_place)
+
+    def test_new_auth(self):
+        for auth, save, words in ("", None, "--auth: this is not an auth line"), (None, str(self.folder), ".*: there is such a file"):
+            with self.assertRaisesRegex(Failure, f"^{words}"):
+                reset.new_auth(SimpleNamespace(ask=False, auth=auth, save=save))
+
+
 class Readers(Folder):
     def test_agent(self):
         agent = SimpleNamespace(draining={4344}, heard=set())
@@ -185,11 +326,29 @@ class Past(Folder):
         self.assertEqual(past.read_time("1970-01-02"), 86_400)
         self.assertEqual(past.read_time("1970-01-01T01:00+01:00"), 0)
         self.assertRaises(Failure, past.read_time, "yesterday")
-        self.assertEqual(past.read_key(["192.0.2.0/24", "AS64496"]), Key("route", "192.0.2.0/24 AS64496"))
-        self.assertEqual(past.read_key(["route", "192.0.2.0/24", "as64496"]), Key("route", "192.0.2.0/24 AS64496"))
-        self.assertEqual(past.read_key(["192.0.2.0", "-", "192.0.2.255"]), Key("inetnum", "192.0.2.0 - 192.0.2.255"))
-        self.assertEqual(past.read_key(["as-a"]), Key("as-set", "AS-A"))
-        self.assertRaises(Failure, past.read_key, ["%"])
+        for words, wanted in [("192.0.2.0/24 AS64496", ["route 192.0.2.0/24 AS64496"]), ("route 192.0.2.0/24 as64496", ["route 192.0.2.0/24 AS64496"]),
+                              ("192.0.2.0 - 192.0.2.255", ["inetnum 192.0.2.0 - 192.0.2.255"]), ("as-a", ["as-set AS-A"]),
+                              ("as64496", ["mntner AS64496", "aut-num AS64496"]), ("aut-num AS64496", ["aut-num AS64496"]),
+                              ("as1-as2", ["mntner AS1-AS2", "as-block AS1 - AS2"])]:
+            self.assertEqual([f"{key.kind} {key.text}" for key in past.read_keys(words.split())], wanted)
+        for words in "%", "route 192.0.2.0/24", "route 192.0.2.0/24 AS1 x", "aut-num A-MNT":
+            self.assertRaises(Failure, past.read_keys, words.split())
+
+    def test_shown(self):
+        """A key without its class is that of the object which was seen, of whichever class."""
+        number, name = b"aut-num:        AS64496\nsource:         TEST\n", b"mntner:         AS64497\nsource:         TEST\n"
+        repository = past.Repository(self.folder)
+        self.record(repository, [number, name], 1_000)
+        for words, text in (["AS64496"], number), (["AS64497"], name):
+            with mock.patch("irr.texts.put") as put:
+                self.assertEqual(history.show(repository, words), 0)
+            put.assert_called_once_with(b"% 1970-01-01T00:16:40Z added\n" + text + b"\n")
+        with mock.patch("irr.texts.note") as note:
+            self.assertEqual(history.show(repository, ["AS64498"]), 1)
+        note.assert_called_once_with("irr history: mntner AS64498 or aut-num AS64498: it was never seen")
+        self.record(repository, [number, name.replace(b"7", b"6")], 2_000)
+        with self.assertRaisesRegex(Failure, "^AS64496: mntner AS64496 and aut-num AS64496 were seen; put the class before it$"):
+            history.show(repository, ["AS64496"])
 
 
 if __name__ == "__main__":

@@ -55,9 +55,13 @@ def registered_source(options: argparse.Namespace) -> str:
 
 def save(path: str, text: bytes) -> None:
     """Writes a new file that only its owner reads."""
+    need_new(path)
+    files.put(path, text, files.PRIVATE)
+
+
+def need_new(path: str) -> None:
     if os.path.lexists(path):
         raise Failure(path, "there is such a file; take another name, because it may have a password that is still needed", ARGUMENTS)
-    files.put(path, text, files.PRIVATE)
 
 
 def show(password: str) -> None:

@@ -3,11 +3,10 @@ import argparse
 import os
 import re
 import shutil
-import tempfile
 import time
 from pathlib import Path
 
-from irr import files, keys, stores, texts
+from irr import files, keys, rpsl, stores, texts
 from irr.errors import ARGUMENTS, DATABASE, DONE, Failure
 from irr.stores import Copy, Settings
 
@@ -42,15 +41,15 @@ def run(options: argparse.Namespace) -> int:
     with files.locked(place):
         for left in place.glob(".new-*"):
             shutil.rmtree(left)
-        with tempfile.TemporaryDirectory(prefix=".new-", dir=place) as work:
-            made, held = make(settings, options, Path(work))
+        with stores.working(place, ".new-") as work:
+            made, held = make(settings, options, work)
             name = time.strftime("%Y%m%dT%H%M%SZ", time.gmtime())
             if (place / name).exists():
                 raise Failure(str(place / name), "there is a backup of this second; try again")
-            why = tried(Path(work), settings, made)
+            why = tried(work, settings, made)
             os.rename(made.folder, place / name)
             files.sync_folder(place)
-        for old in sorted(entry for entry in place.iterdir() if NAME.fullmatch(entry.name))[:-options.keep]:
+        for old in outdated(place, options.keep, not why):
             shutil.rmtree(old)
     if why:
         raise Failure(str(place / name), f"its irr.db is good, but it has no dump, because that cannot be loaded: {why}", DATABASE)
@@ -63,25 +62,25 @@ def make(settings: Settings, options: argparse.Namespace, work: Path) -> tuple[C
     """The backup in a folder of the working one: SQLite's copy of the database as it stands, and the settings beside it. And the seconds
     for which the database was held."""
     held, made = Copy(work / "held", settings.text()), Copy(work / "made", settings.text())
-    start = time.monotonic()
-    if options.copy:
-        stores.copied_store(Path(options.copy), Path(options.copy + "-wal"), held)
+    store, start = settings.store if options.copy is None else stores.real(options.copy), time.monotonic()
+    if options.copy is not None:
+        stores.copied_store(store, held)
         seconds = 0.0
     else:
         with stores.still(settings, options.hold):
-            stores.copied_store(settings.store, settings.log, held)
+            stores.copied_store(store, held)
         seconds = time.monotonic() - start
     # SQLite writes the log into the file when it closes; what it copies is what both had.
-    as_it_was = Copy(work / "as-it-was", settings.text())
-    stores.copied_store(held.store, held.log, as_it_was)
-    stores.sqlite_copy(held.store, made.store)
+    as_it_was = Copy(work / "as-it-was", settings.text(), store)
+    stores.copied_store(held.store, as_it_was)
+    stores.sqlite_copy(held.store, made.store, str(store))
     as_it_was.dump(work / "full.rpsl", full=True)
     return made, seconds
 
 
 def tried(work: Path, settings: Settings, made: Copy) -> str:
     """Opens the backup and compares it with the copy; loads its dump and compares that too. The words of the program if the dump of a
-    good copy cannot be loaded, else nothing."""
+    good copy has an object that is too long to be loaded, else nothing."""
     full = work / "full.rpsl"
     opened = Copy(work / "opened", settings.text())
     stores.copied(made.store, opened.store)
@@ -93,7 +92,10 @@ def tried(work: Path, settings: Settings, made: Copy) -> str:
     why = ""
     try:
         loaded.load(dump)
-    except Failure as failure:
+    except stores.TooLong as failure:
+        # The same is said of a text that a disk has spoilt.
+        if max(map(len, stores.blocks_of(dump)), default=0) <= rpsl.LARGEST + 1:
+            raise
         why = failure.what.partition(": ")[2].partition("dump.rpsl")[2].lstrip(":, ") or failure.what
         dump.unlink()
     else:
@@ -102,10 +104,18 @@ def tried(work: Path, settings: Settings, made: Copy) -> str:
             raise Failure(str(settings.store), "the dump gives other objects than the database when it is loaded; tell it as a fault "
                           "of irr", DATABASE)
     for path in made.folder.iterdir():
-        with open(path, "rb") as file:
+        with files.named(path), open(path, "rb") as file:
             os.fsync(file.fileno())
     files.sync_folder(made.folder)
     return why
+
+
+def outdated(place: Path, keep: int, is_whole: bool) -> list[Path]:
+    """The backups before the last ones that are kept. One without a dump takes the place of none that has it: is_whole tells of the new
+    one whether it has."""
+    found = sorted(entry for entry in place.iterdir() if NAME.fullmatch(entry.name))
+    whole = [entry for entry in found if (entry / "dump.rpsl").exists()]
+    return [*(whole[:-keep] if is_whole else []), *[entry for entry in found if entry not in whole][:-keep]]
 
 
 def count_of(dump: Path) -> int:

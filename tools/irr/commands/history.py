@@ -8,7 +8,7 @@ from typing import Iterable, Iterator
 
 from irr import answers, files, keys, rpsl, scratch, server, texts
 from irr.errors import ARGUMENTS, DONE, REFUSED, Failure
-from irr.past import Repository, note_of_age, read_key, read_time, shown_time, told
+from irr.past import Repository, note_of_age, read_keys, read_time, shown_time, told
 
 DEFAULT = "/var/lib/irrdesk-history"
 EXAMPLES = """
@@ -72,13 +72,17 @@ def digested(pieces: Iterable[bytes], digest) -> Iterator[bytes]:
 
 
 def show(repository: Repository, words: list[str]) -> int:
-    key, found = read_key(words), False
-    for version in repository.versions(key):
-        found = True
+    spelled = read_keys(words)
+    found = {key: list(repository.versions(key)) for key in spelled}
+    seen = [key for key in spelled if found[key]]
+    if len(seen) > 1:
+        raise Failure(" ".join(words), f"{' and '.join(f'{key.kind} {key.text}' for key in seen)} were seen; put the class before it",
+                      ARGUMENTS)
+    for version in found[seen[0]] if seen else []:
         texts.put(told(version))
-    if not found:
-        texts.note(f"irr history: {key.kind} {key.text}: it was never seen")
-    return DONE if found else REFUSED
+    if not seen:
+        texts.note(f"irr history: {' or '.join(f'{key.kind} {key.text}' for key in spelled)}: it was never seen")
+    return DONE if seen else REFUSED
 
 
 def answer_at(repository: Repository, when: str, words: list[str], limit: int) -> int:

@@ -1,13 +1,13 @@
 """`irr reset NAME`: another password for a maintainer of a registry that is stopped."""
 import argparse
+import contextlib
 import os
-import tempfile
 from pathlib import Path
 from typing import Iterator
 
 from irr import asking, files, hashes, keys, rpsl, stores, submissions, texts
 from irr.commands import auth as auths
-from irr.errors import ARGUMENTS, DATABASE, DONE, Failure
+from irr.errors import ARGUMENTS, DATABASE, DONE, Failure, system_words
 from irr.rpsl import Attribute, Paragraph
 from irr.stores import Copy, Settings
 
@@ -38,21 +38,22 @@ def run(options: argparse.Namespace) -> int:
         raise Failure(str(settings.store), "there is no database; correct `store`, or run this in the folder that the program runs in",
                       DATABASE)
     settle(settings)
-    with stores.alone(settings) as is_alone, tempfile.TemporaryDirectory(prefix=".irr-reset-", dir=settings.store.parent) as folder:
+    with stores.alone(settings) as is_alone, stores.working(settings.store.parent, ".irr-reset-") as work:
         if not is_alone:
             raise Failure(str(settings.store), "another process has the database open; stop the server first", DATABASE)
         if settings.log.exists() and settings.log.stat().st_size >= stores.EMPTY_LOG:
             raise Failure(str(settings.log), "the log is not empty; try again", DATABASE)
-        work = Path(folder)
         before = Copy(work / "before", settings.text())
-        stores.copied_store(settings.store, settings.log, before)
+        stores.copied_store(settings.store, before)
         full, wanted = work / "full.rpsl", work / "wanted.rpsl"
         before.dump(full, full=True)
         if not any(stores.is_maintainer(piece, name) for piece in stores.blocks_of(full)):
             raise Failure(name, "there is no such maintainer; correct the name", ARGUMENTS)
-        value = new_auth(options)
+        value, password = new_auth(options)
         files.put(wanted, ended(replaced(full, name, value)), files.PRIVATE)
-        put_in_place(settings, made_of(settings, wanted, work))
+        single = made_of(settings, wanted, work)
+        with handed_over(options, password, single):
+            put_in_place(settings, single)
     print(texts.shown_line(f"mntner {name}: its auth is replaced, and nothing else; start the server again"))
     return DONE
 
@@ -67,20 +68,35 @@ def settle(settings: Settings) -> None:
         raise Failure(str(settings.path), scratch.said(done), done.returncode)
 
 
-def new_auth(options: argparse.Namespace) -> bytes:
-    """The value of the new `auth` line."""
-    if options.auth:
+def new_auth(options: argparse.Namespace) -> tuple[bytes, str]:
+    """The value of the new `auth` line, and its password if it is not the holder's."""
+    if options.auth is not None:
         value = options.auth.removeprefix("auth:").strip()
         if not lets_in(value):
             raise Failure("--auth", "this is not an auth line that lets anybody in; take what `irr auth` prints", ARGUMENTS)
-        return value.encode("ascii")
+        return value.encode("ascii"), ""
+    if options.save is not None:
+        auths.need_new(options.save)
     password = asking.ask_twice("new password") if options.ask else hashes.new_password()
     item = submissions.password_item(password, "new password")
+    return hashes.auth_of(submissions.secret_of(item.passwords()[0]), hashes.new_salt()).encode(), password
+
+
+@contextlib.contextmanager
+def handed_over(options: argparse.Namespace, password: str, single: Path) -> Iterator[None]:
+    """Saves or shows the new password before the block puts the new database in place. A saved one goes again if that did not
+    happen."""
     if options.save is not None:
-        auths.save(options.save, item.block.text + b"\n")
-    elif not options.ask:
+        auths.save(options.save, submissions.password_item(password, "new password").block.text + b"\n")
+    elif password and not options.ask:
         auths.show(password)
-    return hashes.auth_of(submissions.secret_of(item.passwords()[0]), hashes.new_salt()).encode()
+    try:
+        yield
+    except BaseException:
+        # It is renamed in one step: where it still is, the old database counts.
+        if options.save is not None and single.exists():
+            Path(options.save).unlink(missing_ok=True)
+        raise
 
 
 def lets_in(value: str) -> bool:
@@ -113,7 +129,7 @@ def made_of(settings: Settings, wanted: Path, work: Path) -> Path:
     made, loadable, seen, single = Copy(work / "made", settings.text()), work / "loadable.rpsl", work / "seen.rpsl", work / "single.db"
     files.put(loadable, stores.pressed(stores.blocks_of(wanted)), files.PRIVATE)
     made.load(loadable)
-    stores.sqlite_copy(made.store, single)
+    stores.sqlite_copy(made.store, single, str(settings.store))
     tried = Copy(work / "tried", settings.text())
     stores.copied(single, tried.store)
     tried.dump(seen, full=True)
@@ -127,11 +143,15 @@ def put_in_place(settings: Settings, single: Path) -> None:
     """Puts the new database into the place of the old one. The old log, which has nothing, goes first: it must not lie beside the new
     one."""
     was = settings.store.stat()
-    with open(single, "r+b") as file:
+    with files.named(single), open(single, "r+b") as file:
         os.fchmod(file.fileno(), was.st_mode & 0o777)
         if (was.st_uid, was.st_gid) != (os.geteuid(), os.getegid()):
             os.fchown(file.fileno(), was.st_uid, was.st_gid)
         os.fsync(file.fileno())
     settings.log.unlink(missing_ok=True)
     os.replace(single, settings.store)
-    files.sync_folder(settings.store.parent)
+    try:
+        files.sync_folder(settings.store.parent)
+    except OSError as error:
+        raise Failure(str(settings.store), f"the new auth is in it, but may not be on the disk: {system_words(error)}; look at the disk",
+                      DATABASE) from None

@@ -9,8 +9,8 @@ use Rattle.rr_desk.specs.Desks.{desk_state}
 use Rattle.rr_desk.specs.Stocks.{DatabaseLasts, StoresUntilStopped}
 use Rattle.rr_desk.specs.Turns.{Serving, TakesTurns, Tally}
 use Rattle.rr_desk.specs.declared.desk.Desk.{Desk}
-use Rattle.rr_commands.specs.Commands.{ActsBySettings, AtDesk, Closes, CommandEnd, DeskAction}
-use Rattle.rr_commands.specs.Commands.{Gives, ProgramEnd, Reads}
+use Rattle.rr_commands.specs.Commands.{ActsBySettings, AtDesk, CommandEnd, DatabaseCalls}
+use Rattle.rr_commands.specs.Commands.{DeskAction, ProgramEnd, Reads}
 use Rattle.rr_commands.specs.declared.trouble.Trouble.{Trouble}
 use Rattle.rr_commands.specs.declared.trouble.Trouble.TheVariants.{ListenerUnopened, Memory}
 use Rattle.rr_commands.specs.declared.trouble.Trouble.TheVariants.{ProbeFailed, Unwritten}
@@ -99,7 +99,8 @@ ProbesDesk g listens asks serves old new before after ended =
     × ListensOnce g listens serves before after 0)
 
 -- what `irrdesk probe` does, by its settings file (profile)
-abbrev pub ProbesBy : {S : Type 0} → Ghosts S → Gives S → Closes S → Reads → List ℕ → Listens
-    → Asking → Serving → Told → Told → ProgramEnd → Type 0
-ProbesBy g gives closes reads file listens asks serves old new = ActsBySettings reads file
-    (AtDesk g gives closes (ProbesDesk g listens asks serves old new) old new) old new
+abbrev pub ProbesBy : {D S : Type 0} → Ghosts S → DatabaseCalls D S → Reads → List ℕ → Listens
+    → Asking → Serving → D → D → Told → Told → ProgramEnd → Type 0
+ProbesBy g calls reads file listens asks serves start end old new = ActsBySettings reads file
+    (AtDesk g calls (ProbesDesk g listens asks serves old new) start end old new)
+    start end old new

@@ -11,8 +11,8 @@ use Rattle.rr_commands.specs.declared.cause.Cause.{Cause}
 use Rattle.rr_commands.specs.declared.trouble.Trouble.{Trouble}
 use Rattle.rr_commands.specs.declared.trouble.Trouble.TheVariants.{ListenerUnopened, Unaccepted}
 use Rattle.rr_commands.specs.declared.trouble.Trouble.TheVariants.{Unwritten}
-use Rattle.rr_commands.specs.Commands.{ActsBySettings, AtDesk, Closes, CommandEnd, DeskAction}
-use Rattle.rr_commands.specs.Commands.{Gives, ProgramEnd, Reads}
+use Rattle.rr_commands.specs.Commands.{ActsBySettings, AtDesk, CommandEnd, DatabaseCalls}
+use Rattle.rr_commands.specs.Commands.{DeskAction, ProgramEnd, Reads}
 
 -- what listens on this port may tell this (profile)
 abbrev pub Listens : Type 1
@@ -101,8 +101,9 @@ ServesDesk g listens serves port count old new before after ended =
     ⊎ HasListened g listens serves port count old new before after ended
 
 -- what `irrdesk serve` does, by its settings file (profile)
-abbrev pub ServesBy : {S : Type 0} →
-    Ghosts S → Gives S → Closes S → Reads → List ℕ → Listens → Serving → ℕ → ℕ → Told → Told
-    → ProgramEnd → Type 0
-ServesBy g gives closes reads file listens serves port count old new = ActsBySettings reads file
-    (AtDesk g gives closes (ServesDesk g listens serves port count old new) old new) old new
+abbrev pub ServesBy : {D S : Type 0} → Ghosts S → DatabaseCalls D S → Reads → List ℕ → Listens
+    → Serving → ℕ → ℕ → D → D → Told → Told → ProgramEnd → Type 0
+ServesBy g calls reads file listens serves port count start end old new =
+    ActsBySettings reads file
+    (AtDesk g calls (ServesDesk g listens serves port count old new) start end old new)
+    start end old new

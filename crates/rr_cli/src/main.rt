@@ -23,12 +23,12 @@ fn main(rt: HostRuntime) -> ExitCode {
     let mut output = Progress::new(&rt, Counted::new(rt.stdout()));
     let mut errors = Counted::new(rt.stderr());
     let arguments = env::args(&rt);
-    let databases = DatabaseFiles::new(&rt);
+    let mut databases = DatabaseFiles::new(&rt);
     let files = SystemFiles::new(&rt);
     let network = Sockets::new(&rt);
     ExitCode::from(run::run(
         &rt,
-        &databases,
+        &mut databases,
         &files,
         &network,
         arguments,

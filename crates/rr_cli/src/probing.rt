@@ -30,15 +30,15 @@ const ERROR: u8 = 1;
 /// printed.
 pub fn probe<'a, D: Databases, F: Files, N: Network, W: Output>(
     rt: &HostRuntime,
-    databases: &D,
+    databases: &mut D,
     files: &F,
     network: &N,
     settings: &'a str,
     output: &mut W,
 ) -> Result<u8, ProgramFault<'a>>
-    ensures { ProbesBy D.Disk.Store (D.gives databases.now) (D.closes databases.now)
-        (F.reads files.now) settings.now (N.listens network.now) (N.asks network.now) serves_desk
-        (W.told output.old) (W.told output.new) result }
+    ensures { ProbesBy D.Disk.Store D.calls (F.reads files.now) settings.now
+        (N.listens network.now) (N.asks network.now) serves_desk
+        databases.old databases.new (W.told output.old) (W.told output.new) result }
 {
     let (read, path) = read_settings_file(rt.alloc(), files, settings)?;
     let mut found = String::new(rt.alloc());
@@ -59,17 +59,18 @@ pub fn probe<'a, D: Databases, F: Files, N: Network, W: Output>(
 /// was added to one.
 fn probe_at<D: Databases, N: Network, W: Sink>(
     rt: &HostRuntime,
-    databases: &D,
+    databases: &mut D,
     network: &N,
     settings: Settings,
     path: &str,
     found: &mut String,
     output: &mut W,
 ) -> Result<u8, Trouble>
-    ensures { AtDesk D.Disk.Store (D.gives databases.now) (D.closes databases.now)
+    ensures { AtDesk D.Disk.Store D.calls
         (ProbesDesk D.Disk.Store (N.listens network.now) (N.asks network.now) serves_desk
         (W.told output.old) (W.told output.new))
-        (W.told output.old) (W.told output.new) settings path.now result }
+        databases.old databases.new (W.told output.old) (W.told output.new)
+        settings path.now result }
 {
     let mut desk = open_desk(rt, databases, settings, path, found)?;
     let end = probe_desk(rt.alloc(), &mut desk, network, output);

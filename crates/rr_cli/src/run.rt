@@ -27,7 +27,7 @@ const HINT: &[u8] =
 /// database or if the desk is stopped, and else 5, also if memory ran out (profile).
 pub fn run<D: Databases, F: Files, N: Network, R: Input, W: Output, E: Sink>(
     rt: &HostRuntime,
-    databases: &D,
+    databases: &mut D,
     files: &F,
     network: &N,
     arguments: io::Result<Args>,
@@ -117,7 +117,7 @@ fn refusal_of(alloc: Global, arguments: &[String]) -> Option<String> {
 /// Does what the arguments ask for.
 fn run_arguments<'a, D: Databases, F: Files, N: Network, R: Input, W: Output>(
     rt: &HostRuntime,
-    databases: &D,
+    databases: &mut D,
     files: &F,
     network: &N,
     arguments: &'a [String],
@@ -133,15 +133,15 @@ fn run_arguments<'a, D: Databases, F: Files, N: Network, R: Input, W: Output>(
 /// Carries out a command.
 fn carry_out<'a, D: Databases, F: Files, N: Network, R: Input, W: Output>(
     rt: &HostRuntime,
-    databases: &D,
+    databases: &mut D,
     files: &F,
     network: &N,
     command: Command<'a>,
     input: &mut R,
     output: &mut W,
 ) -> Result<u8, ProgramFault<'a>>
-    ensures { CarriesOut D.Disk.Store (D.gives databases.now) (D.closes databases.now)
-        (F.reads files.now) (N.listens network.now) (N.asks network.now) serves_desk command.entry
+    ensures { CarriesOut D.Disk.Store D.calls (F.reads files.now) (N.listens network.now)
+        (N.asks network.now) serves_desk command.entry databases.old databases.new
         (R.told input.old) (R.told input.new) (W.told output.old) (W.told output.new) result }
 {
     match command {

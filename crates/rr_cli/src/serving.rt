@@ -27,7 +27,7 @@ use std::io;
 /// be accepted. If the database fails meanwhile, that is said once on standard error.
 pub fn serve<'a, D: Databases, F: Files, N: Network, W: Output>(
     rt: &HostRuntime,
-    databases: &D,
+    databases: &mut D,
     files: &F,
     network: &N,
     settings: &'a str,
@@ -35,9 +35,9 @@ pub fn serve<'a, D: Databases, F: Files, N: Network, W: Output>(
     count: u64,
     output: &mut W,
 ) -> Result<u8, ProgramFault<'a>>
-    ensures { ServesBy D.Disk.Store (D.gives databases.now) (D.closes databases.now)
-        (F.reads files.now) settings.now (N.listens network.now) serves_desk port count
-        (W.told output.old) (W.told output.new) result }
+    ensures { ServesBy D.Disk.Store D.calls (F.reads files.now) settings.now
+        (N.listens network.now) serves_desk port count
+        databases.old databases.new (W.told output.old) (W.told output.new) result }
 {
     let (read, path) = read_settings_file(rt.alloc(), files, settings)?;
     let mut found = String::new(rt.alloc());
@@ -101,7 +101,7 @@ fn about_port<'a>(alloc: Global, trouble: Trouble, port: u16) -> ProgramFault<'a
 /// added to one.
 fn serve_at<D: Databases, N: Network, W: Sink>(
     rt: &HostRuntime,
-    databases: &D,
+    databases: &mut D,
     network: &N,
     settings: Settings,
     path: &str,
@@ -110,10 +110,11 @@ fn serve_at<D: Databases, N: Network, W: Sink>(
     count: u64,
     output: &mut W,
 ) -> Result<u8, Trouble>
-    ensures { AtDesk D.Disk.Store (D.gives databases.now) (D.closes databases.now)
+    ensures { AtDesk D.Disk.Store D.calls
         (ServesDesk D.Disk.Store (N.listens network.now) serves_desk port count
         (W.told output.old) (W.told output.new))
-        (W.told output.old) (W.told output.new) settings path.now result }
+        databases.old databases.new (W.told output.old) (W.told output.new)
+        settings path.now result }
 {
     let mut desk = open_desk(rt, databases, settings, path, found)?;
     let watched = Watched { rt, path };

@@ -10,7 +10,7 @@ use Rattle.rr_desk.specs.Desks.{GivesAnswer, desk_state}
 use Rattle.rr_desk.specs.Rows.{KeepsRows, CommitsNothing}
 use Rattle.rr_desk.specs.Stocks.{DatabaseLasts}
 use Rattle.rr_desk.specs.declared.desk.Desk.{Desk}
-use Rattle.rr_commands.specs.Commands.{ActsBySettings, AtDesk, Closes, CommandEnd, Gives}
+use Rattle.rr_commands.specs.Commands.{ActsBySettings, AtDesk, CommandEnd, DatabaseCalls}
 use Rattle.rr_commands.specs.Commands.{ProgramEnd, Reads}
 use Rattle.rr_commands.specs.declared.trouble.Trouble.TheVariants.{Unwritten}
 
@@ -40,7 +40,7 @@ pub record HasAsked {S : Type 0} (g : Ghosts S) (text : List ℕ) (old new : Tol
   pub lasts : DatabaseLasts (desk_state g before) (desk_state g after)
 
 -- what `irrdesk query` does, by its settings file (profile)
-abbrev pub AsksBy : {S : Type 0} → Ghosts S → Gives S → Closes S → Reads → List ℕ → List ℕ
-    → Told → Told → ProgramEnd → Type 0
-AsksBy g gives closes reads file text old new =
-    ActsBySettings reads file (AtDesk g gives closes (HasAsked g text old new) old new) old new
+abbrev pub AsksBy : {D S : Type 0} → Ghosts S → DatabaseCalls D S → Reads → List ℕ → List ℕ
+    → D → D → Told → Told → ProgramEnd → Type 0
+AsksBy g calls reads file text start end old new = ActsBySettings reads file
+    (AtDesk g calls (HasAsked g text old new) start end old new) start end old new

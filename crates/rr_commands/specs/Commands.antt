@@ -1,7 +1,9 @@
 -- What commands do that read settings from a file and use the database that these name, by how they
 -- end (profile).
-use Rattle.std.specs.Prelude.{◌≡◌, ◌≤◌, ◌+◌, ◌⊎◌, ℕ, Bool, true, false, List, [], length, take}
-use Rattle.std.specs.Prelude.{IfSome, IsTrue, Option, Result, Ok, Err}
+use Rattle.std.specs.Prelude.{◌≡◌, ◌≤◌, ◌+◌, ◌⊎◌, ℕ, false, List, [], length, take, IfSome}
+use Rattle.std.specs.Prelude.{Option, Result, Ok, Err}
+use Rattle.std.specs.IoError.{error_kind, raw_os_error}
+use Rattle.std.specs.declared.io.Error.{Error}
 use Rattle.sqlite_trees.specs.declared.store.Store.{Ghosts}
 use Rattle.sqlite.specs.Held.{Held, state}
 use Rattle.rr_io.specs.Told.{Told}
@@ -10,9 +12,13 @@ use Rattle.rr_desk.specs.declared.desk.Desk.{Desk}
 use Rattle.rr_desk.specs.Opened.{FailsToOpenTables, IsRunning, OpensTables}
 use Rattle.rr_desk.specs.Rows.{CommitsNothing}
 use Rattle.rr_desk.specs.Settings.{SettingsParts}
+use Rattle.rr_commands.specs.Causes.{system_cause}
 use Rattle.rr_commands.specs.Faults.{name_on_line, place_on_line}
 use Rattle.rr_commands.specs.Found.{IsToldUnopened}
 use Rattle.rr_commands.specs.SettingsFiles.{AreNoSettings, settings_of_text}
+use Rattle.rr_commands.specs.declared.cause.Cause.{Cause}
+use Rattle.rr_commands.specs.declared.cause.Cause.TheVariants as cause
+use Rattle.rr_commands.specs.declared.cause.DatabaseCause.{DatabaseCause}
 use Rattle.rr_commands.specs.declared.databases.Absent.{Absent}
 use Rattle.rr_commands.specs.declared.databases.Absent.TheVariants.{Refused}
 use Rattle.rr_commands.specs.declared.fault.ProgramFault.{ProgramFault}
@@ -41,18 +47,17 @@ DeskAction S = Desk S → Desk S → CommandEnd → Type 0
 abbrev pub ConnectionAction : Type 0 → Type 1
 ConnectionAction S = Held S → Held S → CommandEnd → Type 0
 
--- the database at a path may be opened as this connection, by what is done if there is none
--- (profile)
-abbrev pub Gives : Type 0 → Type 1
-Gives S = List ℕ → Absent → Held S → Type 0
+-- what calls do with databases, from one state of what keeps them to the next: the one at a path is
+-- opened as a connection or refused for a cause, by what is done if there is none, and the one of a
+-- connection is closed (profile)
+pub record DatabaseCalls (D S : Type 0) : Type 1 where
+  pub opens : List ℕ → Absent → Result (Held S) DatabaseCause → D → D → Type 0
+  pub closes : Held S → D → D → Type 0
 
--- the database of this connection was closed (profile)
-abbrev pub Closes : Type 0 → Type 1
-Closes S = Held S → Type 0
-
--- as which bytes the file at a path may be read, if it tells them (profile)
+-- as which bytes the file at a path may be read, if it tells them, or by which error it may be
+-- refused (profile)
 abbrev pub Reads : Type 1
-Reads = List ℕ → Option (List ℕ) → Type 0
+Reads = List ℕ → Result (Option (List ℕ)) Error → Type 0
 
 -- how a command ends and how the program does: with the same status, or by a fault with the same
 -- trouble (profile)
@@ -62,28 +67,25 @@ EndsAs (Err trouble) (Err fault) = fault.trouble ≡ trouble
 EndsAs (Ok status) (Err fault) = ⊥
 EndsAs (Err trouble) (Ok ended) = ⊥
 
--- the settings cannot be read, or memory ran out (profile)
-abbrev pub is_of_reading : Trouble → Bool
-is_of_reading (trouble.SettingsUnread cause) = true
-is_of_reading trouble.Memory = true
-is_of_reading _ = false
+-- the cause of an error of the system (profile)
+abbrev pub cause_of : Error → Cause
+cause_of error = system_cause (error_kind error) (raw_os_error error)
 
--- the database cannot be opened or made (profile)
-abbrev pub is_of_database : Trouble → Bool
-is_of_database (trouble.Database cause) = true
-is_of_database _ = false
+-- what is told of settings that cannot be read for this cause (profile)
+abbrev pub unread_trouble : Cause → Trouble
+unread_trouble cause.Memory = trouble.Memory
+unread_trouble cause = trouble.SettingsUnread cause
 
--- the file that is read cannot be opened, or memory ran out (profile)
-abbrev pub is_of_file : Trouble → Bool
-is_of_file (trouble.FileUnopened cause) = true
-is_of_file trouble.Memory = true
-is_of_file _ = false
+-- what is told of a file that cannot be opened for this cause (profile)
+abbrev pub unopened_trouble : Cause → Trouble
+unopened_trouble cause.Memory = trouble.Memory
+unopened_trouble cause = trouble.FileUnopened cause
 
 -- the file at this path was read to its end, or up to one byte more than the most of such a file,
 -- and has these bytes (profile)
 pub record ReadsFile (reads : Reads) (file text : List ℕ) : Type 0 where
   pub given : Option (List ℕ)
-  pub opened : reads file given
+  pub opened : reads file (Ok given)
   pub part : IfSome given (λ bytes. text ≡ take (MOST_BYTES + 1) bytes)
 
 -- the bytes of the file at this path are no settings, and this is why (profile)
@@ -92,18 +94,31 @@ pub record RefusesFile (reads : Reads) (file : List ℕ) (trouble : Trouble) : T
   pub read : ReadsFile reads file text
   pub why : AreNoSettings text trouble
 
+-- the file at this path was refused by this error, or it was opened, and a read failed so (profile)
+abbrev pub FailsToRead : Reads → List ℕ → Error → Type 0
+FailsToRead reads file error =
+    reads file (Err error) ⊎ ((given : Option (List ℕ)) × reads file (Ok given))
+
+-- the settings in the file at this path cannot be read, and the trouble is why (profile)
+pub record IsUnreadFile (reads : Reads) (file : List ℕ) (told : Trouble) : Type 0 where
+  pub error : Error
+  pub fails : FailsToRead reads file error
+  pub is_told : told ≡ unread_trouble (cause_of error)
+
 -- why the file at this path gives no settings: it cannot be read, or its bytes are none (profile)
 abbrev pub GivesNoSettings : Reads → List ℕ → Trouble → Type 0
 GivesNoSettings reads file trouble =
-    IsTrue (is_of_reading trouble) ⊎ RefusesFile reads file trouble
+    IsUnreadFile reads file trouble ⊎ RefusesFile reads file trouble
 
--- there are no settings, the fault names their file, and nothing was printed (profile)
-pub record HasNoSettings (reads : Reads) (file : List ℕ) (old new : Told) (result : ProgramEnd)
-    : Type 0 where
+-- there are no settings, the fault names their file, no database was opened or closed, and nothing
+-- was printed (profile)
+pub record HasNoSettings {D : Type 0} (reads : Reads) (file : List ℕ) (start end : D)
+    (old new : Told) (result : ProgramEnd) : Type 0 where
   pub fault : ProgramFault
   pub told : result ≡ Err fault
   pub cause : GivesNoSettings reads file fault.trouble
   pub about : name_on_line fault.about ≡ place_on_line place.File file []
+  pub untouched : end ≡ start
   pub silent : new ≡ old
 
 -- the settings and the path of the database are those of the file at this path, which is no longer
@@ -127,9 +142,10 @@ pub record IsDone (reads : Reads) (file : List ℕ) (does : Action) (result : Pr
   pub ends : EndsAs ended result
 
 -- what a command does that reads its settings from the file at this path first (profile)
-abbrev pub ActsBySettings : Reads → List ℕ → Action → Told → Told → ProgramEnd → Type 0
-ActsBySettings reads file does old new result =
-    HasNoSettings reads file old new result ⊎ IsDone reads file does result
+abbrev pub ActsBySettings : {D : Type 0} → Reads → List ℕ → Action → D → D → Told → Told
+    → ProgramEnd → Type 0
+ActsBySettings reads file does start end old new result =
+    HasNoSettings reads file start end old new result ⊎ IsDone reads file does result
 
 -- a look at a database for a message, from one connection to the next, which is in no transaction:
 -- nothing was committed (profile)
@@ -147,20 +163,29 @@ pub record FailsToOpenDesk {S : Type 0} (g : Ghosts S) (source : List ℕ) (conn
   pub looks : LooksAt g left after
   pub cause : IsToldUnopened fault trouble
 
+-- the database at a path was refused, and the trouble is why (profile)
+pub record IsNotGiven {D S : Type 0} (calls : DatabaseCalls D S) (path : List ℕ)
+    (absent : Absent) (start end : D) (told : Trouble) : Type 0 where
+  pub cause : DatabaseCause
+  pub refused : calls.opens path absent (Err cause) start end
+  pub is_told : told ≡ trouble.Database cause
+
 -- a database was given, its registry was not opened, and as that left it, it was closed (profile)
-pub record IsRefused {S : Type 0} (g : Ghosts S) (gives : Held S → Type 0) (closes : Closes S)
-    (source : List ℕ) (trouble : Trouble) : Type 0 where
+pub record IsRefused {D S : Type 0} (g : Ghosts S) (calls : DatabaseCalls D S) (path : List ℕ)
+    (source : List ℕ) (start end : D) (trouble : Trouble) : Type 0 where
   pub conn : Held S
   pub after : Held S
-  pub given : gives conn
+  pub between : D
+  pub given : calls.opens path Refused (Ok conn) start between
   pub fails : FailsToOpenDesk g source conn after trouble
-  pub closed : closes after
+  pub closed : calls.closes after between end
 
 -- why no desk is opened: no database was given, or the one that was is refused (profile)
-abbrev pub OpensNoDesk : {S : Type 0} → Ghosts S → (Held S → Type 0) → Closes S → SettingsParts
-    → Trouble → Type 0
-OpensNoDesk g gives closes parts trouble =
-    IsTrue (is_of_database trouble) ⊎ IsRefused g gives closes parts.source trouble
+abbrev pub OpensNoDesk : {D S : Type 0} → Ghosts S → DatabaseCalls D S → List ℕ → SettingsParts
+    → D → D → Trouble → Type 0
+OpensNoDesk g calls path parts start end trouble =
+    IsNotGiven calls path Refused start end trouble
+    ⊎ IsRefused g calls path parts.source start end trouble
 
 -- the database is not opened, and this is why; nothing was printed (profile)
 pub record IsUnopened (why : Trouble → Type 0) (old new : Told) (ended : CommandEnd)
@@ -170,53 +195,63 @@ pub record IsUnopened (why : Trouble → Type 0) (old new : Told) (ended : Comma
   pub cause : why trouble
   pub silent : new ≡ old
 
--- the file that is read is not opened, and nothing was printed (profile)
-pub record HasNoFile (old new : Told) (ended : CommandEnd) : Type 0 where
+-- the file at this path was refused, and the trouble is why (profile)
+pub record IsUnopenedFile (reads : Reads) (file : List ℕ) (told : Trouble) : Type 0 where
+  pub error : Error
+  pub refused : reads file (Err error)
+  pub is_told : told ≡ unopened_trouble (cause_of error)
+
+-- the file that is read is not opened, and this is why; nothing was printed (profile)
+pub record HasNoFile (reads : Reads) (file : List ℕ) (old new : Told) (ended : CommandEnd)
+    : Type 0 where
   pub trouble : Trouble
   pub told : ended ≡ Err trouble
-  pub cause : IsTrue (is_of_file trouble)
+  pub cause : IsUnopenedFile reads file trouble
   pub silent : new ≡ old
 
--- a database that is given so holds the rows of a registry of these settings, and the desk runs
--- over it (profile)
-pub record OpensDesk {S : Type 0} (g : Ghosts S) (gives : Held S → Type 0)
-    (parts : SettingsParts) (desk : Desk S) : Type 0 where
+-- the database at a path was given and holds the rows of a registry of these settings, and the desk
+-- runs over it (profile)
+pub record OpensDesk {D S : Type 0} (g : Ghosts S) (calls : DatabaseCalls D S) (path : List ℕ)
+    (parts : SettingsParts) (start end : D) (desk : Desk S) : Type 0 where
   pub conn : Held S
-  pub given : gives conn
+  pub given : calls.opens path Refused (Ok conn) start end
   pub opens : OpensTables g conn desk.stored
   pub runs : IsRunning g parts desk
 
 -- a desk was opened, and this was done at it; the database that it left was closed (profile)
-pub record IsDoneAtDesk {S : Type 0} (g : Ghosts S) (gives : Held S → Type 0)
-    (closes : Closes S) (does : DeskAction S)
-    (parts : SettingsParts) (ended : CommandEnd) : Type 0 where
+pub record IsDoneAtDesk {D S : Type 0} (g : Ghosts S) (calls : DatabaseCalls D S)
+    (path : List ℕ) (does : DeskAction S) (parts : SettingsParts) (start end : D)
+    (ended : CommandEnd) : Type 0 where
   pub before : Desk S
   pub after : Desk S
-  pub opens : OpensDesk g gives parts before
+  pub between : D
+  pub opens : OpensDesk g calls path parts start between before
   pub did : does before after ended
-  pub closed : closes after.stored.store
+  pub closed : calls.closes after.stored.store between end
 
 -- what a command does at the desk that its settings open: if there is no database, none is made
 -- (profile)
-abbrev pub AtDesk : {S : Type 0} →
-    Ghosts S → Gives S → Closes S → DeskAction S → Told → Told → Action
-AtDesk g gives closes does old new parts path ended =
-    IsUnopened (OpensNoDesk g (gives path Refused) closes parts) old new ended
-    ⊎ IsDoneAtDesk g (gives path Refused) closes does parts ended
+abbrev pub AtDesk : {D S : Type 0} →
+    Ghosts S → DatabaseCalls D S → DeskAction S → D → D → Told → Told → Action
+AtDesk g calls does start end old new parts path ended =
+    IsUnopened (OpensNoDesk g calls path parts start end) old new ended
+    ⊎ IsDoneAtDesk g calls path does parts start end ended
 
 -- a database was opened, and this was done in it; as this left it, it was closed (profile)
-pub record IsDoneInDatabase {S : Type 0} (gives : Held S → Type 0) (closes : Closes S)
-    (does : ConnectionAction S) (ended : CommandEnd) : Type 0 where
+pub record IsDoneInDatabase {D S : Type 0} (calls : DatabaseCalls D S) (path : List ℕ)
+    (absent : Absent) (does : ConnectionAction S) (start end : D) (ended : CommandEnd)
+    : Type 0 where
   pub before : Held S
   pub after : Held S
-  pub given : gives before
+  pub between : D
+  pub given : calls.opens path absent (Ok before) start between
   pub did : does before after ended
-  pub closed : closes after
+  pub closed : calls.closes after between end
 
 -- what a command does in the database that its settings name, by what is done if there is none
 -- (profile)
-abbrev pub InDatabase : {S : Type 0} → Gives S → Absent → Closes S → ConnectionAction S → Told
-    → Told → List ℕ → CommandEnd → Type 0
-InDatabase gives absent closes does old new path ended =
-    IsUnopened (λ trouble. IsTrue (is_of_database trouble)) old new ended
-    ⊎ IsDoneInDatabase (gives path absent) closes does ended
+abbrev pub InDatabase : {D S : Type 0} → DatabaseCalls D S → Absent → ConnectionAction S → D → D
+    → Told → Told → List ℕ → CommandEnd → Type 0
+InDatabase calls absent does start end old new path ended =
+    IsUnopened (IsNotGiven calls path absent start end) old new ended
+    ⊎ IsDoneInDatabase calls path absent does start end ended

@@ -8,7 +8,7 @@ use Rattle.rr_desk.specs.Opened.{FailsToMakeTables, HasOpeningRows, IsRunning, M
 use Rattle.rr_desk.specs.Opening.{IsOpeningRegistry}
 use Rattle.rr_desk.specs.Settings.{SettingsParts}
 use Rattle.rr_desk.specs.declared.desk.Desk.{Desk}
-use Rattle.rr_commands.specs.Commands.{ActsBySettings, Closes, CommandEnd, ConnectionAction, Gives}
+use Rattle.rr_commands.specs.Commands.{ActsBySettings, CommandEnd, ConnectionAction, DatabaseCalls}
 use Rattle.rr_commands.specs.Commands.{InDatabase, ProgramEnd, Reads}
 use Rattle.rr_commands.specs.Printed.{Tells}
 use Rattle.rr_commands.specs.declared.databases.Absent.TheVariants.{Made}
@@ -43,8 +43,8 @@ CreatesIn g settings old new before after ended =
     ⊎ IsCreated g settings old new before after ended
 
 -- what `irrdesk init` does, by its settings file (profile)
-abbrev pub CreatesBy : {S : Type 0} → Ghosts S → Gives S → Closes S → Reads → List ℕ → Told
-    → Told → ProgramEnd → Type 0
-CreatesBy g gives closes reads file old new =
-    ActsBySettings reads file
-    (λ settings. InDatabase gives Made closes (CreatesIn g settings old new) old new) old new
+abbrev pub CreatesBy : {D S : Type 0} → Ghosts S → DatabaseCalls D S → Reads → List ℕ → D → D
+    → Told → Told → ProgramEnd → Type 0
+CreatesBy g calls reads file start end old new = ActsBySettings reads file
+    (λ settings. InDatabase calls Made (CreatesIn g settings old new) start end old new)
+    start end old new

@@ -1,5 +1,5 @@
 -- What `irrdesk load` does, by how it ends (profile).
-use Rattle.std.specs.Prelude.{◌≡◌, ℕ, ◌⊎◌, List, ◌++◌, length, Err, codes}
+use Rattle.std.specs.Prelude.{◌≡◌, ℕ, ◌⊎◌, List, ◌++◌, length, Ok, Err, codes}
 use Rattle.std.specs.Prelude.{decimal}
 use Rattle.std.specs.FinMap.{values}
 use Rattle.sqlite_trees.specs.declared.store.Store.{Ghosts}
@@ -10,7 +10,7 @@ use Rattle.rr_desk.specs.Opened.{IsRunning, MakesTables}
 use Rattle.rr_desk.specs.Settings.{SettingsParts}
 use Rattle.rr_desk.specs.declared.desk.Desk.{Desk}
 use Rattle.rr_desk.specs.declared.loading.DeskLoadFault.{DeskLoadFault}
-use Rattle.rr_commands.specs.Commands.{ActsBySettings, Closes, CommandEnd, ConnectionAction, Gives}
+use Rattle.rr_commands.specs.Commands.{ActsBySettings, CommandEnd, ConnectionAction, DatabaseCalls}
 use Rattle.rr_commands.specs.Commands.{HasNoFile, InDatabase, ProgramEnd, Reads}
 use Rattle.rr_commands.specs.Printed.{Tells}
 use Rattle.rr_commands.specs.declared.databases.Absent.TheVariants.{Made}
@@ -62,7 +62,7 @@ pub record LoadsFile {S : Type 0} (g : Ghosts S) (settings : SettingsParts) (rea
     : Type 0 where
   pub reader_old : Told
   pub reader_new : Told
-  pub opened : reads file reader_old.bytes
+  pub opened : reads file (Ok reader_old.bytes)
   pub loads : Loads g settings reader_old reader_new writer_old writer_new before after ended
 
 -- what `irrdesk load` does in a database: its file is not opened and the database stays as it was,
@@ -70,12 +70,12 @@ pub record LoadsFile {S : Type 0} (g : Ghosts S) (settings : SettingsParts) (rea
 abbrev pub LoadsIn : {S : Type 0} → Ghosts S → SettingsParts → Reads → List ℕ → Told → Told
     → ConnectionAction S
 LoadsIn g settings reads file old new before after ended =
-    (HasNoFile old new ended × (after ≡ before))
+    (HasNoFile reads file old new ended × (after ≡ before))
     ⊎ LoadsFile g settings reads file old new before after ended
 
 -- what `irrdesk load` does, by its settings file (profile)
-abbrev pub LoadsBy : {S : Type 0} → Ghosts S → Gives S → Closes S → Reads → List ℕ → List ℕ
-    → Told → Told → ProgramEnd → Type 0
-LoadsBy g gives closes reads file dump old new =
-    ActsBySettings reads file (λ settings. InDatabase gives Made closes
-    (LoadsIn g settings reads dump old new) old new) old new
+abbrev pub LoadsBy : {D S : Type 0} → Ghosts S → DatabaseCalls D S → Reads → List ℕ → List ℕ
+    → D → D → Told → Told → ProgramEnd → Type 0
+LoadsBy g calls reads file dump start end old new = ActsBySettings reads file
+    (λ settings. InDatabase calls Made (LoadsIn g settings reads dump old new) start end old new)
+    start end old new

@@ -9,7 +9,7 @@ use Rattle.rr_desk.specs.Migrating.{FailsToMigrateTables, MigratesTables}
 use Rattle.rr_desk.specs.Opened.{IsRunning}
 use Rattle.rr_desk.specs.Settings.{SettingsParts}
 use Rattle.rr_desk.specs.declared.desk.Desk.{Desk}
-use Rattle.rr_commands.specs.Commands.{ActsBySettings, Closes, CommandEnd, ConnectionAction, Gives}
+use Rattle.rr_commands.specs.Commands.{ActsBySettings, CommandEnd, ConnectionAction, DatabaseCalls}
 use Rattle.rr_commands.specs.Commands.{InDatabase, LooksAt, ProgramEnd, Reads}
 use Rattle.rr_commands.specs.Found.{is_found}
 use Rattle.rr_commands.specs.Printed.{Tells}
@@ -88,8 +88,8 @@ pub record IsDiagnosed {S : Type 0} (g : Ghosts S) (does : ConnectionAction S)
   pub diagnosis : IsDiagnosis first ended
 
 -- what `irrdesk migrate` does, by its settings file (profile)
-abbrev pub MigratesBy : {S : Type 0} → Ghosts S → Gives S → Closes S → Reads → List ℕ → Told
-    → Told → ProgramEnd → Type 0
-MigratesBy g gives closes reads file old new =
-    ActsBySettings reads file (λ settings. InDatabase gives Refused closes
-    (IsDiagnosed g (MigratesIn g settings old new)) old new) old new
+abbrev pub MigratesBy : {D S : Type 0} → Ghosts S → DatabaseCalls D S → Reads → List ℕ → D → D
+    → Told → Told → ProgramEnd → Type 0
+MigratesBy g calls reads file start end old new = ActsBySettings reads file
+    (λ settings. InDatabase calls Refused (IsDiagnosed g (MigratesIn g settings old new))
+    start end old new) start end old new

@@ -14,8 +14,8 @@ use Rattle.rr_desk.specs.Settings.{built_in}
 use Rattle.rr_desk.specs.Stocks.{DatabaseLasts, StoresUntilStopped}
 use Rattle.rr_desk.specs.declared.desk.Desk.{Desk}
 use Rattle.rr_commands.specs.Causes.{stop_cause}
-use Rattle.rr_commands.specs.Commands.{ActsBySettings, AtDesk, Closes, CommandEnd, DeskAction}
-use Rattle.rr_commands.specs.Commands.{EndsAs, Gives, HasNoFile, ProgramEnd, Reads}
+use Rattle.rr_commands.specs.Commands.{ActsBySettings, AtDesk, CommandEnd, DatabaseCalls}
+use Rattle.rr_commands.specs.Commands.{DeskAction, EndsAs, HasNoFile, ProgramEnd, Reads}
 use Rattle.rr_commands.specs.declared.cause.DatabaseCause.{DatabaseCause}
 use Rattle.rr_commands.specs.declared.trouble.Trouble.{Trouble}
 use Rattle.rr_commands.specs.declared.trouble.Trouble.TheVariants.{Creating, Submission, Memory}
@@ -84,22 +84,21 @@ pub record SubmitsFile {S : Type 0} (g : Ghosts S) (reads : Reads) (file : List 
     (writer_old writer_new : Told) (before after : Desk S) (ended : CommandEnd) : Type 0 where
   pub reader_old : Told
   pub reader_new : Told
-  pub opened : reads file reader_old.bytes
+  pub opened : reads file (Ok reader_old.bytes)
   pub submitted : HasSubmitted g before after reader_old reader_new writer_old writer_new ended
 
 -- what `irrdesk submit` does at a desk: its file is not opened and the desk stays as it was, or the
 -- file is submitted (profile)
 abbrev pub SubmitsDesk : {S : Type 0} → Ghosts S → Reads → List ℕ → Told → Told → DeskAction S
 SubmitsDesk g reads file old new before after ended =
-    (HasNoFile old new ended × (after ≡ before))
+    (HasNoFile reads file old new ended × (after ≡ before))
     ⊎ SubmitsFile g reads file old new before after ended
 
 -- what `irrdesk submit` does, by its settings file (profile)
-abbrev pub SubmitsBy : {S : Type 0} → Ghosts S → Gives S → Closes S → Reads → List ℕ → List ℕ
-    → Told → Told → ProgramEnd → Type 0
-SubmitsBy g gives closes reads file items old new =
-    ActsBySettings reads file (AtDesk g gives closes (SubmitsDesk g reads items old new) old new)
-    old new
+abbrev pub SubmitsBy : {D S : Type 0} → Ghosts S → DatabaseCalls D S → Reads → List ℕ → List ℕ
+    → D → D → Told → Told → ProgramEnd → Type 0
+SubmitsBy g calls reads file items start end old new = ActsBySettings reads file
+    (AtDesk g calls (SubmitsDesk g reads items old new) start end old new) start end old new
 
 -- how a run without arguments ends (profile)
 abbrev pub plain_end : CommandEnd → CommandEnd

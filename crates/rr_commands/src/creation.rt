@@ -18,13 +18,13 @@ use std::alloc::Global;
 /// Makes the database that the settings name, with the opening objects of a registry, and says so.
 pub fn init<'a, D: Databases, F: Files, W: Output>(
     rt: &HostRuntime,
-    databases: &D,
+    databases: &mut D,
     files: &F,
     settings: &'a str,
     output: &mut W,
 ) -> Result<u8, ProgramFault<'a>>
-    ensures { CreatesBy D.Disk.Store (D.gives databases.now) (D.closes databases.now)
-        (F.reads files.now) settings.now (W.told output.old) (W.told output.new) result }
+    ensures { CreatesBy D.Disk.Store D.calls (F.reads files.now) settings.now
+        databases.old databases.new (W.told output.old) (W.told output.new) result }
 {
     let (read, path) = read_settings_file(rt.alloc(), files, settings)?;
     let end = init_at(rt.alloc(), databases, read, path.as_str(), output);
@@ -34,14 +34,14 @@ pub fn init<'a, D: Databases, F: Files, W: Output>(
 /// Makes the registry that opens with these settings in the database at a path, and says so.
 fn init_at<D: Databases, W: Sink>(
     alloc: Global,
-    databases: &D,
+    databases: &mut D,
     settings: Settings,
     path: &str,
     output: &mut W,
 ) -> Result<u8, Trouble>
-    ensures { InDatabase (D.gives databases.now) Absent.Made (D.closes databases.now)
+    ensures { InDatabase D.calls Absent.Made
         (CreatesIn D.Disk.Store settings (W.told output.old) (W.told output.new))
-        (W.told output.old) (W.told output.new) path.now result }
+        databases.old databases.new (W.told output.old) (W.told output.new) path.now result }
 {
     match databases.open(path, Absent::Made) {
         Ok(conn) => {

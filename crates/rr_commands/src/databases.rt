@@ -1,11 +1,10 @@
 //! Where the databases of registries are, and the desks that they open.
 
-ghost use Rattle.std.specs.Prelude.{◌≡◌, ℕ, List, IfErr, IfOk, IsTrue, false};
+ghost use Rattle.std.specs.Prelude.{◌≡◌, IfErr, IfOk, Ok, false};
 ghost use Rattle.sqlite.specs.Held.{Held};
 ghost use Rattle.rr_desk.specs.Opened.{IsRunning, OpensTables};
-ghost use Rattle.rr_commands.specs.Commands.{FailsToOpenDesk, OpensDesk, OpensNoDesk};
-ghost use Rattle.rr_commands.specs.Commands.{is_of_database};
-ghost use Rattle.rr_commands.specs.declared.databases.Absent.{Absent};
+ghost use Rattle.rr_commands.specs.Commands.{DatabaseCalls, FailsToOpenDesk, IsNotGiven};
+ghost use Rattle.rr_commands.specs.Commands.{OpensDesk, OpensNoDesk};
 
 use crate::cause::{Cause, DatabaseCause};
 use crate::diagnosis::trouble_with;
@@ -51,15 +50,12 @@ pub trait Databases {
     /// What keeps a database.
     type Disk: Alter + Drop;
 
-    // The database at a path may be opened as this connection, by what is done if there is none.
-    ghost gives: { Self → List ℕ → Absent → Held Self.Disk → Type 0 };
-
-    // The database of this connection was closed.
-    ghost closes: { Self → Held Self.Disk → Type 0 };
+    // What its calls do that open and close databases.
+    ghost calls: { DatabaseCalls Self Self.Disk };
 
     /// Opens the database at a path. The error is why it cannot be opened or made.
-    fn open(&self, path: &str, absent: Absent) -> Result<Connection<Self::Disk>, DatabaseCause>
-        ensures gives { IfOk result (λ conn. gives self.now path.now absent conn) }
+    fn open(&mut self, path: &str, absent: Absent) -> Result<Connection<Self::Disk>, DatabaseCause>
+        ensures opens { calls.opens path.now absent result self.old self.new }
         ensures autocommit { IfOk result (λ conn. conn.in_transaction ≡ false) };
 
     /// How many bytes the database at a path has, or 0 if that is not available.
@@ -68,8 +64,9 @@ pub trait Databases {
     /// Closes the database of this connection, if there is one. Call the function `close` of this
     /// module, which takes the connection by value: an impl of a method that takes a connection of
     /// a named store by value cannot be proved.
-    fn close(&self, conn: &mut Option<Connection<Self::Disk>>)
-        ensures { (held : Held Self.Disk) → conn.old ≡ Some held → closes self.now held };
+    fn close(&mut self, conn: &mut Option<Connection<Self::Disk>>)
+        ensures { (held : Held Self.Disk) → conn.old ≡ Some held
+            → calls.closes held self.old self.new };
 }
 
 /// The databases in files. A file that is made is readable by its owner alone, and so is the log
@@ -90,12 +87,10 @@ impl Databases for DatabaseFiles<'_> {
     type Disk = FileStore<File>;
 
     // No contract can say what a file has.
-    ghost gives = { λ _ _ _ _. Unit {0} };
-
-    ghost closes = { λ _ _. Unit {0} };
+    ghost calls = { record { opens = λ _ _ _ _ _. Unit {0}; closes = λ _ _ _. Unit {0} } };
 
     fn open(
-        &self,
+        &mut self,
         path: &str,
         absent: Absent,
     ) -> Result<Connection<FileStore<File>>, DatabaseCause> {
@@ -115,7 +110,7 @@ impl Databases for DatabaseFiles<'_> {
         }
     }
 
-    fn close(&self, conn: &mut Option<Connection<FileStore<File>>>) {
+    fn close(&mut self, conn: &mut Option<Connection<FileStore<File>>>) {
         if let Some(conn) = conn.take() {
             // If it fails, what was committed stays in the log.
             let _ = conn.close();
@@ -125,8 +120,8 @@ impl Databases for DatabaseFiles<'_> {
 
 /// Closes a database. What the commits left in its log goes into its file; if that fails it stays
 /// in the log, from which the next opening takes it.
-pub fn close<D: Databases>(databases: &D, conn: Connection<D::Disk>)
-    ensures { D.closes databases.now conn }
+pub fn close<D: Databases>(databases: &mut D, conn: Connection<D::Disk>)
+    ensures { D.calls.closes conn databases.old databases.new }
 {
     databases.close(&mut Some(conn));
 }
@@ -340,15 +335,15 @@ fn make_file(rt: &HostRuntime, path: &str) -> Result<(), DatabaseCause> {
 /// a row, a table, or what was added to one.
 pub fn open_desk<D: Databases>(
     rt: &HostRuntime,
-    databases: &D,
+    databases: &mut D,
     settings: Settings,
     path: &str,
     found: &mut String,
 ) -> Result<Desk<D::Disk>, Trouble>
-    ensures opens { IfOk result (OpensDesk D.Disk.Store
-        (D.gives databases.now path.now Absent.Refused) settings) }
-    ensures fails { IfErr result (OpensNoDesk D.Disk.Store
-        (D.gives databases.now path.now Absent.Refused) (D.closes databases.now) settings) }
+    ensures opens { IfOk result (OpensDesk D.Disk.Store D.calls path.now settings
+        databases.old databases.new) }
+    ensures fails { IfErr result (OpensNoDesk D.Disk.Store D.calls path.now settings
+        databases.old databases.new) }
 {
     let mut opening = Opening::begin(rt, databases.size(path));
     let opened = open_quietly(rt.alloc(), databases, settings, path, found);
@@ -360,15 +355,15 @@ pub fn open_desk<D: Databases>(
 /// is closed.
 fn open_quietly<D: Databases>(
     alloc: Global,
-    databases: &D,
+    databases: &mut D,
     settings: Settings,
     path: &str,
     found: &mut String,
 ) -> Result<Desk<D::Disk>, Trouble>
-    ensures opens { IfOk result (OpensDesk D.Disk.Store
-        (D.gives databases.now path.now Absent.Refused) settings) }
-    ensures fails { IfErr result (OpensNoDesk D.Disk.Store
-        (D.gives databases.now path.now Absent.Refused) (D.closes databases.now) settings) }
+    ensures opens { IfOk result (OpensDesk D.Disk.Store D.calls path.now settings
+        databases.old databases.new) }
+    ensures fails { IfErr result (OpensNoDesk D.Disk.Store D.calls path.now settings
+        databases.old databases.new) }
 {
     let conn = open_at(databases, path)?;
     match open_over(alloc, conn, settings, found) {
@@ -381,10 +376,12 @@ fn open_quietly<D: Databases>(
 }
 
 /// Opens the database at a path, which is to be there.
-fn open_at<D: Databases>(databases: &D, path: &str) -> Result<Connection<D::Disk>, Trouble>
-    ensures gives { IfOk result (λ conn. D.gives databases.now path.now Absent.Refused conn) }
+fn open_at<D: Databases>(databases: &mut D, path: &str) -> Result<Connection<D::Disk>, Trouble>
+    ensures gives { IfOk result (λ conn.
+        D.calls.opens path.now Absent.Refused (Ok conn) databases.old databases.new) }
     ensures autocommit { IfOk result (λ conn. conn.in_transaction ≡ false) }
-    ensures fails { IfErr result (λ trouble. IsTrue (is_of_database trouble)) }
+    ensures fails { IfErr result
+        (IsNotGiven D.calls path.now Absent.Refused databases.old databases.new) }
 {
     match databases.open(path, Absent::Refused) {
         Ok(conn) => Ok(conn),

@@ -21,14 +21,14 @@ use std::alloc::Global;
 /// full, and else with their public forms.
 pub fn dump<'a, D: Databases, F: Files, W: Output>(
     rt: &HostRuntime,
-    databases: &D,
+    databases: &mut D,
     files: &F,
     settings: &'a str,
     full: bool,
     output: &mut W,
 ) -> Result<u8, ProgramFault<'a>>
-    ensures { DumpsBy D.Disk.Store (D.gives databases.now) (D.closes databases.now)
-        (F.reads files.now) settings.now full (W.told output.old) (W.told output.new) result }
+    ensures { DumpsBy D.Disk.Store D.calls (F.reads files.now) settings.now full
+        databases.old databases.new (W.told output.old) (W.told output.new) result }
 {
     let (read, path) = read_settings_file(rt.alloc(), files, settings)?;
     let mut found = String::new(rt.alloc());
@@ -39,16 +39,17 @@ pub fn dump<'a, D: Databases, F: Files, W: Output>(
 /// Prints the dump of the registry in the database at a path.
 fn dump_at<D: Databases, W: Output>(
     rt: &HostRuntime,
-    databases: &D,
+    databases: &mut D,
     settings: Settings,
     path: &str,
     found: &mut String,
     full: bool,
     output: &mut W,
 ) -> Result<u8, Trouble>
-    ensures { AtDesk D.Disk.Store (D.gives databases.now) (D.closes databases.now)
+    ensures { AtDesk D.Disk.Store D.calls
         (DumpsDesk full (W.told output.old) (W.told output.new))
-        (W.told output.old) (W.told output.new) settings path.now result }
+        databases.old databases.new (W.told output.old) (W.told output.new)
+        settings path.now result }
 {
     let desk = open_desk(rt, databases, settings, path, found)?;
     output.show(Shown::Objects);

@@ -26,14 +26,14 @@ use std::alloc::{AllocError, Global};
 /// without rows, and says how many objects it has.
 pub fn load<'a, D: Databases, F: Files, W: Output>(
     rt: &HostRuntime,
-    databases: &D,
+    databases: &mut D,
     files: &F,
     settings: &'a str,
     file: &'a str,
     output: &mut W,
 ) -> Result<u8, ProgramFault<'a>>
-    ensures { LoadsBy D.Disk.Store (D.gives databases.now) (D.closes databases.now)
-        (F.reads files.now) settings.now file.now (W.told output.old) (W.told output.new) result }
+    ensures { LoadsBy D.Disk.Store D.calls (F.reads files.now) settings.now file.now
+        databases.old databases.new (W.told output.old) (W.told output.new) result }
 {
     let (read, path) = read_settings_file(rt.alloc(), files, settings)?;
     let end = load_at(rt, databases, files, read, path.as_str(), file, output);
@@ -62,17 +62,17 @@ fn ended_in_dump<'a, W: Output>(
 /// Makes the registry of a dump in the database at a path, and says how many objects it has.
 fn load_at<D: Databases, F: Files, W: Output>(
     rt: &HostRuntime,
-    databases: &D,
+    databases: &mut D,
     files: &F,
     settings: Settings,
     path: &str,
     file: &str,
     output: &mut W,
 ) -> Result<u8, Trouble>
-    ensures { InDatabase (D.gives databases.now) Absent.Made (D.closes databases.now)
+    ensures { InDatabase D.calls Absent.Made
         (LoadsIn D.Disk.Store settings (F.reads files.now) file.now
         (W.told output.old) (W.told output.new))
-        (W.told output.old) (W.told output.new) path.now result }
+        databases.old databases.new (W.told output.old) (W.told output.new) path.now result }
 {
     match databases.open(path, Absent::Made) {
         Ok(conn) => {

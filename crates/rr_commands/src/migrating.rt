@@ -20,13 +20,13 @@ use std::alloc::Global;
 /// and says so.
 pub fn migrate<'a, D: Databases, F: Files, W: Output>(
     rt: &HostRuntime,
-    databases: &D,
+    databases: &mut D,
     files: &F,
     settings: &'a str,
     output: &mut W,
 ) -> Result<u8, ProgramFault<'a>>
-    ensures { MigratesBy D.Disk.Store (D.gives databases.now) (D.closes databases.now)
-        (F.reads files.now) settings.now (W.told output.old) (W.told output.new) result }
+    ensures { MigratesBy D.Disk.Store D.calls (F.reads files.now) settings.now
+        databases.old databases.new (W.told output.old) (W.told output.new) result }
 {
     let (read, path) = read_settings_file(rt.alloc(), files, settings)?;
     let mut found = String::new(rt.alloc());
@@ -46,16 +46,16 @@ pub fn migrate<'a, D: Databases, F: Files, W: Output>(
 /// one.
 fn migrate_at<D: Databases, W: Sink>(
     alloc: Global,
-    databases: &D,
+    databases: &mut D,
     settings: Settings,
     path: &str,
     found: &mut String,
     output: &mut W,
 ) -> Result<u8, Trouble>
-    ensures { InDatabase (D.gives databases.now) Absent.Refused (D.closes databases.now)
+    ensures { InDatabase D.calls Absent.Refused
         (IsDiagnosed D.Disk.Store
         (MigratesIn D.Disk.Store settings (W.told output.old) (W.told output.new)))
-        (W.told output.old) (W.told output.new) path.now result }
+        databases.old databases.new (W.told output.old) (W.told output.new) path.now result }
 {
     match databases.open(path, Absent::Refused) {
         Ok(conn) => {

@@ -22,14 +22,14 @@ const ERROR: u8 = 1;
 /// answer is an error.
 pub fn query<'a, D: Databases, F: Files, W: Output>(
     rt: &HostRuntime,
-    databases: &D,
+    databases: &mut D,
     files: &F,
     settings: &'a str,
     text: &str,
     output: &mut W,
 ) -> Result<u8, ProgramFault<'a>>
-    ensures { AsksBy D.Disk.Store (D.gives databases.now) (D.closes databases.now)
-        (F.reads files.now) settings.now text.now (W.told output.old) (W.told output.new) result }
+    ensures { AsksBy D.Disk.Store D.calls (F.reads files.now) settings.now text.now
+        databases.old databases.new (W.told output.old) (W.told output.new) result }
 {
     let (read, path) = read_settings_file(rt.alloc(), files, settings)?;
     let mut found = String::new(rt.alloc());
@@ -48,16 +48,17 @@ pub fn query<'a, D: Databases, F: Files, W: Output>(
 /// Asks the registry in the database at a path, and prints the answer.
 fn query_at<D: Databases, W: Sink>(
     rt: &HostRuntime,
-    databases: &D,
+    databases: &mut D,
     settings: Settings,
     path: &str,
     found: &mut String,
     text: &[u8],
     output: &mut W,
 ) -> Result<u8, Trouble>
-    ensures { AtDesk D.Disk.Store (D.gives databases.now) (D.closes databases.now)
+    ensures { AtDesk D.Disk.Store D.calls
         (HasAsked D.Disk.Store text.now (W.told output.old) (W.told output.new))
-        (W.told output.old) (W.told output.new) settings path.now result }
+        databases.old databases.new (W.told output.old) (W.told output.new)
+        settings path.now result }
 {
     let mut desk = open_desk(rt, databases, settings, path, found)?;
     let end = answer_to(rt.alloc(), &mut desk, text, output);

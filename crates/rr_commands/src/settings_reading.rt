@@ -1,9 +1,9 @@
 //! Settings files.
 
-ghost use Rattle.std.specs.Prelude.{◌≡◌, ◌≤◌, ◌+◌, [], IfErr, IfOk, IfSome, IsTrue};
+ghost use Rattle.std.specs.Prelude.{◌≡◌, ◌≤◌, ◌+◌, [], IfErr, IfOk, IfSome};
 ghost use Rattle.std.specs.Prelude.{Ok, OnOk, length, string_bytes, take};
-ghost use Rattle.rr_commands.specs.Commands.{GivesNoSettings, HasSettings, ReadsFile};
-ghost use Rattle.rr_commands.specs.Commands.{is_of_reading};
+ghost use Rattle.rr_commands.specs.Commands.{FailsToRead, GivesNoSettings, HasSettings};
+ghost use Rattle.rr_commands.specs.Commands.{ReadsFile, unread_trouble};
 ghost use Rattle.rr_commands.specs.Faults.{name_on_line, place_on_line};
 ghost use Rattle.rr_commands.specs.SettingsFiles.{AreNoSettings, settings_of_text};
 ghost use Rattle.rr_commands.specs.declared.trouble.Place.TheVariants as place;
@@ -16,7 +16,7 @@ use crate::trouble::Trouble;
 use rr_desk::Settings;
 use std::alloc::Global;
 use std::io;
-use std::io::{ErrorKind, Read};
+use std::io::Read;
 
 /// The most bytes of a settings file (profile).
 const MOST_BYTES: u64 = 1_048_576;
@@ -49,13 +49,14 @@ fn read_at<F: Files>(alloc: Global, files: &F, file: &str) -> Result<(Settings, 
 {
     match read_bytes(alloc, files, file) {
         Ok(bytes) => read_text(alloc, bytes.as_slice()),
-        Err(error) => Err(trouble_of(&error)),
+        Err(error) => Err(unread_trouble(Cause::of(&error))),
     }
 }
 
 /// The bytes of a file, or one more than the most if it has more.
 fn read_bytes<F: Files>(alloc: Global, files: &F, file: &str) -> io::Result<Vec<u8>>
-    ensures { IfOk result (λ read. ReadsFile (F.reads files.now) file.now read.items) }
+    ensures read { IfOk result (λ read. ReadsFile (F.reads files.now) file.now read.items) }
+    ensures fails { IfErr result (FailsToRead (F.reads files.now) file.now) }
 {
     let file = files.open(file)?;
     read_prefix(alloc, file)
@@ -71,12 +72,12 @@ fn read_prefix<R: Read + Drop>(alloc: Global, reader: R) -> io::Result<Vec<u8>>
     Ok(bytes)
 }
 
-fn trouble_of(error: &io::Error) -> Trouble
-    ensures { IsTrue (is_of_reading result) }
+fn unread_trouble(cause: Cause) -> Trouble
+    ensures { result ≡ unread_trouble cause }
 {
-    match error.kind() {
-        ErrorKind::OutOfMemory => Trouble::Memory,
-        _ => Trouble::SettingsUnread(Cause::of(error)),
+    match cause {
+        Cause::Memory => Trouble::Memory,
+        _ => Trouble::SettingsUnread(cause),
     }
 }
 

@@ -63,14 +63,14 @@ fn plain_trouble(trouble: Trouble) -> Trouble
 /// or 1 if an item was refused.
 pub fn submit<'a, D: Databases, F: Files, W: Output>(
     rt: &HostRuntime,
-    databases: &D,
+    databases: &mut D,
     files: &F,
     settings: &'a str,
     file: &'a str,
     output: &mut W,
 ) -> Result<u8, ProgramFault<'a>>
-    ensures { SubmitsBy D.Disk.Store (D.gives databases.now) (D.closes databases.now)
-        (F.reads files.now) settings.now file.now (W.told output.old) (W.told output.new) result }
+    ensures { SubmitsBy D.Disk.Store D.calls (F.reads files.now) settings.now file.now
+        databases.old databases.new (W.told output.old) (W.told output.new) result }
 {
     let (read, path) = read_settings_file(rt.alloc(), files, settings)?;
     let mut found = String::new(rt.alloc());
@@ -90,7 +90,7 @@ pub fn submit<'a, D: Databases, F: Files, W: Output>(
 /// Submits a file to the registry in the database at a path, and prints the report.
 fn submit_at<D: Databases, F: Files, W: Output>(
     rt: &HostRuntime,
-    databases: &D,
+    databases: &mut D,
     files: &F,
     settings: Settings,
     path: &str,
@@ -98,10 +98,11 @@ fn submit_at<D: Databases, F: Files, W: Output>(
     file: &str,
     output: &mut W,
 ) -> Result<u8, Trouble>
-    ensures { AtDesk D.Disk.Store (D.gives databases.now) (D.closes databases.now)
+    ensures { AtDesk D.Disk.Store D.calls
         (SubmitsDesk D.Disk.Store (F.reads files.now) file.now
         (W.told output.old) (W.told output.new))
-        (W.told output.old) (W.told output.new) settings path.now result }
+        databases.old databases.new (W.told output.old) (W.told output.new)
+        settings path.now result }
 {
     let mut desk = open_desk(rt, databases, settings, path, found)?;
     let end = submit_file(rt, &mut desk, files, file, output);

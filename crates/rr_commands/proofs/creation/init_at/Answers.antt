@@ -5,7 +5,8 @@ pub returns-in-Ok : goal.returns-in-Ok
 returns-in-Ok g c = inr (record {
   before = c.in-Ok.conn;
   after = c.create_to-conn.result.0;
-  given = c.in-Ok.ensures.gives;
+  between = _;
+  given = c.in-Ok.ensures.opens;
   did = c.create_to-conn.ensures.creates;
   closed = c.close.ensures;
 })

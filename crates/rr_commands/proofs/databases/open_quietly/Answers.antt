@@ -13,6 +13,7 @@ pub returns-in-Err-clause-fails : goal.returns-in-Err-clause-fails
 returns-in-Err-clause-fails g c = inr (record {
   conn = c.in_ok-conn.conn;
   after = c.in-Err.conn;
+  between = _;
   given = c.in_ok-conn.ensures.gives;
   fails = c.in-Err.ensures.fails;
   closed = c.close.ensures;

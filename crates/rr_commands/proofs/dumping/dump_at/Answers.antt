@@ -5,6 +5,7 @@ pub returns : goal.returns
 returns g c = inr (record {
   before = c.in_ok-desk.desk;
   after = c.in_ok-desk.desk;
+  between = _;
   opens = c.in_ok-desk.ensures.opens;
   did = (refl, rw (← c.show.ensures.told, c.show-2.ensures.told) c.dump_to-end.ensures.dumped);
   closed = rw (← c.close-conn.ensures.same) c.close.ensures;

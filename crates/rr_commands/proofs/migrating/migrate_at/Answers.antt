@@ -5,7 +5,8 @@ pub returns-in-Ok : goal.returns-in-Ok
 returns-in-Ok g c = inr (record {
   before = c.in-Ok.conn;
   after = c.migrate_told-conn.result.0;
-  given = c.in-Ok.ensures.gives;
+  between = _;
+  given = c.in-Ok.ensures.opens;
   did = c.migrate_told-conn.ensures;
   closed = c.close.ensures;
 })

@@ -5,6 +5,7 @@ pub returns : goal.returns
 returns g c = inr (record {
   before = c.in_ok-desk.desk;
   after = c.answer_to-end.new.desk;
+  between = _;
   opens = c.in_ok-desk.ensures.opens;
   did = c.answer_to-end.ensures.asked;
   closed = rw (← c.close-conn.ensures.same) c.close.ensures;

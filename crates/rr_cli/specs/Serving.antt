@@ -1,5 +1,6 @@
 -- What `irrdesk serve` does, and what it prints (profile).
-use Rattle.std.specs.Prelude.{◌≡◌, ◌⊎◌, ℕ, List, [], ◌∷◌, ◌++◌, IfSome, Ok, Err, codes, decimal}
+use Rattle.std.specs.Prelude.{◌≡◌, ◌⊎◌, ℕ, List, [], ◌∷◌, ◌++◌, IfSome, Result, Ok, Err}
+use Rattle.std.specs.Prelude.{codes, decimal}
 use Rattle.sqlite_trees.specs.declared.store.Store.{Ghosts}
 use Rattle.rr_io.specs.Sending.{Takes, TakesPrefix}
 use Rattle.rr_io.specs.Told.{Told}
@@ -14,9 +15,9 @@ use Rattle.rr_commands.specs.declared.trouble.Trouble.TheVariants.{Unwritten}
 use Rattle.rr_commands.specs.Commands.{ActsBySettings, AtDesk, CommandEnd, DatabaseCalls}
 use Rattle.rr_commands.specs.Commands.{DeskAction, ProgramEnd, Reads}
 
--- what listens on this port may tell this (profile)
+-- what listens on this port may tell this, or the port is refused for this cause (profile)
 abbrev pub Listens : Type 1
-Listens = ℕ → Tally → Type 0
+Listens = ℕ → Result Tally Cause → Type 0
 
 -- the line that says how many turns were served, and how many failed (profile)
 unfoldable pub served_line : ℕ → ℕ → List ℕ
@@ -27,6 +28,10 @@ served_line served failed =
 abbrev pub EndsUnaccepted : List Turn → Type 0
 EndsUnaccepted turns = (earlier : List Turn) × (turns ≡ earlier ++ unaccepted ∷ [])
 
+-- in the last of these turns, if there are any, a connection was accepted (profile)
+abbrev pub EndsAccepted : List Turn → Type 0
+EndsAccepted turns = EndsUnaccepted turns → ⊥
+
 -- no turn was served, and the fault is why no connection could be accepted in the last one, where
 -- turns are told (profile)
 pub record HasServedNone (tally : Tally) (served : ℕ) (ended : CommandEnd) : Type 0 where
@@ -35,10 +40,15 @@ pub record HasServedNone (tally : Tally) (served : ℕ) (ended : CommandEnd) : T
   pub none : served ≡ 0
   pub refused : IfSome tally.told EndsUnaccepted
 
--- how serving ends once that line was printed: the status is 0, also where some turns failed, but a
--- fault may be told if none was served (profile)
+-- the status is 0, also where some turns failed; if none was served, a connection was accepted in
+-- the last one, where turns are told (profile)
+pub record EndsWell (tally : Tally) (served : ℕ) (ended : CommandEnd) : Type 0 where
+  pub told : ended ≡ Ok 0
+  pub accepted : served ≡ 0 → IfSome tally.told EndsAccepted
+
+-- how serving ends once that line was printed (profile)
 abbrev pub IsServedEnd : Tally → ℕ → CommandEnd → Type 0
-IsServedEnd tally served ended = (ended ≡ Ok 0) ⊎ HasServedNone tally served ended
+IsServedEnd tally served ended = EndsWell tally served ended ⊎ HasServedNone tally served ended
 
 -- that line was printed whole, and serving ends so; or it could not be printed whole, which is the
 -- fault then (profile)
@@ -69,18 +79,21 @@ listening_head = codes "listening on 127.0.0.1:"
 abbrev pub listening_line : ℕ → List ℕ
 listening_line port = listening_head ++ (decimal port ++ codes "\n")
 
--- why nothing was served: the listener was not opened, and nothing was printed, or where it listens
--- could not be printed (profile)
-abbrev pub FailsToListen : ℕ → Trouble → Told → Told → Type 0
-FailsToListen port (ListenerUnopened cause) old new = new ≡ old
-FailsToListen port Unwritten old new = TakesPrefix old new (listening_line port)
-FailsToListen port _ old new = ⊥
+-- why nothing was served: the listener was not opened, for this cause, and nothing was printed; or
+-- it was, and where it listens could not be printed (profile)
+abbrev pub FailsToListen : Listens → ℕ → Trouble → Told → Told → Type 0
+FailsToListen listens port (ListenerUnopened cause) old new =
+    listens port (Err cause) × (new ≡ old)
+FailsToListen listens port Unwritten old new =
+    ((tally : Tally) × listens port (Ok tally)) × TakesPrefix old new (listening_line port)
+FailsToListen listens port _ old new = ⊥
 
 -- the port is not listened on, or that could not be said: nothing was served (profile)
-pub record HasNotListened (port : ℕ) (old new : Told) (ended : CommandEnd) : Type 0 where
+pub record HasNotListened (listens : Listens) (port : ℕ) (old new : Told) (ended : CommandEnd)
+    : Type 0 where
   pub trouble : Trouble
   pub told : ended ≡ Err trouble
-  pub said : FailsToListen port trouble old new
+  pub said : FailsToListen listens port trouble old new
 
 -- the port was listened on, that was said, and then turns of what listens on it were served
 -- (profile)
@@ -90,14 +103,14 @@ pub record HasListened {S : Type 0} (g : Ghosts S) (listens : Listens) (serves :
   pub said : Takes old between (listening_line port)
   pub tally_before : Tally
   pub tally_after : Tally
-  pub listened : listens port tally_before
+  pub listened : listens port (Ok tally_before)
   pub served : HasServed g serves count before after tally_before tally_after between new ended
 
 -- what `irrdesk serve` does at a desk (profile)
 abbrev pub ServesDesk : {S : Type 0} →
     Ghosts S → Listens → Serving → ℕ → ℕ → Told → Told → DeskAction S
 ServesDesk g listens serves port count old new before after ended =
-    (HasNotListened port old new ended × (after ≡ before))
+    (HasNotListened listens port old new ended × (after ≡ before))
     ⊎ HasListened g listens serves port count old new before after ended
 
 -- what `irrdesk serve` does, by its settings file (profile)

@@ -1,7 +1,9 @@
 //! How the program listens, and how it asks itself.
 
-ghost use Rattle.std.specs.Prelude.{◌≡◌, ℕ, IfOk, List, Option};
+ghost use Rattle.std.specs.Prelude.{◌≡◌, ℕ, Err, IfErr, IfOk, List, Ok, Option, Result};
+ghost use Rattle.std.specs.declared.io.Error.{Error};
 ghost use Rattle.rr_desk.specs.Turns.{Tally};
+ghost use Rattle.rr_commands.specs.declared.cause.Cause.{Cause};
 
 use crate::peers_with_cause::PeersWithCause;
 use rr_commands::Cause;
@@ -23,21 +25,25 @@ pub trait Network {
     /// A connection that has asked.
     type Peer: Read + Drop;
 
-    // What listens on this port may tell this.
-    ghost listens: { Self → ℕ → Tally → Type 0 };
+    // What listens on this port may tell this, or the port is refused for this cause.
+    ghost listens: { Self → ℕ → Result Tally Cause → Type 0 };
 
-    // A peer that asked this is to be given these bytes, if it tells them.
-    ghost asks: { Self → List ℕ → Option (List ℕ) → Type 0 };
+    // A peer that asked this is to be given these bytes, if it tells them, or nobody could ask it,
+    // by this error.
+    ghost asks: { Self → List ℕ → Result (Option (List ℕ)) Error → Type 0 };
 
     /// Listens on this port, or on any free one if it is 0.
     fn listen(&self, port: u16) -> Result<Self::Listener, Cause>
         ensures turns { IfOk result (λ listener. (Self.Listener.tally listener).turns ≡ 0) }
         ensures listens { IfOk result
-            (λ listener. listens self.now port (Self.Listener.tally listener)) };
+            (λ listener. listens self.now port (Ok (Self.Listener.tally listener))) }
+        ensures refused { IfErr result (λ cause. listens self.now port (Err cause)) };
 
     /// Connects to a listener, and writes a query, its line end, and nothing more (RFC 3912, 2).
     fn ask(&self, listener: &Self::Listener, query: &[u8]) -> io::Result<Self::Peer>
-        ensures { IfOk result (λ peer. asks self.now query.now (Self.Peer.remaining peer)) };
+        ensures asked { IfOk result
+            (λ peer. asks self.now query.now (Ok (Self.Peer.remaining peer))) }
+        ensures unasked { IfErr result (λ error. asks self.now query.now (Err error)) };
 }
 
 /// The sockets of this machine.

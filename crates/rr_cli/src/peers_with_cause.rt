@@ -1,7 +1,7 @@
 //! Why a listener accepts no connection.
 
-ghost use Rattle.std.specs.Prelude.{IfSome, IsSome};
-ghost use Rattle.rr_cli.specs.Serving.{EndsUnaccepted};
+ghost use Rattle.std.specs.Prelude.{◌≡◌, IfSome, IsSome, None};
+ghost use Rattle.rr_cli.specs.Serving.{EndsAccepted, EndsUnaccepted};
 
 use rr_commands::Cause;
 use rr_desk::Peers;
@@ -11,7 +11,8 @@ use rr_listener::Listener;
 pub trait PeersWithCause: Peers {
     /// Why no connection could be accepted in the last turn, if that is how it failed.
     fn cause(&self) -> Option<Cause>
-        ensures { IsSome result → IfSome (Self.tally self.now).told EndsUnaccepted };
+        ensures some { IsSome result → IfSome (Self.tally self.now).told EndsUnaccepted }
+        ensures none { result ≡ None → IfSome (Self.tally self.now).told EndsAccepted };
 }
 
 impl PeersWithCause for Listener<'_> {

@@ -4,7 +4,7 @@ ghost use Rattle.std.specs.Prelude.{◌≡◌, ◌+◌, ◌<◌, ◌^◌, ℕ, I
 ghost use Rattle.rr_http.specs.DeskRegistrars.{serves_desk};
 ghost use Rattle.rr_commands.specs.Commands.{AtDesk};
 ghost use Rattle.rr_cli.specs.Probing.{AsksInVain, IsReplyTo, IsWhole, PrintsReply, ProbesBy};
-ghost use Rattle.rr_cli.specs.Probing.{ListensOnce, ProbesDesk, TakesOneTurn, is_of_probe};
+ghost use Rattle.rr_cli.specs.Probing.{ListensOnce, ProbesDesk, TakesOneTurn, is_of_question};
 ghost use Rattle.rr_cli.specs.Probing.{reply_status};
 
 use crate::network::Network;
@@ -114,10 +114,10 @@ fn ask_for_root<S: Alter, N: Network>(
     ensures reply { IfOk result
         (λ reply. IsReplyTo (N.asks network.now) desk.old.settings.root reply.items) }
     ensures read { OnOk result
-        (ListensOnce S.Store (N.listens network.now) serves_desk desk.old desk.new 0) }
-    ensures unread { OnErr result
-        (AsksInVain S.Store (N.listens network.now) serves_desk desk.old desk.new) }
-    ensures why { IfErr result (λ trouble. IsTrue (is_of_probe trouble)) }
+        (ListensOnce S.Store (N.listens network.now) serves_desk desk.old desk.new) }
+    ensures unread { IfErr result
+        (AsksInVain S.Store (N.listens network.now) (N.asks network.now) serves_desk
+        desk.old desk.new) }
 {
     match network.listen(0) {
         Ok(mut listener) => match network.ask(&listener, desk.settings().root().as_bytes()) {
@@ -141,7 +141,7 @@ fn serve_asked<S: Alter, P: PeersWithCause, R: Read + Drop>(
         (TakesOneTurn S.Store serves_desk (P.tally peers.old) desk.old desk.new 0) }
     ensures unread { OnErr result ((failed : ℕ)
         × TakesOneTurn S.Store serves_desk (P.tally peers.old) desk.old desk.new failed) }
-    ensures why { IfErr result (λ trouble. IsTrue (is_of_probe trouble)) }
+    ensures why { IfErr result (λ trouble. IsTrue (is_of_question trouble)) }
 {
     let failed = take_turn(alloc, desk, peers);
     if failed == 0 {
@@ -156,7 +156,7 @@ fn serve_asked<S: Alter, P: PeersWithCause, R: Read + Drop>(
 
 /// What went wrong if a turn failed: why no connection was accepted, if that is the cause.
 fn untaken(cause: Option<Cause>) -> Trouble
-    ensures { IsTrue (is_of_probe result) }
+    ensures { IsTrue (is_of_question result) }
 {
     match cause {
         Some(cause) => Trouble::ProbeFailed(cause),
@@ -174,7 +174,7 @@ fn take_turn<S: Alter, P: Peers>(alloc: Global, desk: &mut Desk<S>, peers: &mut 
 }
 
 fn trouble_of(error: &io::Error) -> Trouble
-    ensures { IsTrue (is_of_probe result) }
+    ensures { IsTrue (is_of_question result) }
 {
     match error.kind() {
         ErrorKind::OutOfMemory => Trouble::Memory,

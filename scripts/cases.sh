@@ -1,6 +1,6 @@
 # Sourced by scripts/statuses and scripts/databases: the folder to work in, what runs the program and looks at how it ended, and what the
-# cases of both are about. What the program said is kept in out/NAME.said, for scripts/messages. The program is that of ./irrdesk, or the
-# one given. It needs sqlite3 and Python.
+# cases of both are about. The program's digest and what it said are kept in out/NAME.said, for scripts/messages. The program is that of
+# ./irrdesk, or the one given. It needs sqlite3 and Python.
 set -u
 cd "$(dirname "$0")/.." || exit 2
 top=$(pwd)
@@ -12,6 +12,7 @@ for tool in sqlite3 python3; do
     command -v "$tool" >/dev/null || { echo "${0##*/}: $tool is not there" >&2; exit 2; }
 done
 "$program" </dev/null >/dev/null || exit 2
+digest=$(sha256sum <"$program") || exit 2
 work=$(mktemp -d)
 trap 'rm -rf "$work"' EXIT
 cd "$work" || exit 2
@@ -34,10 +35,10 @@ ended() {
     to=printed
 }
 
-# finish: keeps what was said, and ends
+# finish: keeps what was said, below the digest of the program that said it, and ends
 finish() {
     mkdir -p "$top/out"
-    mv all-said "$kept" || failed=1
+    { echo "${digest%% *}"; cat all-said; } >to-keep && mv to-keep "$kept" || failed=1
     exit "$failed"
 }
 

@@ -431,9 +431,17 @@ function showLook(query) {
     });
 }
 
-// The views that are there, by the ids of their sections: a file that did not load has added none.
-export const views = {look: {show: showLook}};
+// The views that are there, by the ids of their sections: a file that did not load has added none. Looking up waits for no other file.
+const views = {look: {show: showLook}};
+const COMING = 'This part of the page is still loading.';
 const LACKING = 'This part of the page did not load. Load the page again; if it stays so, the server\'s operator has to serve all of its files.';
+let areAllHere = false;          // whether each file has run, or did not load
+
+export function addView(name, view) {
+    views[name] = view;
+    $(`${name}-said`).textContent = '';
+    if (!$(name).hidden) show();
+}
 
 // The address says what is shown, so that it can be sent on: #q=QUERY, #map=PREFIX, #submit.
 function show(isAnew = false) {
@@ -445,6 +453,7 @@ function show(isAnew = false) {
     for (const at of document.querySelectorAll('[data-view]')) if (at.dataset.view === view) at.setAttribute('aria-current', 'page'); else at.removeAttribute('aria-current');
     document.title = `${view === 'look' ? shown(given) || 'Look up' : view === 'map' ? `Map ${shown(given)}` : 'Submit'} · routing registry`;
     if (view in views) views[view].show(given, isAnew);
+    else if (!areAllHere) $(`${view}-said`).textContent = COMING;
     else $(view).replaceChildren($(`${view}-title`), el('p', {class: 'warn', role: 'alert'}, LACKING));
 }
 
@@ -459,8 +468,9 @@ function asked(view, input) {
 $('site').textContent = location.host;
 $('look-form').addEventListener('submit', asked('q', $('words')));
 $('map-form').addEventListener('submit', asked('map', $('prefix')));
-// By then the other files have run, or did not load.
+addEventListener('hashchange', () => show());
+show();
 document.addEventListener('DOMContentLoaded', () => {
-    addEventListener('hashchange', () => show());
-    show();
+    areAllHere = true;
+    if (['map', 'submit'].some(name => !(name in views) && !$(name).hidden)) show();
 });

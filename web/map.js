@@ -1,7 +1,7 @@
 // The map: the boxes of the prefix that was asked for, and the one prefix of it that is shown.
 import {
-    $, STRANGE, Trouble, Wire, addressOf, around, blockOf, breather, counted, decimal, el, kindOf, lastOf, link, listing, mapLink,
-    objectsOf, prefixOf, prefixText, shown, spanOf, views, wordsOf,
+    $, STRANGE, Trouble, Wire, addView, addressOf, around, blockOf, breather, counted, decimal, el, kindOf, lastOf, link, listing, mapLink,
+    objectsOf, prefixOf, prefixText, shown, spanOf, wordsOf,
 } from './irr.js';
 
 const map = new Wire('map');
@@ -277,9 +277,9 @@ function showMap(given, isAnew = false) {
     });
 }
 
-views.map = {show: showMap};
 canvas.addEventListener('click', clicked);
 canvas.addEventListener('keydown', keyed);
 canvas.addEventListener('pointermove', event => { if (space.inside.length) point(boxesAt(hit(event)).at(-1), false); });
 for (const place of [isDark, $('with-inetnums'), $('with-routes')]) place.addEventListener('change', () => { if (space.root) present(space.shown); });
 addEventListener('resize', () => { if (space.root && !$('map').hidden && canvas.width !== sizeOf()) draw(); });
+addView('map', {show: showMap});

@@ -1,7 +1,7 @@
 // Submitting, by a form or as text.
 import {
-    $, CLASSES, KINDS, Trouble, UNKNOWN, Wire, around, counted, el, isAs, isMaintainer, isSet, link, prefixOf, prefixText, shown, spaceOf,
-    spanOf, textOf, views,
+    $, CLASSES, KINDS, Trouble, UNKNOWN, Wire, addView, around, counted, el, isAs, isMaintainer, isSet, link, prefixOf, prefixText, shown,
+    spaceOf, spanOf, textOf,
 } from './irr.js';
 
 // From here on made of tools/irr/codes.py by `scripts/web --codes`.
@@ -280,7 +280,6 @@ async function showSubmit() {
     preview();
 }
 
-views.submit = {show: showSubmit, change};
 $('class').append(...KINDS.map(kind => el('option', {value: kind}, kind)));
 $('class').addEventListener('change', showClass);
 $('submit-form').addEventListener('input', () => { preview(); lookAtText(); });
@@ -296,3 +295,4 @@ $('move-passwords').addEventListener('click', () => {
 $('more-passwords').addEventListener('click', () => { $('passwords').append(passwordField()); passwordInputs().at(-1).focus(); });
 $('passwords').append(passwordField());
 showClass();
+addView('submit', {show: showSubmit, change});

@@ -52,6 +52,29 @@ SERVER = """
     }}
 """
 
+# The texts and edges of the page that stand out too little from what is behind them, and how many texts were looked at.
+CONTRAST = """
+const parse = text => { const [r, g, b, a = 1] = text.match(/[\\d.]+/g).map(Number); return [r, g, b, a]; };
+const luminance = ([r, g, b]) => [r, g, b].map(c => (c /= 255) <= .03928 ? c / 12.92 : ((c + .055) / 1.055) ** 2.4).reduce((sum, c, at) => sum + c * [.2126, .7152, .0722][at], 0);
+const behind = one => { for (; one; one = one.parentElement) { const c = parse(getComputedStyle(one).backgroundColor); if (c[3] === 1) return c; } return dark() ? [0, 0, 0] : [255, 255, 255]; };
+const dark = () => matchMedia('(prefers-color-scheme: dark)').matches;
+const bad = [];
+let count = 0;
+for (const one of document.querySelectorAll('body *')) {
+    const isText = [...one.childNodes].some(node => node.nodeType === 3 && node.data.trim()) || /INPUT|TEXTAREA|SELECT/.test(one.tagName);
+    if (!isText || !one.checkVisibility() || one.disabled) continue;
+    const style = getComputedStyle(one), [light, low] = [luminance(parse(style.color)), luminance(behind(one))].sort((a, b) => b - a);
+    const ratio = (light + .05) / (low + .05), size = parseFloat(style.fontSize), isLarge = size >= 24 || (size >= 18.66 && style.fontWeight >= 700);
+    count += 1;
+    if (ratio < (isLarge ? 3 : 4.5)) bad.push(`${one.tagName}.${one.className} ${ratio.toFixed(2)} ${one.textContent.slice(0, 30)}`);
+    if (/INPUT|TEXTAREA|SELECT|BUTTON/.test(one.tagName) && !/checkbox|radio/.test(one.type)) {
+        const [up, down] = [luminance(parse(style.borderTopColor)), luminance(behind(one.parentElement))].sort((a, b) => b - a);
+        if ((up + .05) / (down + .05) < 3) bad.push(`edge of ${one.tagName} ${one.id}`);
+    }
+}
+return [count, bad];
+"""
+
 
 class Nginx:
     """nginx with the page at `/`, in front of several servers: by HTTP in front of each, and by HTTPS in front of the first."""
@@ -130,10 +153,11 @@ def started(options, tries=3):
 
 
 class Browser:
-    """Chromium without a window. Names are ids of the page."""
+    """Chromium without a window. Names are ids of the page. Calls wait until a page has loaded, unless the strategy is `none`."""
 
-    def __init__(self, folder, pictures):
+    def __init__(self, folder, pictures, strategy="normal"):
         options = webdriver.ChromeOptions()
+        options.page_load_strategy = strategy
         options.binary_location = shutil.which("chromium") or "/usr/bin/chromium"
         options.accept_insecure_certs = True
         for word in ["--headless=new", "--no-sandbox", "--disable-dev-shm-usage", "--window-size=1200,950", "--disable-background-networking",
@@ -236,4 +260,4 @@ def expect_all(parts, whole, what):
         expect_in(part, whole, what)
 
 
-__all__ = ["BadServer", "Browser", "HOST", "Nginx", "POLICY", "expect", "expect_all", "expect_in"]
+__all__ = ["BadServer", "Browser", "CONTRAST", "HOST", "Nginx", "POLICY", "expect", "expect_all", "expect_in"]

@@ -3,10 +3,12 @@ import contextlib
 import errno
 import fcntl
 import filecmp
+import glob
 import os
 import re
 import select
 import signal
+import stat
 import struct
 import subprocess
 import tempfile
@@ -20,6 +22,8 @@ from irr.errors import DATABASE, SETTINGS, Failure, system_words
 DEFAULT = "/etc/irrdesk/irr.toml"
 # The bytes of a database, and of its log, that a program which has it open locks (SQLite).
 LOCKED, LOCKED_LENGTH = 0x4000_0000, 512
+FLOCK = "hhqqi4x"
+LOCK = struct.pack(FLOCK, fcntl.F_WRLCK, os.SEEK_SET, LOCKED, LOCKED_LENGTH, 0)
 # What SQLite puts after a database's name for its log, and for the journal of a program that keeps none.
 LOG, JOURNAL = "-wal", "-journal"
 # A log without a whole record has fewer bytes: its head, and the head of a record.
@@ -116,12 +120,34 @@ class Copy:
 
 def copied(source: Path, target: Path) -> None:
     """A new file with the bytes of another one, by a clone where the file system can."""
-    with open(source, "rb") as old, files.named(target), open(target, "xb") as new:
+    with open(opened(source), "rb") as old, files.named(target), open(target, "xb") as new:
         try:
             fcntl.ioctl(new.fileno(), FICLONE, old.fileno())
         except OSError:
             while piece := read(old, source):
                 new.write(piece)
+
+
+def opened(path: Path, flags: int = os.O_RDONLY) -> int:
+    """A file of a registry. What is none, such as a pipe, is refused: it may have no end."""
+    try:
+        number = os.open(path, flags | os.O_CLOEXEC | os.O_NONBLOCK)
+    except OSError as error:
+        advice = remedy(error, "let the link lead to its file again" if os.path.islink(path) else "correct the path")
+        if error.errno == errno.EROFS:
+            advice += ", or, if nobody serves it, give it to `irr backup` by --copy"
+        raise Failure(str(path), f"the database cannot be opened: {system_words(error)}; {advice}", DATABASE) from None
+    if not stat.S_ISREG(os.fstat(number).st_mode):
+        os.close(number)
+        raise Failure(str(path), "it is not a file; give the path of a database", DATABASE)
+    return number
+
+
+def remedy(error: OSError, otherwise: str) -> str:
+    """What to do about a fault of the system: of other words, unless it is a lack of rights."""
+    if error.errno == errno.EROFS:
+        return "let this user write there (ReadWritePaths=)"
+    return "run this as its user, or as root" if error.errno in (errno.EACCES, errno.EPERM) else otherwise
 
 
 def read(file: BinaryIO, path: Path) -> bytes:
@@ -139,39 +165,72 @@ def working(place: Path, prefix: str) -> Iterator[Path]:
     except OSError as error:
         if not os.path.abspath(str(error.filename)).startswith(inside):
             raise
-        raise Failure(str(place), f"it cannot be written: {system_words(error)}; make room, or look at its disk") from None
+        advice = remedy(error, "make room, or look at its disk")
+        raise Failure(str(place), f"it cannot be written: {system_words(error)}; {advice}") from None
     except Failure as failure:
         if not os.path.abspath(failure.thing).startswith(inside):
             raise
         raise Failure(str(place), failure.what, failure.status) from None
 
 
+def clear(place: Path, prefix: str) -> None:
+    """Removes the working folders that runs have left which were killed."""
+    for left in place.glob(f"{glob.escape(prefix)}*"):
+        try:
+            files.remove(left)
+        except OSError as error:
+            raise Failure(str(left), f"what an earlier run left cannot be removed: {system_words(error)}; remove it") from None
+
+
+def parts(store: Path, *suffixes: str) -> list[str]:
+    """What the files of a database end with: nothing, and those of the suffixes that are there. A link that leads nowhere is there: its log
+    is missing, and a database without one is another."""
+    return ["", *(suffix for suffix in suffixes if os.path.lexists(beside(store, suffix)))]
+
+
 def copied_store(store: Path, copy: Copy) -> None:
     """The files of a database beside one another, as they stand. With a journal, which `irrdesk` refuses, it is none without it."""
-    for suffix in "", LOG, JOURNAL:
-        if not suffix or beside(store, suffix).exists():
-            copied(beside(store, suffix), beside(copy.store, suffix))
+    for suffix in parts(store, LOG, JOURNAL):
+        copied(beside(store, suffix), beside(copy.store, suffix))
 
 
 @contextlib.contextmanager
 def alone(settings: Settings) -> Iterator[bool]:
     """Whether nobody has the database open, which stays so while the block runs: `irrdesk` is refused meanwhile."""
     with contextlib.ExitStack() as stack:
-        yield all(lock(path, stack) for path in (settings.store, settings.log) if path == settings.store or path.exists())
+        yield all(lock(beside(settings.store, suffix), stack) for suffix in parts(settings.store, LOG))
 
 
 def lock(path: Path, stack: contextlib.ExitStack) -> bool:
-    try:
-        number = os.open(path, os.O_RDWR | os.O_CLOEXEC)
-    except OSError as error:
-        remedy = "give it to `irr backup` by --copy" if error.errno == errno.EROFS else "correct `store`"
-        raise Failure(str(path), f"the database cannot be opened: {system_words(error)}; {remedy}", DATABASE) from None
+    number = opened(path, os.O_RDWR)
     stack.callback(os.close, number)
     try:
-        fcntl.fcntl(number, fcntl.F_OFD_SETLK, struct.pack("hhqqi4x", fcntl.F_WRLCK, os.SEEK_SET, LOCKED, LOCKED_LENGTH, 0))
+        fcntl.fcntl(number, fcntl.F_OFD_SETLK, LOCK)
     except (BlockingIOError, PermissionError):
         return False
     return True
+
+
+@contextlib.contextmanager
+def unlocked(store: Path) -> Iterator[None]:
+    """Copies a database in the block that this user need not be able to lock: nobody has it open before, nor afterwards."""
+    need_unlocked(store)
+    yield
+    need_unlocked(store)
+
+
+def need_unlocked(store: Path) -> None:
+    for suffix in parts(store, LOG):
+        path = beside(store, suffix)
+        with open(opened(path), "rb") as file:
+            try:
+                found = fcntl.fcntl(file, fcntl.F_OFD_GETLK, LOCK)
+            except OSError as error:
+                raise Failure(str(path), f"whether it is in use cannot be seen: {system_words(error)}; copy it and its log to a disk of this "
+                              "machine, and give that copy", DATABASE) from None
+        if struct.unpack(FLOCK, found)[0] != fcntl.F_UNLCK:
+            raise Failure(str(path), "another process has the database open; leave out --copy, or give a snapshot of the file system",
+                          DATABASE)
 
 
 @contextlib.contextmanager

@@ -4,6 +4,7 @@ import shutil
 import tempfile
 import unittest
 from pathlib import Path
+from types import SimpleNamespace
 from unittest import mock
 
 from irr import files, hashes, hilbert, rpsl, scratch
@@ -25,7 +26,10 @@ class Files(unittest.TestCase):
         files.put(path, [b"a", b"b"], files.PRIVATE)
         self.assertEqual((path.read_bytes(), path.stat().st_mode & 0o777), (b"ab", 0o600))
         files.put(path, b"c")
-        self.assertEqual((path.read_bytes(), path.stat().st_mode & 0o777), (b"c", 0o644))
+        # A file that is replaced gives no more rights than before.
+        self.assertEqual((path.read_bytes(), path.stat().st_mode & 0o777), (b"c", 0o600))
+        files.put(self.folder / "other", b"d")
+        self.assertEqual((self.folder / "other").stat().st_mode & 0o777, 0o644)
 
     def test_put_fails(self):
         path = self.folder / "file"
@@ -74,6 +78,88 @@ class Files(unittest.TestCase):
         with self.assertRaisesRegex(Failure, "not a file that can be replaced; give"):
             files.put(here / "loop", b"x")
         self.assertTrue((here / "loop").is_symlink())
+
+    def test_need_own(self):
+        """A link is followed where the kernel follows it too: of the user or the folder's owner, if it is in a sticky folder of all."""
+        me = os.geteuid()
+        for mode, owner, user, is_followed in [(0o1777, me + 1, me + 2, False), (0o1777, me, me + 1, False), (0o1777, me + 1, me + 1, True),
+                                               (0o1777, me + 1, me, True), (0o1775, me + 1, me + 2, True), (0o777, me + 1, me + 2, True)]:
+            folder, link = SimpleNamespace(st_mode=mode, st_uid=owner), SimpleNamespace(st_uid=user)
+            with mock.patch("os.stat", return_value=folder), mock.patch("os.lstat", return_value=link):
+                if is_followed:
+                    files.need_own(Path("/x/link"), "/x/link")
+                else:
+                    with self.assertRaisesRegex(Failure, "^/y: /x/link is another user's link, in a folder where anybody may put one; give"):
+                        files.need_own(Path("/x/link"), "/y")
+
+    def test_put_through_planted_links(self):
+        """Wherever on the way the link of another user is, what it leads to stays as it was."""
+        folder, real = self.folder / "of-all", self.folder / "file"
+        folder.mkdir()
+        real.write_bytes(b"kept")
+        (folder / "link").symlink_to(real)
+        (folder / "up").symlink_to("..")
+        with mock.patch("irr.files.need_own", side_effect=Failure("x", "planted")) as asked:
+            for path, link in (folder / "link", "link"), (folder / "up/file", "up"), (folder / "up/other", "up"):
+                self.assertRaisesRegex(Failure, "planted", files.put, path, b"x")
+                self.assertEqual(asked.call_args.args[0].name, link)
+        self.assertEqual((real.read_bytes(), sorted(os.listdir(self.folder))), (b"kept", ["file", "of-all"]))
+
+    def test_put_in_place_of_what_is_open(self):
+        """A name of what is open is not the name of the file that it was opened as."""
+        log, link, gone = self.folder / "log", self.folder / "so", self.folder / "gone"
+        link.symlink_to("//dev/stdout")
+        with open(log, "wb") as out, open(gone, "wb") as removed:
+            gone.unlink()
+            for number in out.fileno(), removed.fileno():
+                for path in f"/dev/fd/{number}", f"/proc/self/fd/{number}", f"/proc/{os.getpid()}/fd/{number}", link, f"/dev/../dev/fd/{number}":
+                    with self.assertRaisesRegex(Failure, "not a file that can be replaced; give"):
+                        files.put(path, b"x")
+        self.assertEqual((log.read_bytes(), sorted(os.listdir(self.folder))), (b"", ["log", "so"]))
+        for path in "/dev/null", "/dev/none", "/proc/none":
+            self.assertRaises(Failure, files.put, path, b"x")
+            self.assertRaises(Failure, files.put_new, path, b"x")
+
+    def test_followed(self):
+        """Links lead where the system takes them."""
+        there, here = self.folder / "there", self.folder / "here"
+        for folder in there, there / "deep", here:
+            folder.mkdir()
+        for link, lead in [("here/a", "../there/deep"), ("here/b", there), ("here/c", "a/../x"), ("here/d", "none"), ("here/e", "./b//./y")]:
+            (self.folder / link).symlink_to(lead)
+        for path in "here/a/../z", "here/b/z", "here/c", "here/d", "here/e", "here/../there/deep/..", "here/a":
+            self.assertEqual(str(files.followed(self.folder / path)), os.path.realpath(self.folder / path))
+        self.assertEqual(str(files.followed("x/../y")), os.path.realpath("x/../y"))
+
+    def test_put_new(self):
+        """Nothing is replaced or followed, and what fails leaves nothing."""
+        path, link = self.folder / "file", self.folder / "link"
+        files.put_new(str(path), b"a")
+        self.assertEqual((path.read_bytes(), path.stat().st_mode & 0o777), (b"a", 0o600))
+        link.symlink_to("other")
+        for taken in path, link, self.folder, "/dev/stdout":
+            with self.assertRaisesRegex(Failure, "there is such a file; take another name") as raised:
+                files.put_new(str(taken), b"b")
+            self.assertEqual(raised.exception.status, 2)
+        for call in "os.fsync", "irr.files.sync_folder":
+            with mock.patch(call, side_effect=OSError(5, "Input/output error")):
+                with self.assertRaisesRegex(Failure, "new: it cannot be written: input/output error; make room"):
+                    files.put_new(str(self.folder / "new"), b"c")
+        with self.assertRaisesRegex(Failure, "none/new: it cannot be written: no such file or directory; look at its folder"):
+            files.put_new(str(self.folder / "none" / "new"), b"c")
+        self.assertRaisesRegex(Failure, "is empty; give its path", files.put_new, "", b"c")
+        self.assertEqual((path.read_bytes(), sorted(os.listdir(self.folder))), (b"a", ["file", "link"]))
+
+    def test_remove(self):
+        """A link is removed, and what it leads to is not."""
+        (self.folder / "real").mkdir()
+        (self.folder / "real" / "file").write_bytes(b"x")
+        (self.folder / "link").symlink_to("real")
+        files.remove(self.folder / "link")
+        self.assertEqual(os.listdir(self.folder / "real"), ["file"])
+        files.remove(self.folder / "real" / "file")
+        files.remove(self.folder / "real")
+        self.assertEqual(os.listdir(self.folder), [])
 
     def test_named(self):
         for given, wanted in (None, "/x"), ("/y", "/y"):

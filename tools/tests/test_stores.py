@@ -3,6 +3,7 @@ import contextlib
 import errno
 import os
 import resource
+import signal
 import sqlite3
 import subprocess
 import sys
@@ -15,7 +16,7 @@ from unittest import mock
 
 from irr import past, readers, rpsl, stores
 from irr.commands import backup, history, reset
-from irr.errors import SETTINGS, Failure
+from irr.errors import DATABASE, SETTINGS, Failure
 from irr.keys import Key
 from irr.stores import Settings
 
@@ -120,13 +121,68 @@ class Stores(Folder):
             raise OSError(28, "No space left on device", "/elsewhere")
         with self.assertRaisesRegex(Failure, "^/elsewhere: it failed$"), stores.working(self.folder, ".new-"):
             raise Failure("/elsewhere", "it failed")
+        with self.assertRaisesRegex(Failure, f"^{self.folder}: it cannot be written: permission denied; run this as its user, or as root$"):
+            with stores.working(self.folder, ".new-") as work:
+                raise PermissionError(13, "Permission denied", str(work / "x"))
         self.assertEqual(os.listdir(self.folder), [])
+
+    def test_clear(self):
+        """What other runs left goes, and of a link the link alone."""
+        for name in ".new-a", ".new-b", "kept":
+            (self.folder / name).mkdir()
+            self.file(f"{name}/file", b"hash")
+        (self.folder / ".new-link").symlink_to("kept")
+        stores.clear(self.folder, ".new-")
+        self.assertEqual((os.listdir(self.folder), os.listdir(self.folder / "kept")), (["kept"], ["file"]))
 
     def test_read_only(self):
         with mock.patch("os.open", side_effect=OSError(errno.EROFS, "Read-only file system")):
-            with self.assertRaisesRegex(Failure, "irr.db: .*: read-only file system; give it to `irr backup` by --copy$"):
+            words = r"let this user write there \(ReadWritePaths=\), or, if nobody serves it, give it to `irr backup` by --copy"
+            with self.assertRaisesRegex(Failure, f"irr.db: .*: read-only file system; {words}$"):
                 with stores.alone(self.settings()):
                     pass
+
+    def test_links_that_lead_nowhere(self):
+        """A log or journal that is missing where a link leads is not none."""
+        settings = self.settings()
+        for suffix in stores.LOG, stores.JOURNAL:
+            link = self.folder / f"irr.db{suffix}"
+            link.symlink_to("none")
+            with program(""), tempfile.TemporaryDirectory(dir=self.folder) as work:
+                with self.assertRaisesRegex(Failure, f"{link}: the database cannot be opened: no such file or directory; let the link lead") as raised:
+                    stores.copied_store(settings.store, stores.Copy(Path(work) / "copy", TEXT))
+            self.assertEqual(raised.exception.status, DATABASE)
+            if suffix == stores.LOG:
+                with self.assertRaisesRegex(Failure, f"{link}: the database cannot be opened"), stores.alone(settings):
+                    pass
+            link.unlink()
+
+    def test_no_file(self):
+        """What is no file is not waited for, nor read for ever."""
+        os.mkfifo(self.folder / "pipe")
+        for path in self.folder / "pipe", self.folder, Path("/dev/zero"):
+            for refused in lambda: stores.copied(path, self.folder / "copy"), lambda: stores.need_unlocked(path), \
+                    lambda: stores.lock(path, contextlib.ExitStack()):
+                with self.assertRaisesRegex(Failure, f"{path}: (it is not a file; give|the database cannot be opened: is a directory; correct)"):
+                    refused()
+
+    def test_unlocked(self):
+        """A database that another process has open is not copied as one that nobody serves."""
+        settings = self.settings()
+        settings.log.write_bytes(b"")
+        for path in settings.store, settings.log:
+            with contextlib.ExitStack() as held:
+                self.assertTrue(stores.lock(path, held))
+                with self.assertRaisesRegex(Failure, f"{path}: another process has the database open; leave out --copy, or give a snap"):
+                    stores.need_unlocked(settings.store)
+                path.chmod(0o400)
+            with stores.unlocked(settings.store):
+                pass
+        with contextlib.ExitStack() as held, self.assertRaises(Failure), stores.unlocked(settings.store):
+            stores.lock(settings.store, held)
+        with mock.patch("fcntl.fcntl", side_effect=OSError(errno.ENOLCK, "No locks available")):
+            with self.assertRaisesRegex(Failure, "whether it is in use cannot be seen: no locks available; copy it"):
+                stores.need_unlocked(settings.store)
 
     def test_refused(self):
         """Which words of the program say that an object is too long, and what they are said of."""
@@ -168,6 +224,25 @@ class Stores(Folder):
         for keep, is_whole, gone in [(1, True, [1, 2, 3]), (2, True, [1]), (3, True, []), (1, False, [3]), (2, False, [])]:
             found = sorted(int(path.name[7]) for path in backup.outdated(self.folder, keep, is_whole))
             self.assertEqual(found, gone, keep)
+        # A link to one that was moved is the operator's.
+        (self.folder / "20260101T000000Z").rename(self.folder / "moved")
+        (self.folder / "20260101T000000Z").symlink_to("moved")
+        self.assertEqual([path.name for path in backup.outdated(self.folder, 1, True)], ["20260102T000000Z", "20260103T000000Z"])
+
+    def test_retired(self):
+        """A backup that was removed halfway is none, and goes with the next run."""
+        for number in 1, 2:
+            (self.folder / f"2026010{number}T000000Z").mkdir()
+            self.file(f"2026010{number}T000000Z/dump.rpsl", b"")
+        half = [".new-20260101T000000Z", "20260102T000000Z"]
+        with mock.patch("irr.files.remove", side_effect=KeyboardInterrupt), self.assertRaises(KeyboardInterrupt):
+            backup.retire(self.folder, 1, True)
+        self.assertEqual(sorted(os.listdir(self.folder)), half)
+        with mock.patch("irr.files.remove", side_effect=OSError(13, "Permission denied")):
+            with self.assertRaisesRegex(Failure, "/.new-2.*: what an earlier run left cannot be removed: permission denied; remove it"):
+                backup.retire(self.folder, 1, True)
+        backup.retire(self.folder, 1, True)
+        self.assertEqual(os.listdir(self.folder), half[1:])
 
     def test_alone(self):
         settings = self.settings()
@@ -263,6 +338,33 @@ class Stores(Folder):
                     single.unlink()
                 raise KeyboardInterrupt
             self.assertEqual(save.exists(), is_in_place)
+
+    def test_stopped_when_saved(self):
+        """A new password goes again also if a signal comes once it is saved, and another's file stays."""
+        single, save = self.file("single.db", b""), self.folder / "password"
+        options = SimpleNamespace(save=str(save), ask=False)
+
+        def put_new(path, text):
+            Path(path).write_bytes(text)
+            os.kill(os.getpid(), signal.SIGINT)
+            self.assertTrue(save.exists())
+        with mock.patch("irr.files.put_new", put_new), self.assertRaises(KeyboardInterrupt), reset.handed_over(options, "word", single):
+            self.fail("the database was put in place")
+        self.assertFalse(save.exists())
+        save.write_bytes(b"another's")
+        with self.assertRaisesRegex(Failure, "there is such a file"), reset.handed_over(options, "word", single):
+            self.fail("the database was put in place")
+        self.assertEqual(save.read_bytes(), b"another's")
+
+    def test_alone_in_work(self):
+        """What a reset left that was killed goes with the next one of the database, and not what one of another database has."""
+        settings = self.settings()
+        for name in ".irr.db.irr-reset-abcdefgh", ".other.db.irr-reset-abcdefgh":
+            (self.folder / name).mkdir()
+        with reset.alone_in_work(settings) as work:
+            self.assertEqual(sorted(os.listdir(self.folder)), sorted([".other.db.irr-reset-abcdefgh", "irr.db", work.name]))
+        with stores.alone(settings), self.assertRaisesRegex(Failure, "stop the server first"), reset.alone_in_work(settings):
+            pass
 
     def test_new_auth(self):
         for auth, save, words in ("", None, "--auth: this is not an auth line"), (None, str(self.folder), ".*: there is such a file"):

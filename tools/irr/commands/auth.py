@@ -1,6 +1,5 @@
 """`irr auth [NAME]`: makes an `auth` line of a new password, or of one that is asked for, and with a name the mntner."""
 import argparse
-import os
 
 from irr import asking, files, hashes, keys, server, submissions, texts
 from irr.errors import ARGUMENTS, DONE, Failure
@@ -34,7 +33,7 @@ def run(options: argparse.Namespace) -> int:
     item = submissions.password_item(password, "new password")
     secret = submissions.secret_of(item.passwords()[0])
     if options.save is not None:
-        save(options.save, item.block.text + b"\n")
+        files.put_new(options.save, item.block.text + b"\n")
     elif not options.ask:
         show(password)
     value = hashes.auth_of(secret, hashes.new_salt()).encode()
@@ -51,17 +50,6 @@ def registered_source(options: argparse.Namespace) -> str:
     if not source:
         raise Failure(options.name, "the registry does not say its name; give it by --source NAME", ARGUMENTS)
     return source
-
-
-def save(path: str, text: bytes) -> None:
-    """Writes a new file that only its owner reads."""
-    need_new(path)
-    files.put(path, text, files.PRIVATE)
-
-
-def need_new(path: str) -> None:
-    if os.path.lexists(path):
-        raise Failure(path, "there is such a file; take another name, because it may have a password that is still needed", ARGUMENTS)
 
 
 def show(password: str) -> None:

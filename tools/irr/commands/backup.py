@@ -1,8 +1,8 @@
 """`irr backup FOLDER`: a tried copy of a registry, served or not."""
 import argparse
+import contextlib
 import os
 import re
-import shutil
 import time
 from pathlib import Path
 
@@ -16,9 +16,12 @@ irr backup --settings irr.toml --keep 30 backups
 irr backup --copy /snapshot/irr.db backups            of a snapshot of the file system
 
 To restore one, stop the server, put the file irr.db of the backup in the place of the database, and remove the
-log of what stood there, irr.db-wal. Or load its dump.rpsl as a new registry.
+log of what stood there, irr.db-wal; if `store` is a link, do this where it leads. Or load its dump.rpsl as a new
+registry.
 """
 NAME = re.compile("[0-9]{8}T[0-9]{6}Z")
+# What the name of a folder begins with that is no backup yet, or no longer.
+UNFINISHED = ".new-"
 
 
 def arguments(parser: argparse.ArgumentParser) -> None:
@@ -33,24 +36,26 @@ def arguments(parser: argparse.ArgumentParser) -> None:
 def run(options: argparse.Namespace) -> int:
     if options.keep < 1 or not 0 < options.hold <= 300:
         raise Failure("", "--keep takes a number from 1, and --hold seconds up to 300; correct them", ARGUMENTS)
+    if options.copy == "":
+        raise Failure("--copy", "the path is empty; give that of a database", ARGUMENTS)
     os.umask(0o077)
     settings = Settings.read(options.settings)
     place = files.folder(options.folder, 0o700)
     if place.stat().st_mode & 0o077:
         raise Failure(options.folder, "others may enter the folder, and backups hold each hash; chmod 700 it")
     with files.locked(place):
-        for left in place.glob(".new-*"):
-            shutil.rmtree(left)
-        with stores.working(place, ".new-") as work:
+        # What cannot be removed is said once there is a new backup.
+        with contextlib.suppress(Failure):
+            stores.clear(place, UNFINISHED)
+        with stores.working(place, UNFINISHED) as work:
             made, held = make(settings, options, work)
             name = time.strftime("%Y%m%dT%H%M%SZ", time.gmtime())
-            if (place / name).exists():
+            if os.path.lexists(place / name):
                 raise Failure(str(place / name), "there is a backup of this second; try again")
             why = tried(work, settings, made)
             os.rename(made.folder, place / name)
             files.sync_folder(place)
-        for old in outdated(place, options.keep, not why):
-            shutil.rmtree(old)
+        retire(place, options.keep, not why)
     if why:
         raise Failure(str(place / name), f"its irr.db is good, but it has no dump, because that cannot be loaded: {why}", DATABASE)
     objects = texts.counted(count_of(place / name / "dump.rpsl"), "object")
@@ -64,7 +69,8 @@ def make(settings: Settings, options: argparse.Namespace, work: Path) -> tuple[C
     held, made = Copy(work / "held", settings.text()), Copy(work / "made", settings.text())
     store, start = settings.store if options.copy is None else stores.real(options.copy), time.monotonic()
     if options.copy is not None:
-        stores.copied_store(store, held)
+        with stores.unlocked(store):
+            stores.copied_store(store, held)
         seconds = 0.0
     else:
         with stores.still(settings, options.hold):
@@ -110,10 +116,18 @@ def tried(work: Path, settings: Settings, made: Copy) -> str:
     return why
 
 
+def retire(place: Path, keep: int, is_whole: bool) -> None:
+    """Removes what is outdated. It is renamed first: what is left of a backup if this is killed does not count as one without a dump, and
+    goes with the next run."""
+    for old in outdated(place, keep, is_whole):
+        os.rename(old, place / (UNFINISHED + old.name))
+    stores.clear(place, UNFINISHED)
+
+
 def outdated(place: Path, keep: int, is_whole: bool) -> list[Path]:
     """The backups before the last ones that are kept. One without a dump takes the place of none that has it: is_whole tells of the new
-    one whether it has."""
-    found = sorted(entry for entry in place.iterdir() if NAME.fullmatch(entry.name))
+    one whether it has. A link to one that was moved elsewhere is not counted."""
+    found = sorted(entry for entry in place.iterdir() if NAME.fullmatch(entry.name) and entry.is_dir() and not entry.is_symlink())
     whole = [entry for entry in found if (entry / "dump.rpsl").exists()]
     return [*(whole[:-keep] if is_whole else []), *[entry for entry in found if entry not in whole][:-keep]]
 

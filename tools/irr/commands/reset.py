@@ -2,6 +2,7 @@
 import argparse
 import contextlib
 import os
+import signal
 from pathlib import Path
 from typing import Iterator
 
@@ -38,10 +39,8 @@ def run(options: argparse.Namespace) -> int:
         raise Failure(str(settings.store), "there is no database; correct `store`, or run this in the folder that the program runs in",
                       DATABASE)
     settle(settings)
-    with stores.alone(settings) as is_alone, stores.working(settings.store.parent, ".irr-reset-") as work:
-        if not is_alone:
-            raise Failure(str(settings.store), "another process has the database open; stop the server first", DATABASE)
-        if settings.log.exists() and settings.log.stat().st_size >= stores.EMPTY_LOG:
+    with alone_in_work(settings) as work:
+        if os.path.lexists(settings.log) and settings.log.stat().st_size >= stores.EMPTY_LOG:
             raise Failure(str(settings.log), "the log is not empty; try again", DATABASE)
         before = Copy(work / "before", settings.text())
         stores.copied_store(settings.store, before)
@@ -56,6 +55,18 @@ def run(options: argparse.Namespace) -> int:
             put_in_place(settings, single)
     print(texts.shown_line(f"mntner {name}: its auth is replaced, and nothing else; start the server again"))
     return DONE
+
+
+@contextlib.contextmanager
+def alone_in_work(settings: Settings) -> Iterator[Path]:
+    """A working folder beside the database, which nobody else has open while the block runs."""
+    prefix = f".{settings.store.name}.irr-reset-"
+    with stores.alone(settings) as is_alone:
+        if not is_alone:
+            raise Failure(str(settings.store), "another process has the database open; stop the server first", DATABASE)
+        stores.clear(settings.store.parent, prefix)
+        with stores.working(settings.store.parent, prefix) as work:
+            yield work
 
 
 def settle(settings: Settings) -> None:
@@ -76,7 +87,7 @@ def new_auth(options: argparse.Namespace) -> tuple[bytes, str]:
             raise Failure("--auth", "this is not an auth line that lets anybody in; take what `irr auth` prints", ARGUMENTS)
         return value.encode("ascii"), ""
     if options.save is not None:
-        auths.need_new(options.save)
+        files.need_new(options.save)
     password = asking.ask_twice("new password") if options.ask else hashes.new_password()
     item = submissions.password_item(password, "new password")
     return hashes.auth_of(submissions.secret_of(item.passwords()[0]), hashes.new_salt()).encode(), password
@@ -86,17 +97,30 @@ def new_auth(options: argparse.Namespace) -> tuple[bytes, str]:
 def handed_over(options: argparse.Namespace, password: str, single: Path) -> Iterator[None]:
     """Saves or shows the new password before the block puts the new database in place. A saved one goes again if that did not
     happen."""
-    if options.save is not None:
-        auths.save(options.save, submissions.password_item(password, "new password").block.text + b"\n")
-    elif password and not options.ask:
-        auths.show(password)
+    is_saved = False
     try:
+        if options.save is not None:
+            with undisturbed():
+                files.put_new(options.save, submissions.password_item(password, "new password").block.text + b"\n")
+                is_saved = True
+        elif password and not options.ask:
+            auths.show(password)
         yield
     except BaseException:
         # It is renamed in one step: where it still is, the old database counts.
-        if options.save is not None and single.exists():
+        if is_saved and single.exists():
             Path(options.save).unlink(missing_ok=True)
         raise
+
+
+@contextlib.contextmanager
+def undisturbed() -> Iterator[None]:
+    """Lets the signals that end a command come after the block."""
+    was = signal.pthread_sigmask(signal.SIG_BLOCK, {signal.SIGTERM, signal.SIGHUP, signal.SIGINT})
+    try:
+        yield
+    finally:
+        signal.pthread_sigmask(signal.SIG_SETMASK, was)
 
 
 def lets_in(value: str) -> bool:
